@@ -1,0 +1,321 @@
+-- Laws of decode: a row's tree by its kind, where its links lead to later rows.
+use mathlib.Core.Path.{_≡_, refl, sym, _∙_, ap, ap₂, fun-ext}
+use mathlib.Core.Bool.{Bool, true, false}
+use mathlib.Core.List.{List}
+use Prim.Native.Nat.{ℕ, zero, suc, _+_, _*_, _≤_, _<_}
+use native.Mathlib.Omega.{arith}
+use lib.Dec.{ltb}
+use borrow.Author.Tests.{ltb-true, lt-ltb, le-ltb}
+use lib.IntN.{ℤ, pos}
+use lib.ListN.{length, List·getD-eq-default}
+use Rattle.words.specs.Word.{natural, pick}
+use Rattle.words.specs.Table.{rowCount, wordAt, numberAt}
+use Rattle.words.specs.Kinds.{kinds, kindIn, kindOf, kindAt}
+use Rattle.words.specs.declared.Operator.{Operator}
+use Rattle.words.specs.declared.Kind.{Kind}
+use Rattle.words.specs.declared.Kind.the-variants.{Constant, Variable, Element, Minus, Not, Binary, And, Or, Conditional, Comma, Assign, Compound, Prefix, Postfix, Empty, Express, Block, If, While, Do, For, Switch, Case, Default, Break, Continue, Goto, Label, Other}
+use Rattle.language.specs.Trees.{Expression, constant, read, minus, not, binary, and, or, comma, conditional, assign, compound, prefix, postfix, variable, element, Part, absent, present, case, default, label, Statement, empty, express, block, ifThen, ifElse, while, doWhile, for, switch, break, continue, goto, Items, none, _then_, _here_}
+use Rattle.language.specs.Decode.{later, placeOf, expressionOf, expressionBy, expressionAt, partOf, ifOf, statementOf, itemsOf, treesOf, treesBy, statementAt, itemsAt}
+
+-- The table has whole rows.
+abbrev pub Whole : List ℤ → Type 0
+Whole rows = length rows ≡ 6 * rowCount rows
+
+later-same : {A : Type 0} (other : A) (row : ℕ) (f g : ℕ → A) → ((l : ℕ) → row < l → f l ≡ g l) → (l : ℕ) → later other row f l ≡ later other row g l
+later-same {A} other row f g h l = by (ltb row l) refl
+  where
+    by : (t : Bool) → ltb row l ≡ t → pick t (f l) other ≡ pick t (g l) other
+    by true e = h l (ltb-true row l e)
+    by false e = refl
+
+later-on : {A : Type 0} (other : A) (row : ℕ) (f : ℕ → A) (l : ℕ) → row < l → later other row f l ≡ f l
+later-on other row f l h = rw (lt-ltb row l h)
+
+-- Row l is absent, or later than row.
+abbrev pub Forward : ℕ → ℕ → Type 0
+Forward row l = 0 < l → row < l
+
+-- The list that begins at a link; 0 is the empty list.
+abbrev pub listAt : List ℤ → ℕ → Items
+listAt rows zero = none
+listAt rows (suc l) = itemsAt rows (suc l)
+
+-- The part of a for at a link; 0 is absent.
+abbrev pub partAt : List ℤ → ℕ → Part
+partAt rows zero = absent
+partAt rows (suc l) = present (expressionAt rows (suc l))
+
+-- The kinds of statements, marks apart.
+abbrev pub isStatement : Kind → Bool
+isStatement Constant = false
+isStatement Variable = false
+isStatement Element = false
+isStatement Minus = false
+isStatement Not = false
+isStatement (Binary o) = false
+isStatement And = false
+isStatement Or = false
+isStatement Conditional = false
+isStatement Comma = false
+isStatement Assign = false
+isStatement (Compound o) = false
+isStatement (Prefix o) = false
+isStatement (Postfix o) = false
+isStatement Empty = true
+isStatement Express = true
+isStatement Block = true
+isStatement If = true
+isStatement While = true
+isStatement Do = true
+isStatement For = true
+isStatement Switch = true
+isStatement Case = false
+isStatement Default = false
+isStatement Break = true
+isStatement Continue = true
+isStatement Goto = true
+isStatement Label = false
+isStatement Other = false
+
+no-statement : {A : Type 0} → false ≡ true → A
+no-statement e = absurd (let z : _≡_ {A = ℕ} 0 1 = cc in omega arith)
+
+items-statement : (k : Kind) (word : ℕ → ℤ) (s : Statement) (is : Items) → isStatement k ≡ true → itemsOf k word s is ≡ s then is
+unfolding itemsOf
+items-statement Constant word s is e = no-statement e
+items-statement Variable word s is e = no-statement e
+items-statement Element word s is e = no-statement e
+items-statement Minus word s is e = no-statement e
+items-statement Not word s is e = no-statement e
+items-statement (Binary o) word s is e = no-statement e
+items-statement And word s is e = no-statement e
+items-statement Or word s is e = no-statement e
+items-statement Conditional word s is e = no-statement e
+items-statement Comma word s is e = no-statement e
+items-statement Assign word s is e = no-statement e
+items-statement (Compound o) word s is e = no-statement e
+items-statement (Prefix o) word s is e = no-statement e
+items-statement (Postfix o) word s is e = no-statement e
+items-statement Empty word s is e = refl
+items-statement Express word s is e = refl
+items-statement Block word s is e = refl
+items-statement If word s is e = refl
+items-statement While word s is e = refl
+items-statement Do word s is e = refl
+items-statement For word s is e = refl
+items-statement Switch word s is e = refl
+items-statement Case word s is e = no-statement e
+items-statement Default word s is e = no-statement e
+items-statement Break word s is e = refl
+items-statement Continue word s is e = refl
+items-statement Goto word s is e = refl
+items-statement Label word s is e = no-statement e
+items-statement Other word s is e = no-statement e
+
+if-some : (l : ℕ) (e : Expression) (s t : Statement) → 0 < l → ifOf l e s t ≡ ifElse e s t
+if-some zero e s t h = absurd (omega arith)
+if-some (suc l) e s t h = refl
+
+ap₃ : {A B C D : Type 0} (f : A → B → C → D) {x x′ : A} {y y′ : B} {z z′ : C} → x ≡ x′ → y ≡ y′ → z ≡ z′ → f x y z ≡ f x′ y′ z′
+ap₃ f {x} {x′} {y} {y′} {z} {z′} p q r = ap₂ (λ g w. g w) (ap₂ f p q) r
+
+module _ (rows : List ℤ) (whole : Whole rows) where
+  -- Beyond the table there is no kind.
+  pub kind-beyond : (row : ℕ) → rowCount rows ≤ row → kindAt rows row ≡ Other
+  unfolding kindAt numberAt wordAt natural kindOf kindIn kinds
+  kind-beyond row h = let l : length rows ≤ 6 * row + 0 = omega arith in rw (List·getD-eq-default rows (pos 0) l)
+
+  expression-same : (k n row : ℕ) → rowCount rows ≤ row + k → rowCount rows ≤ row + n → expressionBy k rows row ≡ expressionBy n rows row
+  unfolding expressionBy expressionOf
+  expression-same zero zero row p q = refl
+  expression-same zero (suc n) row p q = rw (kind-beyond row (omega arith))
+  expression-same (suc k) zero row p q = rw (kind-beyond row (omega arith))
+  expression-same (suc k) (suc n) row p q =
+      ap (expressionOf (kindAt rows row) (wordAt rows row))
+      (fun-ext (later-same (constant (pos 0)) row (expressionBy k rows) (expressionBy n rows) (λ l h. expression-same k n l (omega arith) (omega arith))))
+
+  trees-same : (k n row : ℕ) → rowCount rows ≤ row + k → rowCount rows ≤ row + n → treesBy k rows row ≡ treesBy n rows row
+  unfolding treesBy treesOf statementOf itemsOf
+  trees-same zero zero row p q = refl
+  trees-same zero (suc n) row p q = rw (kind-beyond row (omega arith))
+  trees-same (suc k) zero row p q = rw (kind-beyond row (omega arith))
+  trees-same (suc k) (suc n) row p q =
+      ap₂ (treesOf (kindAt rows row) (wordAt rows row) (later (constant (pos 0)) row (expressionAt rows)))
+      (fun-ext (later-same empty row (λ l. (treesBy k rows l) .statement) (λ l. (treesBy n rows l) .statement) (λ l h. ap (λ t. t .statement) (trees-same k n l (omega arith) (omega arith)))))
+      (fun-ext (later-same none row (λ l. (treesBy k rows l) .items) (λ l. (treesBy n rows l) .items) (λ l h. ap (λ t. t .items) (trees-same k n l (omega arith) (omega arith)))))
+
+  -- One row's expression, from those at its links.
+  pub expression-at : (row : ℕ) → expressionAt rows row ≡ expressionOf (kindAt rows row) (wordAt rows row) (later (constant (pos 0)) row (expressionAt rows))
+  unfolding expressionAt expressionBy
+  expression-at row = expression-same (rowCount rows) (suc (rowCount rows)) row (omega arith) (omega arith)
+
+  trees-at : (row : ℕ) → treesBy (rowCount rows) rows row ≡ treesOf (kindAt rows row) (wordAt rows row) (later (constant (pos 0)) row (expressionAt rows)) (later empty row (statementAt rows)) (later none row (itemsAt rows))
+  unfolding treesBy statementAt itemsAt
+  trees-at row = trees-same (rowCount rows) (suc (rowCount rows)) row (omega arith) (omega arith)
+
+  -- One row's statement, and the list from it on.
+  pub statement-at : (row : ℕ) → statementAt rows row ≡ statementOf (kindAt rows row) (wordAt rows row) (later (constant (pos 0)) row (expressionAt rows)) (later empty row (statementAt rows)) (later none row (itemsAt rows))
+  unfolding treesOf statementAt
+  statement-at row = ap (λ t. t .statement) (trees-at row)
+
+  pub items-at : (row : ℕ) → itemsAt rows row ≡ itemsOf (kindAt rows row) (wordAt rows row) (statementAt rows row) (later none row (itemsAt rows) (numberAt rows row 5))
+  unfolding treesOf itemsAt numberAt
+  items-at row = ap (λ t. t .items) (trees-at row) ∙ ap (λ s. itemsOf (kindAt rows row) (wordAt rows row) s (later none row (itemsAt rows) (natural (wordAt rows row 5)))) (sym (statement-at row))
+
+  -- A link is absent or leads to a later row.
+  later-list : (row l : ℕ) → Forward row l → later none row (itemsAt rows) l ≡ listAt rows l
+  later-list row zero p = rw (le-ltb row 0 (omega arith))
+  later-list row (suc l) p = rw (lt-ltb row (suc l) (p (omega arith)))
+
+  later-part : (row l : ℕ) → Forward row l → partOf l (later (constant (pos 0)) row (expressionAt rows) l) ≡ partAt rows l
+  later-part row zero p = refl
+  later-part row (suc l) p = rw (lt-ltb row (suc l) (p (omega arith)))
+
+  -- Fields by name: the trees at the links a, b, c, d and next of a row.
+  module _ (row : ℕ) where
+    abbrev a : ℕ
+    a = numberAt rows row 1
+
+    abbrev b : ℕ
+    b = numberAt rows row 2
+
+    abbrev c : ℕ
+    c = numberAt rows row 3
+
+    abbrev d : ℕ
+    d = numberAt rows row 4
+
+    abbrev e-at : ℕ → Expression
+    e-at l = expressionAt rows l
+
+    -- ---- kinds 1 to 30
+
+    pub at-constant : kindAt rows row ≡ Constant → expressionAt rows row ≡ constant (wordAt rows row 1)
+    unfolding expressionOf
+    at-constant k = rw (expression-at row, k)
+
+    pub at-variable : kindAt rows row ≡ Variable → expressionAt rows row ≡ read (variable a)
+    unfolding expressionOf numberAt
+    at-variable k = rw (expression-at row, k)
+
+    pub at-element : kindAt rows row ≡ Element → row < b → expressionAt rows row ≡ read (element a (e-at b))
+    unfolding expressionOf numberAt
+    at-element k p = rw (expression-at row, k, lt-ltb row b p)
+
+    pub at-minus : kindAt rows row ≡ Minus → row < a → expressionAt rows row ≡ minus (e-at a)
+    unfolding expressionOf numberAt
+    at-minus k p = rw (expression-at row, k, lt-ltb row a p)
+
+    pub at-not : kindAt rows row ≡ Not → row < a → expressionAt rows row ≡ not (e-at a)
+    unfolding expressionOf numberAt
+    at-not k p = rw (expression-at row, k, lt-ltb row a p)
+
+    pub at-binary : (o : Operator) → kindAt rows row ≡ Binary o → row < a → row < b → expressionAt rows row ≡ binary o (e-at a) (e-at b)
+    unfolding expressionOf numberAt
+    at-binary o k p q = rw (expression-at row, k, lt-ltb row a p, lt-ltb row b q)
+
+    pub at-and : kindAt rows row ≡ And → row < a → row < b → expressionAt rows row ≡ and (e-at a) (e-at b)
+    unfolding expressionOf numberAt
+    at-and k p q = rw (expression-at row, k, lt-ltb row a p, lt-ltb row b q)
+
+    pub at-or : kindAt rows row ≡ Or → row < a → row < b → expressionAt rows row ≡ or (e-at a) (e-at b)
+    unfolding expressionOf numberAt
+    at-or k p q = rw (expression-at row, k, lt-ltb row a p, lt-ltb row b q)
+
+    pub at-comma : kindAt rows row ≡ Comma → row < a → row < b → expressionAt rows row ≡ comma (e-at a) (e-at b)
+    unfolding expressionOf numberAt
+    at-comma k p q = rw (expression-at row, k, lt-ltb row a p, lt-ltb row b q)
+
+    pub at-conditional : kindAt rows row ≡ Conditional → row < a → row < b → row < c → expressionAt rows row ≡ conditional (e-at a) (e-at b) (e-at c)
+    unfolding expressionOf numberAt
+    at-conditional k p q r = rw (expression-at row, k, lt-ltb row a p, lt-ltb row b q, lt-ltb row c r)
+
+    pub at-assign : kindAt rows row ≡ Assign → row < a → row < b → expressionAt rows row ≡ assign (placeOf (e-at a)) (e-at b)
+    unfolding expressionOf numberAt
+    at-assign k p q = rw (expression-at row, k, lt-ltb row a p, lt-ltb row b q)
+
+    pub at-compound : (o : Operator) → kindAt rows row ≡ Compound o → row < a → row < b → expressionAt rows row ≡ compound o (placeOf (e-at a)) (e-at b)
+    unfolding expressionOf numberAt
+    at-compound o k p q = rw (expression-at row, k, lt-ltb row a p, lt-ltb row b q)
+
+    pub at-prefix : (o : Operator) → kindAt rows row ≡ Prefix o → row < a → expressionAt rows row ≡ prefix o (placeOf (e-at a))
+    unfolding expressionOf numberAt
+    at-prefix o k p = rw (expression-at row, k, lt-ltb row a p)
+
+    pub at-postfix : (o : Operator) → kindAt rows row ≡ Postfix o → row < a → expressionAt rows row ≡ postfix o (placeOf (e-at a))
+    unfolding expressionOf numberAt
+    at-postfix o k p = rw (expression-at row, k, lt-ltb row a p)
+
+    -- ---- kinds 40 to 53
+
+    abbrev s-at : ℕ → Statement
+    s-at l = statementAt rows l
+
+    pub at-empty : kindAt rows row ≡ Empty → statementAt rows row ≡ empty
+    unfolding statementOf
+    at-empty k = rw (statement-at row, k)
+
+    pub at-express : kindAt rows row ≡ Express → row < a → statementAt rows row ≡ express (e-at a)
+    unfolding statementOf numberAt
+    at-express k p = rw (statement-at row, k, lt-ltb row a p)
+
+    pub at-block : kindAt rows row ≡ Block → Forward row a → statementAt rows row ≡ block (listAt rows a)
+    unfolding statementOf numberAt
+    at-block k p = rw (statement-at row, k) (ap block (later-list row a p))
+
+    pub at-ifThen : kindAt rows row ≡ If → row < a → row < b → c ≡ 0 → statementAt rows row ≡ ifThen (e-at a) (s-at b)
+    unfolding statementOf numberAt
+    at-ifThen k p q z = rw (statement-at row, k, lt-ltb row a p, lt-ltb row b q, z)
+
+    pub at-ifElse : kindAt rows row ≡ If → row < a → row < b → row < c → statementAt rows row ≡ ifElse (e-at a) (s-at b) (s-at c)
+    unfolding statementOf numberAt
+    at-ifElse k p q r = rw (statement-at row, k, lt-ltb row a p, lt-ltb row b q, lt-ltb row c r) (if-some c (e-at a) (s-at b) (s-at c) (omega arith))
+
+    pub at-while : kindAt rows row ≡ While → row < a → row < b → statementAt rows row ≡ while (e-at a) (s-at b)
+    unfolding statementOf numberAt
+    at-while k p q = rw (statement-at row, k, lt-ltb row a p, lt-ltb row b q)
+
+    pub at-doWhile : kindAt rows row ≡ Do → row < a → row < b → statementAt rows row ≡ doWhile (s-at a) (e-at b)
+    unfolding statementOf numberAt
+    at-doWhile k p q = rw (statement-at row, k, lt-ltb row a p, lt-ltb row b q)
+
+    pub at-for : kindAt rows row ≡ For → Forward row a → Forward row b → Forward row c → row < d
+        → statementAt rows row ≡ for (partAt rows a) (partAt rows b) (partAt rows c) (s-at d)
+    unfolding statementOf numberAt
+    at-for k p q r t = rw (statement-at row, k, lt-ltb row d t) (ap₃ (λ x y z. for x y z (s-at d)) (later-part row a p) (later-part row b q) (later-part row c r))
+
+    pub at-switch : kindAt rows row ≡ Switch → row < a → Forward row b → statementAt rows row ≡ switch (e-at a) (listAt rows b)
+    unfolding statementOf numberAt
+    at-switch k p q = rw (statement-at row, k, lt-ltb row a p) (ap (switch (e-at a)) (later-list row b q))
+
+    pub at-break : kindAt rows row ≡ Break → statementAt rows row ≡ break
+    unfolding statementOf
+    at-break k = rw (statement-at row, k)
+
+    pub at-continue : kindAt rows row ≡ Continue → statementAt rows row ≡ continue
+    unfolding statementOf
+    at-continue k = rw (statement-at row, k)
+
+    pub at-goto : kindAt rows row ≡ Goto → statementAt rows row ≡ goto a
+    unfolding statementOf numberAt
+    at-goto k = rw (statement-at row, k)
+
+    -- ---- items: a statement or a mark, and the list behind it
+
+    abbrev behind : ℕ
+    behind = numberAt rows row 5
+
+    pub at-item : isStatement (kindAt rows row) ≡ true → Forward row behind → itemsAt rows row ≡ statementAt rows row then listAt rows behind
+    at-item k p = items-at row ∙ items-statement (kindAt rows row) (wordAt rows row) (statementAt rows row) _ k ∙ ap (λ l. statementAt rows row then l) (later-list row behind p)
+
+    pub at-case : kindAt rows row ≡ Case → Forward row behind → itemsAt rows row ≡ case (wordAt rows row 1) here listAt rows behind
+    unfolding itemsOf
+    at-case k p = rw (items-at row, k) (ap (λ l. case (wordAt rows row 1) here l) (later-list row behind p))
+
+    pub at-default : kindAt rows row ≡ Default → Forward row behind → itemsAt rows row ≡ default here listAt rows behind
+    unfolding itemsOf
+    at-default k p = rw (items-at row, k) (ap (λ l. default here l) (later-list row behind p))
+
+    pub at-label : kindAt rows row ≡ Label → Forward row behind → itemsAt rows row ≡ label a here listAt rows behind
+    unfolding itemsOf numberAt
+    at-label k p = rw (items-at row, k) (ap (λ l. label a here l) (later-list row behind p))

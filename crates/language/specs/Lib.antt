@@ -1,0 +1,22 @@
+-- The language of both forms: document 01's kinds as trees, and what they do. A line of comment for each file.
+-- Trees: expressions, places, statements, items.
+pub mod Trees
+-- Decode: the tree that rows hold.
+pub mod Decode
+-- Meaning: what trees do, one clause a kind, under the sentence of document 01 that it states.
+pub mod Meaning
+-- Programs: the run of a table of rows.
+pub mod Program
+-- Rules: document 01's starred rules as one table, and the theorem that they hold.
+pub mod Rules
+pub mod RulesHold
+-- Sizes: the rows and the depth of a tree.
+pub mod Sizes
+-- Well-formed trees: numbers in range; break, continue, case and default in place.
+pub mod WellFormed
+-- Sound tables: what a run asks of a table.
+pub mod Sound
+-- Laws of decode: a row's tree by its kind.
+pub mod DecodeLaws
+-- Laws of the runs of programs: enough budget.
+pub mod ProgramLaws

@@ -1,0 +1,31 @@
+-- Programs: the run of a table of rows.
+use mathlib.Core.List.{List}
+use Prim.Native.Nat.{ℕ}
+use lib.IntN.{ℤ}
+use Rattle.words.specs.Layout.{layoutOf}
+use Rattle.words.specs.declared.Form.{Form}
+use Rattle.words.specs.declared.Ending.{Ending}
+use Rattle.computation.specs.Computation.{Computation}
+use Rattle.computation.specs.Run.{Result, Limit, steps, run, start, final, endingOf}
+use Rattle.language.specs.Decode.{decode}
+use Rattle.language.specs.Meaning.{Signal, exec}
+
+-- How a run ended, the steps that it made, and the store that it left.
+pub record Finished : Type 0 where
+  pub ending : Ending
+  pub count : ℕ
+  pub store : List ℤ
+
+abbrev pub finished : {A : Type 0} → Result A → Finished
+finished r = record { ending = endingOf r; count = (final r) .count; store = (final r) .store }
+
+unfoldable pub programOf : Form → List ℤ → List ℤ → Computation Signal
+programOf form header rows = exec (layoutOf form header) (decode rows)
+
+-- The run of a program under a limit, from a store.
+unfoldable pub runUnder : Limit → Form → List ℤ → List ℤ → List ℤ → Result Signal
+runUnder limit form header rows store = run limit (programOf form header rows) (start store)
+
+-- The run with a budget, any natural number.
+unfoldable pub runProgram : Form → List ℤ → List ℤ → ℕ → List ℤ → Finished
+runProgram form header rows budget store = finished (runUnder (steps budget) form header rows store)

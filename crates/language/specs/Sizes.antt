@@ -1,0 +1,91 @@
+-- Sizes: the rows and the depth of a tree. "Row 0 has 1, a row has its owner's plus 1, items of one list share theirs."
+use Prim.Native.Nat.{ℕ, _+_, max}
+use Rattle.language.specs.Trees.{Expression, constant, read, minus, not, binary, and, or, comma, conditional, assign, compound, prefix, postfix, Place, variable, element, Part, absent, present, Statement, empty, express, block, ifThen, ifElse, while, doWhile, for, switch, break, continue, goto, Items, none, _then_, _here_}
+
+unfoldable mutual
+  pub expressionRows : Expression → ℕ
+  expressionRows (constant v) = 1
+  expressionRows (read p) = placeRows p
+  expressionRows (minus e) = 1 + expressionRows e
+  expressionRows (not e) = 1 + expressionRows e
+  expressionRows (binary o a b) = 1 + expressionRows a + expressionRows b
+  expressionRows (and a b) = 1 + expressionRows a + expressionRows b
+  expressionRows (or a b) = 1 + expressionRows a + expressionRows b
+  expressionRows (comma a b) = 1 + expressionRows a + expressionRows b
+  expressionRows (conditional c a b) = 1 + expressionRows c + expressionRows a + expressionRows b
+  expressionRows (assign p e) = 1 + placeRows p + expressionRows e
+  expressionRows (compound o p e) = 1 + placeRows p + expressionRows e
+  expressionRows (prefix o p) = 1 + placeRows p
+  expressionRows (postfix o p) = 1 + placeRows p
+
+  pub placeRows : Place → ℕ
+  placeRows (variable i) = 1
+  placeRows (element a e) = 1 + expressionRows e
+
+abbrev pub partRows : Part → ℕ
+partRows absent = 0
+partRows (present e) = expressionRows e
+
+unfoldable mutual
+  pub statementRows : Statement → ℕ
+  statementRows empty = 1
+  statementRows (express e) = 1 + expressionRows e
+  statementRows (block is) = 1 + itemsRows is
+  statementRows (ifThen e onTrue) = 1 + expressionRows e + statementRows onTrue
+  statementRows (ifElse e onTrue onFalse) = 1 + expressionRows e + statementRows onTrue + statementRows onFalse
+  statementRows (while e body) = 1 + expressionRows e + statementRows body
+  statementRows (doWhile body e) = 1 + expressionRows e + statementRows body
+  statementRows (for first test action body) = 1 + partRows first + partRows test + partRows action + statementRows body
+  statementRows (switch e is) = 1 + expressionRows e + itemsRows is
+  statementRows break = 1
+  statementRows continue = 1
+  statementRows (goto l) = 1
+
+  pub itemsRows : Items → ℕ
+  itemsRows none = 0
+  itemsRows (s then is) = statementRows s + itemsRows is
+  itemsRows (m here is) = 1 + itemsRows is
+
+unfoldable mutual
+  pub expressionDepth : Expression → ℕ
+  expressionDepth (constant v) = 1
+  expressionDepth (read p) = placeDepth p
+  expressionDepth (minus e) = 1 + expressionDepth e
+  expressionDepth (not e) = 1 + expressionDepth e
+  expressionDepth (binary o a b) = 1 + max (expressionDepth a) (expressionDepth b)
+  expressionDepth (and a b) = 1 + max (expressionDepth a) (expressionDepth b)
+  expressionDepth (or a b) = 1 + max (expressionDepth a) (expressionDepth b)
+  expressionDepth (comma a b) = 1 + max (expressionDepth a) (expressionDepth b)
+  expressionDepth (conditional c a b) = 1 + max (expressionDepth c) (max (expressionDepth a) (expressionDepth b))
+  expressionDepth (assign p e) = 1 + max (placeDepth p) (expressionDepth e)
+  expressionDepth (compound o p e) = 1 + max (placeDepth p) (expressionDepth e)
+  expressionDepth (prefix o p) = 1 + placeDepth p
+  expressionDepth (postfix o p) = 1 + placeDepth p
+
+  pub placeDepth : Place → ℕ
+  placeDepth (variable i) = 1
+  placeDepth (element a e) = 1 + expressionDepth e
+
+abbrev pub partDepth : Part → ℕ
+partDepth absent = 0
+partDepth (present e) = expressionDepth e
+
+unfoldable mutual
+  pub statementDepth : Statement → ℕ
+  statementDepth empty = 1
+  statementDepth (express e) = 1 + expressionDepth e
+  statementDepth (block is) = 1 + itemsDepth is
+  statementDepth (ifThen e onTrue) = 1 + max (expressionDepth e) (statementDepth onTrue)
+  statementDepth (ifElse e onTrue onFalse) = 1 + max (expressionDepth e) (max (statementDepth onTrue) (statementDepth onFalse))
+  statementDepth (while e body) = 1 + max (expressionDepth e) (statementDepth body)
+  statementDepth (doWhile body e) = 1 + max (expressionDepth e) (statementDepth body)
+  statementDepth (for first test action body) = 1 + max (max (partDepth first) (partDepth test)) (max (partDepth action) (statementDepth body))
+  statementDepth (switch e is) = 1 + max (expressionDepth e) (itemsDepth is)
+  statementDepth break = 1
+  statementDepth continue = 1
+  statementDepth (goto l) = 1
+
+  pub itemsDepth : Items → ℕ
+  itemsDepth none = 0
+  itemsDepth (s then is) = max (statementDepth s) (itemsDepth is)
+  itemsDepth (m here is) = max 1 (itemsDepth is)

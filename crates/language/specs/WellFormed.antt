@@ -1,0 +1,90 @@
+-- Well-formed trees: numbers in range; break, continue, case and default in place. What the check gives of an accepted program, and
+-- what the translation asks.
+use mathlib.Core.Path.{_≡_}
+use mathlib.Core.Bool.{Bool, true, false}
+use Prim.Native.Nat.{ℕ, _<_}
+use lib.ListN.{length}
+use Rattle.words.specs.Layout.{Layout}
+use Rattle.language.specs.Trees.{Expression, constant, read, minus, not, binary, and, or, comma, conditional, assign, compound, prefix, postfix, Place, variable, element, Part, absent, present, Mark, case, default, label, Statement, empty, express, block, ifThen, ifElse, while, doWhile, for, switch, break, continue, goto, Items, none, _then_, _here_}
+
+-- Every variable that a tree names satisfies Names, and every array is below `arrays`.
+module _ (Names : ℕ → Type 0) (arrays : ℕ) where
+  unfoldable mutual
+    pub NamedExpression : Expression → Type 0
+    NamedExpression (constant v) = Unit {0}
+    NamedExpression (read p) = NamedPlace p
+    NamedExpression (minus e) = NamedExpression e
+    NamedExpression (not e) = NamedExpression e
+    NamedExpression (binary o a b) = NamedExpression a × NamedExpression b
+    NamedExpression (and a b) = NamedExpression a × NamedExpression b
+    NamedExpression (or a b) = NamedExpression a × NamedExpression b
+    NamedExpression (comma a b) = NamedExpression a × NamedExpression b
+    NamedExpression (conditional c a b) = NamedExpression c × NamedExpression a × NamedExpression b
+    NamedExpression (assign p e) = NamedPlace p × NamedExpression e
+    NamedExpression (compound o p e) = NamedPlace p × NamedExpression e
+    NamedExpression (prefix o p) = NamedPlace p
+    NamedExpression (postfix o p) = NamedPlace p
+
+    pub NamedPlace : Place → Type 0
+    NamedPlace (variable i) = Names i
+    NamedPlace (element array e) = (array < arrays) × NamedExpression e
+
+  abbrev pub NamedPart : Part → Type 0
+  NamedPart absent = Unit {0}
+  NamedPart (present e) = NamedExpression e
+
+  unfoldable mutual
+    pub NamedStatement : Statement → Type 0
+    NamedStatement empty = Unit {0}
+    NamedStatement (express e) = NamedExpression e
+    NamedStatement (block is) = NamedItems is
+    NamedStatement (ifThen e onTrue) = NamedExpression e × NamedStatement onTrue
+    NamedStatement (ifElse e onTrue onFalse) = NamedExpression e × NamedStatement onTrue × NamedStatement onFalse
+    NamedStatement (while e body) = NamedExpression e × NamedStatement body
+    NamedStatement (doWhile body e) = NamedStatement body × NamedExpression e
+    NamedStatement (for first test action body) = NamedPart first × NamedPart test × NamedPart action × NamedStatement body
+    NamedStatement (switch e is) = NamedExpression e × NamedItems is
+    NamedStatement break = Unit {0}
+    NamedStatement continue = Unit {0}
+    NamedStatement (goto l) = Unit {0}
+
+    pub NamedItems : Items → Type 0
+    NamedItems none = Unit {0}
+    NamedItems (s then is) = NamedStatement s × NamedItems is
+    NamedItems (m here is) = NamedItems is
+
+-- Whether a case or default may stand in a list. A label may not stand in a source program.
+abbrev pub markAllowed : Bool → Mark → Bool
+markAllowed inSwitch (case v) = inSwitch
+markAllowed inSwitch default = inSwitch
+markAllowed inSwitch (label l) = false
+
+-- "A case or default is an item of a switch's own list. Break stands inside a loop or switch, continue inside a loop." No goto:
+-- the source has none. `mayBreak` and `mayContinue` say what stands around the tree.
+unfoldable mutual
+  pub Placed : Bool → Bool → Statement → Type 0
+  Placed mayBreak mayContinue empty = Unit {0}
+  Placed mayBreak mayContinue (express e) = Unit {0}
+  Placed mayBreak mayContinue (block is) = PlacedItems false mayBreak mayContinue is
+  Placed mayBreak mayContinue (ifThen e onTrue) = Placed mayBreak mayContinue onTrue
+  Placed mayBreak mayContinue (ifElse e onTrue onFalse) = Placed mayBreak mayContinue onTrue × Placed mayBreak mayContinue onFalse
+  Placed mayBreak mayContinue (while e body) = Placed true true body
+  Placed mayBreak mayContinue (doWhile body e) = Placed true true body
+  Placed mayBreak mayContinue (for first test action body) = Placed true true body
+  Placed mayBreak mayContinue (switch e is) = PlacedItems true true mayContinue is
+  Placed mayBreak mayContinue break = mayBreak ≡ true
+  Placed mayBreak mayContinue continue = mayContinue ≡ true
+  Placed mayBreak mayContinue (goto l) = ⊥
+
+  -- The items of a list, which is a switch's own or not.
+  pub PlacedItems : Bool → Bool → Bool → Items → Type 0
+  PlacedItems inSwitch mayBreak mayContinue none = Unit {0}
+  PlacedItems inSwitch mayBreak mayContinue (s then is) = Placed mayBreak mayContinue s × PlacedItems inSwitch mayBreak mayContinue is
+  PlacedItems inSwitch mayBreak mayContinue (m here is) = (markAllowed inSwitch m ≡ true) × PlacedItems inSwitch mayBreak mayContinue is
+
+-- A source program's tree: a block, its numbers in range, its jumps in place.
+pub record SourceTree (L : Layout) (program : Statement) : Type 0 where
+  pub contents : Items
+  pub is-block : program ≡ block contents
+  pub named : NamedItems (λ i. i < L .variables) (length (L .lengths)) contents
+  pub placed : PlacedItems false false false contents

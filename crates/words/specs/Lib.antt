@@ -1,0 +1,15 @@
+-- Words, tables and layouts; the answers that the crates share; 32-bit arithmetic. A line of comment for each file.
+-- Words: what is one, and the number that one names.
+pub mod Word
+-- Tables: the rows of a program, and the words of a row.
+pub mod Table
+-- Forms and layouts: the limits of both forms, the header, the store.
+pub mod Layout
+-- Kinds: document 01's table of kinds, by number.
+pub mod Kinds
+-- Arithmetic: the operations on words, with their faults.
+pub mod Arithmetic
+-- Answers: document 01's numbers and words for each case of an enum.
+pub mod Answers
+-- Laws: what follows from these definitions.
+pub mod Laws

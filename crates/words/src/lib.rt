@@ -1,0 +1,109 @@
+// Words, tables, layouts and 32-bit arithmetic: the leaves that every other crate stands on, and the answers they share.
+pub mod arithmetic; // arithmetic.rt: the operations on words, and the bounds test
+pub mod kinds; // kinds.rt: the kind of a row
+pub mod layout; // layout.rt: the header's limits, and the sizes it gives
+pub mod table; // table.rt: the words of a row, and the numbers they name
+
+// The two forms of a program.
+pub enum Form {
+    Source,
+    Kernel,
+}
+
+// Why an entry did nothing: document 01's number of the cause, and the place.
+pub struct Refusal {
+    pub number: u32,
+    pub place: usize,
+}
+
+// What a check answers.
+pub enum Verdict {
+    Accepted,
+    Refused(Refusal),
+}
+
+// "A fault of one of three sorts".
+pub enum FaultSort {
+    Overflow,
+    ZeroDivisor,
+    Index,
+}
+
+// "A run ends plainly, spent, or with a fault of one of three sorts."
+pub enum Ending {
+    Plain,
+    Spent,
+    Fault(FaultSort),
+}
+
+// How a run ended, and "the number of steps that the run made".
+pub struct RunAnswer {
+    pub ending: Ending,
+    pub count: u32,
+}
+
+// What a public run answers.
+pub enum RunVerdict {
+    Ran(RunAnswer),
+    Refused(Refusal),
+}
+
+// Kinds 6 to 16, and the operators of kinds 22 to 30.
+pub enum Operator {
+    Add,
+    Subtract,
+    Multiply,
+    Divide,
+    Remainder,
+    Less,
+    Greater,
+    LessOrEqual,
+    GreaterOrEqual,
+    Equal,
+    NotEqual,
+}
+
+// The kinds of rows. Kinds that differ in an operator are one variant.
+pub enum Kind {
+    Constant,
+    Variable,
+    Element,
+    Minus,
+    Not,
+    Binary(Operator),
+    And,
+    Or,
+    Conditional,
+    Comma,
+    Assign,
+    Compound(Operator),
+    Prefix(Operator),
+    Postfix(Operator),
+    Empty,
+    Express,
+    Block,
+    If,
+    While,
+    Do,
+    For,
+    Switch,
+    Case,
+    Default,
+    Break,
+    Continue,
+    Goto,
+    Label,
+    Other,
+}
+
+// What an operation on words gives.
+pub enum Computed {
+    Value(i32),
+    Fails(FaultSort),
+}
+
+// Where an element lies in the store; outside its array it lies nowhere.
+pub enum Located {
+    At(usize),
+    Outside,
+}

@@ -1,0 +1,88 @@
+//! The case format and the answers.
+//!
+//! A case is a line of numbers parted by tabs (budget, length in bytes, start
+//! words), then exactly that many bytes of program text. No start words mean a
+//! store of zeros.
+
+use crate::machine::{run, Outcome};
+use crate::table::{store_size, Refusal};
+use crate::text;
+use std::fmt::Write;
+
+#[derive(Clone, Debug, PartialEq, Eq)]
+pub struct Case {
+    pub budget: u32,
+    pub words: Vec<i32>,
+    pub text: Vec<u8>,
+}
+
+pub fn write(case: &Case, bytes: &mut Vec<u8>) {
+    let mut line = format!("{}\t{}", case.budget, case.text.len());
+    for word in &case.words {
+        // Writing to a string does not fail.
+        let _ = write!(line, "\t{word}");
+    }
+    bytes.extend_from_slice(line.as_bytes());
+    bytes.push(b'\n');
+    bytes.extend_from_slice(&case.text);
+}
+
+/// Reads the first case and gives the bytes after it.
+pub fn read_one(bytes: &[u8]) -> Result<(Case, &[u8]), String> {
+    let end = bytes.iter().position(|&byte| byte == b'\n').ok_or("case line without newline")?;
+    let line = std::str::from_utf8(&bytes[..end]).map_err(|_| "case line not of numbers")?;
+    let mut fields = line.split('\t');
+    let budget = number(fields.next())?;
+    let length: usize = number(fields.next())?;
+    let words = fields.map(|field| number(Some(field))).collect::<Result<_, _>>()?;
+    let rest = &bytes[end + 1..];
+    if length > rest.len() {
+        return Err(format!("a text of {length} bytes is cut short"));
+    }
+    let (text, rest) = rest.split_at(length);
+    Ok((Case { budget, words, text: text.to_vec() }, rest))
+}
+
+fn number<T: std::str::FromStr>(field: Option<&str>) -> Result<T, String> {
+    let field = field.ok_or("case line too short")?;
+    field.parse().map_err(|_| format!("not a number of the case format: {field}"))
+}
+
+/// Reads a whole case file.
+pub fn read_all(bytes: &[u8]) -> Result<Vec<Case>, String> {
+    let mut cases = Vec::new();
+    let mut rest = bytes;
+    while !rest.is_empty() {
+        let (case, after) = read_one(rest).map_err(|e| format!("case {}: {e}", cases.len() + 1))?;
+        cases.push(case);
+        rest = after;
+    }
+    Ok(cases)
+}
+
+/// The outcome and the store, or the refusal.
+pub fn evaluate(case: &Case) -> Result<(Outcome, Vec<i32>), Refusal> {
+    let (header, rows) = text::read(&case.text)?;
+    let mut store = case.words.clone();
+    if store.is_empty() {
+        store = vec![0; store_size(&header) as usize];
+    }
+    let outcome = run(&header, &rows, &mut store, case.budget)?;
+    Ok((outcome, store))
+}
+
+pub fn answer(case: &Case) -> String {
+    match evaluate(case) {
+        Ok((outcome, store)) => answer_line(outcome, &store),
+        Err(refusal) => refusal.to_string(),
+    }
+}
+
+/// Ending, count and store words, parted by single blanks.
+pub fn answer_line(outcome: Outcome, store: &[i32]) -> String {
+    let mut line = format!("{} {}", outcome.ending.name(), outcome.count);
+    for word in store {
+        let _ = write!(line, " {word}");
+    }
+    line
+}

@@ -1,0 +1,210 @@
+//! Generated programs, weighted toward what translators get wrong: one place
+//! read and written on both sides, effects in indices, fall-through, jumps
+//! through nests, faults half-way, and budgets next to the count.
+
+use crate::cases::Case;
+use crate::check::check;
+use crate::machine::{run_checked, Ending, Fault, Outcome};
+use crate::random::Random;
+use crate::table::*;
+use crate::text;
+use crate::tree::*;
+
+/// Runs longer than this count as endless here.
+const LONG: u32 = 20_000;
+
+/// Which sizes of program are made.
+#[derive(Clone, Copy, Debug, PartialEq, Eq)]
+pub enum Size {
+    /// Mostly 10 to 80 rows, a few hundred now and then.
+    Mixed,
+    /// 300 to 2,048 rows.
+    Large,
+}
+
+/// A legal program: its header and its tree.
+pub struct Program {
+    pub header: Vec<i32>,
+    pub tree: Tree,
+}
+
+/// The case of this number.
+pub fn case(seed: u64, number: u64, size: Size) -> Case {
+    let random = &mut Random::new(seed, number);
+    let wanted = random.weighted(&[
+        (70, None),
+        (12, Some(Fault::Overflow)),
+        (11, Some(Fault::Zero)),
+        (7, Some(Fault::Index)),
+    ]);
+    let mut tries = 0;
+    loop {
+        let program = program(random, size);
+        let order = any_order(random);
+        let rows = crate::tree::number(&program.tree, order, random);
+        let words = start_words(random, &program.header);
+        let outcome = long_run(&program.header, &rows, &words);
+        // Programs that fault late are rare unless looked for.
+        let found = match wanted {
+            None => true,
+            Some(fault) => outcome.ending == Ending::Fault(fault) && outcome.count > 20,
+        };
+        tries += 1;
+        if found || tries == 25 {
+            let budget = budget(random, outcome);
+            return Case { budget, words, text: text::write(&program.header, &rows) };
+        }
+    }
+}
+
+pub fn any_order(random: &mut Random) -> Order {
+    random.weighted(&[
+        (30, Order::Pre),
+        (8, Order::Breadth),
+        (8, Order::Last),
+        (8, Order::StatementsFirst),
+        (46, Order::Random),
+    ])
+}
+
+/// S start words, or none, which means zeros.
+pub fn start_words(random: &mut Random, header: &[i32]) -> Vec<i32> {
+    let size = store_size(header) as usize;
+    if size > 2_000 || random.chance(25) {
+        return Vec::new();
+    }
+    let extreme = random.pick(&[0, 0, 5, 20, 40]);
+    (0..size)
+        .map(|_| match random.chance(extreme) {
+            true => end_value(random),
+            false => random.between(-2, 5),
+        })
+        .collect()
+}
+
+/// The run that the budget is chosen by; no start words mean zeros.
+pub fn long_run(header: &[i32], rows: &[i32], words: &[i32]) -> Outcome {
+    let mut store = words.to_vec();
+    store.resize(store_size(header) as usize, 0);
+    run_checked(header, rows, &mut store, LONG)
+}
+
+/// A budget next to the count of steps, or a small or a large one.
+pub fn budget(random: &mut Random, outcome: Outcome) -> u32 {
+    if outcome.ending == Ending::Spent {
+        return match random.below(8) {
+            0 => LONG,
+            1 => random.below(LONG as usize) as u32,
+            _ => random.below(1_500) as u32,
+        };
+    }
+    let count = outcome.count;
+    match random.below(100) {
+        0..=11 => count,
+        12..=20 => count + 1,
+        21..=28 => count.saturating_sub(1),
+        29..=36 => random.below(count as usize + 3) as u32,
+        37 => 0,
+        38 => 1,
+        39 => u32::MAX,
+        40 => 1 << 31,
+        41 => i32::MAX as u32,
+        _ => LONG,
+    }
+}
+
+/// A value at or near the ends of 32 signed bits.
+pub fn end_value(random: &mut Random) -> i32 {
+    random.pick(&[
+        i32::MAX,
+        i32::MAX,
+        i32::MIN,
+        i32::MIN,
+        i32::MAX - 1,
+        i32::MIN + 1,
+        i32::MAX / 2,
+        i32::MIN / 2,
+        i32::MAX / 2 + 1,
+        46_340,
+        46_341,
+        -46_341,
+        65_536,
+        -65_536,
+    ])
+}
+
+/// A legal program.
+pub fn program(random: &mut Random, size: Size) -> Program {
+    loop {
+        let program = draft(random, size);
+        let rows = number(&program.tree, Order::Pre, random);
+        if check(&program.header, &rows).is_ok() {
+            return program;
+        }
+    }
+}
+
+fn draft(random: &mut Random, size: Size) -> Program {
+    let header = header(random);
+    let rows = match size {
+        Size::Large => random.pick(&[300, 600, 1_000, 1_500, 2_040, 2_048]),
+        Size::Mixed => match random.below(1_000) {
+            0 => 2_048,
+            1..=8 => random.between(150, 500),
+            9..=150 => random.between(3, 14),
+            151..=849 => random.between(12, 50),
+            _ => random.between(50, 90),
+        },
+    };
+    // How often a choice is kept from faulting, in percent.
+    let tame = random.pick(&[100, 98, 95, 90, 80, 55]);
+    let mut maker = Maker {
+        random,
+        variables: header[0],
+        lengths: header[1..].to_vec(),
+        tame,
+        room: rows - 1,
+        counters: Vec::new(),
+        rounds: 1,
+        in_loop: false,
+        breakable: false,
+    };
+    let tree = match maker.random.below(100) {
+        0..=2 => maker.deep_program(),
+        _ => maker.whole(rows),
+    };
+    Program { header, tree }
+}
+
+fn header(random: &mut Random) -> Vec<i32> {
+    let variables = random.weighted(&[(1, 0), (14, 1), (26, 2), (24, 3), (18, 4), (8, 5), (4, 9)]);
+    let arrays = random.weighted(&[(22, 0), (44, 1), (24, 2), (8, 3), (1, 5)]);
+    let mut header = vec![variables];
+    for _ in 0..arrays {
+        header.push(random.weighted(&[(14, 1), (26, 2), (30, 3), (18, 4), (8, 6), (2, 17)]));
+    }
+    match random.below(1_500) {
+        0 => header[0] = MAX_VARIABLES,
+        1 => header.resize(1 + MAX_ARRAYS, 1),
+        2 => header.push(300),
+        _ => {}
+    }
+    header
+}
+
+/// The state of the making of one program.
+pub struct Maker<'a> {
+    pub random: &'a mut Random,
+    pub variables: i32,
+    pub lengths: Vec<i32>,
+    /// Chance, in percent, that a choice is kept from faulting.
+    pub tame: usize,
+    /// Rows still to be made; parts stay small once it is used up.
+    pub room: i32,
+    /// Variables that count the rounds of the loops around.
+    pub counters: Vec<i32>,
+    /// Product of the rounds of the loops around.
+    pub rounds: i32,
+    pub in_loop: bool,
+    pub breakable: bool,
+}

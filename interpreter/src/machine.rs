@@ -1,0 +1,297 @@
+//! The C-light machine: plain recursive evaluation over the rows.
+
+use crate::check::check;
+use crate::table::*;
+
+#[derive(Clone, Copy, Debug, PartialEq, Eq)]
+pub enum Fault {
+    Overflow,
+    Zero,
+    Index,
+}
+
+#[derive(Clone, Copy, Debug, PartialEq, Eq)]
+pub enum Ending {
+    Ended,
+    Spent,
+    Fault(Fault),
+}
+
+impl Ending {
+    pub fn name(self) -> &'static str {
+        match self {
+            Ending::Ended => "ended",
+            Ending::Spent => "spent",
+            Ending::Fault(Fault::Overflow) => "overflow",
+            Ending::Fault(Fault::Zero) => "zero",
+            Ending::Fault(Fault::Index) => "index",
+        }
+    }
+}
+
+/// The ending of a run and the number of steps made.
+#[derive(Clone, Copy, Debug, PartialEq, Eq)]
+pub struct Outcome {
+    pub ending: Ending,
+    pub count: u32,
+}
+
+/// Checks the program and the store's size, then runs.
+pub fn run(
+    header: &[i32],
+    rows: &[i32],
+    store: &mut [i32],
+    budget: u32,
+) -> Result<Outcome, Refusal> {
+    check(header, rows)?;
+    if store.len() as i64 != store_size(header) {
+        return Err(Refusal::new(11, 0));
+    }
+    Ok(run_checked(header, rows, store, budget))
+}
+
+/// Runs a program that the check accepts, on a store of S words.
+pub fn run_checked(header: &[i32], rows: &[i32], store: &mut [i32], budget: u32) -> Outcome {
+    let mut arrays = Vec::with_capacity(MAX_ARRAYS);
+    let mut start = header[0] as usize;
+    for &length in &header[1..] {
+        arrays.push(Array { start, length });
+        start += length as usize;
+    }
+    let mut machine = Machine { rows: rows_of(rows), arrays: &arrays, store, budget, count: 0 };
+    let ending = match machine.statement(0) {
+        Ok(_) => Ending::Ended,
+        Err(Stop::Spent) => Ending::Spent,
+        Err(Stop::Fault(fault)) => Ending::Fault(fault),
+    };
+    Outcome { ending, count: machine.count }
+}
+
+/// Why a run stops before its end.
+#[derive(Clone, Copy)]
+enum Stop {
+    Spent,
+    Fault(Fault),
+}
+
+/// How a statement is left.
+#[derive(Clone, Copy, PartialEq, Eq)]
+enum Flow {
+    On,
+    Break,
+    Continue,
+}
+
+struct Array {
+    start: usize,
+    length: i32,
+}
+
+struct Machine<'a> {
+    rows: &'a [Row],
+    arrays: &'a [Array],
+    store: &'a mut [i32],
+    budget: u32,
+    count: u32,
+}
+
+impl Machine<'_> {
+    /// One step: a row is entered.
+    fn enter(&mut self) -> Result<(), Stop> {
+        if self.count == self.budget {
+            return Err(Stop::Spent);
+        }
+        self.count += 1;
+        Ok(())
+    }
+
+    fn expression(&mut self, at: i32) -> Result<i32, Stop> {
+        let [kind, a, b, c, ..] = self.rows[at as usize];
+        if kind == VARIABLE || kind == ELEMENT {
+            let place = self.place(at)?;
+            return Ok(self.store[place]);
+        }
+        self.enter()?;
+        match kind {
+            CONSTANT => Ok(a),
+            MINUS => self.expression(a)?.checked_neg().ok_or(OVERFLOW),
+            NOT => Ok((self.expression(a)? == 0) as i32),
+            ADD..=UNEQUAL => {
+                let right = self.expression(b)?;
+                let left = self.expression(a)?;
+                operate(kind, left, right)
+            }
+            AND => Ok((self.expression(a)? != 0 && self.expression(b)? != 0) as i32),
+            OR => Ok((self.expression(a)? != 0 || self.expression(b)? != 0) as i32),
+            CONDITIONAL => {
+                if self.expression(a)? != 0 {
+                    self.expression(b)
+                } else {
+                    self.expression(c)
+                }
+            }
+            COMMA => {
+                self.expression(a)?;
+                self.expression(b)
+            }
+            ASSIGN => {
+                let value = self.expression(b)?;
+                let place = self.place(a)?;
+                self.store[place] = value;
+                Ok(value)
+            }
+            ADD_ASSIGN..=REMAINDER_ASSIGN => {
+                let value = self.expression(b)?;
+                let place = self.place(a)?;
+                let result = operate(kind - ADD_ASSIGN + ADD, self.store[place], value)?;
+                self.store[place] = result;
+                Ok(result)
+            }
+            _ => {
+                let place = self.place(a)?;
+                let old = self.store[place];
+                let new = match kind {
+                    PRE_INCREMENT | POST_INCREMENT => old.checked_add(1),
+                    _ => old.checked_sub(1),
+                };
+                let new = new.ok_or(OVERFLOW)?;
+                self.store[place] = new;
+                Ok(if kind <= PRE_DECREMENT { new } else { old })
+            }
+        }
+    }
+
+    /// Enters a place and gives its position in the store: for an element the
+    /// index is worked out, then the bounds are tested.
+    fn place(&mut self, at: i32) -> Result<usize, Stop> {
+        let [kind, a, b, ..] = self.rows[at as usize];
+        self.enter()?;
+        if kind == VARIABLE {
+            return Ok(a as usize);
+        }
+        let index = self.expression(b)?;
+        let array = &self.arrays[a as usize];
+        if (0..array.length).contains(&index) {
+            Ok(array.start + index as usize)
+        } else {
+            Err(Stop::Fault(Fault::Index))
+        }
+    }
+
+    fn statement(&mut self, at: i32) -> Result<Flow, Stop> {
+        let [kind, a, b, c, d, _] = self.rows[at as usize];
+        self.enter()?;
+        match kind {
+            EXPRESSION => {
+                self.expression(a)?;
+                Ok(Flow::On)
+            }
+            BLOCK => self.list(a),
+            IF => {
+                if self.expression(a)? != 0 {
+                    self.statement(b)
+                } else if c != 0 {
+                    self.statement(c)
+                } else {
+                    Ok(Flow::On)
+                }
+            }
+            WHILE => {
+                while self.expression(a)? != 0 {
+                    if self.statement(b)? == Flow::Break {
+                        break;
+                    }
+                }
+                Ok(Flow::On)
+            }
+            DO => {
+                loop {
+                    if self.statement(a)? == Flow::Break {
+                        break;
+                    }
+                    if self.expression(b)? == 0 {
+                        break;
+                    }
+                }
+                Ok(Flow::On)
+            }
+            FOR => {
+                if a != 0 {
+                    self.expression(a)?;
+                }
+                while b == 0 || self.expression(b)? != 0 {
+                    if self.statement(d)? == Flow::Break {
+                        break;
+                    }
+                    if c != 0 {
+                        self.expression(c)?;
+                    }
+                }
+                Ok(Flow::On)
+            }
+            SWITCH => {
+                let selector = self.expression(a)?;
+                let mark = self.mark(b, selector);
+                match self.list(mark)? {
+                    Flow::Break => Ok(Flow::On),
+                    flow => Ok(flow),
+                }
+            }
+            BREAK => Ok(Flow::Break),
+            CONTINUE => Ok(Flow::Continue),
+            // Empty, case and default: the step alone.
+            _ => Ok(Flow::On),
+        }
+    }
+
+    /// Runs the items of a list from the given one on; 0 is an empty list.
+    fn list(&mut self, first: i32) -> Result<Flow, Stop> {
+        let mut item = first;
+        while item != 0 {
+            let flow = self.statement(item)?;
+            if flow != Flow::On {
+                return Ok(flow);
+            }
+            item = self.rows[item as usize][NEXT];
+        }
+        Ok(Flow::On)
+    }
+
+    /// The case of equal value, else the default, else 0.
+    fn mark(&self, first: i32, selector: i32) -> i32 {
+        let mut default = 0;
+        let mut item = first;
+        while item != 0 {
+            let row = &self.rows[item as usize];
+            match row[0] {
+                CASE if row[1] == selector => return item,
+                DEFAULT => default = item,
+                _ => {}
+            }
+            item = row[NEXT];
+        }
+        default
+    }
+}
+
+const OVERFLOW: Stop = Stop::Fault(Fault::Overflow);
+
+/// One of the kinds 6 to 16 on two values.
+fn operate(kind: i32, left: i32, right: i32) -> Result<i32, Stop> {
+    match kind {
+        ADD => left.checked_add(right).ok_or(OVERFLOW),
+        SUBTRACT => left.checked_sub(right).ok_or(OVERFLOW),
+        MULTIPLY => left.checked_mul(right).ok_or(OVERFLOW),
+        DIVIDE if right == 0 => Err(Stop::Fault(Fault::Zero)),
+        DIVIDE => left.checked_div(right).ok_or(OVERFLOW),
+        REMAINDER if right == 0 => Err(Stop::Fault(Fault::Zero)),
+        // A remainder by -1 is 0 for every dividend.
+        REMAINDER => Ok(left.wrapping_rem(right)),
+        LESS => Ok((left < right) as i32),
+        GREATER => Ok((left > right) as i32),
+        LESS_EQUAL => Ok((left <= right) as i32),
+        GREATER_EQUAL => Ok((left >= right) as i32),
+        EQUAL => Ok((left == right) as i32),
+        _ => Ok((left != right) as i32),
+    }
+}

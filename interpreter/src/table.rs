@@ -1,0 +1,173 @@
+//! The header and the rows of a source program.
+
+use std::fmt;
+
+pub const MAX_VARIABLES: i32 = 256;
+pub const MAX_ARRAYS: usize = 32;
+pub const MAX_LENGTH: i32 = 4096;
+pub const MAX_STORE: i64 = 8192;
+pub const MAX_ROWS: usize = 2048;
+pub const MAX_DEPTH: u32 = 64;
+
+/// Words of one row: kind, a, b, c, d, next.
+pub const WORDS: usize = 6;
+/// Position of the next field in a row.
+pub const NEXT: usize = 5;
+
+pub type Row = [i32; WORDS];
+
+pub const CONSTANT: i32 = 1;
+pub const VARIABLE: i32 = 2;
+pub const ELEMENT: i32 = 3;
+pub const MINUS: i32 = 4;
+pub const NOT: i32 = 5;
+pub const ADD: i32 = 6;
+pub const SUBTRACT: i32 = 7;
+pub const MULTIPLY: i32 = 8;
+pub const DIVIDE: i32 = 9;
+pub const REMAINDER: i32 = 10;
+pub const LESS: i32 = 11;
+pub const GREATER: i32 = 12;
+pub const LESS_EQUAL: i32 = 13;
+pub const GREATER_EQUAL: i32 = 14;
+pub const EQUAL: i32 = 15;
+pub const UNEQUAL: i32 = 16;
+pub const AND: i32 = 17;
+pub const OR: i32 = 18;
+pub const CONDITIONAL: i32 = 19;
+pub const COMMA: i32 = 20;
+pub const ASSIGN: i32 = 21;
+pub const ADD_ASSIGN: i32 = 22;
+pub const SUBTRACT_ASSIGN: i32 = 23;
+pub const MULTIPLY_ASSIGN: i32 = 24;
+pub const DIVIDE_ASSIGN: i32 = 25;
+pub const REMAINDER_ASSIGN: i32 = 26;
+pub const PRE_INCREMENT: i32 = 27;
+pub const PRE_DECREMENT: i32 = 28;
+pub const POST_INCREMENT: i32 = 29;
+pub const POST_DECREMENT: i32 = 30;
+pub const EMPTY: i32 = 40;
+pub const EXPRESSION: i32 = 41;
+pub const BLOCK: i32 = 42;
+pub const IF: i32 = 43;
+pub const WHILE: i32 = 44;
+pub const DO: i32 = 45;
+pub const FOR: i32 = 46;
+pub const SWITCH: i32 = 47;
+pub const CASE: i32 = 48;
+pub const DEFAULT: i32 = 49;
+pub const BREAK: i32 = 50;
+pub const CONTINUE: i32 = 51;
+
+/// A cause's number and its place: a row, a line of the text, or 0.
+#[derive(Clone, Copy, Debug, PartialEq, Eq)]
+pub struct Refusal {
+    pub number: u32,
+    pub place: u32,
+}
+
+impl Refusal {
+    pub fn new(number: u32, place: usize) -> Refusal {
+        Refusal { number, place: place as u32 }
+    }
+}
+
+impl fmt::Display for Refusal {
+    fn fmt(&self, f: &mut fmt::Formatter) -> fmt::Result {
+        write!(f, "refused {} {}", self.number, self.place)
+    }
+}
+
+/// What one of the fields a to d of a row holds.
+#[derive(Clone, Copy, Debug, PartialEq, Eq)]
+pub enum Field {
+    Unused,
+    Value,
+    VariableNumber,
+    ArrayNumber,
+    /// Link to an expression.
+    Expression,
+    /// Link to an expression, or 0.
+    MaybeExpression,
+    /// Link to a variable or element row.
+    Place,
+    /// Link to a statement that is a branch or body.
+    Branch,
+    /// Link to a branch, or 0.
+    MaybeBranch,
+    /// Link to the first item of a list, or 0.
+    First,
+}
+
+impl Field {
+    pub fn is_link(self) -> bool {
+        !matches!(self, Field::Unused | Field::Value | Field::VariableNumber | Field::ArrayNumber)
+    }
+
+    pub fn may_be_absent(self) -> bool {
+        matches!(self, Field::MaybeExpression | Field::MaybeBranch | Field::First)
+    }
+
+    pub fn is_branch(self) -> bool {
+        matches!(self, Field::Branch | Field::MaybeBranch)
+    }
+
+    /// Whether a row of this kind is of the sort that the link asks for.
+    pub fn fits(self, kind: i32) -> bool {
+        match self {
+            Field::Expression | Field::MaybeExpression => is_expression(kind),
+            Field::Place => kind == VARIABLE || kind == ELEMENT,
+            Field::Branch | Field::MaybeBranch | Field::First => is_statement(kind),
+            _ => false,
+        }
+    }
+}
+
+/// The fields a to d of a kind; none where the kind is not in the language.
+pub fn fields(kind: i32) -> Option<[Field; 4]> {
+    use Field::*;
+    let u = Unused;
+    let e = Expression;
+    let fields = match kind {
+        CONSTANT | CASE => [Value, u, u, u],
+        VARIABLE => [VariableNumber, u, u, u],
+        ELEMENT => [ArrayNumber, e, u, u],
+        MINUS | NOT => [e, u, u, u],
+        ADD..=OR | COMMA => [e, e, u, u],
+        CONDITIONAL => [e, e, e, u],
+        ASSIGN..=REMAINDER_ASSIGN => [Place, e, u, u],
+        PRE_INCREMENT..=POST_DECREMENT => [Place, u, u, u],
+        EMPTY | DEFAULT | BREAK | CONTINUE => [u, u, u, u],
+        EXPRESSION => [e, u, u, u],
+        BLOCK => [First, u, u, u],
+        IF => [e, Branch, MaybeBranch, u],
+        WHILE => [e, Branch, u, u],
+        DO => [Branch, e, u, u],
+        FOR => [MaybeExpression, MaybeExpression, MaybeExpression, Branch],
+        SWITCH => [e, First, u, u],
+        _ => return None,
+    };
+    Some(fields)
+}
+
+pub fn is_expression(kind: i32) -> bool {
+    (CONSTANT..=POST_DECREMENT).contains(&kind)
+}
+
+pub fn is_statement(kind: i32) -> bool {
+    (EMPTY..=CONTINUE).contains(&kind)
+}
+
+pub fn is_loop(kind: i32) -> bool {
+    matches!(kind, WHILE | DO | FOR)
+}
+
+/// S, the number of words of the store: variables, then the arrays.
+pub fn store_size(header: &[i32]) -> i64 {
+    header.iter().map(|&n| i64::from(n)).sum()
+}
+
+/// The rows as groups of six words.
+pub fn rows_of(words: &[i32]) -> &[Row] {
+    words.as_chunks::<WORDS>().0
+}

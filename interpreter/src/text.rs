@@ -1,0 +1,85 @@
+//! The text form: reader and writer.
+
+use crate::check::{check_header, check_size};
+use crate::table::{Refusal, MAX_ARRAYS, WORDS};
+
+/// The header's words and the rows' words.
+pub type Program = (Vec<i32>, Vec<i32>);
+
+/// Reads a source text: 14 first, over the whole text, then 1, then 2.
+pub fn read(bytes: &[u8]) -> Result<Program, Refusal> {
+    let (header, rows) = read_form(bytes)?;
+    check_header(&header)?;
+    check_size(&rows)?;
+    Ok((header, rows))
+}
+
+/// Reads the words of a text, testing its form (14) alone.
+pub fn read_form(bytes: &[u8]) -> Result<Program, Refusal> {
+    let mut header = Vec::new();
+    let mut rows = Vec::new();
+    let mut rest = bytes;
+    let mut line = 1;
+    while line == 1 || !rest.is_empty() {
+        let malformed = Refusal::new(14, line);
+        let end = rest.iter().position(|&byte| byte == b'\n').ok_or(malformed)?;
+        let words = if line == 1 { &mut header } else { &mut rows };
+        let before = words.len();
+        for field in rest[..end].split(|&byte| byte == b'\t') {
+            words.push(number(field).ok_or(malformed)?);
+        }
+        let count = words.len() - before;
+        let well = if line == 1 { count <= 1 + MAX_ARRAYS } else { count == WORDS };
+        if !well {
+            return Err(malformed);
+        }
+        rest = &rest[end + 1..];
+        line += 1;
+    }
+    Ok((header, rows))
+}
+
+/// A decimal number of 32 signed bits: no plus, no leading zero, no -0.
+pub fn number(field: &[u8]) -> Option<i32> {
+    let (negative, digits) = match field {
+        [b'-', digits @ ..] => (true, digits),
+        digits => (false, digits),
+    };
+    match digits {
+        [] => return None,
+        [b'0'] => return if negative { None } else { Some(0) },
+        [b'0', ..] => return None,
+        _ => {}
+    }
+    let mut value: i64 = 0;
+    for &digit in digits {
+        if !digit.is_ascii_digit() {
+            return None;
+        }
+        value = value * 10 + i64::from(digit - b'0');
+        if value > 1 << 31 {
+            return None;
+        }
+    }
+    i32::try_from(if negative { -value } else { value }).ok()
+}
+
+/// Writes a program; rows are groups of six words.
+pub fn write(header: &[i32], rows: &[i32]) -> Vec<u8> {
+    let mut bytes = Vec::with_capacity(rows.len() * 3 + header.len() * 5);
+    write_line(&mut bytes, header);
+    for row in rows.chunks(WORDS) {
+        write_line(&mut bytes, row);
+    }
+    bytes
+}
+
+fn write_line(bytes: &mut Vec<u8>, words: &[i32]) {
+    for (i, word) in words.iter().enumerate() {
+        if i > 0 {
+            bytes.push(b'\t');
+        }
+        bytes.extend_from_slice(word.to_string().as_bytes());
+    }
+    bytes.push(b'\n');
+}

@@ -645,7 +645,9 @@ fn damage_text(random: &mut Random, bytes: &mut Vec<u8>) {
         21 => {
             // The line ends as on other systems.
             let ends: Vec<usize> = (0..bytes.len()).filter(|&i| bytes[i] == b'\n').collect();
-            bytes.insert(random.pick(&ends), b'\r');
+            if !ends.is_empty() {
+                bytes.insert(random.pick(&ends), b'\r');
+            }
         }
         22 => {
             // A whole line goes: well formed, but the links are off.

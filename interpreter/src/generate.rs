@@ -37,6 +37,7 @@ pub fn case(seed: u64, number: u64, size: Size) -> Case {
         (11, Some(Fault::Zero)),
         (7, Some(Fault::Index)),
     ]);
+    let most_tries = if size == Size::Mixed { 25 } else { 1 };
     let mut tries = 0;
     loop {
         let program = program(random, size);
@@ -50,7 +51,7 @@ pub fn case(seed: u64, number: u64, size: Size) -> Case {
             Some(fault) => outcome.ending == Ending::Fault(fault) && outcome.count > 20,
         };
         tries += 1;
-        if found || tries == 25 {
+        if found || tries == most_tries {
             let budget = budget(random, outcome);
             return Case { budget, words, text: text::write(&program.header, &rows) };
         }
@@ -157,12 +158,16 @@ fn draft(random: &mut Random, size: Size) -> Program {
         },
     };
     // How often a choice is kept from faulting, in percent.
-    let tame = random.pick(&[100, 98, 95, 90, 80, 55]);
+    let tame = match rows > 150 {
+        true => random.pick(&[100, 100, 99]),
+        false => random.pick(&[100, 98, 95, 90, 80, 55]),
+    };
     let mut maker = Maker {
         random,
         variables: header[0],
         lengths: header[1..].to_vec(),
         tame,
+        endless: if rows > 150 { 0 } else { 3 },
         room: rows - 1,
         counters: Vec::new(),
         rounds: 1,
@@ -199,6 +204,8 @@ pub struct Maker<'a> {
     pub lengths: Vec<i32>,
     /// Chance, in percent, that a choice is kept from faulting.
     pub tame: usize,
+    /// Chance, in percent, that a loop is endless.
+    pub endless: usize,
     /// Rows still to be made; parts stay small once it is used up.
     pub room: i32,
     /// Variables that count the rounds of the loops around.

@@ -156,7 +156,7 @@ impl Maker<'_> {
             None => element(self.array(), constant(0)),
         };
         self.room -= 8;
-        let endless = self.random.chance(3);
+        let endless = self.random.chance(self.endless);
         let body = self.body(level, number, rounds.max(1));
         let zero = assign(counter.clone(), constant(0));
         let up = self.random.pick(&[PRE_INCREMENT, POST_INCREMENT]);

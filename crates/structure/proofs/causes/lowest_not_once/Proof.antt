@@ -1,0 +1,42 @@
+-- `lowest_not_once` marks all links, then looks for a row whose mark is not 1.
+use mathlib.Core.Path.{_∙_}
+use native.Mathlib.Omega.{arith}
+use Rattle.words.specs.Laws.{rowLimit-most, countFits-facts}
+use Rattle.structure.specs.SearchLaws.{lowestRow-same}
+use Rattle.structure.proofs.Marks.{marked-start, marked-once}
+use borrow.Author.Needs.{needs}
+use Rattle.structure.proofs.causes.lowest_not_once.Statement.{statement}
+use Rattle.structure.proofs.causes.lowest_not_once.Tie as tie
+use Rattle.structure.proofs.causes.lowest_not_once.Reads as reads
+use Rattle.structure.proofs.causes.lowest_not_once.Lts as lts
+use Rattle.structure.proofs.causes.lowest_row.Reads as lowest-row-reads
+use Rattle.structure.proofs.links.mark_links.Reads as mark-links-reads
+
+slice-aggregate-mark-links : tie.Need-slice-aggregate-mark-links
+slice-aggregate-mark-links c = search needs
+
+mark-links-requires : tie.Need-mark-links-requires
+mark-links-requires c κs =
+    let fit = countFits-facts _ _ (c .before .pre) in
+    (fit .whole, marked-start _ 40980 (let most = rowLimit-most (c .before .args .form) in let few = fit .most in omega arith))
+
+slice-aggregate-lowest-row : tie.Need-slice-aggregate-lowest-row
+slice-aggregate-lowest-row c = search needs
+
+lowest-row-requires : tie.Need-lowest-row-requires
+lowest-row-requires c κs = search needs
+
+returns : tie.Need-returns
+returns c =
+    let fit = countFits-facts _ _ (c .before .before .before .before .before .pre) in
+    c .lowest-row .ensures ∙ lowestRow-same _ _ _ (marked-once _ _ (fit .whole) (c .before .before .before .mark-links .ensures))
+
+pub lowest-not-once-spec : {M : Type 1} → statement M
+lowest-not-once-spec =
+    tie.close
+    (tie.spec
+    slice-aggregate-mark-links
+    mark-links-requires
+    slice-aggregate-lowest-row
+    lowest-row-requires
+    returns)

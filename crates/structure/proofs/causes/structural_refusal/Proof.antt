@@ -1,0 +1,54 @@
+-- `structural_refusal` takes the causes 1 and 2, then the others.
+use mathlib.Core.Path.{sym, _∙_}
+use borrow.Author.Tests.{not-true, not-false}
+use Rattle.structure.specs.Refusal.{unless, _next_, structuralRefusal}
+use borrow.Author.Needs.{needs}
+use Rattle.structure.proofs.causes.structural_refusal.Statement.{statement}
+use Rattle.structure.proofs.causes.structural_refusal.Tie as tie
+use Rattle.structure.proofs.causes.structural_refusal.Reads as reads
+use Rattle.structure.proofs.causes.structural_refusal.Lts as lts
+use Rattle.structure.proofs.causes.row_causes.Reads as row-causes-reads
+use Rattle.structure.proofs.fields.bounds_of.Reads as bounds-of-reads
+use Rattle.words.proofs.layout.count_fits.Reads as count-fits-reads
+use Rattle.words.proofs.layout.header_fits.Reads as header-fits-reads
+
+header-fits-requires : tie.Need-header-fits-requires
+header-fits-requires c κs = search needs
+
+returns : tie.Need-returns
+unfolding structuralRefusal unless _next_
+returns c =
+    rw (← c .before .header-fits .ensures, not-true (c .before .header-fits .result) (c .if1 .taken))
+
+count-fits-requires : tie.Need-count-fits-requires
+count-fits-requires c κs = search needs
+
+returns-2 : tie.Need-returns-2
+unfolding structuralRefusal unless _next_
+returns-2 c =
+    rw (← c .before .before .before .header-fits .ensures, not-false (c .before .before .before .header-fits .result) (c .before .before .if1 .left), ← c .before .count-fits .ensures, not-true (c .before .count-fits .result) (c .if2 .taken))
+
+bounds-of-requires : tie.Need-bounds-of-requires
+bounds-of-requires c κs =
+    sym (c .before .before .before .header-fits .ensures) ∙ not-false _ (c .before .before .if1 .left)
+
+row-causes-requires : tie.Need-row-causes-requires
+row-causes-requires c κs =
+    sym (c .before .before .count-fits .ensures) ∙ not-false _ (c .before .if2 .left)
+
+returns-3 : tie.Need-returns-3
+unfolding structuralRefusal unless _next_
+returns-3 c =
+    rw (← c .before .before .before .before .before .header-fits .ensures, not-false (c .before .before .before .before .before .header-fits .result) (c .before .before .before .before .if1 .left), ← c .before .before .before .count-fits .ensures, not-false (c .before .before .before .count-fits .result) (c .before .before .if2 .left), ← c .before .bounds-of .ensures) (c .row-causes .ensures)
+
+pub structural-refusal-spec : {M : Type 1} → statement M
+structural-refusal-spec =
+    tie.close
+    (tie.spec
+    header-fits-requires
+    returns
+    count-fits-requires
+    returns-2
+    bounds-of-requires
+    row-causes-requires
+    returns-3)

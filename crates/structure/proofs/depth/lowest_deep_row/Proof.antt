@@ -1,0 +1,34 @@
+-- `lowest_deep_row` walks down from row 0; every row of a tree is below it.
+use mathlib.Core.Path.{subst}
+use Prim.Native.Nat.{ℕ}
+use native.Mathlib.Omega.{arith}
+use Rattle.words.specs.Layout.{depthLimit}
+use Rattle.structure.specs.DepthLaws.{depth-root}
+use Rattle.structure.specs.Passes.{Under, LowestDeep}
+use Rattle.structure.proofs.Walk.{limit-most, deep-found, deep-none}
+use borrow.Author.Needs.{needs}
+use Rattle.structure.proofs.depth.lowest_deep_row.Statement.{statement}
+use Rattle.structure.proofs.depth.lowest_deep_row.Tie as tie
+use Rattle.structure.proofs.depth.lowest_deep_row.Reads as reads
+use Rattle.structure.proofs.depth.lowest_deep_row.Lts as lts
+use Rattle.structure.proofs.depth.depth_limit.Reads as depth-limit-reads
+use Rattle.structure.proofs.depth.lowest_deep.Reads as lowest-deep-reads
+
+depth-limit-requires : tie.Need-depth-limit-requires
+depth-limit-requires c κs = search needs
+
+lowest-deep-requires : tie.Need-lowest-deep-requires
+lowest-deep-requires c κs =
+    (c .before .pre, limit-most (c .before .args .form) _ (c .depth-limit .ensures), c .before .pre .some-rows, omega arith, depth-root _)
+
+returns : tie.Need-returns
+returns c =
+    deep-found _ (c .before .before .before .pre) _ _ (rw (c .before .before .depth-limit .ensures) at (c .before .lowest-deep .ensures)) (c .if1 .taken)
+
+returns-2 : tie.Need-returns-2
+returns-2 c =
+    deep-none _ (c .before .before .before .pre) _ _ (rw (c .before .before .depth-limit .ensures) at (c .before .lowest-deep .ensures)) (c .if1 .left)
+
+pub lowest-deep-row-spec : {M : Type 1} → statement M
+lowest-deep-row-spec =
+    tie.close (tie.spec depth-limit-requires lowest-deep-requires returns returns-2)

@@ -1,0 +1,67 @@
+-- `fits` makes its definition's tests in order.
+use borrow.Author.Tests.{le-leb, lt-leb, eq-eqb, ne-eqb}
+use Rattle.structure.specs.Fields.{fits}
+use borrow.Author.Needs.{needs}
+use Rattle.structure.proofs.fields.fits.Statement.{statement}
+use Rattle.structure.proofs.fields.fits.Tie as tie
+use Rattle.structure.proofs.fields.fits.Reads as reads
+use Rattle.structure.proofs.fields.fits.Lts as lts
+use Rattle.structure.proofs.grammar.is_expression.Reads as is-expression-reads
+use Rattle.structure.proofs.grammar.is_place.Reads as is-place-reads
+use Rattle.structure.proofs.grammar.is_statement.Reads as is-statement-reads
+use Rattle.words.proofs.table.number_at.Reads as number-at-reads
+
+is-expression-requires : tie.Need-is-expression-requires
+is-expression-requires c κs = search needs
+
+returns : tie.Need-returns
+unfolding fits
+returns c =
+    rw (le-leb _ _ (c .before .if1 .taken)) (c .is-expression .ensures)
+
+is-place-requires : tie.Need-is-place-requires
+is-place-requires c κs = search needs
+
+returns-2 : tie.Need-returns-2
+unfolding fits
+returns-2 c =
+    rw (lt-leb _ _ (c .before .before .if1 .left), eq-eqb _ _ (c .before .if2 .taken)) (c .is-place .ensures)
+
+is-statement-requires : tie.Need-is-statement-requires
+is-statement-requires c κs = search needs
+
+returns-3 : tie.Need-returns-3
+unfolding fits
+returns-3 c =
+    rw (lt-leb _ _ (c .before .before .before .if1 .left), ne-eqb _ _ (c .before .before .if2 .left), eq-eqb _ _ (c .before .if3 .taken)) (c .is-statement .ensures)
+
+is-statement-requires-2 : tie.Need-is-statement-requires-2
+is-statement-requires-2 c κs = search needs
+
+number-at-requires : tie.Need-number-at-requires
+number-at-requires c κs = search needs
+
+returns-4 : tie.Need-returns-4
+unfolding fits
+returns-4 c =
+    rw (lt-leb _ _ (c .before .before .before .before .before .if1 .left), ne-eqb _ _ (c .before .before .before .before .if2 .left), ne-eqb _ _ (c .before .before .before .if3 .left), ← c .before .before .is-statement2 .ensures, c .before .if4 .taken, ← c .number-at .ensures)
+
+returns-5 : tie.Need-returns-5
+unfolding fits
+returns-5 c =
+    rw (lt-leb _ _ (c .before .before .before .before .if1 .left), ne-eqb _ _ (c .before .before .before .if2 .left), ne-eqb _ _ (c .before .before .if3 .left), ← c .before .is-statement2 .ensures, c .if4 .left)
+
+pub fits-spec : {M : Type 1} → statement M
+fits-spec =
+    tie.close
+    (tie.spec
+    is-expression-requires
+    returns
+    is-place-requires
+    returns-2
+    is-statement-requires
+    returns-3
+    is-statement-requires-2
+    number-at-requires
+    returns-4
+    returns-5)

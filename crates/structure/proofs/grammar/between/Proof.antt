@@ -1,0 +1,17 @@
+-- `between` makes its definition's two tests in order.
+use borrow.Author.Tests.{le-leb, lt-leb}
+use Rattle.structure.proofs.grammar.between.Statement.{statement}
+use Rattle.structure.proofs.grammar.between.Tie as tie
+use Rattle.structure.proofs.grammar.between.Reads as reads
+use Rattle.structure.proofs.grammar.between.Lts as lts
+
+returns : tie.Need-returns
+returns c =
+    rw (le-leb _ _ (c .if1 .taken))
+
+returns-2 : tie.Need-returns-2
+returns-2 c =
+    rw (lt-leb _ _ (c .if1 .left))
+
+pub between-spec : {M : Type 1} → statement M
+between-spec = tie.close (tie.spec returns returns-2)

@@ -1,0 +1,27 @@
+-- `in_source` makes its definition's tests in order.
+use Rattle.structure.specs.Grammar.{inLanguage}
+use borrow.Author.Needs.{needs}
+use Rattle.structure.proofs.grammar.in_source.Statement.{statement}
+use Rattle.structure.proofs.grammar.in_source.Tie as tie
+use Rattle.structure.proofs.grammar.in_source.Reads as reads
+use Rattle.structure.proofs.grammar.in_source.Lts as lts
+use Rattle.structure.proofs.grammar.between.Reads as between-reads
+
+between-requires : tie.Need-between-requires
+between-requires c κs = search needs
+
+returns : tie.Need-returns
+unfolding inLanguage
+returns c =
+    rw (← c .before .between .ensures, c .if1 .taken)
+
+between-requires-2 : tie.Need-between-requires-2
+between-requires-2 c κs = search needs
+
+returns-2 : tie.Need-returns-2
+unfolding inLanguage
+returns-2 c =
+    rw (← c .before .before .between .ensures, c .before .if1 .left) (c .between2 .ensures)
+
+pub in-source-spec : {M : Type 1} → statement M
+in-source-spec = tie.close (tie.spec between-requires returns between-requires-2 returns-2)

@@ -1,0 +1,25 @@
+-- `is_expression` makes its definition's two tests in order.
+use borrow.Author.Tests.{le-leb, lt-leb}
+use Rattle.structure.specs.Grammar.{isExpression}
+use borrow.Author.Needs.{needs}
+use Rattle.structure.proofs.grammar.is_expression.Statement.{statement}
+use Rattle.structure.proofs.grammar.is_expression.Tie as tie
+use Rattle.structure.proofs.grammar.is_expression.Reads as reads
+use Rattle.structure.proofs.grammar.is_expression.Lts as lts
+use Rattle.structure.proofs.grammar.sort_at.Reads as sort-at-reads
+
+sort-at-requires : tie.Need-sort-at-requires
+sort-at-requires c κs = search needs
+
+returns : tie.Need-returns
+unfolding isExpression
+returns c =
+    rw (← c .before .sort-at .ensures, le-leb _ _ (c .if1 .taken))
+
+returns-2 : tie.Need-returns-2
+unfolding isExpression
+returns-2 c =
+    rw (← c .before .sort-at .ensures, lt-leb _ _ (c .if1 .left))
+
+pub is-expression-spec : {M : Type 1} → statement M
+is-expression-spec = tie.close (tie.spec sort-at-requires returns returns-2)

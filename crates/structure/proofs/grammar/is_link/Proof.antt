@@ -1,0 +1,20 @@
+-- `is_link` makes its definition's two tests in order.
+use borrow.Author.Tests.{le-leb, lt-leb}
+use Rattle.structure.specs.Grammar.{isLink}
+use Rattle.structure.proofs.grammar.is_link.Statement.{statement}
+use Rattle.structure.proofs.grammar.is_link.Tie as tie
+use Rattle.structure.proofs.grammar.is_link.Reads as reads
+use Rattle.structure.proofs.grammar.is_link.Lts as lts
+
+returns : tie.Need-returns
+unfolding isLink
+returns c =
+    rw (le-leb _ _ (c .if1 .taken))
+
+returns-2 : tie.Need-returns-2
+unfolding isLink
+returns-2 c =
+    rw (lt-leb _ _ (c .if1 .left))
+
+pub is-link-spec : {M : Type 1} → statement M
+is-link-spec = tie.close (tie.spec returns returns-2)

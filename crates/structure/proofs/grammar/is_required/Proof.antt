@@ -1,0 +1,25 @@
+-- `is_required` makes its definition's three tests in order.
+use borrow.Author.Tests.{eq-eqb, ne-eqb}
+use Rattle.structure.specs.Grammar.{isRequired}
+use Rattle.structure.proofs.grammar.is_required.Statement.{statement}
+use Rattle.structure.proofs.grammar.is_required.Tie as tie
+use Rattle.structure.proofs.grammar.is_required.Reads as reads
+use Rattle.structure.proofs.grammar.is_required.Lts as lts
+
+returns : tie.Need-returns
+unfolding isRequired
+returns c =
+    rw (eq-eqb _ _ (c .if1 .taken))
+
+returns-2 : tie.Need-returns-2
+unfolding isRequired
+returns-2 c =
+    rw (ne-eqb _ _ (c .before .if1 .left), eq-eqb _ _ (c .if2 .taken))
+
+returns-3 : tie.Need-returns-3
+unfolding isRequired
+returns-3 c =
+    rw (ne-eqb _ _ (c .before .if1 .left), ne-eqb _ _ (c .if2 .left))
+
+pub is-required-spec : {M : Type 1} → statement M
+is-required-spec = tie.close (tie.spec returns returns-2 returns-3)

@@ -1,0 +1,23 @@
+-- `sort_at` reads the kind, then the table.
+use Rattle.structure.specs.Grammar.{sortAt}
+use borrow.Author.Needs.{needs}
+use Rattle.structure.proofs.grammar.sort_at.Statement.{statement}
+use Rattle.structure.proofs.grammar.sort_at.Tie as tie
+use Rattle.structure.proofs.grammar.sort_at.Reads as reads
+use Rattle.structure.proofs.grammar.sort_at.Lts as lts
+use Rattle.structure.proofs.grammar.sort_of.Reads as sort-of-reads
+use Rattle.words.proofs.table.number_at.Reads as number-at-reads
+
+number-at-requires : tie.Need-number-at-requires
+number-at-requires c κs = search needs
+
+sort-of-requires : tie.Need-sort-of-requires
+sort-of-requires c κs = search needs
+
+returns : tie.Need-returns
+unfolding sortAt
+returns c =
+    rw (← c .before .number-at .ensures) (c .sort-of .ensures)
+
+pub sort-at-spec : {M : Type 1} → statement M
+sort-at-spec = tie.close (tie.spec number-at-requires sort-of-requires returns)

@@ -1,0 +1,31 @@
+-- What the checks of both forms share. A line of comment for each file.
+-- Grammar: document 01's table of kinds: what a row of each kind is, and what each of its fields holds.
+pub mod Grammar
+-- Searches: the lowest number, or the lowest row, with a property.
+pub mod Search
+-- Fields: the causes that lie in one field of a row: 3, 4 and 6.
+pub mod Fields
+-- Links: how often a row is linked; what a row gets from the row that links it; depth. Causes 5 and 9.
+pub mod Links
+-- Refusal: the causes 1 to 6 in order of number, each at the lowest row that breaks it.
+pub mod Refusal
+-- Structured: what document 01 demands of the rows of both forms.
+pub mod Structured
+-- Passes: what the code's loops compute.
+pub mod Passes
+-- Laws of searches.
+pub mod SearchLaws
+-- Laws of the grammar: what holds of every kind is tested over the table.
+pub mod GrammarLaws
+-- Laws of links: in a tree of rows each row but row 0 has one owner, and `linker` finds it.
+pub mod LinkLaws
+-- Laws of notes: in a tree of rows a note is what the owner hands on; and what a pass over the words has written.
+pub mod NoteLaws
+-- Laws of written notes: a pass over the words, in order, writes every row's note.
+pub mod WrittenLaws
+-- Laws of depth: the depth that is computed is the depth of document 01.
+pub mod DepthLaws
+-- Laws of refusals: a chain of causes, one at a time; and where a whole chain accepts.
+pub mod RefusalLaws
+-- Laws of structure: the causes 1 to 6 accept exactly the structured tables, whose rows make a tree.
+pub mod StructuredLaws

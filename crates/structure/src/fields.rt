@@ -1,0 +1,140 @@
+// The causes that lie in one field of a row: 3, 4 and 6. Each test is true where the field breaks the cause.
+use super::Bounds;
+use super::grammar::ARRAY;
+use super::grammar::LABEL;
+use super::grammar::OPTIONAL_EXPRESSION;
+use super::grammar::OPTIONAL_ITEM;
+use super::grammar::PLACE;
+use super::grammar::UNUSED;
+use super::grammar::VARIABLE;
+use super::grammar::in_language;
+use super::grammar::is_expression;
+use super::grammar::is_link;
+use super::grammar::is_place;
+use super::grammar::is_required;
+use super::grammar::is_statement;
+use super::grammar::sort_at;
+use words::Form;
+use words::layout::leading;
+use words::layout::store_size;
+use words::layout::store_words;
+use words::table::natural;
+use words::table::number_at;
+ghost use mathlib.Core.Path.{_≡_};
+ghost use mathlib.Core.Bool.{true};
+ghost use Prim.Native.Nat.{_+_, _*_, _<_};
+ghost use lib.ListN.{length};
+ghost use Rattle.words.specs.Layout.{headerFits};
+ghost use Rattle.structure.specs.Fields.{foreign, fits as fitsOf, leadsRight, mislinked, boundsOf, numberFits, outside};
+
+// Cause 3.
+pub fn is_foreign(form: Form, rows: &[i32], row: usize, field: usize) -> bool
+    requires { ⌜ (6 * row + 5 < length (now rows)) × (field < 6) ⌝ }
+    ensures { λ r. ⌜ r ≡ foreign form (now (rows .entry)) row field ⌝ }
+{
+    if field == 0 {
+        return !in_language(form, number_at(rows, row, 0));
+    }
+    if sort_at(rows, row, field) == UNUSED {
+        return number_at(rows, row, field) != 0;
+    }
+    false
+}
+
+// The row is of the sort that a link asks for.
+fn fits(rows: &[i32], sort: u8, row: usize) -> bool
+    requires { ⌜ 6 * row + 5 < length (now rows) ⌝ }
+    ensures { λ r. ⌜ r ≡ fitsOf (now (rows .entry)) sort row ⌝ }
+{
+    if sort <= OPTIONAL_EXPRESSION {
+        return is_expression(rows, row);
+    }
+    if sort == PLACE {
+        return is_place(rows, row);
+    }
+    if sort == OPTIONAL_ITEM {
+        return is_statement(rows, row);
+    }
+    if is_statement(rows, row) {
+        return number_at(rows, row, 5) == 0;
+    }
+    false
+}
+
+fn leads_right(rows: &[i32], row: usize, sort: u8, link: usize) -> bool
+    ensures { λ r. ⌜ r ≡ leadsRight (now (rows .entry)) row sort link ⌝ }
+{
+    if row < link {
+        if link < rows.len() / 6 {
+            return fits(rows, sort, link);
+        }
+        return false;
+    }
+    false
+}
+
+// Cause 4.
+pub fn is_mislinked(rows: &[i32], row: usize, field: usize) -> bool
+    requires { ⌜ (6 * row + 5 < length (now rows)) × (field < 6) ⌝ }
+    ensures { λ r. ⌜ r ≡ mislinked (now (rows .entry)) row field ⌝ }
+{
+    let sort = sort_at(rows, row, field);
+    if is_link(sort) {
+        let link = number_at(rows, row, field);
+        if link == 0 {
+            return is_required(sort);
+        }
+        return !leads_right(rows, row, sort, link);
+    }
+    false
+}
+
+// The numbers that a header gives.
+pub fn bounds_of(form: Form, header: &[i32]) -> Bounds
+    requires { ⌜ headerFits form (now header) ≡ true ⌝ }
+    ensures { λ r. ⌜ r ≡ boundsOf form (now (header .entry)) ⌝ }
+{
+    let variables = natural(header[0]);
+    let arrays = header.len() - leading(form);
+    let store = store_size(form, header);
+    let words = store_words(form, header);
+    Bounds {
+        variables: variables,
+        arrays: arrays,
+        store: store,
+        words: words,
+    }
+}
+
+fn number_fits(bounds: Bounds, sort: u8, number: usize) -> bool
+    ensures { λ r. ⌜ r ≡ numberFits bounds sort number ⌝ }
+{
+    if sort == VARIABLE {
+        if number < bounds.variables {
+            return true;
+        }
+        if bounds.store <= number {
+            return number < bounds.words;
+        }
+        return false;
+    }
+    if sort == ARRAY {
+        return number < bounds.arrays;
+    }
+    if sort == LABEL {
+        return number < 40980;
+    }
+    true
+}
+
+// Cause 6.
+pub fn is_outside(bounds: Bounds, rows: &[i32], row: usize, field: usize) -> bool
+    requires { ⌜ (6 * row + 5 < length (now rows)) × (field < 6) ⌝ }
+    ensures { λ r. ⌜ r ≡ outside bounds (now (rows .entry)) row field ⌝ }
+{
+    !number_fits(
+        bounds,
+        sort_at(rows, row, field),
+        number_at(rows, row, field),
+    )
+}

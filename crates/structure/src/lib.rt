@@ -1,0 +1,28 @@
+// What the checks of both forms share: document 01's table of kinds, and the causes 1 to 6 and 9.
+pub mod causes; // causes.rt: the lowest row that breaks a cause, and the causes 1 to 6 in order
+pub mod depth; // depth.rt: cause 9, by a walk down the links
+pub mod fields; // fields.rt: the causes that lie in one field of a row: 3, 4 and 6
+pub mod grammar; // grammar.rt: the table of kinds
+pub mod links; // links.rt: how often each row is linked, and cause 5
+
+// The causes that are looked for row by row: 3, 4, 5 and 6.
+pub enum Cause {
+    Kinds,
+    Links,
+    Once,
+    Numbers,
+}
+
+// The numbers that a header gives to its program: variables 0 to V-1, so many arrays, temporaries S to S+T-1.
+pub struct Bounds {
+    pub variables: usize,
+    pub arrays: usize,
+    pub store: usize,
+    pub words: usize,
+}
+
+// What a search finds: the lowest row that it looks for.
+pub enum Found {
+    At(usize),
+    Nothing,
+}

@@ -1,0 +1,156 @@
+-- Which labels stand among the own items of a tree's code: none for an expression, the statement's own for a statement. So a jump to
+-- another label passes the code. By induction on the tree.
+use mathlib.Core.Path.{_≡_, refl, _∙_}
+use mathlib.Core.Bool.{Bool, true, false, _||_}
+use Prim.Native.Nat.{ℕ, _+_, _≤_, _<_}
+use native.Mathlib.Omega.{arith}
+use borrow.Author.Tests.{ne-eqb}
+use lib.Dec.{eqb}
+use Rattle.words.specs.Word.{pick}
+use Rattle.words.specs.declared.Operator.{Operator}
+use Rattle.computation.specs.Run.{State, Result}
+use Rattle.language.specs.Trees.{Expression, constant, read, minus, not, binary, and, or, comma, conditional, assign, compound, prefix, postfix, Place, variable, element, Part, absent, present, Mark, case, default, label, sameMark, has, Statement, empty, express, block, ifThen, ifElse, while, doWhile, for, switch, break, continue, goto, Items, none, _then_, _here_, _⧺_}
+use Rattle.language.specs.Meaning.{Signal, seeking, perform, items}
+use Rattle.translation.specs.Translate.{Atom, taken, placeTaken, atomOf, atom, kernelPlace, updateCode, postfixCode, expressionCode, indexCode, partCode, orEmpty, testCode, caseTests, labels, itemsLabels, labelOf, Exits, exits, statementCode, itemsCode}
+use Rattle.translation.specs.RunThen.{runThen}
+use Rattle.translation.specs.Related.{Frame, by-cases}
+use Rattle.translation.specs.Held.{kernel}
+
+-- ---- lists
+
+or-false : (a b : Bool) → a ≡ false → b ≡ false → (a || b) ≡ false
+or-false a b e f = rw (e, f)
+
+or-left : (a b : Bool) → (a || b) ≡ false → a ≡ false
+or-left true b e = e
+or-left false b e = refl
+
+or-right : (a b : Bool) → (a || b) ≡ false → b ≡ false
+or-right true b e = absurd (let z : _≡_ {A = ℕ} 0 1 = cc in omega arith)
+or-right false b e = e
+
+pub has-neither : (m : Mark) (xs ys : Items) → has m xs ≡ false → has m ys ≡ false → has m (xs ⧺ ys) ≡ false
+unfolding has _⧺_
+has-neither m none ys e f = f
+has-neither m (s then xs) ys e f = has-neither m xs ys e f
+has-neither m (n here xs) ys e f = or-false (sameMark m n) _ (or-left (sameMark m n) (has m xs) e) (has-neither m xs ys (or-right (sameMark m n) (has m xs) e) f)
+
+has-other : (j l : ℕ) (xs : Items) → (j ≡ l → ⊥) → has (label j) xs ≡ false → has (label j) (label l here xs) ≡ false
+unfolding has sameMark
+has-other j l xs h e = rw (ne-eqb j l h) e
+
+-- A jump passes a list that does not have its mark.
+pub passes : (fr : Frame) {D : Type 0} (m : Mark) (xs : Items) (κ : State) (g : Signal → State → Result D) → has m xs ≡ false → kernel fr xs (seeking m) κ g ≡ g (seeking m) κ
+unfolding runThen items has
+passes fr m none κ g e = refl
+passes fr m (s then xs) κ g e = passes fr m xs κ g e
+passes fr m (n here xs) κ g e = rw (or-left (sameMark m n) (has m xs) e, runThen) (passes fr m xs κ g (or-right (sameMark m n) (has m xs) e))
+
+-- ---- expressions
+
+module _ (S : ℕ) where
+  plain-update : (operator : Operator) (p : Place) (x : Expression) (i t u : ℕ) (m : Mark) → has m (updateCode S operator (kernelPlace S p i) x t u) ≡ false
+  unfolding has kernelPlace
+  plain-update operator (variable j) x i t u m = refl
+  plain-update operator (element array e) x i t u m = refl
+
+  plain-postfix : (operator : Operator) (p : Place) (i t u : ℕ) (m : Mark) → has m (postfixCode S operator (kernelPlace S p i) t u) ≡ false
+  unfolding has kernelPlace
+  plain-postfix operator (variable j) i t u m = refl
+  plain-postfix operator (element array e) i t u m = refl
+
+  mutual
+    unfolding has expressionCode
+
+    -- The code of an expression has no mark.
+    pub plain-expression : (e : Expression) (t : ℕ) (m : Mark) → has m (expressionCode S e t) ≡ false
+    plain-expression (constant v) t m = refl
+    plain-expression (read p) t m = has-neither m (indexCode S p t) _ (plain-index p t m) refl
+    plain-expression (minus e) t m = has-neither m (expressionCode S e t) _ (plain-expression e t m) refl
+    plain-expression (not e) t m = has-neither m (expressionCode S e t) _ (plain-expression e t m) refl
+    plain-expression (binary operator a b) t m = has-neither m (expressionCode S b t) _ (plain-expression b t m) (has-neither m (expressionCode S a (t + taken (atomOf b))) _ (plain-expression a (t + taken (atomOf b)) m) refl)
+    plain-expression (and a b) t m = has-neither m (expressionCode S a t) _ (plain-expression a t m) refl
+    plain-expression (or a b) t m = has-neither m (expressionCode S a t) _ (plain-expression a t m) refl
+    plain-expression (comma a b) t m = has-neither m (expressionCode S a t) _ (plain-expression a t m) (plain-expression b t m)
+    plain-expression (conditional c a b) t m = has-neither m (expressionCode S c t) _ (plain-expression c t m) refl
+    plain-expression (assign p e) t m = has-neither m (expressionCode S e t) _ (plain-expression e t m) (has-neither m (indexCode S p (t + taken (atomOf e))) _ (plain-index p (t + taken (atomOf e)) m) refl)
+    plain-expression (compound operator p e) t m = has-neither m (expressionCode S e t) _ (plain-expression e t m)
+        (has-neither m (indexCode S p (t + 1)) _ (plain-index p (t + 1) m) (plain-update operator p (atom S t (atomOf e)) (t + 1) t (t + 1 + placeTaken p) m))
+    plain-expression (prefix operator p) t m = has-neither m (indexCode S p (t + 1)) _ (plain-index p (t + 1) m) (plain-update operator p _ (t + 1) t (t + 1 + placeTaken p) m)
+    plain-expression (postfix operator p) t m = has-neither m (indexCode S p (t + 1)) _ (plain-index p (t + 1) m) (plain-postfix operator p (t + 1) t (t + 1 + placeTaken p) m)
+
+    plain-index : (p : Place) (t : ℕ) (m : Mark) → has m (indexCode S p t) ≡ false
+    plain-index (variable i) t m = refl
+    plain-index (element array e) t m = plain-expression e t m
+
+  pub plain-part : (p : Part) (m : Mark) → has m (partCode S p) ≡ false
+  unfolding has
+  plain-part absent m = refl
+  plain-part (present e) m = plain-expression e 0 m
+
+  plain-empty : (m : Mark) (xs : Items) → has m xs ≡ false → has m (orEmpty S xs) ≡ false
+  unfolding has
+  plain-empty m none e = e
+  plain-empty m (s then xs) e = e
+  plain-empty m (n here xs) e = e
+
+  pub plain-tests : (x : Expression) (u : ℕ) (is : Items) (l : ℕ) (m : Mark) → has m (caseTests S x u is l) ≡ false
+  unfolding has caseTests
+  plain-tests x u none l m = refl
+  plain-tests x u (s then is) l m = plain-tests x u is (l + labels s) m
+  plain-tests x u (case v here is) l m = plain-tests x u is (l + 1) m
+  plain-tests x u (default here is) l m = plain-tests x u is (l + 1) m
+  plain-tests x u (label k here is) l m = plain-tests x u is (l + 1) m
+
+-- ---- statements
+
+-- j is none of the n labels from l on.
+abbrev pub Apart : ℕ → ℕ → ℕ → Type 0
+Apart l n j = (i : ℕ) → l ≤ i → i < l + n → j ≡ i → ⊥
+
+pub apart-below : (l n j : ℕ) → j < l → Apart l n j
+apart-below l n j h i a b e = omega arith
+
+pub apart-above : (l n j : ℕ) → l + n ≤ j → Apart l n j
+apart-above l n j h i a b e = omega arith
+
+module _ (S : ℕ) where
+  mutual
+    unfolding has statementCode labels
+
+    -- The code of a statement has no label but its own.
+    pub own-labels : (s : Statement) (x : Exits) (l j : ℕ) → Apart l (labels s) j → has (label j) (statementCode S s x l) ≡ false
+    own-labels empty x l j h = refl
+    own-labels (express e) x l j h = plain-empty S (label j) (expressionCode S e 0) (plain-expression S e 0 (label j))
+    own-labels (block is) x l j h = refl
+    own-labels (ifThen e onTrue) x l j h = has-neither (label j) (expressionCode S e 0) _ (plain-expression S e 0 (label j)) refl
+    own-labels (ifElse e onTrue onFalse) x l j h = has-neither (label j) (expressionCode S e 0) _ (plain-expression S e 0 (label j)) refl
+    own-labels (while e body) x l j h = has-other j l none (h l (omega arith) (omega arith)) refl
+    own-labels (doWhile body e) x l j h = has-other j l none (h l (omega arith) (omega arith)) refl
+    own-labels (for first test action body) x l j h = has-neither (label j) (partCode S first) _ (plain-part S first (label j)) (has-other j l none (h l (omega arith) (omega arith)) refl)
+    own-labels (switch e is) x l j h = has-neither (label j) (expressionCode S e 0) _ (plain-expression S e 0 (label j))
+        (has-neither (label j) (caseTests S (atom S 0 (atomOf e)) (taken (atomOf e)) is (l + 1)) _ (plain-tests S (atom S 0 (atomOf e)) (taken (atomOf e)) is (l + 1) (label j))
+        (has-neither (label j) (itemsCode S is (exits l (x .onContinue)) (l + 1)) _ (own-items is (exits l (x .onContinue)) (l + 1) j (λ i a b. h i (omega arith) (omega arith)))
+        (has-other j l none (h l (omega arith) (omega arith)) refl)))
+    own-labels break x l j h = refl
+    own-labels continue x l j h = refl
+    own-labels (goto k) x l j h = refl
+
+    own-items : (is : Items) (x : Exits) (l j : ℕ) → Apart l (itemsLabels is) j → has (label j) (itemsCode S is x l) ≡ false
+    own-items none x l j h = refl
+    own-items (s then is) x l j h = has-neither (label j) (statementCode S s x l) _ (own-labels s x l j (λ i a b. h i a (omega arith))) (own-items is x (l + labels s) j (λ i a b. h i (omega arith) (omega arith)))
+    own-items (m here is) x l j h = has-other j l (itemsCode S is x (l + 1)) (h l (omega arith) (omega arith)) (own-items is x (l + 1) j (λ i a b. h i (omega arith) (omega arith)))
+
+-- ---- the label of a mark
+
+pub label-least : (m : Mark) (is : Items) (l other : ℕ) → has m is ≡ true → l ≤ labelOf m is l other
+unfolding has labelOf
+label-least m none l other e = absurd (let z : _≡_ {A = ℕ} 0 1 = cc in omega arith)
+label-least m (s then is) l other e = omega (arith, label-least m is (l + labels s) other e)
+label-least m (n here is) l other e = by-cases (sameMark m n) (λ q. rw q (omega arith)) (λ q. let r = label-least m is (l + 1) other (rw q at e) in rw q (omega arith))
+
+pub label-absent : (m : Mark) (is : Items) (l other : ℕ) → has m is ≡ false → labelOf m is l other ≡ other
+unfolding has labelOf
+label-absent m none l other e = refl
+label-absent m (s then is) l other e = label-absent m is (l + labels s) other e
+label-absent m (n here is) l other e = rw (or-left (sameMark m n) (has m is) e) (label-absent m is (l + 1) other (or-right (sameMark m n) (has m is) e))

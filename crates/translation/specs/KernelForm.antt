@@ -1,0 +1,92 @@
+-- Kernel form: what document 01's section of that name asks of a tree.
+use mathlib.Core.Path.{_≡_}
+use mathlib.Core.Bool.{true}
+use Prim.Native.Nat.{ℕ, _+_, _<_, _≤_}
+use lib.Dec.{eqb}
+use lib.IntN.{ℤ}
+use lib.ListN.{length}
+use Rattle.words.specs.Word.{pick}
+use Rattle.words.specs.Layout.{Layout, storeSize}
+use Rattle.words.specs.declared.Operator.{Operator}
+use Rattle.language.specs.Trees.{Expression, constant, read, minus, binary, assign, Place, variable, element, Mark, case, default, label, has, Statement, empty, express, block, ifThen, ifElse, while, doWhile, for, switch, break, continue, goto, Items, none, _then_, _here_, _⧺_}
+use Rattle.language.specs.Sizes.{statementRows, statementDepth}
+use Rattle.language.specs.WellFormed.{NamedItems}
+
+-- "An atom is a constant or variable."
+pub data IsAtom : Expression → Type 0 where
+  constant-atom : {v : ℤ} → IsAtom (constant v)
+  variable-atom : {i : ℕ} → IsAtom (read (variable i))
+
+-- "An expression statement that assigns. To a variable it assigns an atom, minus an atom, one of kinds 6 to 16 on two atoms, or an
+-- element with an atom index. To an element with an atom index it assigns an atom."
+pub data Assigns : Expression → Type 0 where
+  assigns-atom : {i : ℕ} {e : Expression} → IsAtom e → Assigns (assign (variable i) e)
+  assigns-minus : {i : ℕ} {e : Expression} → IsAtom e → Assigns (assign (variable i) (minus e))
+  assigns-operation : {i : ℕ} {operator : Operator} {a b : Expression} → IsAtom a → IsAtom b → Assigns (assign (variable i) (binary operator a b))
+  assigns-element : {i array : ℕ} {e : Expression} → IsAtom e → Assigns (assign (variable i) (read (element array e)))
+  assigns-to-element : {array : ℕ} {index e : Expression} → IsAtom index → IsAtom e → Assigns (assign (element array index) e)
+
+-- "A label number (0 to 40,979)".
+abbrev pub isLabelNumber : ℕ → Type 0
+isLabelNumber l = l < 40980
+
+mutual
+  -- "Statements: empty; block; if with an atom and two blocks; while with an atom and a block; goto; label; and an expression statement
+  -- that assigns." The items `ahead` stand behind the statement in its list, and behind that list's owner in the lists around: "a
+  -- goto's label is a later item of a list that encloses it". "Kinds not named in this paragraph are not in the kernel language."
+  pub data KernelStatement : Items → Statement → Type 0 where
+    kernel-empty : {ahead : Items} → KernelStatement ahead empty
+    kernel-assign : {ahead : Items} {e : Expression} → Assigns e → KernelStatement ahead (express e)
+    kernel-block : {ahead is : Items} → KernelItems ahead is → KernelStatement ahead (block is)
+    kernel-if : {ahead onTrue onFalse : Items} {e : Expression} → IsAtom e → KernelItems ahead onTrue → KernelItems ahead onFalse → KernelStatement ahead (ifElse e (block onTrue) (block onFalse))
+    kernel-while : {ahead body : Items} {e : Expression} → IsAtom e → KernelItems ahead body → KernelStatement ahead (while e (block body))
+    kernel-goto : {ahead : Items} {l : ℕ} → isLabelNumber l → has (label l) ahead ≡ true → KernelStatement ahead (goto l)
+
+  pub data KernelItems : Items → Items → Type 0 where
+    kernel-none : {ahead : Items} → KernelItems ahead none
+    kernel-then : {ahead is : Items} {s : Statement} → KernelStatement (is ⧺ ahead) s → KernelItems ahead is → KernelItems ahead (s then is)
+    kernel-label : {ahead is : Items} {l : ℕ} → isLabelNumber l → KernelItems ahead is → KernelItems ahead (label l here is)
+
+-- How often a label stands in a tree.
+abbrev pub markTimes : ℕ → Mark → ℕ
+markTimes j (case v) = 0
+markTimes j default = 0
+markTimes j (label l) = pick (eqb j l) 1 0
+
+unfoldable mutual
+  pub statementTimes : ℕ → Statement → ℕ
+  statementTimes j empty = 0
+  statementTimes j (express e) = 0
+  statementTimes j (block is) = itemsTimes j is
+  statementTimes j (ifThen e onTrue) = statementTimes j onTrue
+  statementTimes j (ifElse e onTrue onFalse) = statementTimes j onTrue + statementTimes j onFalse
+  statementTimes j (while e body) = statementTimes j body
+  statementTimes j (doWhile body e) = statementTimes j body
+  statementTimes j (for first test action body) = statementTimes j body
+  statementTimes j (switch e is) = itemsTimes j is
+  statementTimes j break = 0
+  statementTimes j continue = 0
+  statementTimes j (goto l) = 0
+
+  pub itemsTimes : ℕ → Items → ℕ
+  itemsTimes j none = 0
+  itemsTimes j (s then is) = statementTimes j s + itemsTimes j is
+  itemsTimes j (m here is) = markTimes j m + itemsTimes j is
+
+-- "T temporaries, which are variable numbers S to S+T−1; numbers V to S−1 name nothing."
+pub data KernelName (L : Layout) (T : ℕ) : ℕ → Type 0 where
+  name-variable : {i : ℕ} → i < L .variables → KernelName L T i
+  name-temporary : {t : ℕ} → t < T → KernelName L T (storeSize L + t)
+
+-- A kernel program's tree, with T temporaries.
+pub record KernelTree (L : Layout) (T : ℕ) (program : Statement) : Type 0 where
+  pub contents : Items
+  pub is-block : program ≡ block contents
+  pub form : KernelItems none contents
+  -- "A label number stands once".
+  pub labels-once : (l : ℕ) → itemsTimes l contents ≤ 1
+  pub named : NamedItems (KernelName L T) (length (L .lengths)) contents
+  -- "T temporaries (0 to 8,192)"; "Up to 40,980 rows, depth up to 512."
+  pub few-temporaries : T ≤ 8192
+  pub few-rows : statementRows program ≤ 40980
+  pub shallow : statementDepth program ≤ 512

@@ -1,0 +1,44 @@
+-- The translation, and what is proved of it. A line of comment for each file.
+-- ---- definitions
+-- The translation: source trees to kernel trees, a clause a kind; temporaries.
+pub mod Translate
+-- Sizes: the kernel rows that come of a source tree.
+pub mod TranslateSize
+-- Kernel form, as a predicate on trees.
+pub mod KernelForm
+-- ---- preservation
+-- The temporaries in use as a stack, and a store laid out with them.
+pub mod Stack
+-- A computation run with what follows it.
+pub mod RunThen
+-- When a source run and a kernel run go alike.
+pub mod Related
+-- What an atom holds, and where a place lies.
+pub mod Held
+-- An expression and its code go alike: a rule a kind.
+pub mod ExpressionRules
+-- Every expression and its code go alike.
+pub mod ExpressionPreserves
+-- Which labels stand in the code of a tree, and what a jump passes.
+pub mod CodeLabels
+-- A statement and its code go alike: a rule a kind.
+pub mod StatementRules
+-- Every statement and its code go alike.
+pub mod StatementPreserves
+-- The rows of the code are those that the sizes count.
+pub mod TranslateRows
+-- The translation preserves runs: demand 3 on trees.
+pub mod TranslatePreserves
+-- ---- kernel form and bounds
+-- Every translation has kernel form: shapes and jumps.
+pub mod TranslateForm
+-- No label stands twice.
+pub mod TranslateLabels
+-- The variables and arrays that a translation names.
+pub mod TranslateNames
+-- At most 20×n+20 rows, n temporaries, 2×n labels.
+pub mod TranslateBounds
+-- At most twice the depth, plus 1.
+pub mod TranslateDepth
+-- Every translation is a kernel program's tree.
+pub mod TranslateKernel

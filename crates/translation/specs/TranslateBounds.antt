@@ -1,0 +1,208 @@
+-- How large a translation is: "From n source rows come at most 20×n+20 kernel rows and at most 4×n temporaries." By induction on the
+-- tree, each row with its own share.
+use mathlib.Core.Path.{_≡_, refl}
+use Prim.Native.Nat.{ℕ, _+_, _*_, _≤_, max}
+use native.Mathlib.Omega.{arith}
+use Rattle.words.specs.Layout.{Layout}
+use Rattle.language.specs.Trees.{Expression, constant, read, minus, not, binary, and, or, comma, conditional, assign, compound, prefix, postfix, Place, variable, element, Part, absent, present, Mark, case, default, label, Statement, empty, express, block, ifThen, ifElse, while, doWhile, for, switch, break, continue, goto, Items, none, _then_, _here_, _⧺_}
+use Rattle.language.specs.Sizes.{expressionRows, placeRows, partRows, statementRows, itemsRows}
+use Rattle.translation.specs.Translate.{Atom, number, top, taken, atomOf, labels, itemsLabels, contentsOf, translate, expressionLevels, indexLevels, updateLevels, partLevels, statementLevels, itemsLevels, temporaries}
+use Rattle.translation.specs.TranslateRows.{translation-rows}
+use Rattle.translation.specs.TranslateSize.{indexRows, copyRows, expressionSize, indexSize, partSize, testSize, cases, statementSize, itemsSize}
+
+copy-most : (h : Atom) → copyRows h ≤ 4
+copy-most (number v) = omega arith
+copy-most top = omega arith
+
+taken-most : (h : Atom) → taken h ≤ 1
+taken-most (number v) = omega arith
+taken-most top = omega arith
+
+index-most : (p : Place) → indexRows p ≤ 1
+index-most (variable i) = omega arith
+index-most (element array e) = omega arith
+
+mutual
+  unfolding expressionRows
+
+  expression-some : (e : Expression) → 1 ≤ expressionRows e
+  expression-some (constant v) = omega arith
+  expression-some (read p) = place-some p
+  expression-some (minus e) = omega arith
+  expression-some (not e) = omega arith
+  expression-some (binary operator a b) = omega arith
+  expression-some (and a b) = omega arith
+  expression-some (or a b) = omega arith
+  expression-some (comma a b) = omega arith
+  expression-some (conditional c a b) = omega arith
+  expression-some (assign p e) = omega arith
+  expression-some (compound operator p e) = omega arith
+  expression-some (prefix operator p) = omega arith
+  expression-some (postfix operator p) = omega arith
+
+  place-some : (p : Place) → 1 ≤ placeRows p
+  place-some (variable i) = omega arith
+  place-some (element array e) = omega arith
+
+-- ---- rows
+
+mutual
+  unfolding expressionSize expressionRows
+
+  expression-most : (e : Expression) → expressionSize e ≤ 20 * expressionRows e
+  expression-most (constant v) = omega arith
+  expression-most (read p) = omega (arith, index-size-most p, index-most p)
+  expression-most (minus e) = omega (arith, expression-most e)
+  expression-most (not e) = omega (arith, expression-most e)
+  expression-most (binary operator a b) = omega (arith, expression-most a, expression-most b)
+  expression-most (and a b) = omega (arith, expression-most a, expression-most b)
+  expression-most (or a b) = omega (arith, expression-most a, expression-most b)
+  expression-most (comma a b) = omega (arith, expression-most a, expression-most b)
+  expression-most (conditional c a b) = omega (arith, expression-most c, expression-most a, expression-most b, copy-most (atomOf a), copy-most (atomOf b))
+  expression-most (assign p e) = omega (arith, index-size-most p, expression-most e, index-most p)
+  expression-most (compound operator p e) = omega (arith, index-size-most p, expression-most e, index-most p)
+  expression-most (prefix operator p) = omega (arith, index-size-most p, index-most p)
+  expression-most (postfix operator p) = omega (arith, index-size-most p, index-most p)
+
+  -- a place's own row has yet to be used
+  index-size-most : (p : Place) → indexSize p + 20 ≤ 20 * placeRows p
+  index-size-most (variable i) = omega arith
+  index-size-most (element array e) = omega (arith, expression-most e)
+
+part-most : (p : Part) → partSize p ≤ 20 * partRows p
+part-most absent = omega arith
+part-most (present e) = expression-most e
+
+test-most : (p : Part) → testSize p ≤ 20 * partRows p + 5
+test-most absent = omega arith
+test-most (present e) = omega (arith, expression-most e)
+
+mutual
+  unfolding statementSize statementRows
+
+  statement-most : (s : Statement) → statementSize s ≤ 20 * statementRows s
+  statement-most empty = omega arith
+  statement-most (express e) = omega (arith, expression-most e)
+  statement-most (block is) = omega (arith, items-most is)
+  statement-most (ifThen e onTrue) = omega (arith, expression-most e, statement-most onTrue)
+  statement-most (ifElse e onTrue onFalse) = omega (arith, expression-most e, statement-most onTrue, statement-most onFalse)
+  statement-most (while e body) = omega (arith, expression-most e, statement-most body)
+  statement-most (doWhile body e) = omega (arith, expression-most e, statement-most body)
+  statement-most (for first test action body) = omega (arith, part-most first, test-most test, part-most action, statement-most body)
+  statement-most (switch e is) = omega (arith, expression-most e, items-most is)
+  statement-most break = omega arith
+  statement-most continue = omega arith
+  statement-most (goto l) = omega arith
+
+  -- with the tests that the cases bring
+  items-most : (is : Items) → itemsSize is + 11 * cases is ≤ 20 * itemsRows is
+  items-most none = omega arith
+  items-most (s then is) = omega (arith, statement-most s, items-most is)
+  items-most (case v here is) = omega (arith, items-most is)
+  items-most (default here is) = omega (arith, items-most is)
+  items-most (label l here is) = omega (arith, items-most is)
+
+contents-rows : (program : Statement) → itemsRows (contentsOf program) + 1 ≤ statementRows program
+unfolding statementRows
+contents-rows (block is) = omega arith
+contents-rows empty = omega arith
+contents-rows (express e) = omega arith
+contents-rows (ifThen e onTrue) = omega arith
+contents-rows (ifElse e onTrue onFalse) = omega arith
+contents-rows (while e body) = omega arith
+contents-rows (doWhile body e) = omega arith
+contents-rows (for first test action body) = omega arith
+contents-rows (switch e is) = omega arith
+contents-rows break = omega arith
+contents-rows continue = omega arith
+contents-rows (goto l) = omega arith
+
+-- "At most 20×n+20 kernel rows".
+pub rows-bound : (L : Layout) (program : Statement) → statementRows (translate L program) ≤ 20 * statementRows program + 20
+rows-bound L program = omega (arith, translation-rows L program, items-most (contentsOf program), contents-rows program)
+
+-- ---- temporaries
+
+mutual
+  unfolding expressionLevels expressionRows
+
+  levels-most : (e : Expression) → expressionLevels e ≤ expressionRows e
+  levels-most (constant v) = omega arith
+  levels-most (read p) = omega (arith, index-levels-most p, place-some p)
+  levels-most (minus e) = omega (arith, levels-most e)
+  levels-most (not e) = omega (arith, levels-most e)
+  levels-most (binary operator a b) = omega (arith, levels-most a, levels-most b, taken-most (atomOf b))
+  levels-most (and a b) = omega (arith, levels-most a, levels-most b)
+  levels-most (or a b) = omega (arith, levels-most a, levels-most b)
+  levels-most (comma a b) = omega (arith, levels-most a, levels-most b)
+  levels-most (conditional c a b) = omega (arith, levels-most c, levels-most a, levels-most b)
+  levels-most (assign p e) = omega (arith, index-levels-most p, levels-most e, taken-most (atomOf e))
+  levels-most (compound operator p e) = omega (arith, update-levels-most p, levels-most e)
+  levels-most (prefix operator p) = omega (arith, update-levels-most p)
+  levels-most (postfix operator p) = omega (arith, update-levels-most p)
+
+  index-levels-most : (p : Place) → indexLevels p ≤ placeRows p
+  index-levels-most (variable i) = omega arith
+  index-levels-most (element array e) = omega (arith, levels-most e)
+
+  update-levels-most : (p : Place) → updateLevels p ≤ placeRows p
+  update-levels-most (variable i) = omega arith
+  update-levels-most (element array e) = omega (arith, levels-most e, taken-most (atomOf e), expression-some e)
+
+part-levels-most : (p : Part) → partLevels p ≤ partRows p
+part-levels-most absent = omega arith
+part-levels-most (present e) = levels-most e
+
+mutual
+  unfolding statementLevels statementRows
+
+  statement-levels-most : (s : Statement) → statementLevels s ≤ statementRows s
+  statement-levels-most empty = omega arith
+  statement-levels-most (express e) = omega (arith, levels-most e)
+  statement-levels-most (block is) = omega (arith, items-levels-most is)
+  statement-levels-most (ifThen e onTrue) = omega (arith, levels-most e, statement-levels-most onTrue)
+  statement-levels-most (ifElse e onTrue onFalse) = omega (arith, levels-most e, statement-levels-most onTrue, statement-levels-most onFalse)
+  statement-levels-most (while e body) = omega (arith, levels-most e, statement-levels-most body)
+  statement-levels-most (doWhile body e) = omega (arith, levels-most e, statement-levels-most body)
+  statement-levels-most (for first test action body) = omega (arith, part-levels-most first, part-levels-most test, part-levels-most action, statement-levels-most body)
+  statement-levels-most (switch e is) = omega (arith, levels-most e, items-levels-most is, taken-most (atomOf e), expression-some e)
+  statement-levels-most break = omega arith
+  statement-levels-most continue = omega arith
+  statement-levels-most (goto l) = omega arith
+
+  items-levels-most : (is : Items) → itemsLevels is ≤ itemsRows is
+  items-levels-most none = omega arith
+  items-levels-most (s then is) = omega (arith, statement-levels-most s, items-levels-most is)
+  items-levels-most (m here is) = omega (arith, items-levels-most is)
+
+-- "At most 4×n temporaries": at most n.
+pub temporaries-bound : (program : Statement) → temporaries program ≤ statementRows program
+unfolding temporaries
+temporaries-bound program = omega (arith, items-levels-most (contentsOf program), contents-rows program)
+
+-- ---- labels
+
+mutual
+  unfolding labels statementRows
+
+  labels-most : (s : Statement) → labels s ≤ 2 * statementRows s
+  labels-most empty = omega arith
+  labels-most (express e) = omega arith
+  labels-most (block is) = omega (arith, items-labels-most is)
+  labels-most (ifThen e onTrue) = omega (arith, labels-most onTrue)
+  labels-most (ifElse e onTrue onFalse) = omega (arith, labels-most onTrue, labels-most onFalse)
+  labels-most (while e body) = omega (arith, labels-most body)
+  labels-most (doWhile body e) = omega (arith, labels-most body)
+  labels-most (for first test action body) = omega (arith, labels-most body)
+  labels-most (switch e is) = omega (arith, items-labels-most is)
+  labels-most break = omega arith
+  labels-most continue = omega arith
+  labels-most (goto l) = omega arith
+
+  items-labels-most : (is : Items) → itemsLabels is ≤ 2 * itemsRows is
+  items-labels-most none = omega arith
+  items-labels-most (s then is) = omega (arith, labels-most s, items-labels-most is)
+  items-labels-most (m here is) = omega (arith, items-labels-most is)
+
+pub labels-bound : (program : Statement) → itemsLabels (contentsOf program) ≤ 2 * statementRows program
+labels-bound program = omega (arith, items-labels-most (contentsOf program), contents-rows program)

@@ -1,0 +1,200 @@
+-- How deep a translation is: at most twice the source's depth plus 1. By induction on the tree: a block in an if or a while lies two
+-- rows deeper, and an assignment takes four.
+use mathlib.Core.Path.{_≡_, refl}
+use Prim.Native.Nat.{ℕ, _+_, _*_, _≤_, max}
+use native.Mathlib.Omega.{arith}
+use lib.IntN.{pos}
+use Rattle.words.specs.Layout.{Layout, storeSize}
+use Rattle.words.specs.declared.Operator.{Operator}
+use Rattle.language.specs.Trees.{Expression, constant, read, minus, not, binary, and, or, comma, conditional, assign, compound, prefix, postfix, Place, variable, element, Part, absent, present, Mark, case, default, label, Statement, empty, express, block, ifThen, ifElse, while, doWhile, for, switch, break, continue, goto, Items, none, _then_, _here_, _⧺_}
+use Rattle.language.specs.Sizes.{expressionDepth, placeDepth, partDepth, statementDepth, itemsDepth}
+use Rattle.translation.specs.Translate.{Atom, number, top, taken, placeTaken, atomOf, atom, copyCode, kernelPlace, updateCode, postfixCode, expressionCode, indexCode, partCode, orEmpty, testCode, loopCode, caseTests, labels, labelOf, Exits, exits, statementCode, itemsCode, contentsOf, translate}
+
+-- A bound on the depth of a list. (A record, so that the list is determined.)
+record Deep (d : ℕ) (xs : Items) : Type 0 where
+  most : itemsDepth xs ≤ d
+
+deep-none : {d : ℕ} → Deep d none
+unfolding itemsDepth
+deep-none = record { most = omega arith }
+
+deep-append : {d : ℕ} {xs ys : Items} → Deep d xs → Deep d ys → Deep d (xs ⧺ ys)
+unfolding itemsDepth _⧺_
+deep-append {d} {xs} {ys} h k = record { most = joined xs (h .most) }
+  where
+    joined : (xs : Items) → itemsDepth xs ≤ d → itemsDepth (xs ⧺ ys) ≤ d
+    joined none h = k .most
+    joined (s then xs) h = let q = joined xs (omega arith) in omega arith
+    joined (m here xs) h = let q = joined xs (omega arith) in omega arith
+
+deep-label : {d : ℕ} {m : Mark} {is : Items} → 1 ≤ d → Deep d is → Deep d (m here is)
+unfolding itemsDepth
+deep-label h k = record { most = omega (arith, k .most) }
+
+deep-goto : {d l : ℕ} {is : Items} → 1 ≤ d → Deep d is → Deep d (goto l then is)
+unfolding itemsDepth
+deep-goto h k = record { most = omega (arith, k .most) }
+
+deep-assign : {d : ℕ} {p : Place} {e : Expression} {is : Items} → 4 ≤ d → placeDepth p ≤ 2 → expressionDepth e ≤ 2 → Deep d is → Deep d (express (assign p e) then is)
+unfolding itemsDepth expressionDepth
+deep-assign h p e k = record { most = omega (arith, k .most) }
+
+deep-if : {d : ℕ} {e : Expression} {onTrue onFalse is : Items} (b : ℕ) → expressionDepth e ≤ 1 → b + 2 ≤ d → Deep b onTrue → Deep b onFalse → Deep d is → Deep d (ifElse e (block onTrue) (block onFalse) then is)
+unfolding itemsDepth
+deep-if b e h k l m = record { most = omega (arith, k .most, l .most, m .most) }
+
+deep-block : {d : ℕ} {xs : Items} (b : ℕ) → b + 1 ≤ d → Deep b xs → Deep d (block xs then none)
+unfolding itemsDepth
+deep-block b h k = record { most = omega (arith, k .most) }
+
+mutual
+  unfolding expressionDepth
+
+  depth-some : (e : Expression) → 1 ≤ expressionDepth e
+  depth-some (constant v) = omega arith
+  depth-some (read p) = place-depth-some p
+  depth-some (minus e) = omega arith
+  depth-some (not e) = omega arith
+  depth-some (binary operator a b) = omega arith
+  depth-some (and a b) = omega arith
+  depth-some (or a b) = omega arith
+  depth-some (comma a b) = omega arith
+  depth-some (conditional c a b) = omega arith
+  depth-some (assign p e) = omega arith
+  depth-some (compound operator p e) = omega arith
+  depth-some (prefix operator p) = omega arith
+  depth-some (postfix operator p) = omega arith
+
+  place-depth-some : (p : Place) → 1 ≤ placeDepth p
+  place-depth-some (variable i) = omega arith
+  place-depth-some (element array e) = omega arith
+
+module _ (S : ℕ) where
+  depth-atom : (t : ℕ) (h : Atom) → expressionDepth (atom S t h) ≤ 1
+  unfolding expressionDepth
+  depth-atom t (number v) = omega arith
+  depth-atom t top = omega arith
+
+  depth-place : (p : Place) (t : ℕ) → placeDepth (kernelPlace S p t) ≤ 2
+  unfolding expressionDepth kernelPlace
+  depth-place (variable i) t = omega arith
+  depth-place (element array e) t = omega (arith, depth-atom t (atomOf e))
+
+  deep-copy : {d : ℕ} (t : ℕ) (h : Atom) → 4 ≤ d → Deep d (copyCode S t h)
+  unfolding expressionDepth
+  deep-copy t (number v) h = deep-assign h (omega arith) (omega arith) deep-none
+  deep-copy t top h = deep-none
+
+  deep-update : {d : ℕ} (operator : Operator) (p : Place) (h : Atom) (i t u : ℕ) → 4 ≤ d → Deep d (updateCode S operator (kernelPlace S p i) (atom S t h) t u)
+  unfolding expressionDepth kernelPlace
+  deep-update operator (variable j) h i t u le = deep-assign le (omega arith) (omega (arith, depth-atom t h)) (deep-assign le (omega arith) (omega arith) deep-none)
+  deep-update operator (element array e) h i t u le = deep-assign le (omega arith) (omega (arith, depth-atom i (atomOf e)))
+      (deep-assign le (omega arith) (omega (arith, depth-atom t h)) (deep-assign le (omega (arith, depth-atom i (atomOf e))) (omega arith) deep-none))
+
+  deep-postfix : {d : ℕ} (operator : Operator) (p : Place) (i t u : ℕ) → 4 ≤ d → Deep d (postfixCode S operator (kernelPlace S p i) t u)
+  unfolding expressionDepth kernelPlace
+  deep-postfix operator (variable j) i t u le = deep-assign le (omega arith) (omega arith) (deep-assign le (omega arith) (omega arith) deep-none)
+  deep-postfix operator (element array e) i t u le = deep-assign le (omega arith) (omega (arith, depth-atom i (atomOf e)))
+      (deep-assign le (omega arith) (omega arith) (deep-assign le (omega (arith, depth-atom i (atomOf e))) (omega arith) deep-none))
+
+  mutual
+    unfolding expressionDepth expressionCode
+
+    deep-expression : (e : Expression) (t d : ℕ) → expressionDepth e * 2 + 2 ≤ d → Deep d (expressionCode S e t)
+    deep-expression (constant v) t d h = deep-none
+    deep-expression (read p) t d h = deep-append (deep-index p t d (omega arith)) (deep-assign (omega (arith, place-depth-some p)) (omega arith) (depth-place p t) deep-none)
+    deep-expression (minus e) t d h = deep-append (deep-expression e t d (omega arith)) (deep-assign (omega arith) (omega arith) (omega (arith, depth-atom t (atomOf e))) deep-none)
+    deep-expression (not e) t d h = deep-append (deep-expression e t d (omega arith)) (deep-assign (omega arith) (omega arith) (omega (arith, depth-atom t (atomOf e))) deep-none)
+    deep-expression (binary operator a b) t d h = deep-append (deep-expression b t d (omega arith)) (deep-append (deep-expression a (t + taken (atomOf b)) d (omega arith))
+        (deep-assign (omega arith) (omega arith) (omega (arith, depth-atom (t + taken (atomOf b)) (atomOf a), depth-atom t (atomOf b))) deep-none))
+    deep-expression (and a b) t d h = deep-append (deep-expression a t d (omega arith)) (deep-if (expressionDepth b * 2 + 2) (depth-atom t (atomOf a)) (omega arith)
+        (deep-append (deep-expression b t _ (omega arith)) (deep-assign (omega (arith, depth-some b)) (omega arith) (omega (arith, depth-atom t (atomOf b))) deep-none)) (deep-assign (omega (arith, depth-some b)) (omega arith) (omega arith) deep-none) deep-none)
+    deep-expression (or a b) t d h = deep-append (deep-expression a t d (omega arith)) (deep-if (expressionDepth b * 2 + 2) (depth-atom t (atomOf a)) (omega arith) (deep-assign (omega (arith, depth-some b)) (omega arith) (omega arith) deep-none)
+        (deep-append (deep-expression b t _ (omega arith)) (deep-assign (omega (arith, depth-some b)) (omega arith) (omega (arith, depth-atom t (atomOf b))) deep-none)) deep-none)
+    deep-expression (comma a b) t d h = deep-append (deep-expression a t d (omega arith)) (deep-expression b t d (omega arith))
+    deep-expression (conditional c a b) t d h = deep-append (deep-expression c t d (omega arith)) (deep-if (max (expressionDepth a) (expressionDepth b) * 2 + 2) (depth-atom t (atomOf c)) (omega arith)
+        (deep-append (deep-expression a t _ (omega arith)) (deep-copy t (atomOf a) (omega (arith, depth-some a))))
+        (deep-append (deep-expression b t _ (omega arith)) (deep-copy t (atomOf b) (omega (arith, depth-some a)))) deep-none)
+    deep-expression (assign p e) t d h = deep-append (deep-expression e t d (omega arith)) (deep-append (deep-index p (t + taken (atomOf e)) d (omega arith))
+        (deep-assign (omega arith) (depth-place p (t + taken (atomOf e))) (omega (arith, depth-atom t (atomOf e))) deep-none))
+    deep-expression (compound operator p e) t d h = deep-append (deep-expression e t d (omega arith)) (deep-append (deep-index p (t + 1) d (omega arith)) (deep-update operator p (atomOf e) (t + 1) t (t + 1 + placeTaken p) (omega arith)))
+    deep-expression (prefix operator p) t d h = deep-append (deep-index p (t + 1) d (omega arith)) (deep-update operator p (number (pos 1)) (t + 1) t (t + 1 + placeTaken p) (omega arith))
+    deep-expression (postfix operator p) t d h = deep-append (deep-index p (t + 1) d (omega arith)) (deep-postfix operator p (t + 1) t (t + 1 + placeTaken p) (omega arith))
+
+    -- the index of an element lies deeper
+    deep-index : (p : Place) (t d : ℕ) → placeDepth p * 2 ≤ d → Deep d (indexCode S p t)
+    deep-index (variable i) t d h = deep-none
+    deep-index (element array e) t d h = deep-expression e t d (omega arith)
+
+  deep-part : (p : Part) (d : ℕ) → partDepth p * 2 + 2 ≤ d → Deep d (partCode S p)
+  deep-part absent d h = deep-none
+  deep-part (present e) d h = deep-expression e 0 d h
+
+  deep-empty : {d : ℕ} (xs : Items) → 1 ≤ d → Deep d xs → Deep d (orEmpty S xs)
+  unfolding itemsDepth
+  deep-empty none h k = record { most = omega arith }
+  deep-empty (s then xs) h k = k
+  deep-empty (m here xs) h k = k
+
+  deep-test : (p : Part) (l : ℕ) {xs : Items} {d : ℕ} → partDepth p * 2 + 2 ≤ d → Deep d xs → Deep d (testCode S p l xs)
+  deep-test absent l h k = k
+  deep-test (present e) l h k = deep-append (deep-expression e 0 _ h) (deep-if 1 (depth-atom 0 (atomOf e)) (omega (arith, depth-some e)) deep-none (deep-goto (omega arith) deep-none) k)
+
+  deep-cases : {d : ℕ} (h : Atom) (u : ℕ) (is : Items) (l : ℕ) → 4 ≤ d → Deep d (caseTests S (atom S 0 h) u is l)
+  unfolding expressionDepth caseTests
+  deep-cases h u none l le = deep-none
+  deep-cases h u (s then is) l le = deep-cases h u is (l + labels s) le
+  deep-cases h u (case v here is) l le = deep-assign le (omega arith) (omega (arith, depth-atom 0 h)) (deep-if 1 (omega arith) (omega arith) (deep-goto (omega arith) deep-none) deep-none (deep-cases h u is (l + 1) le))
+  deep-cases h u (default here is) l le = deep-cases h u is (l + 1) le
+  deep-cases h u (label k here is) l le = deep-cases h u is (l + 1) le
+
+  deep-loop : {d : ℕ} {xs : Items} (b l : ℕ) → b + 2 ≤ d → Deep b xs → Deep d (loopCode S xs l)
+  unfolding itemsDepth expressionDepth
+  deep-loop b l h k = record { most = omega (arith, k .most) }
+
+  mutual
+    unfolding itemsDepth statementCode
+
+    deep-statement : (s : Statement) (x : Exits) (l d : ℕ) → statementDepth s * 2 + 2 ≤ d → Deep d (statementCode S s x l)
+    deep-statement empty x l d h = record { most = omega arith }
+    deep-statement (express e) x l d h = deep-empty (expressionCode S e 0) (omega arith) (deep-expression e 0 d (omega arith))
+    deep-statement (block is) x l d h = deep-block (itemsDepth is * 2 + 2) (omega arith) (deep-items is x l _ (omega arith))
+    deep-statement (ifThen e onTrue) x l d h = deep-append (deep-expression e 0 d (omega arith)) (deep-if (statementDepth onTrue * 2 + 2) (depth-atom 0 (atomOf e)) (omega arith) (deep-statement onTrue x l _ (omega arith)) deep-none deep-none)
+    deep-statement (ifElse e onTrue onFalse) x l d h = deep-append (deep-expression e 0 d (omega arith)) (deep-if (max (statementDepth onTrue) (statementDepth onFalse) * 2 + 2) (depth-atom 0 (atomOf e)) (omega arith)
+        (deep-statement onTrue x l _ (omega arith)) (deep-statement onFalse x (l + labels onTrue) _ (omega arith)) deep-none)
+    deep-statement (while e body) x l d h = deep-loop (max (expressionDepth e) (statementDepth body) * 2 + 2) l (omega arith) (deep-test (present e) l (omega arith)
+        (deep-append (deep-statement body (exits l (l + 1)) (l + 2) _ (omega arith)) (deep-label (omega arith) deep-none)))
+    deep-statement (doWhile body e) x l d h = deep-loop (max (expressionDepth e) (statementDepth body) * 2 + 2) l (omega arith)
+        (deep-append (deep-statement body (exits l (l + 1)) (l + 2) _ (omega arith)) (deep-label (omega arith) (deep-test (present e) l (omega arith) deep-none)))
+    deep-statement (for first test action body) x l d h = deep-append (deep-part first d (omega arith)) (deep-loop (max (partDepth test) (max (partDepth action) (statementDepth body)) * 2 + 2) l (omega arith) (deep-test test l (omega arith)
+        (deep-append (deep-statement body (exits l (l + 1)) (l + 2) _ (omega arith)) (deep-label (omega arith) (deep-part action _ (omega arith))))))
+    deep-statement (switch e is) x l d h = deep-append (deep-expression e 0 d (omega arith)) (deep-append (deep-cases (atomOf e) (taken (atomOf e)) is (l + 1) (omega arith))
+        (deep-goto (omega arith) (deep-append (deep-items is (exits l (x .onContinue)) (l + 1) d (omega arith)) (deep-label (omega arith) deep-none))))
+    deep-statement break x l d h = deep-goto (omega arith) deep-none
+    deep-statement continue x l d h = deep-goto (omega arith) deep-none
+    deep-statement (goto k) x l d h = record { most = omega arith }
+
+    deep-items : (is : Items) (x : Exits) (l d : ℕ) → itemsDepth is * 2 + 2 ≤ d → Deep d (itemsCode S is x l)
+    deep-items none x l d h = deep-none
+    deep-items (s then is) x l d h = deep-append (deep-statement s x l d (omega arith)) (deep-items is x (l + labels s) d (omega arith))
+    deep-items (m here is) x l d h = deep-label (omega arith) (deep-items is x (l + 1) d (omega arith))
+
+contents-depth : (program : Statement) → itemsDepth (contentsOf program) + 1 ≤ statementDepth program
+unfolding itemsDepth
+contents-depth (block is) = omega arith
+contents-depth empty = omega arith
+contents-depth (express e) = omega arith
+contents-depth (ifThen e onTrue) = omega arith
+contents-depth (ifElse e onTrue onFalse) = omega arith
+contents-depth (while e body) = omega arith
+contents-depth (doWhile body e) = omega arith
+contents-depth (for first test action body) = omega arith
+contents-depth (switch e is) = omega arith
+contents-depth break = omega arith
+contents-depth continue = omega arith
+contents-depth (goto l) = omega arith
+
+-- So a source of depth 64 has a kernel of depth 129 at most.
+pub depth-bound : (L : Layout) (program : Statement) → statementDepth (translate L program) ≤ 2 * statementDepth program + 1
+unfolding itemsDepth translate
+depth-bound L program = omega (arith, deep-items (storeSize L) (contentsOf program) (exits 0 0) 1 (itemsDepth (contentsOf program) * 2 + 2) (omega arith) .most, contents-depth program)

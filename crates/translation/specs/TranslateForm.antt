@@ -1,0 +1,227 @@
+-- Every translation has kernel form. By induction on the source tree; for a goto, the labels that stand ahead of the code are carried
+-- along.
+use mathlib.Core.Path.{_≡_, refl, ap}
+use mathlib.Core.Bool.{Bool, true, false, _||_}
+use Prim.Native.Nat.{ℕ, _+_, _≤_, _<_}
+use native.Mathlib.Omega.{arith}
+use borrow.Author.Tests.{eq-eqb}
+use lib.IntN.{pos}
+use Rattle.words.specs.declared.Operator.{Operator}
+use Rattle.language.specs.Trees.{Expression, constant, read, minus, not, binary, and, or, comma, conditional, assign, compound, prefix, postfix, Place, variable, element, Part, absent, present, Mark, case, default, label, sameMark, has, Statement, empty, express, block, ifThen, ifElse, while, doWhile, for, switch, break, continue, goto, Items, none, _then_, _here_, _⧺_}
+use Rattle.language.specs.WellFormed.{Placed, PlacedItems}
+use Rattle.translation.specs.Translate.{Atom, number, top, taken, placeTaken, atomOf, atom, copyCode, kernelPlace, updateCode, postfixCode, expressionCode, indexCode, partCode, orEmpty, testCode, loopCode, caseTests, labels, itemsLabels, labelOf, Exits, exits, statementCode, itemsCode}
+use Rattle.translation.specs.KernelForm.{IsAtom, constant-atom, variable-atom, Assigns, assigns-atom, assigns-minus, assigns-operation, assigns-element, assigns-to-element, isLabelNumber, KernelStatement, kernel-empty, kernel-assign, kernel-block, kernel-if, kernel-while, kernel-goto, KernelItems, kernel-none, kernel-then, kernel-label}
+use Rattle.translation.specs.Related.{by-cases}
+use Rattle.translation.specs.CodeLabels.{label-absent}
+use Rattle.translation.specs.StatementRules.{Below}
+
+-- ---- lists
+
+assoc : (xs ys zs : Items) → (xs ⧺ ys) ⧺ zs ≡ xs ⧺ (ys ⧺ zs)
+unfolding _⧺_
+assoc none ys zs = refl
+assoc (s then xs) ys zs = ap (λ l. s then l) (assoc xs ys zs)
+assoc (m here xs) ys zs = ap (λ l. m here l) (assoc xs ys zs)
+
+or-right-true : (a b : Bool) → b ≡ true → (a || b) ≡ true
+or-right-true true b e = refl
+or-right-true false b e = e
+
+has-left : (m : Mark) (xs ys : Items) → has m xs ≡ true → has m (xs ⧺ ys) ≡ true
+unfolding has _⧺_
+has-left m none ys e = absurd (let z : _≡_ {A = ℕ} 0 1 = cc in omega arith)
+has-left m (s then xs) ys e = has-left m xs ys e
+has-left m (n here xs) ys e = by-cases (sameMark m n) (λ q. rw q) (λ q. rw q (has-left m xs ys (rw q at e)))
+
+has-right : (m : Mark) (xs ys : Items) → has m ys ≡ true → has m (xs ⧺ ys) ≡ true
+unfolding has _⧺_
+has-right m none ys e = e
+has-right m (s then xs) ys e = has-right m xs ys e
+has-right m (n here xs) ys e = or-right-true (sameMark m n) _ (has-right m xs ys e)
+
+has-here : (l : ℕ) (xs : Items) → has (label l) (label l here xs) ≡ true
+unfolding has sameMark
+has-here l xs = rw (eq-eqb l l refl)
+
+has-next : (m n : Mark) (xs : Items) → has m xs ≡ true → has m (n here xs) ≡ true
+unfolding has
+has-next m n xs e = or-right-true (sameMark m n) _ e
+
+append : (r xs ys : Items) → KernelItems (ys ⧺ r) xs → KernelItems r ys → KernelItems r (xs ⧺ ys)
+unfolding _⧺_
+append r none ys h k = k
+append r (s then xs) ys (kernel-then h hs) k = let moved : KernelStatement ((xs ⧺ ys) ⧺ r) s = rw (assoc xs ys r) h in kernel-then moved (append r xs ys hs k)
+append r (m here xs) ys (kernel-label b hs) k = kernel-label b (append r xs ys hs k)
+
+assignment : {r : Items} {e : Expression} → Assigns e → KernelItems r (express e then none)
+assignment h = kernel-then (kernel-assign h) kernel-none
+
+-- ---- expressions
+
+module _ (S : ℕ) where
+  form-atom : (t : ℕ) (h : Atom) → IsAtom (atom S t h)
+  form-atom t (number v) = constant-atom
+  form-atom t top = variable-atom
+
+  form-read : (i : ℕ) (p : Place) (t : ℕ) → Assigns (assign (variable i) (read (kernelPlace S p t)))
+  unfolding kernelPlace
+  form-read i (variable j) t = assigns-atom variable-atom
+  form-read i (element array e) t = assigns-element (form-atom t (atomOf e))
+
+  form-write : (p : Place) (t : ℕ) {e : Expression} → IsAtom e → Assigns (assign (kernelPlace S p t) e)
+  unfolding kernelPlace
+  form-write (variable j) t h = assigns-atom h
+  form-write (element array e) t h = assigns-to-element (form-atom t (atomOf e)) h
+
+  form-copy : (t : ℕ) (h : Atom) (r : Items) → KernelItems r (copyCode S t h)
+  form-copy t (number v) r = assignment (assigns-atom constant-atom)
+  form-copy t top r = kernel-none
+
+  form-update : (operator : Operator) (p : Place) (i t u : ℕ) (r : Items) {x : Expression} → IsAtom x → KernelItems r (updateCode S operator (kernelPlace S p i) x t u)
+  unfolding kernelPlace
+  form-update operator (variable j) i t u r h = kernel-then (kernel-assign (assigns-operation variable-atom h)) (assignment (assigns-atom variable-atom))
+  form-update operator (element array e) i t u r h = kernel-then (kernel-assign (assigns-element (form-atom i (atomOf e)))) (kernel-then (kernel-assign (assigns-operation variable-atom h)) (assignment (assigns-to-element (form-atom i (atomOf e)) variable-atom)))
+
+  form-postfix : (operator : Operator) (p : Place) (i t u : ℕ) (r : Items) → KernelItems r (postfixCode S operator (kernelPlace S p i) t u)
+  unfolding kernelPlace
+  form-postfix operator (variable j) i t u r = kernel-then (kernel-assign (assigns-atom variable-atom)) (assignment (assigns-operation variable-atom constant-atom))
+  form-postfix operator (element array e) i t u r = kernel-then (kernel-assign (assigns-element (form-atom i (atomOf e)))) (kernel-then (kernel-assign (assigns-operation variable-atom constant-atom)) (assignment (assigns-to-element (form-atom i (atomOf e)) variable-atom)))
+
+  mutual
+    unfolding expressionCode
+
+    form-expression : (e : Expression) (t : ℕ) (r : Items) → KernelItems r (expressionCode S e t)
+    form-expression (constant v) t r = kernel-none
+    form-expression (read p) t r = append r (indexCode S p t) _ (form-index p t _) (assignment (form-read _ p t))
+    form-expression (minus e) t r = append r (expressionCode S e t) _ (form-expression e t _) (assignment (assigns-minus (form-atom t (atomOf e))))
+    form-expression (not e) t r = append r (expressionCode S e t) _ (form-expression e t _) (assignment (assigns-operation (form-atom t (atomOf e)) constant-atom))
+    form-expression (binary operator a b) t r = append r (expressionCode S b t) _ (form-expression b t _) (append r (expressionCode S a (t + taken (atomOf b))) _ (form-expression a (t + taken (atomOf b)) _)
+        (assignment (assigns-operation (form-atom (t + taken (atomOf b)) (atomOf a)) (form-atom t (atomOf b)))))
+    form-expression (and a b) t r = append r (expressionCode S a t) _ (form-expression a t _) (kernel-then (kernel-if (form-atom t (atomOf a))
+        (append _ (expressionCode S b t) _ (form-expression b t _) (assignment (assigns-operation (form-atom t (atomOf b)) constant-atom))) (assignment (assigns-atom constant-atom))) kernel-none)
+    form-expression (or a b) t r = append r (expressionCode S a t) _ (form-expression a t _) (kernel-then (kernel-if (form-atom t (atomOf a)) (assignment (assigns-atom constant-atom))
+        (append _ (expressionCode S b t) _ (form-expression b t _) (assignment (assigns-operation (form-atom t (atomOf b)) constant-atom)))) kernel-none)
+    form-expression (comma a b) t r = append r (expressionCode S a t) _ (form-expression a t _) (form-expression b t r)
+    form-expression (conditional c a b) t r = append r (expressionCode S c t) _ (form-expression c t _) (kernel-then (kernel-if (form-atom t (atomOf c))
+        (append _ (expressionCode S a t) _ (form-expression a t _) (form-copy t (atomOf a) _)) (append _ (expressionCode S b t) _ (form-expression b t _) (form-copy t (atomOf b) _))) kernel-none)
+    form-expression (assign p e) t r = append r (expressionCode S e t) _ (form-expression e t _) (append r (indexCode S p (t + taken (atomOf e))) _ (form-index p (t + taken (atomOf e)) _) (assignment (form-write p (t + taken (atomOf e)) (form-atom t (atomOf e)))))
+    form-expression (compound operator p e) t r = append r (expressionCode S e t) _ (form-expression e t _) (append r (indexCode S p (t + 1)) _ (form-index p (t + 1) _) (form-update operator p (t + 1) t (t + 1 + placeTaken p) r (form-atom t (atomOf e))))
+    form-expression (prefix operator p) t r = append r (indexCode S p (t + 1)) _ (form-index p (t + 1) _) (form-update operator p (t + 1) t (t + 1 + placeTaken p) r constant-atom)
+    form-expression (postfix operator p) t r = append r (indexCode S p (t + 1)) _ (form-index p (t + 1) _) (form-postfix operator p (t + 1) t (t + 1 + placeTaken p) r)
+
+    form-index : (p : Place) (t : ℕ) (r : Items) → KernelItems r (indexCode S p t)
+    form-index (variable i) t r = kernel-none
+    form-index (element array e) t r = form-expression e t r
+
+  form-part : (p : Part) (r : Items) → KernelItems r (partCode S p)
+  form-part absent r = kernel-none
+  form-part (present e) r = form-expression e 0 r
+
+  form-empty : (xs r : Items) → KernelItems r xs → KernelItems r (orEmpty S xs)
+  form-empty none r h = kernel-then kernel-empty kernel-none
+  form-empty (s then xs) r h = h
+  form-empty (m here xs) r h = h
+
+  -- ---- loops and switches
+
+  -- A loop around items that may jump to the label behind it.
+  form-loop : (xs : Items) (l : ℕ) (r : Items) → isLabelNumber l → KernelItems (label l here r) xs → KernelItems r (loopCode S xs l)
+  unfolding _⧺_
+  form-loop xs l r b h = kernel-then (kernel-while constant-atom h) (kernel-label b kernel-none)
+
+  form-test : (p : Part) (l : ℕ) (xs r : Items) → isLabelNumber l → has (label l) (xs ⧺ r) ≡ true → KernelItems r xs → KernelItems r (testCode S p l xs)
+  unfolding _⧺_
+  form-test absent l xs r b h k = k
+  form-test (present e) l xs r b h k = append r (expressionCode S e 0) _ (form-expression e 0 _) (kernel-then (kernel-if (form-atom 0 (atomOf e)) kernel-none (kernel-then (kernel-goto b h) kernel-none)) k)
+
+  -- The label behind a loop stands ahead of its body.
+  has-behind : (action : Part) (l : ℕ) (r : Items) → has (label l) (label (l + 1) here partCode S action ⧺ label l here r) ≡ true
+  has-behind action l r = has-next (label l) (label (l + 1)) _ (has-right (label l) (partCode S action) _ (has-here l r))
+
+  form-rounds : (test action : Part) (bs : Items) (l : ℕ) (r : Items) → l + 2 ≤ 40980 → KernelItems (label (l + 1) here partCode S action ⧺ label l here r) bs
+      → KernelItems r (loopCode S (testCode S test l (bs ⧺ label (l + 1) here partCode S action)) l)
+  unfolding _⧺_
+  form-rounds test action bs l r b h = form-loop (testCode S test l (bs ⧺ label (l + 1) here partCode S action)) l r (omega arith) (form-test test l (bs ⧺ label (l + 1) here partCode S action) (label l here r) (omega arith)
+      (rw (assoc bs (label (l + 1) here partCode S action) (label l here r)) (has-right (label l) bs _ (has-behind action l r)))
+      (append (label l here r) bs (label (l + 1) here partCode S action) h (kernel-label {l = l + 1} (omega arith) (form-part action (label l here r)))))
+
+  form-do : (e : Expression) (bs : Items) (l : ℕ) (r : Items) → l + 2 ≤ 40980 → KernelItems (label (l + 1) here testCode S (present e) l none ⧺ label l here r) bs
+      → KernelItems r (loopCode S (bs ⧺ label (l + 1) here testCode S (present e) l none) l)
+  unfolding _⧺_
+  form-do e bs l r b h = form-loop (bs ⧺ label (l + 1) here testCode S (present e) l none) l r (omega arith)
+      (append (label l here r) bs (label (l + 1) here testCode S (present e) l none) h (kernel-label {l = l + 1} (omega arith) (form-test (present e) l none (label l here r) (omega arith) (has-here l r) kernel-none)))
+
+  -- The tests of a switch jump to labels of its items' code.
+  form-tests : (h : Atom) (u : ℕ) (x : Exits) (is : Items) (l : ℕ) (r : Items) → l + itemsLabels is ≤ 40980 → ((m : Mark) → has m (itemsCode S is x l) ≡ true → has m r ≡ true) → KernelItems r (caseTests S (atom S 0 h) u is l)
+  unfolding caseTests itemsCode itemsLabels _⧺_
+  form-tests h u x none l r b k = kernel-none
+  form-tests h u x (s then is) l r b k = form-tests h u x is (l + labels s) r (omega arith) (λ m e. k m (has-right m (statementCode S s x l) _ e))
+  form-tests h u x (case v here is) l r b k = kernel-then (kernel-assign (assigns-operation (form-atom 0 h) constant-atom)) (kernel-then (kernel-if variable-atom
+      (kernel-then (kernel-goto {l = l} (omega arith) (has-right (label l) (caseTests S (atom S 0 h) u is (l + 1)) r (k (label l) (has-here l _)))) kernel-none) kernel-none)
+      (form-tests h u x is (l + 1) r (omega arith) (λ m e. k m (has-next m (label l) _ e))))
+  form-tests h u x (default here is) l r b k = form-tests h u x is (l + 1) r (omega arith) (λ m e. k m (has-next m (label l) _ e))
+  form-tests h u x (label j here is) l r b k = form-tests h u x is (l + 1) r (omega arith) (λ m e. k m (has-next m (label l) _ e))
+
+  -- The label of a mark stands in the code of its list.
+  has-labelOf : (m : Mark) (is : Items) (x : Exits) (l other : ℕ) → has m is ≡ true → has (label (labelOf m is l other)) (itemsCode S is x l) ≡ true
+  unfolding has labelOf itemsCode sameMark
+  has-labelOf m none x l other e = e
+  has-labelOf m (s then is) x l other e = has-right (label (labelOf m is (l + labels s) other)) (statementCode S s x l) _ (has-labelOf m is x (l + labels s) other e)
+  has-labelOf m (n here is) x l other e = by-cases (sameMark m n) (λ q. rw (q, eq-eqb l l refl)) (λ q. rw q (has-next (label (labelOf m is (l + 1) other)) (label l) (itemsCode S is x (l + 1)) (has-labelOf m is x (l + 1) other (rw q at e))))
+
+  label-most : (m : Mark) (is : Items) (l other : ℕ) → l + itemsLabels is ≤ 40980 → isLabelNumber other → isLabelNumber (labelOf m is l other)
+  unfolding labelOf itemsLabels
+  label-most m none l other b c = c
+  label-most m (s then is) l other b c = label-most m is (l + labels s) other (omega arith) c
+  label-most m (n here is) l other b c = by-cases (sameMark m n) (λ q. rw q (omega arith)) (λ q. rw q (label-most m is (l + 1) other (omega arith) c))
+
+  has-default : (is : Items) (x : Exits) (l : ℕ) (r : Items) → has (label (labelOf default is (l + 1) l)) ((itemsCode S is x (l + 1) ⧺ label l here none) ⧺ r) ≡ true
+  unfolding _⧺_
+  has-default is x l r = by-cases (has default is)
+      (λ q. has-left (label (labelOf default is (l + 1) l)) (itemsCode S is x (l + 1) ⧺ label l here none) r
+      (has-left (label (labelOf default is (l + 1) l)) (itemsCode S is x (l + 1)) _ (has-labelOf default is x (l + 1) l q)))
+      (λ q. rw (label-absent default is (l + 1) l q)
+      (has-left (label l) (itemsCode S is x (l + 1) ⧺ label l here none) r (has-right (label l) (itemsCode S is x (l + 1)) _ (has-here l none))))
+
+  form-switch : (e : Expression) (is : Items) (x : Exits) (l : ℕ) (r : Items) → l + 1 + itemsLabels is ≤ 40980 → KernelItems (label l here r) (itemsCode S is (exits l (x .onContinue)) (l + 1)) → KernelItems r (statementCode S (switch e is) x l)
+  unfolding _⧺_ statementCode has
+  form-switch e is x l r b h =
+      let y = exits l (x .onContinue) in
+      append r (expressionCode S e 0) _ (form-expression e 0 _)
+      (append r (caseTests S (atom S 0 (atomOf e)) (taken (atomOf e)) is (l + 1)) (goto (labelOf default is (l + 1) l) then itemsCode S is y (l + 1) ⧺ label l here none)
+      (form-tests (atomOf e) (taken (atomOf e)) y is (l + 1) (goto (labelOf default is (l + 1) l) then (itemsCode S is y (l + 1) ⧺ label l here none) ⧺ r) b
+      (λ m q. has-left m (itemsCode S is y (l + 1) ⧺ label l here none) r (has-left m (itemsCode S is y (l + 1)) _ q)))
+      (kernel-then (kernel-goto (label-most default is (l + 1) l b (omega arith)) (has-default is y l r)) (append r (itemsCode S is y (l + 1)) (label l here none) h (kernel-label {l = l} (omega arith) kernel-none))))
+
+  -- ---- statements
+
+  mutual
+    unfolding statementCode labels Placed _⧺_
+
+    form-statement : (s : Statement) (x : Exits) (l : ℕ) (r : Items) (b c : Bool) → Placed b c s → Below x l → l + labels s ≤ 40980
+        → (b ≡ true → has (label (x .onBreak)) r ≡ true) → (c ≡ true → has (label (x .onContinue)) r ≡ true) → KernelItems r (statementCode S s x l)
+    form-statement empty x l r b c h u n o k = kernel-then kernel-empty kernel-none
+    form-statement (express e) x l r b c h u n o k = form-empty (expressionCode S e 0) r (form-expression e 0 r)
+    form-statement (block is) x l r b c h u n o k = kernel-then (kernel-block (form-items is x l r false b c h u n o k)) kernel-none
+    form-statement (ifThen e onTrue) x l r b c h u n o k = append r (expressionCode S e 0) _ (form-expression e 0 _) (kernel-then (kernel-if (form-atom 0 (atomOf e)) (form-statement onTrue x l r b c h u n o k) kernel-none) kernel-none)
+    form-statement (ifElse e onTrue onFalse) x l r b c h u n o k = append r (expressionCode S e 0) _ (form-expression e 0 _) (kernel-then (kernel-if (form-atom 0 (atomOf e))
+        (form-statement onTrue x l r b c (h .0) u (omega arith) o k) (form-statement onFalse x (l + labels onTrue) r b c (h .1) (omega arith) (omega arith) o k)) kernel-none)
+    form-statement (while e body) x l r b c h u n o k = form-rounds (present e) absent (statementCode S body (exits l (l + 1)) (l + 2)) l r (omega arith)
+        (form-statement body (exits l (l + 1)) (l + 2) _ true true h (omega arith) (omega arith) (λ _. has-behind absent l r) (λ _. has-here (l + 1) _))
+    form-statement (doWhile body e) x l r b c h u n o k = form-do e (statementCode S body (exits l (l + 1)) (l + 2)) l r (omega arith)
+        (form-statement body (exits l (l + 1)) (l + 2) _ true true h (omega arith) (omega arith) (λ _. has-next (label l) (label (l + 1)) _ (has-right (label l) (testCode S (present e) l none) _ (has-here l r))) (λ _. has-here (l + 1) _))
+    form-statement (for first test action body) x l r b c h u n o k = append r (partCode S first) _ (form-part first _) (form-rounds test action (statementCode S body (exits l (l + 1)) (l + 2)) l r (omega arith)
+        (form-statement body (exits l (l + 1)) (l + 2) _ true true h (omega arith) (omega arith) (λ _. has-behind action l r) (λ _. has-here (l + 1) _)))
+    form-statement (switch e is) x l r b c h u n o k = form-switch e is x l r (omega arith)
+        (form-items is (exits l (x .onContinue)) (l + 1) _ true true c h (omega arith) (omega arith) (λ _. has-here l r) (λ q. has-next (label (x .onContinue)) (label l) r (k q)))
+    form-statement break x l r b c h u n o k = kernel-then (kernel-goto {l = x .onBreak} (omega arith) (o h)) kernel-none
+    form-statement continue x l r b c h u n o k = kernel-then (kernel-goto {l = x .onContinue} (omega arith) (k h)) kernel-none
+    form-statement (goto j) x l r b c h u n o k = absurd h
+
+    pub form-items : (is : Items) (x : Exits) (l : ℕ) (r : Items) (s b c : Bool) → PlacedItems s b c is → Below x l → l + itemsLabels is ≤ 40980
+        → (b ≡ true → has (label (x .onBreak)) r ≡ true) → (c ≡ true → has (label (x .onContinue)) r ≡ true) → KernelItems r (itemsCode S is x l)
+    form-items none x l r s b c h u n o k = kernel-none
+    form-items (d then is) x l r s b c h u n o k = append r (statementCode S d x l) _
+        (form-statement d x l _ b c (h .0) u (omega arith) (λ q. has-right (label (x .onBreak)) (itemsCode S is x (l + labels d)) r (o q)) (λ q. has-right (label (x .onContinue)) (itemsCode S is x (l + labels d)) r (k q)))
+        (form-items is x (l + labels d) r s b c (h .1) (omega arith) (omega arith) o k)
+    form-items (m here is) x l r s b c h u n o k = kernel-label {l = l} (omega arith) (form-items is x (l + 1) r s b c (h .1) (omega arith) (omega arith) o k)

@@ -1,0 +1,129 @@
+-- No label stands twice in a translation. By induction on the tree: how often label j stands in the code of labels l to e, added to
+-- [j < l], is [j < e]; so the counts of parts add up.
+use mathlib.Core.Path.{_≡_, refl}
+use mathlib.Core.Bool.{Bool, true, false}
+use Prim.Native.Nat.{ℕ, suc, _+_, _≤_, _<_}
+use native.Mathlib.Omega.{arith}
+use borrow.Author.Tests.{ltb-true, ltb-false, lt-ltb, le-ltb, eqb-true, eqb-false, ne-eqb}
+use lib.Dec.{ltb, eqb}
+use lib.IntN.{pos}
+use Rattle.words.specs.Word.{pick}
+use Rattle.words.specs.declared.Operator.{Operator}
+use Rattle.language.specs.Trees.{Expression, constant, read, minus, not, binary, and, or, comma, conditional, assign, compound, prefix, postfix, Place, variable, element, Part, absent, present, Mark, case, default, label, Statement, empty, express, block, ifThen, ifElse, while, doWhile, for, switch, break, continue, goto, Items, none, _then_, _here_, _⧺_}
+use Rattle.translation.specs.Translate.{Atom, number, top, taken, placeTaken, atomOf, atom, copyCode, kernelPlace, updateCode, postfixCode, expressionCode, indexCode, partCode, orEmpty, testCode, caseTests, labels, itemsLabels, Exits, exits, statementCode, itemsCode}
+use Rattle.translation.specs.KernelForm.{markTimes, statementTimes, itemsTimes}
+use Rattle.translation.specs.Related.{by-cases}
+
+-- 1 where j is below c.
+abbrev under : ℕ → ℕ → ℕ
+under j c = pick (ltb j c) 1 0
+
+under-most : (j c : ℕ) → under j c ≤ 1
+under-most j c = by-cases (ltb j c) (λ e. rw e (omega arith)) (λ e. rw e (omega arith))
+
+under-next : (j l : ℕ) → markTimes j (label l) + under j l ≡ under j (l + 1)
+under-next j l = by-cases (ltb j l)
+    (λ e. let h : j < l = ltb-true j l e in rw (e, ne-eqb j l (omega arith), lt-ltb j (l + 1) (omega arith)))
+    (λ e. let h : l ≤ j = ltb-false j l e in by-cases (eqb j l)
+    (λ q. let p : j ≡ l = eqb-true j l q in rw (e, q, lt-ltb j (l + 1) (omega arith)))
+    (λ q. rw (e, q, le-ltb j (l + 1) (later j l h (eqb-false j l q)))))
+  where
+    later : (j l : ℕ) → l ≤ j → (j ≡ l → ⊥) → l + 1 ≤ j
+    later j l h p = by-cases (ltb l j) (λ e. omega (arith, ltb-true l j e)) (λ e. absurd (p (omega (arith, ltb-false l j e))))
+
+under-two : (j l : ℕ) → markTimes j (label l) + markTimes j (label (l + 1)) + under j l ≡ under j (l + 2)
+under-two j l = let z : l + 2 ≡ l + 1 + 1 = omega arith in rw z (omega (arith, under-next j l, under-next j (l + 1)))
+
+times-append : (j : ℕ) (xs ys : Items) → itemsTimes j (xs ⧺ ys) ≡ itemsTimes j xs + itemsTimes j ys
+unfolding itemsTimes _⧺_
+times-append j none ys = omega arith
+times-append j (s then xs) ys = omega (arith, times-append j xs ys)
+times-append j (m here xs) ys = omega (arith, times-append j xs ys)
+
+module _ (S j : ℕ) where
+  times-copy : (t : ℕ) (h : Atom) → itemsTimes j (copyCode S t h) ≡ 0
+  unfolding itemsTimes
+  times-copy t (number v) = refl
+  times-copy t top = refl
+
+  times-update : (operator : Operator) (p : Place) (x : Expression) (i t u : ℕ) → itemsTimes j (updateCode S operator (kernelPlace S p i) x t u) ≡ 0
+  unfolding itemsTimes kernelPlace
+  times-update operator (variable k) x i t u = refl
+  times-update operator (element array e) x i t u = refl
+
+  times-postfix : (operator : Operator) (p : Place) (i t u : ℕ) → itemsTimes j (postfixCode S operator (kernelPlace S p i) t u) ≡ 0
+  unfolding itemsTimes kernelPlace
+  times-postfix operator (variable k) i t u = refl
+  times-postfix operator (element array e) i t u = refl
+
+  times-empty : (xs : Items) → itemsTimes j (orEmpty S xs) ≡ itemsTimes j xs
+  unfolding itemsTimes
+  times-empty none = refl
+  times-empty (s then xs) = refl
+  times-empty (m here xs) = refl
+
+  mutual
+    unfolding itemsTimes expressionCode
+
+    times-expression : (e : Expression) (t : ℕ) → itemsTimes j (expressionCode S e t) ≡ 0
+    times-expression (constant v) t = refl
+    times-expression (read p) t = simp times-append (omega (arith, times-index p t))
+    times-expression (minus e) t = simp times-append (omega (arith, times-expression e t))
+    times-expression (not e) t = simp times-append (omega (arith, times-expression e t))
+    times-expression (binary operator a b) t = simp times-append (omega (arith, times-expression b t, times-expression a (t + taken (atomOf b))))
+    times-expression (and a b) t = simp times-append (omega (arith, times-expression a t, times-expression b t))
+    times-expression (or a b) t = simp times-append (omega (arith, times-expression a t, times-expression b t))
+    times-expression (comma a b) t = simp times-append (omega (arith, times-expression a t, times-expression b t))
+    times-expression (conditional c a b) t = simp (times-append, times-copy) (omega (arith, times-expression c t, times-expression a t, times-expression b t))
+    times-expression (assign p e) t = simp times-append (omega (arith, times-expression e t, times-index p (t + taken (atomOf e))))
+    times-expression (compound operator p e) t = simp times-append (omega (arith, times-expression e t, times-index p (t + 1), times-update operator p (atom S t (atomOf e)) (t + 1) t (t + 1 + placeTaken p)))
+    times-expression (prefix operator p) t = simp times-append (omega (arith, times-index p (t + 1), times-update operator p (constant (pos 1)) (t + 1) t (t + 1 + placeTaken p)))
+    times-expression (postfix operator p) t = simp times-append (omega (arith, times-index p (t + 1), times-postfix operator p (t + 1) t (t + 1 + placeTaken p)))
+
+    times-index : (p : Place) (t : ℕ) → itemsTimes j (indexCode S p t) ≡ 0
+    times-index (variable i) t = refl
+    times-index (element array e) t = times-expression e t
+
+  times-part : (p : Part) → itemsTimes j (partCode S p) ≡ 0
+  unfolding itemsTimes
+  times-part absent = refl
+  times-part (present e) = times-expression e 0
+
+  times-test : (p : Part) (l : ℕ) (xs : Items) → itemsTimes j (testCode S p l xs) ≡ itemsTimes j xs
+  unfolding itemsTimes
+  times-test absent l xs = refl
+  times-test (present e) l xs = simp times-append (omega (arith, times-expression e 0))
+
+  times-cases : (x : Expression) (u : ℕ) (is : Items) (l : ℕ) → itemsTimes j (caseTests S x u is l) ≡ 0
+  unfolding itemsTimes caseTests
+  times-cases x u none l = refl
+  times-cases x u (s then is) l = times-cases x u is (l + labels s)
+  times-cases x u (case v here is) l = omega (arith, times-cases x u is (l + 1))
+  times-cases x u (default here is) l = times-cases x u is (l + 1)
+  times-cases x u (label k here is) l = times-cases x u is (l + 1)
+
+  mutual
+    unfolding itemsTimes statementCode labels
+
+    -- The labels of a statement's code are those from l to e, each once.
+    once : (s : Statement) (x : Exits) (l e : ℕ) → l + labels s ≡ e → itemsTimes j (statementCode S s x l) + under j l ≡ under j e
+    once empty x l e q = let z : l ≡ e = omega arith in rw z (omega arith)
+    once (express d) x l e q = let z : l ≡ e = omega arith in rw z (simp times-empty (omega (arith, times-expression d 0)))
+    once (block is) x l e q = omega (arith, once-items is x l e q)
+    once (ifThen d onTrue) x l e q = simp times-append (omega (arith, times-expression d 0, once onTrue x l e q))
+    once (ifElse d onTrue onFalse) x l e q = simp times-append (omega (arith, times-expression d 0, once onTrue x l (l + labels onTrue) refl, once onFalse x (l + labels onTrue) e (omega arith)))
+    once (while d body) x l e q = simp times-append (omega (arith, times-expression d 0, under-two j l, once body (exits l (l + 1)) (l + 2) e (omega arith)))
+    once (doWhile body d) x l e q = simp times-append (omega (arith, times-expression d 0, under-two j l, once body (exits l (l + 1)) (l + 2) e (omega arith)))
+    once (for first test action body) x l e q = simp (times-append, times-test, times-part) (omega (arith, under-two j l, once body (exits l (l + 1)) (l + 2) e (omega arith)))
+    once (switch d is) x l e q = simp (times-append, times-cases) (omega (arith, times-expression d 0, under-next j l, once-items is (exits l (x .onContinue)) (l + 1) e (omega arith)))
+    once break x l e q = let z : l ≡ e = omega arith in rw z (omega arith)
+    once continue x l e q = let z : l ≡ e = omega arith in rw z (omega arith)
+    once (goto k) x l e q = let z : l ≡ e = omega arith in rw z (omega arith)
+
+    once-items : (is : Items) (x : Exits) (l e : ℕ) → l + itemsLabels is ≡ e → itemsTimes j (itemsCode S is x l) + under j l ≡ under j e
+    once-items none x l e q = let z : l ≡ e = omega arith in rw z (omega arith)
+    once-items (s then is) x l e q = simp times-append (omega (arith, once s x l (l + labels s) refl, once-items is x (l + labels s) e (omega arith)))
+    once-items (m here is) x l e q = omega (arith, under-next j l, once-items is x (l + 1) e (omega arith))
+
+  pub labels-distinct : (is : Items) (x : Exits) (l : ℕ) → itemsTimes j (itemsCode S is x l) ≤ 1
+  labels-distinct is x l = omega (arith, once-items is x l (l + itemsLabels is) refl, under-most j (l + itemsLabels is))

@@ -1,0 +1,132 @@
+-- The rows of a translation's code are those that TranslateSize counts. By induction on the tree: `simp` takes the code apart, `omega`
+-- adds up.
+use mathlib.Core.Path.{_≡_, refl, ap}
+use Prim.Native.Nat.{ℕ, _+_, _*_, _≤_, max}
+use native.Mathlib.Omega.{arith}
+use lib.IntN.{pos}
+use Rattle.words.specs.Layout.{Layout, storeSize}
+use Rattle.words.specs.declared.Operator.{Operator}
+use Rattle.language.specs.Trees.{Expression, constant, read, minus, not, binary, and, or, comma, conditional, assign, compound, prefix, postfix, Place, variable, element, Part, absent, present, Mark, case, default, label, Statement, empty, express, block, ifThen, ifElse, while, doWhile, for, switch, break, continue, goto, Items, none, _then_, _here_, _⧺_}
+use Rattle.language.specs.Sizes.{expressionRows, placeRows, statementRows, itemsRows}
+use Rattle.translation.specs.Translate.{Atom, number, top, atomOf, taken, placeTaken, atom, copyCode, kernelPlace, updateCode, postfixCode, expressionCode, indexCode, partCode, orEmpty, testCode, caseTests, labels, Exits, exits, statementCode, itemsCode, contentsOf, translate}
+use Rattle.translation.specs.TranslateSize.{indexRows, copyRows, ownRows, expressionSize, indexSize, partSize, testSize, cases, statementSize, itemsSize}
+
+pub rows-append : (xs ys : Items) → itemsRows (xs ⧺ ys) ≡ itemsRows xs + itemsRows ys
+unfolding itemsRows _⧺_
+rows-append none ys = omega arith
+rows-append (s then xs) ys = omega (arith, rows-append xs ys)
+rows-append (m here xs) ys = omega (arith, rows-append xs ys)
+
+statement-some : (s : Statement) → 1 ≤ statementRows s
+unfolding statementRows
+statement-some empty = omega arith
+statement-some (express e) = omega arith
+statement-some (block is) = omega arith
+statement-some (ifThen e onTrue) = omega arith
+statement-some (ifElse e onTrue onFalse) = omega arith
+statement-some (while e body) = omega arith
+statement-some (doWhile body e) = omega arith
+statement-some (for first test action body) = omega arith
+statement-some (switch e is) = omega arith
+statement-some break = omega arith
+statement-some continue = omega arith
+statement-some (goto l) = omega arith
+
+module _ (S : ℕ) where
+  rows-atom : (t : ℕ) (h : Atom) → expressionRows (atom S t h) ≡ 1
+  unfolding expressionRows
+  rows-atom t (number v) = refl
+  rows-atom t top = refl
+
+  rows-copy : (t : ℕ) (h : Atom) → itemsRows (copyCode S t h) ≡ copyRows h
+  unfolding expressionRows itemsRows
+  rows-copy t (number v) = refl
+  rows-copy t top = refl
+
+  rows-place : (p : Place) (t : ℕ) → placeRows (kernelPlace S p t) ≡ 1 + indexRows p
+  unfolding expressionRows kernelPlace
+  rows-place (variable i) t = refl
+  rows-place (element array e) t = ap (λ n. 1 + n) (rows-atom t (atomOf e))
+
+  rows-update : (operator : Operator) (p : Place) (h : Atom) (t i u : ℕ) → itemsRows (updateCode S operator (kernelPlace S p i) (atom S t h) t u) ≡ 10 + 6 * indexRows p
+  unfolding expressionRows itemsRows kernelPlace
+  rows-update operator (variable j) h t i u = simp rows-atom
+  rows-update operator (element array e) h t i u = simp rows-atom
+
+  rows-postfix : (operator : Operator) (p : Place) (t i u : ℕ) → itemsRows (postfixCode S operator (kernelPlace S p i) t u) ≡ 10 + 6 * indexRows p
+  unfolding expressionRows itemsRows kernelPlace
+  rows-postfix operator (variable j) t i u = refl
+  rows-postfix operator (element array e) t i u = simp rows-atom
+
+  rows-empty : (xs : Items) → itemsRows (orEmpty S xs) ≡ max 1 (itemsRows xs)
+  unfolding itemsRows
+  rows-empty none = refl
+  rows-empty (s then xs) = omega (arith, statement-some s)
+  rows-empty (m here xs) = omega arith
+
+  mutual
+    unfolding expressionSize expressionCode expressionRows itemsRows kernelPlace
+
+    pub rows-expression : (e : Expression) (t : ℕ) → itemsRows (expressionCode S e t) ≡ expressionSize e
+    rows-expression (constant v) t = refl
+    rows-expression (read p) t = simp (rows-append, rows-place) (omega (arith, rows-index p t))
+    rows-expression (minus e) t = simp (rows-append, rows-atom) (omega (arith, rows-expression e t))
+    rows-expression (not e) t = simp (rows-append, rows-atom) (omega (arith, rows-expression e t))
+    rows-expression (binary operator a b) t = simp (rows-append, rows-atom) (omega (arith, rows-expression b t, rows-expression a (t + taken (atomOf b))))
+    rows-expression (and a b) t = simp (rows-append, rows-atom) (omega (arith, rows-expression a t, rows-expression b t))
+    rows-expression (or a b) t = simp (rows-append, rows-atom) (omega (arith, rows-expression a t, rows-expression b t))
+    rows-expression (comma a b) t = simp rows-append (omega (arith, rows-expression a t, rows-expression b t))
+    rows-expression (conditional c a b) t = simp (rows-append, rows-atom, rows-copy) (omega (arith, rows-expression c t, rows-expression a t, rows-expression b t))
+    rows-expression (assign p e) t = simp (rows-append, rows-atom, rows-place) (omega (arith, rows-expression e t, rows-index p (t + taken (atomOf e))))
+    rows-expression (compound operator p e) t = simp rows-append (omega (arith, rows-expression e t, rows-index p (t + 1), rows-update operator p (atomOf e) t (t + 1) (t + 1 + placeTaken p)))
+    rows-expression (prefix operator p) t = simp rows-append (omega (arith, rows-index p (t + 1), rows-update operator p (number (pos 1)) t (t + 1) (t + 1 + placeTaken p)))
+    rows-expression (postfix operator p) t = simp rows-append (omega (arith, rows-index p (t + 1), rows-postfix operator p t (t + 1) (t + 1 + placeTaken p)))
+
+    rows-index : (p : Place) (t : ℕ) → itemsRows (indexCode S p t) ≡ indexSize p
+    rows-index (variable i) t = refl
+    rows-index (element array e) t = rows-expression e t
+
+  rows-part : (p : Part) → itemsRows (partCode S p) ≡ partSize p
+  unfolding itemsRows
+  rows-part absent = refl
+  rows-part (present e) = rows-expression e 0
+
+  rows-test : (p : Part) (l : ℕ) (xs : Items) → itemsRows (testCode S p l xs) ≡ testSize p + itemsRows xs
+  unfolding expressionRows itemsRows
+  rows-test absent l xs = omega arith
+  rows-test (present e) l xs = simp (rows-append, rows-atom) (omega (arith, rows-expression e 0))
+
+  rows-cases : (t u : ℕ) (h : Atom) (is : Items) (l : ℕ) → itemsRows (caseTests S (atom S t h) u is l) ≡ 11 * cases is
+  unfolding expressionRows itemsRows caseTests
+  rows-cases t u h none l = refl
+  rows-cases t u h (s then is) l = rows-cases t u h is (l + labels s)
+  rows-cases t u h (case v here is) l = simp rows-atom (omega (arith, rows-cases t u h is (l + 1)))
+  rows-cases t u h (default here is) l = rows-cases t u h is (l + 1)
+  rows-cases t u h (label k here is) l = rows-cases t u h is (l + 1)
+
+  mutual
+    unfolding statementSize statementCode itemsRows expressionRows
+
+    pub rows-statement : (s : Statement) (x : Exits) (l : ℕ) → itemsRows (statementCode S s x l) ≡ statementSize s
+    rows-statement empty x l = refl
+    rows-statement (express e) x l = simp rows-empty (omega (arith, rows-expression e 0))
+    rows-statement (block is) x l = omega (arith, rows-items is x l)
+    rows-statement (ifThen e onTrue) x l = simp (rows-append, rows-atom) (omega (arith, rows-expression e 0, rows-statement onTrue x l))
+    rows-statement (ifElse e onTrue onFalse) x l = simp (rows-append, rows-atom) (omega (arith, rows-expression e 0, rows-statement onTrue x l, rows-statement onFalse x (l + labels onTrue)))
+    rows-statement (while e body) x l = simp (rows-append, rows-atom) (omega (arith, rows-expression e 0, rows-statement body (exits l (l + 1)) (l + 2)))
+    rows-statement (doWhile body e) x l = simp (rows-append, rows-atom) (omega (arith, rows-expression e 0, rows-statement body (exits l (l + 1)) (l + 2)))
+    rows-statement (for first test action body) x l = simp (rows-append, rows-test, rows-part) (omega (arith, rows-statement body (exits l (l + 1)) (l + 2)))
+    rows-statement (switch e is) x l = simp (rows-append, rows-cases) (omega (arith, rows-expression e 0, rows-items is (exits l (x .onContinue)) (l + 1)))
+    rows-statement break x l = refl
+    rows-statement continue x l = refl
+    rows-statement (goto k) x l = refl
+
+    pub rows-items : (is : Items) (x : Exits) (l : ℕ) → itemsRows (itemsCode S is x l) ≡ itemsSize is
+    rows-items none x l = refl
+    rows-items (s then is) x l = simp rows-append (omega (arith, rows-statement s x l, rows-items is x (l + labels s)))
+    rows-items (m here is) x l = omega (arith, rows-items is x (l + 1))
+
+-- The rows of a translation.
+pub translation-rows : (L : Layout) (program : Statement) → statementRows (translate L program) ≡ 1 + itemsSize (contentsOf program)
+unfolding itemsRows translate
+translation-rows L program = omega (arith, rows-items (storeSize L) (contentsOf program) (exits 0 0) 1)

@@ -1,17 +1,17 @@
 -- Every expression and its code go alike: the rules of ExpressionRules, put together by induction on the expression.
-use mathlib.Core.Path.{_≡_, refl}
-use Prim.Native.Nat.{ℕ, suc, _+_, _*_, _≤_, _<_, max}
+use mathlib.Core.Path.{_≡_}
+use Prim.Native.Nat.{ℕ, _+_, _≤_, _<_}
 use native.Mathlib.Omega.{arith}
 use lib.IntN.{ℤ}
 use lib.ListN.{length}
 use Rattle.words.specs.Layout.{Layout}
 use Rattle.computation.specs.Run.{State}
-use Rattle.language.specs.Trees.{Expression, constant, read, minus, not, binary, and, or, comma, conditional, assign, compound, prefix, postfix, Place, variable, element, _⧺_}
+use Rattle.language.specs.Trees.{Expression, constant, read, minus, not, binary, and, or, comma, conditional, assign, compound, prefix, postfix, Place, variable, element}
 use Rattle.language.specs.Meaning.{evaluate, locate, value}
 use Rattle.language.specs.WellFormed.{NamedExpression, NamedPlace}
-use Rattle.translation.specs.Translate.{taken, placeTaken, atomOf, kernelPlace, expressionCode, indexCode, expressionLevels, indexLevels, updateLevels}
+use Rattle.translation.specs.Translate.{placeTaken, atomOf, kernelPlace, expressionCode, indexCode, expressionLevels, indexLevels, updateLevels}
 use Rattle.translation.specs.TranslateSize.{ownRows, indexRows, expressionSize, indexSize}
-use Rattle.translation.specs.Stack.{Stack, _▹_, depth}
+use Rattle.translation.specs.Stack.{Stack, depth}
 use Rattle.translation.specs.Related.{Frame}
 use Rattle.translation.specs.ExpressionRules.{Goes, Points, pay, goes-constant, points-variable, points-element, goes-read, goes-minus, goes-not, goes-binary, goes-and, goes-or, goes-comma, goes-copy, goes-conditional, goes-assign, goes-compound, goes-prefix, goes-postfix}
 

@@ -1,7 +1,6 @@
 -- An expression and its code go alike: a rule a kind, over any computation and any code of its parts. Straight code computes; each
 -- rule follows the source's computation by cases and pays for the kernel's steps.
-use mathlib.Core.Path.{_≡_, refl, ap, _∙_}
-use mathlib.Core.Bool.{Bool, true, false}
+use mathlib.Core.Path.{_≡_, refl, _∙_}
 use Prim.Native.Nat.{ℕ, zero, suc, _+_, _*_, _≤_, _<_}
 use native.Mathlib.Omega.{arith}
 use lib.Dec.{eqb·suc-zero}
@@ -12,10 +11,10 @@ use Rattle.words.specs.Layout.{arrayBase, arrayLength}
 use Rattle.words.specs.Arithmetic.{Outcome, value, isTrue, truth, bit, logicalNot, apply, minus as minusWord, element as elementWord}
 use Rattle.words.specs.declared.Operator.{Operator}
 use Rattle.words.specs.declared.Operator.the-variants.{Equal, NotEqual}
-use Rattle.computation.specs.Computation.{Computation, ret, _>>=_, _>>_, step, load, save, settle}
+use Rattle.computation.specs.Computation.{Computation, ret, _>>=_, _>>_, load, save, settle}
 use Rattle.computation.specs.Run.{State, Result}
-use Rattle.language.specs.Trees.{Expression, constant, read, minus, binary, Place, variable, element, Items, none, _then_, _here_, _⧺_}
-use Rattle.language.specs.Meaning.{Signal, next, enter, ifTrue, update, oldValue, newValue, evaluate, locate, perform, items}
+use Rattle.language.specs.Trees.{constant, read, minus, binary, Place, variable, element, Items, none, _⧺_}
+use Rattle.language.specs.Meaning.{Signal, next, enter, ifTrue, update, oldValue, newValue, evaluate, perform, items}
 use Rattle.translation.specs.Translate.{Atom, number, top, taken, temporary, atom, assigning, choosing, copyCode, updateCode, postfixCode}
 use Rattle.translation.specs.TranslateSize.{copyRows}
 use Rattle.translation.specs.Stack.{Stack, _▹_, depth}

@@ -1,7 +1,7 @@
 -- What an atom holds, and where a place lies, told by the stack of temporaries; and what the kernel reads there.
 use mathlib.Core.Path.{_≡_, refl, ap, fun-ext}
 use mathlib.Core.List.{List}
-use Prim.Native.Nat.{ℕ, suc, _+_, _≤_, _<_}
+use Prim.Native.Nat.{ℕ, _+_, _≤_, _<_}
 use native.Mathlib.Omega.{arith}
 use native.Mathlib.Nat.{add-zero}
 use native.Mathlib.Numerals.{add-one}
@@ -12,12 +12,12 @@ use Rattle.words.specs.Arithmetic.{Outcome, value, element as elementWord}
 use Rattle.words.specs.Laws.{element-inside}
 use Rattle.computation.specs.Computation.{Computation, ret, settle}
 use Rattle.computation.specs.Run.{Write, State, written, Result}
-use Rattle.language.specs.Trees.{Expression, Place, variable, element, Items, none, _then_, _here_, _⧺_}
+use Rattle.language.specs.Trees.{Place, variable, element, Items, none, _then_, _here_, _⧺_}
 use Rattle.language.specs.Meaning.{Signal, next, entersStatement, entersMark, enter, evaluate, locate, perform, items}
 use Rattle.translation.specs.Translate.{Atom, number, top, taken, atom}
 use Rattle.translation.specs.Stack.{Stack, _▹_, depth}
 use Rattle.translation.specs.RunThen.{runThen}
-use Rattle.translation.specs.Related.{Frame, Related, related-load, related-push, related-top, related-pop, related-skip, related-under, related-over}
+use Rattle.translation.specs.Related.{Frame, Related, related-top, related-pop, related-skip, related-under, related-over}
 
 -- An atom holds v in the source's state σ: with the stack F below its level, and F' after.
 pub data Holds (F : Stack ℤ) : Atom → ℤ → Stack ℤ → State → Type 0 where

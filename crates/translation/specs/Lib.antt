@@ -20,7 +20,7 @@ pub mod ExpressionRules
 -- Every expression and its code go alike.
 pub mod ExpressionPreserves
 -- Which labels stand in the code of a tree, and what a jump passes.
-pub mod CodeLabels
+pub mod PassedCode
 -- A statement and its code go alike: a rule a kind.
 pub mod StatementRules
 -- Every statement and its code go alike.
@@ -42,3 +42,6 @@ pub mod TranslateBounds
 pub mod TranslateDepth
 -- Every translation is a kernel program's tree.
 pub mod TranslateKernel
+-- ---- examples
+-- Document 01's program and a switch, with their translations.
+pub mod WorkedExamples

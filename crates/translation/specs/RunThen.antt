@@ -2,7 +2,7 @@
 -- so that straight code needs no rule.
 use mathlib.Core.Path.{_≡_, refl, _∙_}
 use Prim.Native.Nat.{ℕ, zero, suc}
-use lib.IntN.{ℤ, pos}
+use lib.IntN.{pos}
 use lib.ListN.{getD}
 use Rattle.computation.specs.Computation.{Turn, again, leave, Computation, ret, _>>=_, step, load, save, fail, loop}
 use Rattle.computation.specs.Run.{State, stepped, written, spent, fault, Result, ok, stopped, rounds, andThen, afterTurn, iterate, run}

@@ -1,6 +1,6 @@
 -- The temporaries in use as a stack, and how a kernel store is laid out: the source's words, the stack, what is spare. Laws of
 -- reading and writing a store so laid out, by induction on the stack.
-use mathlib.Core.Path.{_≡_, refl, ap}
+use mathlib.Core.Path.{_≡_, ap}
 use mathlib.Core.List.{List, [], _∷_, _++_}
 use Prim.Native.Nat.{ℕ, suc, _+_, _<_}
 use native.Mathlib.Nat.{zero-add, suc-add, add-suc}

@@ -1,20 +1,19 @@
 -- Every statement and its code go alike: the rules of StatementRules, put together by induction on the statement.
 use mathlib.Core.Path.{_≡_, refl}
 use mathlib.Core.Bool.{Bool, true, false}
-use Prim.Native.Nat.{ℕ, _+_, _*_, _≤_, _<_, max}
+use Prim.Native.Nat.{ℕ, _+_, _*_, _≤_, _<_}
 use native.Mathlib.Omega.{arith}
-use lib.IntN.{ℤ}
 use lib.ListN.{length}
 use Rattle.words.specs.Layout.{Layout}
 use Rattle.computation.specs.Computation.{Computation, ret, _>>_, again}
 use Rattle.computation.specs.Run.{State}
-use Rattle.language.specs.Trees.{Expression, Part, absent, present, Mark, label, has, Statement, empty, express, block, ifThen, ifElse, while, doWhile, for, switch, break, continue, goto, Items, none, _then_, _here_, _⧺_}
+use Rattle.language.specs.Trees.{Expression, Part, absent, present, label, has, Statement, empty, express, block, ifThen, ifElse, while, doWhile, for, switch, break, continue, goto, Items, none, _then_, _here_, _⧺_}
 use Rattle.language.specs.Meaning.{Signal, enter, valueOf, rounds, perform}
 use Rattle.language.specs.WellFormed.{NamedPart, NamedStatement, NamedItems, Placed, PlacedItems}
-use Rattle.translation.specs.Translate.{atomOf, expressionCode, partCode, testCode, loopCode, labels, Exits, exits, statementCode, itemsCode, partLevels, expressionLevels, statementLevels, itemsLevels}
-use Rattle.translation.specs.TranslateSize.{ownRows, expressionSize, partSize, testSize, cases, statementSize, itemsSize}
+use Rattle.translation.specs.Translate.{partCode, testCode, loopCode, labels, Exits, exits, statementCode, itemsCode, partLevels, expressionLevels, statementLevels, itemsLevels}
+use Rattle.translation.specs.TranslateSize.{expressionSize, partSize, cases, statementSize, itemsSize}
 use Rattle.translation.specs.Related.{Frame}
-use Rattle.translation.specs.CodeLabels.{plain-expression, plain-part, apart-below, own-labels}
+use Rattle.translation.specs.PassedCode.{plain-expression, plain-part, apart-below, own-labels}
 use Rattle.translation.specs.ExpressionPreserves.{InRange, own-size, expression-goes, value-goes}
 use Rattle.translation.specs.StatementRules.{Below, Runs, RunsOn, Turns, Drops, drops-absent, drops-present, turns-action, turns-again, turns-test, turns-body, pay-statement, runs-empty, runs-express, runs-block, runs-ifThen, runs-ifElse, runs-break, runs-continue, runs-loop, runs-after, runs-none, runs-then, runs-here, runs-switch}
 

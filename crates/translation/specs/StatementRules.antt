@@ -1,27 +1,25 @@
 -- A statement and its code go alike: a rule a kind, over any computation and any code of its parts. Between statements no temporary is in
 -- use. A break or continue of the source is a jump of the kernel, which passes code that does not have its label.
-use mathlib.Core.Path.{_≡_, refl, _∙_}
-use mathlib.Core.Bool.{Bool, true, false}
+use mathlib.Core.Path.{_≡_, refl}
+use mathlib.Core.Bool.{true, false}
 use Prim.Native.Nat.{ℕ, suc, _+_, _*_, _≤_, _<_}
 use native.Mathlib.Omega.{arith}
 use lib.IntN.{ℤ, pos}
-use lib.Dec.{eqb}
 use borrow.Author.Tests.{eq-eqb, ne-eqb}
-use Rattle.words.specs.Word.{sameWord, pick}
+use Rattle.words.specs.Word.{sameWord}
 use Rattle.words.specs.Arithmetic.{isTrue, bit, apply}
-use Rattle.words.specs.declared.Operator.the-variants.{Equal}
-use Rattle.computation.specs.Computation.{Computation, Turn, again, leave, ret, _>>=_, _>>_, step, loop}
+use Rattle.computation.specs.Computation.{Computation, Turn, again, leave, ret, _>>=_, _>>_, loop}
 use Rattle.computation.specs.Run.{State, Result}
-use Rattle.language.specs.Trees.{Expression, constant, read, binary, Part, absent, present, Mark, case, default, label, sameMark, has, Statement, empty, express, block, ifElse, while, goto, Items, none, _then_, _here_, _⧺_}
+use Rattle.language.specs.Trees.{Mark, case, default, label, sameMark, has, Statement, empty, block, goto, Items, none, _then_, _here_, _⧺_}
 use Rattle.language.specs.Meaning.{Signal, next, breaking, continuing, seeking, enter, ifTrue, target, afterSwitch, afterBody, afterTest, evaluate, perform, items}
-use Rattle.translation.specs.Translate.{Atom, taken, atom, temporary, assigning, choosing, orEmpty, labels, labelOf, Exits, exits, loopCode, caseTests, statementCode, itemsCode}
+use Rattle.translation.specs.Translate.{Atom, taken, atom, choosing, orEmpty, labels, labelOf, Exits, exits, loopCode, caseTests}
 use Rattle.translation.specs.TranslateSize.{cases}
 use Rattle.translation.specs.Stack.{Stack, bottom, depth}
 use Rattle.translation.specs.RunThen.{runThen}
 use Rattle.translation.specs.Related.{Frame, Related, Alike, alike-loop, by-cases, related-step, related-ran, related-less, related-push, related-top, related-pop}
 use Rattle.translation.specs.Held.{Holds, holds-depth, source, kernel, kernel-append, see, release}
 use Rattle.translation.specs.ExpressionRules.{Goes}
-use Rattle.translation.specs.CodeLabels.{has-neither, passes, plain-tests, Apart, apart-below, apart-above, label-least, label-absent}
+use Rattle.translation.specs.PassedCode.{has-neither, passes, plain-tests, Apart, apart-below, apart-above, label-least, label-absent}
 
 -- The signal with which a statement ends leads its code to a signal.
 pub data Leads (x : Exits) : Signal → Signal → Type 0 where

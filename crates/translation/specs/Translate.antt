@@ -1,6 +1,5 @@
 -- The translation: source trees to kernel trees, a clause a kind. docs/REWRITING.md shows each clause in C, and says which rule of
 -- Preprint 97, part 3, it replaces.
-use mathlib.Core.Bool.{Bool, true, false}
 use mathlib.Core.List.{List, _∷_, map}
 use Prim.Native.Nat.{ℕ, _+_, max}
 use lib.IntN.{ℤ, pos}

@@ -1,19 +1,19 @@
 -- Every translation of a source program is a kernel program's tree, and its header a kernel header. Put together from the files on form,
 -- labels, names, bounds and depth.
-use mathlib.Core.Path.{_≡_, refl, ap, _∙_}
+use mathlib.Core.Path.{_≡_, refl, ap}
 use mathlib.Core.Bool.{true, false}
 use mathlib.Core.List.{List, [], _∷_, map}
-use Prim.Native.Nat.{ℕ, _+_, _*_, _≤_, _<_}
+use Prim.Native.Nat.{ℕ, _+_, _≤_, _<_}
 use native.Mathlib.Omega.{arith}
 use lib.IntN.{ℤ, pos}
 use lib.ListN.{length, length-map}
 use Rattle.words.specs.Word.{natural}
 use Rattle.words.specs.Layout.{Layout, storeSize, layoutOf, temporariesOf, headerFits}
-use Rattle.words.specs.Laws.{HeaderFits, headerFits-facts, facts-headerFits}
+use Rattle.words.specs.Laws.{headerFits-facts, facts-headerFits}
 use Rattle.words.specs.declared.Form.the-variants.{Source, Kernel}
-use Rattle.language.specs.Trees.{Statement, block, Items, none}
+use Rattle.language.specs.Trees.{Statement, none}
 use Rattle.language.specs.Sizes.{statementRows, statementDepth}
-use Rattle.language.specs.WellFormed.{SourceTree, NamedItems, NamedExpression, NamedStatement}
+use Rattle.language.specs.WellFormed.{SourceTree}
 use Rattle.translation.specs.Translate.{exits, translate, itemsCode, contentsOf, temporaries, kernelHeader}
 use Rattle.translation.specs.KernelForm.{KernelTree, KernelName, name-variable, name-temporary}
 use Rattle.translation.specs.TranslateForm.{form-items}

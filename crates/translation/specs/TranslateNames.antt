@@ -1,10 +1,9 @@
 -- The variables and arrays that a translation names: the source's, and temporaries. By induction on the tree, for any property of
 -- names that the source's variables and the temporaries have.
-use mathlib.Core.Path.{_≡_, refl}
-use Prim.Native.Nat.{ℕ, _+_, _≤_, _<_, max}
+use Prim.Native.Nat.{ℕ, _+_, _≤_, _<_}
 use native.Mathlib.Omega.{arith}
 use Rattle.words.specs.declared.Operator.{Operator}
-use Rattle.language.specs.Trees.{Expression, constant, read, minus, not, binary, and, or, comma, conditional, assign, compound, prefix, postfix, Place, variable, element, Part, absent, present, Mark, case, default, label, Statement, empty, express, block, ifThen, ifElse, while, doWhile, for, switch, break, continue, goto, Items, none, _then_, _here_, _⧺_}
+use Rattle.language.specs.Trees.{Expression, constant, read, minus, not, binary, and, or, comma, conditional, assign, compound, prefix, postfix, Place, variable, element, Part, absent, present, case, default, label, Statement, empty, express, block, ifThen, ifElse, while, doWhile, for, switch, break, continue, goto, Items, none, _then_, _here_, _⧺_}
 use Rattle.language.specs.WellFormed.{NamedExpression, NamedPlace, NamedPart, NamedStatement, NamedItems}
 use Rattle.translation.specs.Translate.{Atom, number, top, taken, placeTaken, atomOf, atom, copyCode, kernelPlace, updateCode, postfixCode, expressionCode, indexCode, partCode, orEmpty, testCode, loopCode, caseTests, labels, Exits, exits, statementCode, itemsCode, expressionLevels, indexLevels, updateLevels, partLevels, statementLevels, itemsLevels}
 
@@ -32,16 +31,16 @@ module _ (Names : ℕ → Type 0) (arrays : ℕ) where
   named-append (s then xs) ys h k = (h .0, named-append xs ys (h .1) k)
   named-append (m here xs) ys h k = named-append xs ys h k
 
-  module _ (S T : ℕ) (temps : (t : ℕ) → t < T → Names (S + t)) where
+  module _ (S T : ℕ) (temporary-named : (t : ℕ) → t < T → Names (S + t)) where
     -- an atom at level t, where its temporary is one of T
     named-atom : (t : ℕ) (h : Atom) → t + taken h ≤ T → NamedExpression Names arrays (atom S t h)
     unfolding NamedExpression
     named-atom t (number v) h = tt
-    named-atom t top h = temps t (omega arith)
+    named-atom t top h = temporary-named t (omega arith)
 
     named-copy : (t : ℕ) (h : Atom) → t < T → NamedItems Names arrays (copyCode S t h)
     unfolding NamedExpression NamedItems
-    named-copy t (number v) h = ((temps t h, tt), tt)
+    named-copy t (number v) h = ((temporary-named t h, tt), tt)
     named-copy t top h = tt
 
     named-place : (p : Place) (t : ℕ) → NamedPlace Names arrays p → t + indexLevels p ≤ T → NamedPlace Names arrays (kernelPlace S p t)
@@ -52,20 +51,20 @@ module _ (Names : ℕ → Type 0) (arrays : ℕ) where
     named-update : (operator : Operator) (p : Place) (x : Expression) (t : ℕ) → NamedPlace Names arrays p → NamedExpression Names arrays x → t + (1 + updateLevels p) ≤ T
         → NamedItems Names arrays (updateCode S operator (kernelPlace S p (t + 1)) x t (t + 1 + placeTaken p))
     unfolding NamedExpression NamedItems kernelPlace placeTaken expressionLevels
-    named-update operator (variable i) x t h k n = ((temps t (omega arith), (h, k)), ((h, temps t (omega arith)), tt))
+    named-update operator (variable i) x t h k n = ((temporary-named t (omega arith), (h, k)), ((h, temporary-named t (omega arith)), tt))
     named-update operator (element array e) x t h k n =
         let index : NamedPlace Names arrays (element array (atom S (t + 1) (atomOf e))) = (h .0, named-atom (t + 1) (atomOf e) (omega arith)) in
-        let above : Names (S + (t + 1 + taken (atomOf e))) = temps (t + 1 + taken (atomOf e)) (omega arith) in
-        ((above, index), ((temps t (omega arith), (above, k)), ((index, temps t (omega arith)), tt)))
+        let above : Names (S + (t + 1 + taken (atomOf e))) = temporary-named (t + 1 + taken (atomOf e)) (omega arith) in
+        ((above, index), ((temporary-named t (omega arith), (above, k)), ((index, temporary-named t (omega arith)), tt)))
 
     named-postfix : (operator : Operator) (p : Place) (t : ℕ) → NamedPlace Names arrays p → t + (1 + updateLevels p) ≤ T
         → NamedItems Names arrays (postfixCode S operator (kernelPlace S p (t + 1)) t (t + 1 + placeTaken p))
     unfolding NamedExpression NamedItems kernelPlace placeTaken expressionLevels
-    named-postfix operator (variable i) t h n = ((temps t (omega arith), h), ((h, (temps t (omega arith), tt)), tt))
+    named-postfix operator (variable i) t h n = ((temporary-named t (omega arith), h), ((h, (temporary-named t (omega arith), tt)), tt))
     named-postfix operator (element array e) t h n =
         let index : NamedPlace Names arrays (element array (atom S (t + 1) (atomOf e))) = (h .0, named-atom (t + 1) (atomOf e) (omega arith)) in
-        let above : Names (S + (t + 1 + taken (atomOf e))) = temps (t + 1 + taken (atomOf e)) (omega arith) in
-        ((temps t (omega arith), index), ((above, (temps t (omega arith), tt)), ((index, above), tt)))
+        let above : Names (S + (t + 1 + taken (atomOf e))) = temporary-named (t + 1 + taken (atomOf e)) (omega arith) in
+        ((temporary-named t (omega arith), index), ((above, (temporary-named t (omega arith), tt)), ((index, above), tt)))
 
     index-most : (p : Place) (t : ℕ) → t + (1 + updateLevels p) ≤ T → t + 1 + indexLevels p ≤ T
     unfolding expressionLevels
@@ -77,24 +76,24 @@ module _ (Names : ℕ → Type 0) (arrays : ℕ) where
 
       named-expression : (e : Expression) (t : ℕ) → NamedExpression Names arrays e → t + expressionLevels e ≤ T → NamedItems Names arrays (expressionCode S e t)
       named-expression (constant v) t h n = tt
-      named-expression (read p) t h n = named-append (indexCode S p t) _ (named-index p t h (omega arith)) ((temps t (omega arith), named-place p t h (omega arith)), tt)
-      named-expression (minus e) t h n = named-append (expressionCode S e t) _ (named-expression e t h (omega arith)) ((temps t (omega arith), named-atom t (atomOf e) (omega (arith, taken-level e))), tt)
-      named-expression (not e) t h n = named-append (expressionCode S e t) _ (named-expression e t h (omega arith)) ((temps t (omega arith), (named-atom t (atomOf e) (omega (arith, taken-level e)), tt)), tt)
+      named-expression (read p) t h n = named-append (indexCode S p t) _ (named-index p t h (omega arith)) ((temporary-named t (omega arith), named-place p t h (omega arith)), tt)
+      named-expression (minus e) t h n = named-append (expressionCode S e t) _ (named-expression e t h (omega arith)) ((temporary-named t (omega arith), named-atom t (atomOf e) (omega (arith, taken-level e))), tt)
+      named-expression (not e) t h n = named-append (expressionCode S e t) _ (named-expression e t h (omega arith)) ((temporary-named t (omega arith), (named-atom t (atomOf e) (omega (arith, taken-level e)), tt)), tt)
       named-expression (binary operator a b) t h n = named-append (expressionCode S b t) _ (named-expression b t (h .1) (omega arith)) (named-append (expressionCode S a (t + taken (atomOf b))) _ (named-expression a (t + taken (atomOf b)) (h .0) (omega arith))
-          ((temps t (omega arith), (named-atom (t + taken (atomOf b)) (atomOf a) (omega (arith, taken-level a)), named-atom t (atomOf b) (omega (arith, taken-level b)))), tt))
+          ((temporary-named t (omega arith), (named-atom (t + taken (atomOf b)) (atomOf a) (omega (arith, taken-level a)), named-atom t (atomOf b) (omega (arith, taken-level b)))), tt))
       named-expression (and a b) t h n = named-append (expressionCode S a t) _ (named-expression a t (h .0) (omega arith)) (
         (
           named-atom t (atomOf a) (omega (arith, taken-level a)),
-          named-append (expressionCode S b t) _ (named-expression b t (h .1) (omega arith)) ((temps t (omega arith), (named-atom t (atomOf b) (omega (arith, taken-level b)), tt)), tt),
-          ((temps t (omega arith), tt), tt),
+          named-append (expressionCode S b t) _ (named-expression b t (h .1) (omega arith)) ((temporary-named t (omega arith), (named-atom t (atomOf b) (omega (arith, taken-level b)), tt)), tt),
+          ((temporary-named t (omega arith), tt), tt),
         ),
         tt,
       )
       named-expression (or a b) t h n = named-append (expressionCode S a t) _ (named-expression a t (h .0) (omega arith)) (
         (
           named-atom t (atomOf a) (omega (arith, taken-level a)),
-          ((temps t (omega arith), tt), tt),
-          named-append (expressionCode S b t) _ (named-expression b t (h .1) (omega arith)) ((temps t (omega arith), (named-atom t (atomOf b) (omega (arith, taken-level b)), tt)), tt),
+          ((temporary-named t (omega arith), tt), tt),
+          named-append (expressionCode S b t) _ (named-expression b t (h .1) (omega arith)) ((temporary-named t (omega arith), (named-atom t (atomOf b) (omega (arith, taken-level b)), tt)), tt),
         ),
         tt,
       )
@@ -138,7 +137,7 @@ module _ (Names : ℕ → Type 0) (arrays : ℕ) where
     unfolding NamedExpression NamedItems caseTests
     named-cases h none l n = tt
     named-cases h (s then is) l n = named-cases h is (l + labels s) n
-    named-cases h (case v here is) l n = ((temps (taken h) n, (named-atom 0 h (omega arith), tt)), ((temps (taken h) n, (tt, tt), tt), named-cases h is (l + 1) n))
+    named-cases h (case v here is) l n = ((temporary-named (taken h) n, (named-atom 0 h (omega arith), tt)), ((temporary-named (taken h) n, (tt, tt), tt), named-cases h is (l + 1) n))
     named-cases h (default here is) l n = named-cases h is (l + 1) n
     named-cases h (label k here is) l n = named-cases h is (l + 1) n
 

@@ -1,17 +1,15 @@
 -- Which labels stand among the own items of a tree's code: none for an expression, the statement's own for a statement. So a jump to
 -- another label passes the code. By induction on the tree.
-use mathlib.Core.Path.{_≡_, refl, _∙_}
+use mathlib.Core.Path.{_≡_, refl}
 use mathlib.Core.Bool.{Bool, true, false, _||_}
 use Prim.Native.Nat.{ℕ, _+_, _≤_, _<_}
 use native.Mathlib.Omega.{arith}
 use borrow.Author.Tests.{ne-eqb}
-use lib.Dec.{eqb}
-use Rattle.words.specs.Word.{pick}
 use Rattle.words.specs.declared.Operator.{Operator}
 use Rattle.computation.specs.Run.{State, Result}
 use Rattle.language.specs.Trees.{Expression, constant, read, minus, not, binary, and, or, comma, conditional, assign, compound, prefix, postfix, Place, variable, element, Part, absent, present, Mark, case, default, label, sameMark, has, Statement, empty, express, block, ifThen, ifElse, while, doWhile, for, switch, break, continue, goto, Items, none, _then_, _here_, _⧺_}
-use Rattle.language.specs.Meaning.{Signal, seeking, perform, items}
-use Rattle.translation.specs.Translate.{Atom, taken, placeTaken, atomOf, atom, kernelPlace, updateCode, postfixCode, expressionCode, indexCode, partCode, orEmpty, testCode, caseTests, labels, itemsLabels, labelOf, Exits, exits, statementCode, itemsCode}
+use Rattle.language.specs.Meaning.{Signal, seeking, items}
+use Rattle.translation.specs.Translate.{taken, atomOf, kernelPlace, updateCode, postfixCode, expressionCode, indexCode, partCode, orEmpty, caseTests, labels, itemsLabels, labelOf, Exits, exits, statementCode, itemsCode}
 use Rattle.translation.specs.RunThen.{runThen}
 use Rattle.translation.specs.Related.{Frame, by-cases}
 use Rattle.translation.specs.Held.{kernel}
@@ -29,11 +27,14 @@ or-right : (a b : Bool) → (a || b) ≡ false → b ≡ false
 or-right true b e = absurd (let z : _≡_ {A = ℕ} 0 1 = cc in omega arith)
 or-right false b e = e
 
-pub has-neither : (m : Mark) (xs ys : Items) → has m xs ≡ false → has m ys ≡ false → has m (xs ⧺ ys) ≡ false
+pub has-append : (m : Mark) (xs ys : Items) → has m (xs ⧺ ys) ≡ (has m xs || has m ys)
 unfolding has _⧺_
-has-neither m none ys e f = f
-has-neither m (s then xs) ys e f = has-neither m xs ys e f
-has-neither m (n here xs) ys e f = or-false (sameMark m n) _ (or-left (sameMark m n) (has m xs) e) (has-neither m xs ys (or-right (sameMark m n) (has m xs) e) f)
+has-append m none ys = refl
+has-append m (s then xs) ys = has-append m xs ys
+has-append m (n here xs) ys = by-cases (sameMark m n) (λ e. rw e) (λ e. rw e (has-append m xs ys))
+
+pub has-neither : (m : Mark) (xs ys : Items) → has m xs ≡ false → has m ys ≡ false → has m (xs ⧺ ys) ≡ false
+has-neither m xs ys e f = rw (has-append, e) f
 
 has-other : (j l : ℕ) (xs : Items) → (j ≡ l → ⊥) → has (label j) xs ≡ false → has (label j) (label l here xs) ≡ false
 unfolding has sameMark
@@ -65,19 +66,18 @@ module _ (S : ℕ) where
     -- The code of an expression has no mark.
     pub plain-expression : (e : Expression) (t : ℕ) (m : Mark) → has m (expressionCode S e t) ≡ false
     plain-expression (constant v) t m = refl
-    plain-expression (read p) t m = has-neither m (indexCode S p t) _ (plain-index p t m) refl
-    plain-expression (minus e) t m = has-neither m (expressionCode S e t) _ (plain-expression e t m) refl
-    plain-expression (not e) t m = has-neither m (expressionCode S e t) _ (plain-expression e t m) refl
-    plain-expression (binary operator a b) t m = has-neither m (expressionCode S b t) _ (plain-expression b t m) (has-neither m (expressionCode S a (t + taken (atomOf b))) _ (plain-expression a (t + taken (atomOf b)) m) refl)
-    plain-expression (and a b) t m = has-neither m (expressionCode S a t) _ (plain-expression a t m) refl
-    plain-expression (or a b) t m = has-neither m (expressionCode S a t) _ (plain-expression a t m) refl
-    plain-expression (comma a b) t m = has-neither m (expressionCode S a t) _ (plain-expression a t m) (plain-expression b t m)
-    plain-expression (conditional c a b) t m = has-neither m (expressionCode S c t) _ (plain-expression c t m) refl
-    plain-expression (assign p e) t m = has-neither m (expressionCode S e t) _ (plain-expression e t m) (has-neither m (indexCode S p (t + taken (atomOf e))) _ (plain-index p (t + taken (atomOf e)) m) refl)
-    plain-expression (compound operator p e) t m = has-neither m (expressionCode S e t) _ (plain-expression e t m)
-        (has-neither m (indexCode S p (t + 1)) _ (plain-index p (t + 1) m) (plain-update operator p (atom S t (atomOf e)) (t + 1) t (t + 1 + placeTaken p) m))
-    plain-expression (prefix operator p) t m = has-neither m (indexCode S p (t + 1)) _ (plain-index p (t + 1) m) (plain-update operator p _ (t + 1) t (t + 1 + placeTaken p) m)
-    plain-expression (postfix operator p) t m = has-neither m (indexCode S p (t + 1)) _ (plain-index p (t + 1) m) (plain-postfix operator p (t + 1) t (t + 1 + placeTaken p) m)
+    plain-expression (read p) t m = simp (has-append, plain-index p t m)
+    plain-expression (minus e) t m = simp (has-append, plain-expression e t m)
+    plain-expression (not e) t m = simp (has-append, plain-expression e t m)
+    plain-expression (binary operator a b) t m = simp (has-append, plain-expression b t m, plain-expression a (t + taken (atomOf b)) m)
+    plain-expression (and a b) t m = simp (has-append, plain-expression a t m)
+    plain-expression (or a b) t m = simp (has-append, plain-expression a t m)
+    plain-expression (comma a b) t m = simp (has-append, plain-expression a t m, plain-expression b t m)
+    plain-expression (conditional c a b) t m = simp (has-append, plain-expression c t m)
+    plain-expression (assign p e) t m = simp (has-append, plain-expression e t m, plain-index p (t + taken (atomOf e)) m)
+    plain-expression (compound operator p e) t m = simp (has-append, plain-expression e t m, plain-index p (t + 1) m, plain-update)
+    plain-expression (prefix operator p) t m = simp (has-append, plain-index p (t + 1) m, plain-update)
+    plain-expression (postfix operator p) t m = simp (has-append, plain-index p (t + 1) m, plain-postfix)
 
     plain-index : (p : Place) (t : ℕ) (m : Mark) → has m (indexCode S p t) ≡ false
     plain-index (variable i) t m = refl
@@ -88,11 +88,11 @@ module _ (S : ℕ) where
   plain-part absent m = refl
   plain-part (present e) m = plain-expression e 0 m
 
-  plain-empty : (m : Mark) (xs : Items) → has m xs ≡ false → has m (orEmpty S xs) ≡ false
+  has-empty : (m : Mark) (xs : Items) → has m (orEmpty S xs) ≡ has m xs
   unfolding has
-  plain-empty m none e = e
-  plain-empty m (s then xs) e = e
-  plain-empty m (n here xs) e = e
+  has-empty m none = refl
+  has-empty m (s then xs) = refl
+  has-empty m (n here xs) = refl
 
   pub plain-tests : (x : Expression) (u : ℕ) (is : Items) (l : ℕ) (m : Mark) → has m (caseTests S x u is l) ≡ false
   unfolding has caseTests
@@ -121,24 +121,22 @@ module _ (S : ℕ) where
     -- The code of a statement has no label but its own.
     pub own-labels : (s : Statement) (x : Exits) (l j : ℕ) → Apart l (labels s) j → has (label j) (statementCode S s x l) ≡ false
     own-labels empty x l j h = refl
-    own-labels (express e) x l j h = plain-empty S (label j) (expressionCode S e 0) (plain-expression S e 0 (label j))
+    own-labels (express e) x l j h = simp (has-empty S, plain-expression S e 0)
     own-labels (block is) x l j h = refl
-    own-labels (ifThen e onTrue) x l j h = has-neither (label j) (expressionCode S e 0) _ (plain-expression S e 0 (label j)) refl
-    own-labels (ifElse e onTrue onFalse) x l j h = has-neither (label j) (expressionCode S e 0) _ (plain-expression S e 0 (label j)) refl
+    own-labels (ifThen e onTrue) x l j h = simp (has-append, plain-expression S e 0)
+    own-labels (ifElse e onTrue onFalse) x l j h = simp (has-append, plain-expression S e 0)
     own-labels (while e body) x l j h = has-other j l none (h l (omega arith) (omega arith)) refl
     own-labels (doWhile body e) x l j h = has-other j l none (h l (omega arith) (omega arith)) refl
-    own-labels (for first test action body) x l j h = has-neither (label j) (partCode S first) _ (plain-part S first (label j)) (has-other j l none (h l (omega arith) (omega arith)) refl)
-    own-labels (switch e is) x l j h = has-neither (label j) (expressionCode S e 0) _ (plain-expression S e 0 (label j))
-        (has-neither (label j) (caseTests S (atom S 0 (atomOf e)) (taken (atomOf e)) is (l + 1)) _ (plain-tests S (atom S 0 (atomOf e)) (taken (atomOf e)) is (l + 1) (label j))
-        (has-neither (label j) (itemsCode S is (exits l (x .onContinue)) (l + 1)) _ (own-items is (exits l (x .onContinue)) (l + 1) j (λ i a b. h i (omega arith) (omega arith)))
-        (has-other j l none (h l (omega arith) (omega arith)) refl)))
+    own-labels (for first test action body) x l j h = simp (has-append, plain-part S first) (has-other j l none (h l (omega arith) (omega arith)) refl)
+    own-labels (switch e is) x l j h = simp (has-append, plain-expression S e 0, plain-tests S, own-items is (exits l (x .onContinue)) (l + 1) j (λ i a b. h i (omega arith) (omega arith)))
+        (has-other j l none (h l (omega arith) (omega arith)) refl)
     own-labels break x l j h = refl
     own-labels continue x l j h = refl
     own-labels (goto k) x l j h = refl
 
     own-items : (is : Items) (x : Exits) (l j : ℕ) → Apart l (itemsLabels is) j → has (label j) (itemsCode S is x l) ≡ false
     own-items none x l j h = refl
-    own-items (s then is) x l j h = has-neither (label j) (statementCode S s x l) _ (own-labels s x l j (λ i a b. h i a (omega arith))) (own-items is x (l + labels s) j (λ i a b. h i (omega arith) (omega arith)))
+    own-items (s then is) x l j h = simp (has-append, own-labels s x l j (λ i a b. h i a (omega arith)), own-items is x (l + labels s) j (λ i a b. h i (omega arith) (omega arith)))
     own-items (m here is) x l j h = has-other j l (itemsCode S is x (l + 1)) (h l (omega arith) (omega arith)) (own-items is x (l + 1) j (λ i a b. h i (omega arith) (omega arith)))
 
 -- ---- the label of a mark

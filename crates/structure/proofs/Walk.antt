@@ -17,7 +17,7 @@ use Rattle.structure.specs.Grammar.{link}
 use Rattle.structure.specs.Search.{lowestRow}
 use Rattle.structure.specs.SearchLaws.{lowest-at, all-lowestRow}
 use Rattle.structure.specs.Links.{depthAt, tooDeep}
-use Rattle.structure.specs.LinkLaws.{Owner, owner-of}
+use Rattle.structure.specs.LinkLaws.{by-owner}
 use Rattle.structure.specs.NoteLaws.{above-zero}
 use Rattle.structure.specs.Structured.{Leads, Tree}
 use Rattle.structure.specs.Passes.{Under, here, down, Through, LowestDeep}
@@ -150,15 +150,8 @@ module _ (rows : List ℤ) (t : Tree rows) where
       record { leads = leads; is = e; later = rw e (leads .later); inside = rw e (leads .inside) }
 
   -- every row is below row 0
-  reached : (most row : ℕ) → row < most → row < rowCount rows → Under rows 0 row
-  reached zero row h n = absurd (omega arith)
-  reached (suc most) row h n = go (ℕ-discrete row 0) (λ owner l. reached most owner (omega arith) (omega arith))
-    where
-      go : Dec (row ≡ 0) → ((owner : ℕ) → owner < row → Under rows 0 owner) → Under rows 0 row
-      go (yes q) r = subst (Under rows 0) (sym q) here
-      go (no q) r =
-          let o = owner-of rows t row (above-zero row q) n in
-          subst (Under rows 0) (o .is) (under-link rows (r (o .owner) (o .earlier)) (o .field) (o .last) (o .leads))
+  reached : (row : ℕ) → row < rowCount rows → Under rows 0 row
+  reached = by-owner rows t (Under rows 0) here (λ owner field h leads u. under-link rows u field h leads)
 
   module _ (form : Form) (found : ℕ) (w : LowestDeep (depthLimit form) rows (Under rows 0) found) where
     shallow-before : (row : ℕ) → row < rowCount rows → row < found → tooDeep form rows row ≡ false
@@ -166,7 +159,7 @@ module _ (rows : List ℤ) (t : Tree rows) where
     shallow-before row n h = go (decLt (depthLimit form) (depthAt rows row))
       where
         go : Dec (depthLimit form < depthAt rows row) → tooDeep form rows row ≡ false
-        go (yes d) = absurd (let l = w .least row (reached (suc row) row (omega arith) n) d in omega arith)
+        go (yes d) = absurd (let l = w .least row (reached row n) d in omega arith)
         go (no d) = let l : depthAt rows row ≤ depthLimit form = omega (arith, d) in le-ltb _ _ l
 
     pub deep-found : found < rowCount rows → At found ≡ lowestRow rows (tooDeep form rows)

@@ -14,8 +14,8 @@ use Rattle.structure.specs.Grammar.{link}
 use Rattle.structure.specs.Search.{lowestRow}
 use Rattle.structure.specs.SearchLaws.{lowestRow-all, all-lowestRow}
 use Rattle.structure.specs.Links.{deeper, depthAt, tooDeep}
-use Rattle.structure.specs.LinkLaws.{Owner, owner-of}
-use Rattle.structure.specs.NoteLaws.{above-zero, note-root, note-link}
+use Rattle.structure.specs.LinkLaws.{by-owner}
+use Rattle.structure.specs.NoteLaws.{note-root, note-link}
 use Rattle.structure.specs.Structured.{Leads, Tree, Depth, root, owned, beside, Shallow}
 use Rattle.structure.specs.declared.Found.the-variants.{Nothing}
 
@@ -49,19 +49,9 @@ module _ (rows : List ℤ) (t : Tree rows) where
           let below = lt-of-le-ne (omega arith) q in
           subst (Depth rows (link rows row field)) (sym (depth-owned row field below leads)) (owned below leads d)
 
-  -- and each row has one; `most` bounds the row
-  has-depth : (most row : ℕ) → row < most → row < rowCount rows → Depth rows row (depthAt rows row)
-  has-depth zero row h n = absurd (omega arith)
-  has-depth (suc most) row h n = go (ℕ-discrete row 0) (λ owner l. has-depth most owner (omega arith) (omega arith))
-    where
-      go : Dec (row ≡ 0) → ((owner : ℕ) → owner < row → Depth rows owner (depthAt rows owner)) → Depth rows row (depthAt rows row)
-      go (yes q) r = subst (λ (x : ℕ). Depth rows x (depthAt rows x)) (sym q) (subst (Depth rows 0) (sym (depth-root rows)) root)
-      go (no q) r =
-          let o = owner-of rows t row (above-zero row q) n in
-          subst (λ (x : ℕ). Depth rows x (depthAt rows x)) (o .is) (depth-along (o .owner) (o .field) (o .last) (o .leads) (r (o .owner) (o .earlier)))
-
+  -- and each row has one
   pub depth-of : (row : ℕ) → row < rowCount rows → Depth rows row (depthAt rows row)
-  depth-of row n = has-depth (suc row) row (omega arith) n
+  depth-of = by-owner rows t (λ (row : ℕ). Depth rows row (depthAt rows row)) (subst (Depth rows 0) (sym (depth-root rows)) root) depth-along
 
   -- only rows of the table have a depth
   pub depth-inside : {row depth : ℕ} → Depth rows row depth → row < rowCount rows

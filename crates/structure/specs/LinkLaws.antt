@@ -1,11 +1,12 @@
 -- Laws of links: in a tree of rows each row but row 0 has one owner, the row that links it, and `linker` finds it.
-use mathlib.Core.Path.{_≡_, refl, sym, ap, _∙_}
+use mathlib.Core.Path.{_≡_, subst, refl, sym, ap, _∙_}
 use mathlib.Core.Bool.{Bool, true, false}
 use mathlib.Core.List.{List}
 use Prim.Native.Nat.{ℕ, zero, suc, _+_, _*_, _-_, _/_, _%_, _≤_, _<_}
 use native.Mathlib.Nat.{add-zero, add-suc}
 use native.Mathlib.Omega.{arith}
 use native.Mathlib.Decide.{ℕ-discrete}
+use lib.Arith.{lt-of-le-ne}
 use lib.Dec.{eqb}
 use lib.IntN.{ℤ}
 use borrow.Author.Tests.{eq-eqb, ne-eqb}
@@ -114,6 +115,20 @@ module _ (rows : List ℤ) (t : Tree rows) where
       field-first : (owner field row : ℕ) → link rows owner field ≡ row → 0 < row → 1 ≤ field
       field-first owner zero row e p = absurd (let none = kind-links-none rows owner in omega arith)
       field-first owner (suc field) row e p = omega arith
+
+  -- what holds of row 0, and goes along the links, holds of every row
+  pub by-owner : (P : ℕ → Type 0) → P 0 → ((owner field : ℕ) → field < 6 → Leads rows owner field → P owner → P (link rows owner field)) → (row : ℕ) → row < rowCount rows → P row
+  by-owner P root along row n = go (suc row) row (omega arith) n
+    where
+      step : (row : ℕ) → Dec (row ≡ 0) → row < rowCount rows → ((owner : ℕ) → owner < row → P owner) → P row
+      step row (yes q) n earlier = subst P (sym q) root
+      step row (no q) n earlier =
+          let o = owner-of row (lt-of-le-ne (omega arith) (λ (z : 0 ≡ row). q (sym z))) n in
+          subst P (o .is) (along (o .owner) (o .field) (o .last) (o .leads) (earlier (o .owner) (o .earlier)))
+
+      go : (most row : ℕ) → row < most → row < rowCount rows → P row
+      go zero row h n = absurd (omega arith)
+      go (suc most) row h n = step row (ℕ-discrete row 0) n (λ owner l. go most owner (omega arith) (omega arith))
 
   pub linker-of : (row field : ℕ) → field < 6 → Leads rows row field → row < rowCount rows → linker rows (link rows row field) ≡ At (6 * row + field)
   unfolding target

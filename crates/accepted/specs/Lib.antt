@@ -1,0 +1,24 @@
+-- What a table that a check accepts gives to its users. A line of comment for each file.
+-- Sorts: the table of kinds by kind: what each field of a row of a kind holds.
+pub mod Sorts
+-- Fields: what a structured table gives at each field of a row, by the row's kind.
+pub mod Fields
+-- Sound: a structured table is sound, in both forms: what a run asks of a table.
+pub mod Sound
+-- Expressions, Statements: how the trees of a structured table lie on its rows.
+pub mod Expressions
+pub mod Statements
+-- Names: every variable and array number in the tree of a structured table names one.
+pub mod Names
+-- Worded: trees whose constants and case values are words. Words: the tree of a structured table is one.
+pub mod Worded
+pub mod Words
+-- Sums: along the links, row 0 gathers the sum over all rows. Rows: the tree of a structured table has as many rows as the table.
+pub mod Sums
+pub mod Rows
+-- Depth: the tree of a structured table is no deeper than its rows.
+pub mod Depth
+-- Places: in the tree of a legal source program break, continue, case and default stand where they may.
+pub mod Places
+-- Source: what a legal source program gives to its users.
+pub mod Source

@@ -1,0 +1,97 @@
+-- Names: every variable and array number in the tree of a structured table names one. By recursion on the rows.
+use mathlib.Core.Path.{_≡_, refl, subst}
+use mathlib.Core.List.{List}
+use mathlib.Core.Logic.{⊎-elim}
+use Prim.Native.Nat.{ℕ, _<_}
+use native.Mathlib.Omega.{arith}
+use lib.IntN.{ℤ}
+use lib.ListN.{length}
+use Rattle.words.specs.Table.{rowCount}
+use Rattle.words.specs.Layout.{layoutOf, storeWords}
+use Rattle.words.specs.declared.Form.{Form}
+use Rattle.words.specs.declared.Form.the-variants.{Source}
+use Rattle.language.specs.Trees.{read}
+use Rattle.language.specs.Decode.{expressionAt, statementAt, decode}
+use Rattle.language.specs.DecodeLaws.{listAt, partAt}
+use Rattle.language.specs.WellFormed.{NamedExpression, NamedPlace, NamedPart, NamedStatement, NamedItems}
+use Rattle.structure.specs.Grammar.{link}
+use Rattle.structure.specs.Structured.{Structured}
+use Rattle.accepted.specs.Sorts.{sorts, sortIn}
+use Rattle.accepted.specs.Fields.{NamesVariable, stays, names-variable, names-array}
+use Rattle.accepted.specs.Expressions.{ExpressionRow, constant-row, variable-row, element-row, minus-row, not-row, binary-row, and-row, or-row, comma-row, conditional-row, assign-row, compound-row, prefix-row, postfix-row, placeAt}
+use Rattle.accepted.specs.Statements.{PartRow, absent-part, present-part, StatementRow, empty-row, express-row, block-row, ifThen-row, ifElse-row, while-row, doWhile-row, for-row, switch-row, case-row, default-row, break-row, continue-row, goto-row, label-row, ListRow, no-items, item, case-item, default-item, label-item, root-inside, program-list, program-block}
+
+-- `Names` is what the header's variable numbers satisfy.
+module _ (form : Form) (header rows : List ℤ) (s : Structured form header rows)
+    (Names : ℕ → Type 0) (names : (number : ℕ) → NamesVariable form header number → Names number) where
+  abbrev arrays : ℕ
+  arrays = length (layoutOf form header .lengths)
+
+  -- an operand that is a place
+  named-place : (row : ℕ) → expressionAt rows row ≡ read (placeAt rows row) → NamedExpression Names arrays (expressionAt rows row) → NamedPlace Names arrays (placeAt rows row)
+  unfolding NamedExpression
+  named-place row e n = subst (NamedExpression Names arrays) e n
+
+  pub named-expression : {row : ℕ} → ExpressionRow rows row → row < rowCount rows → NamedExpression Names arrays (expressionAt rows row)
+  unfolding NamedExpression NamedPlace sortIn sorts
+  named-expression (constant-row k e) inside = rw e tt
+  named-expression {row} (variable-row k e) inside = rw e (names _ (names-variable form header rows s row inside k 1 refl))
+  named-expression {row} (element-row k p e x) inside = rw e (names-array form header rows s row inside k 1 refl, named-expression x (p .inside))
+  named-expression (minus-row k p e x) inside = rw e (named-expression x (p .inside))
+  named-expression (not-row k p e x) inside = rw e (named-expression x (p .inside))
+  named-expression (binary-row k p q e x y) inside = rw e (named-expression x (p .inside), named-expression y (q .inside))
+  named-expression (and-row k p q e x y) inside = rw e (named-expression x (p .inside), named-expression y (q .inside))
+  named-expression (or-row k p q e x y) inside = rw e (named-expression x (p .inside), named-expression y (q .inside))
+  named-expression (comma-row k p q e x y) inside = rw e (named-expression x (p .inside), named-expression y (q .inside))
+  named-expression (conditional-row k p q r e x y z) inside = rw e (named-expression x (p .inside), named-expression y (q .inside), named-expression z (r .inside))
+  named-expression {row} (assign-row k p q i e x y) inside = rw e (named-place (link rows row 1) i (named-expression x (p .inside)), named-expression y (q .inside))
+  named-expression {row} (compound-row k p q i e x y) inside = rw e (named-place (link rows row 1) i (named-expression x (p .inside)), named-expression y (q .inside))
+  named-expression {row} (prefix-row k p i e x) inside = rw e (named-place (link rows row 1) i (named-expression x (p .inside)))
+  named-expression {row} (postfix-row k p i e x) inside = rw e (named-place (link rows row 1) i (named-expression x (p .inside)))
+
+  named-part : {l : ℕ} → PartRow rows l → (0 < l → l < rowCount rows) → NamedPart Names arrays (partAt rows l)
+  named-part (absent-part z e) inside = rw e tt
+  named-part (present-part p e x) inside = rw e (named-expression x (inside p))
+
+  mutual
+    unfolding NamedStatement NamedItems
+
+    pub named-statement : {row : ℕ} → StatementRow rows row → row < rowCount rows → NamedStatement Names arrays (statementAt rows row)
+    named-statement (empty-row k e) inside = rw e tt
+    named-statement (express-row k p e x) inside = rw e (named-expression x (p .inside))
+    named-statement {row} (block-row k e x) inside = rw e (named-list x (stays form header rows s row inside 1 refl))
+    named-statement (ifThen-row k p q z e x y) inside = rw e (named-expression x (p .inside), named-statement y (q .inside))
+    named-statement (ifElse-row k p q r e x y z) inside = rw e (named-expression x (p .inside), named-statement y (q .inside), named-statement z (r .inside))
+    named-statement (while-row k p q e x y) inside = rw e (named-expression x (p .inside), named-statement y (q .inside))
+    named-statement (doWhile-row k p q e x y) inside = rw e (named-statement x (p .inside), named-expression y (q .inside))
+    named-statement {row} (for-row k p e x y z w) inside =
+        let at = stays form header rows s row inside in
+        rw e (named-part x (at 1 refl), named-part y (at 2 refl), named-part z (at 3 refl), named-statement w (p .inside))
+    named-statement {row} (switch-row k p e x y) inside = rw e (named-expression x (p .inside), named-list y (stays form header rows s row inside 2 refl))
+    named-statement (case-row k e) inside = rw e tt
+    named-statement (default-row k e) inside = rw e tt
+    named-statement (break-row k e) inside = rw e tt
+    named-statement (continue-row k e) inside = rw e tt
+    named-statement (goto-row k e) inside = rw e tt
+    named-statement (label-row k e) inside = rw e tt
+
+    named-list : {l : ℕ} → ListRow rows l → (0 < l → l < rowCount rows) → NamedItems Names arrays (listAt rows l)
+    named-list (no-items z e) inside = rw e tt
+    named-list {l} (item p e x y) inside = rw e (named-statement x (inside p), named-list y (stays form header rows s l (inside p) 5 refl))
+    named-list {l} (case-item p k e x y) inside = rw e (named-list y (stays form header rows s l (inside p) 5 refl))
+    named-list {l} (default-item p k e x y) inside = rw e (named-list y (stays form header rows s l (inside p) 5 refl))
+    named-list {l} (label-item p k e x y) inside = rw e (named-list y (stays form header rows s l (inside p) 5 refl))
+
+  pub named-contents : NamedItems Names arrays (listAt rows (link rows 0 1))
+  named-contents = named-list (program-list form header rows s) (stays form header rows s 0 (root-inside form header rows s) 1 refl)
+
+-- "Variable, array or label number outside" is refused: every number in the tree names a variable of the header, and every array number an array.
+pub structured-named : (form : Form) (header rows : List ℤ) → Structured form header rows
+    → NamedStatement (NamesVariable form header) (length (layoutOf form header .lengths)) (decode rows)
+unfolding NamedStatement
+structured-named form header rows s = rw (program-block form header rows s) (named-contents form header rows s (NamesVariable form header) (λ number n. n))
+
+-- The source has no temporaries.
+pub source-variable : (header : List ℤ) (number : ℕ) → NamesVariable Source header number → number < layoutOf Source header .variables
+unfolding storeWords
+source-variable header number = ⊎-elim (λ h. h) (λ h. absurd (omega arith))

@@ -1,0 +1,193 @@
+-- Places: in the tree of a legal source program break, continue, case and default stand where they may. A row has one owner, so what a row
+-- stands inside of is what its owner is or stands inside of. By recursion on the rows.
+use mathlib.Core.Path.{_≡_, refl, sym, ap, _∙_, subst}
+use mathlib.Core.Bool.{Bool, true, false}
+use mathlib.Core.List.{List}
+use mathlib.Core.Logic.{_⊎_, inl, inr, ⊎-elim}
+use Prim.Native.Nat.{ℕ, _+_, _*_, _<_}
+use native.Mathlib.Omega.{arith}
+use lib.IntN.{ℤ}
+use Rattle.words.specs.Table.{rowCount, numberAt}
+use Rattle.words.specs.Kinds.{kindAt}
+use Rattle.words.specs.declared.Form.the-variants.{Source}
+use Rattle.words.specs.declared.Kind.{Kind}
+use Rattle.words.specs.declared.Kind.the-variants.{Block, Switch}
+use Rattle.language.specs.Decode.{statementAt, decode}
+use Rattle.language.specs.DecodeLaws.{listAt}
+use Rattle.language.specs.WellFormed.{Placed, PlacedItems}
+use Rattle.structure.specs.Grammar.{statementRow, inLanguage, link}
+use Rattle.structure.specs.LinkLaws.{linker-of}
+use Rattle.structure.specs.SearchLaws.{clash}
+use Rattle.structure.specs.StructuredLaws.{structured-tree}
+use Rattle.structure.specs.Structured.{Leads, Structured, Tree}
+use Rattle.source_check.specs.Places.{isLoop, isLoopOrSwitch, isMark}
+use Rattle.source_check.specs.Legal.{Inside, part, along, SwitchItem, first, next, Legal}
+use Rattle.accepted.specs.Sorts.{sorts, sortIn, statementNumber, number-is}
+use Rattle.accepted.specs.Fields.{leads-on}
+use Rattle.accepted.specs.Statements.{StatementRow, empty-row, express-row, block-row, ifThen-row, ifElse-row, while-row, doWhile-row, for-row, switch-row, case-row, default-row, break-row, continue-row, goto-row, label-row, ListRow, no-items, item, case-item, default-item, label-item, root-inside, root-row, program-block}
+
+-- ---- a row has one owner
+
+module _ (rows : List ℤ) (t : Tree rows) where
+  same-owner : (row field other there : ℕ) → field < 6 → there < 6 → Leads rows row field → Leads rows other there
+      → link rows row field ≡ link rows other there → (row ≡ other) × (field ≡ there)
+  same-owner row field other there h k l m e =
+      let inside : row < rowCount rows = (let a = l .later in let b = l .inside in omega arith) in
+      let below : other < rowCount rows = (let a = m .later in let b = m .inside in omega arith) in
+      let one = linker-of rows t row field h l inside in
+      let two = linker-of rows t other there k m below in
+      let same : 6 * row + field ≡ 6 * other + there = cc in
+      (omega arith, omega arith)
+
+  -- what a linked row stands inside of: its owner, or what that stands inside of
+  inside-from : (kinds : ℕ → Bool) (l row field : ℕ) → Inside rows kinds l → l ≡ link rows row field → field < 6 → Leads rows row field
+      → ((field < 5) × (kinds (numberAt rows row 0) ≡ true)) ⊎ Inside rows kinds row
+  inside-from kinds _ row field (part {row = other} {field = there} h m k) e f l =
+      let same = same-owner other there row field (omega arith) f m l e in
+      inl (omega arith, subst (λ r. kinds (numberAt rows r 0) ≡ true) (same .0) k)
+  inside-from kinds _ row field (along {row = other} {field = there} h m i) e f l = inr (subst (Inside rows kinds) (same-owner other there row field h f m l e .0) i)
+
+  -- row 0 stands inside nothing
+  outermost : (kinds : ℕ → Bool) (l : ℕ) → Inside rows kinds l → l ≡ 0 → ⊥
+  outermost kinds _ (part h m k) e = let later = m .later in omega arith
+  outermost kinds _ (along h m i) e = let later = m .later in omega arith
+
+  -- an item of a switch's list hangs at the switch's field b, or behind one
+  switch-item-from : (l row field : ℕ) → SwitchItem rows l → l ≡ link rows row field → field < 6 → Leads rows row field → (field ≡ 2) ⊎ ((field ≡ 5) × SwitchItem rows row)
+  switch-item-from _ row field (first {row = other} k m) e f l = inl (sym (same-owner other 2 row field (omega arith) f m l e .1))
+  switch-item-from _ row field (next {row = other} m i) e f l =
+      let same = same-owner other 5 row field (omega arith) f m l e in
+      inr (sym (same .1), subst (SwitchItem rows) (same .0) i)
+
+module _ (header rows : List ℤ) (legal : Legal header rows) where
+  s : Structured Source header rows
+  s = legal .structured
+
+  t : Tree rows
+  t = structured-tree Source header rows s
+
+  -- the number of a row of a statement's kind
+  number-of : {row : ℕ} {kind : Kind} → row < rowCount rows → kindAt rows row ≡ kind → sortIn kind 0 ≡ statementRow → numberAt rows row 0 ≡ statementNumber kind
+  number-of {row} inside k e = number-is Source rows row (s .known row inside) (ap (λ kind. sortIn kind 0) k ∙ e) ∙ ap statementNumber k
+
+  -- What the flags of `Placed` say of a row: where it stands inside such a row, the flag is set.
+  abbrev Flag : (ℕ → Bool) → Bool → ℕ → Type 0
+  Flag kinds flag row = Inside rows kinds row → flag ≡ true
+
+  -- a row hands its flag on to the row that a field links, unless it is such a row itself; next hands on whatever the row is
+  handed : (kinds : ℕ → Bool) (flag : Bool) (row field : ℕ) → field < 6 → (field < 5 → kinds (numberAt rows row 0) ≡ false) → Flag kinds flag row
+      → Leads rows row field → Flag kinds flag (link rows row field)
+  handed kinds flag row field k other f l i = ⊎-elim (λ own. clash (sym (own .1) ∙ other (own .0))) f (inside-from rows t kinds (link rows row field) row field i refl k l)
+
+  -- What stands around a row.
+  record Around (mayBreak mayContinue : Bool) (row : ℕ) : Type 0 where
+    inside : row < rowCount rows
+    breaks : Flag isLoopOrSwitch mayBreak row
+    continues : Flag isLoop mayContinue row
+
+  -- What stands around an item, and whether its list is a switch's own.
+  record AroundItem (inSwitch mayBreak mayContinue : Bool) (row : ℕ) : Type 0 where
+    around : Around mayBreak mayContinue row
+    own : SwitchItem rows row → inSwitch ≡ true
+
+  -- the parts of a row that is no loop and no switch
+  through : {row : ℕ} {kind : Kind} {mayBreak mayContinue : Bool} → kindAt rows row ≡ kind → sortIn kind 0 ≡ statementRow
+      → isLoopOrSwitch (statementNumber kind) ≡ false → isLoop (statementNumber kind) ≡ false
+      → Around mayBreak mayContinue row → (field : ℕ) → field < 6 → Leads rows row field → Around mayBreak mayContinue (link rows row field)
+  through {row} k e u v around field h l =
+      let number = number-of (around .inside) k e in
+      record {
+        inside = l .inside;
+        breaks = handed isLoopOrSwitch _ row field h (λ f. rw number u) (around .breaks) l;
+        continues = handed isLoop _ row field h (λ f. rw number v) (around .continues) l;
+      }
+
+  -- the body of a loop
+  looping : {row : ℕ} → row < rowCount rows → Around true true row
+  looping inside = record { inside = inside; breaks = λ i. refl; continues = λ i. refl }
+
+  -- the first item of a block
+  first-item : {row : ℕ} {mayBreak mayContinue : Bool} → kindAt rows row ≡ Block → Around mayBreak mayContinue row → 0 < link rows row 1 → AroundItem false mayBreak mayContinue (link rows row 1)
+  unfolding sortIn sorts statementNumber
+  first-item {row} k around p =
+      let l = leads-on Source header rows s _ (around .inside) 1 refl p in
+      record {
+        around = through k refl refl refl around 1 (omega arith) l;
+        own = λ i. ⊎-elim (λ e. absurd (omega arith)) (λ e. absurd (omega (arith, e .0))) (switch-item-from rows t (link rows row 1) row 1 i refl (omega arith) l);
+      }
+
+  -- the first item of a switch
+  first-in-switch : {row : ℕ} {mayBreak mayContinue : Bool} → kindAt rows row ≡ Switch → Around mayBreak mayContinue row → 0 < link rows row 2 → AroundItem true true mayContinue (link rows row 2)
+  unfolding sortIn sorts statementNumber
+  first-in-switch {row} k around p =
+      let l = leads-on Source header rows s _ (around .inside) 2 refl p in
+      record {
+        around = record {
+          inside = l .inside;
+          breaks = λ i. refl;
+          continues = handed isLoop _ row 2 (omega arith) (λ f. rw (number-of (around .inside) k refl)) (around .continues) l;
+        };
+        own = λ i. refl;
+      }
+
+  -- the next item of a list
+  next-item : {row : ℕ} {inSwitch mayBreak mayContinue : Bool} → AroundItem inSwitch mayBreak mayContinue row → 0 < link rows row 5 → AroundItem inSwitch mayBreak mayContinue (link rows row 5)
+  next-item {row} a p =
+      let around = a .around in
+      let l = leads-on Source header rows s _ (around .inside) 5 refl p in
+      record {
+        around = record {
+          inside = l .inside;
+          breaks = handed isLoopOrSwitch _ row 5 (omega arith) (λ f. absurd (omega arith)) (around .breaks) l;
+          continues = handed isLoop _ row 5 (omega arith) (λ f. absurd (omega arith)) (around .continues) l;
+        };
+        own = λ i. ⊎-elim (λ e. absurd (omega arith)) (λ e. a .own (e .1)) (switch-item-from rows t (link rows row 5) row 5 i refl (omega arith) l);
+      }
+
+  -- a case or default
+  mark-allowed : {row : ℕ} {kind : Kind} {inSwitch mayBreak mayContinue : Bool} → AroundItem inSwitch mayBreak mayContinue row → kindAt rows row ≡ kind → sortIn kind 0 ≡ statementRow → isMark (statementNumber kind) ≡ true → inSwitch ≡ true
+  mark-allowed {row} a k e m = let inside = a .around .inside in a .own (legal .placed row inside .mark-inside (rw (number-of inside k e) m))
+
+  -- "52 goto, 53 label (kernel only)".
+  not-in-source : {row : ℕ} {kind : Kind} → row < rowCount rows → kindAt rows row ≡ kind → sortIn kind 0 ≡ statementRow → inLanguage Source (statementNumber kind) ≡ false → ⊥
+  not-in-source {row} inside k e f = clash (sym (rw (number-of inside k e) at (s .known row inside)) ∙ f)
+
+  mutual
+    unfolding Placed PlacedItems sortIn sorts statementNumber inLanguage
+
+    placed-statement : {row : ℕ} → StatementRow rows row → (mayBreak mayContinue : Bool) → Around mayBreak mayContinue row → Placed mayBreak mayContinue (statementAt rows row)
+    placed-statement (empty-row k e) b c a = rw e tt
+    placed-statement (express-row k p e x) b c a = rw e tt
+    placed-statement (block-row k e x) b c a = rw e (placed-list x false b c (first-item k a))
+    placed-statement (ifThen-row k p q z e x y) b c a = rw e (placed-statement y b c (through k refl refl refl a 2 (omega arith) q))
+    placed-statement (ifElse-row k p q r e x y z) b c a =
+        rw e (placed-statement y b c (through k refl refl refl a 2 (omega arith) q), placed-statement z b c (through k refl refl refl a 3 (omega arith) r))
+    placed-statement (while-row k p q e x y) b c a = rw e (placed-statement y true true (looping (q .inside)))
+    placed-statement (doWhile-row k p q e x y) b c a = rw e (placed-statement x true true (looping (p .inside)))
+    placed-statement (for-row k p e x y z w) b c a = rw e (placed-statement w true true (looping (p .inside)))
+    placed-statement (switch-row k p e x y) b c a = rw e (placed-list y true true c (first-in-switch k a))
+    placed-statement (case-row k e) b c a = rw e tt
+    placed-statement (default-row k e) b c a = rw e tt
+    placed-statement {row} (break-row k e) b c a = rw e (a .breaks (legal .placed row (a .inside) .break-inside (number-of (a .inside) k refl)))
+    placed-statement {row} (continue-row k e) b c a = rw e (a .continues (legal .placed row (a .inside) .continue-inside (number-of (a .inside) k refl)))
+    placed-statement (goto-row k e) b c a = absurd (not-in-source (a .inside) k refl refl)
+    placed-statement (label-row k e) b c a = rw e tt
+
+    placed-list : {l : ℕ} → ListRow rows l → (inSwitch mayBreak mayContinue : Bool) → (0 < l → AroundItem inSwitch mayBreak mayContinue l) → PlacedItems inSwitch mayBreak mayContinue (listAt rows l)
+    placed-list (no-items z e) w b c a = rw e tt
+    placed-list (item p e x y) w b c a = rw e (placed-statement x b c (a p .around), placed-list y w b c (next-item (a p)))
+    placed-list (case-item p k e x y) w b c a = rw e (mark-allowed (a p) k refl refl, placed-list y w b c (next-item (a p)))
+    placed-list (default-item p k e x y) w b c a = rw e (mark-allowed (a p) k refl refl, placed-list y w b c (next-item (a p)))
+    placed-list (label-item p k e x y) w b c a = absurd (not-in-source (a p .around .inside) k refl refl)
+
+  -- nothing stands around the program
+  pub placed-contents : PlacedItems false false false (listAt rows (link rows 0 1))
+  unfolding Placed decode
+  placed-contents =
+      rw (program-block Source header rows s) at
+      (placed-statement (root-row Source header rows s) false false
+      (record {
+        inside = root-inside Source header rows s;
+        breaks = λ i. absurd (outermost rows t isLoopOrSwitch 0 i refl);
+        continues = λ i. absurd (outermost rows t isLoop 0 i refl);
+      }))

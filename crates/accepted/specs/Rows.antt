@@ -1,0 +1,209 @@
+-- Rows: the tree of a structured table has as many rows as the table. Each row's tree counts its own row and what its links bring, and row 0
+-- gathers the whole table.
+use mathlib.Core.Path.{_≡_, refl, sym, ap, _∙_}
+use mathlib.Core.Bool.{Bool, true, _&&_}
+use mathlib.Core.List.{List}
+use mathlib.Core.Logic.{⊎-elim}
+use Prim.Native.Nat.{ℕ, zero, suc, _+_, _<_}
+use native.Mathlib.Omega.{arith}
+use lib.Dec.{eqb}
+use lib.IntN.{ℤ}
+use borrow.Author.Tests.{eqb-true, ne-eqb}
+use Rattle.words.specs.Word.{pick}
+use Rattle.words.specs.Table.{rowCount, numberAt}
+use Rattle.words.specs.Kinds.{kindAt}
+use Rattle.words.specs.declared.Form.{Form}
+use Rattle.words.specs.declared.Kind.{Kind}
+use Rattle.language.specs.Trees.{read}
+use Rattle.language.specs.Decode.{expressionAt, statementOf, statementAt, itemsAt, decode}
+use Rattle.language.specs.DecodeLaws.{Whole, listAt, partAt, statement-at, at-item, at-case, at-default, at-label}
+use Rattle.language.specs.Sizes.{expressionRows, placeRows, partRows, statementRows, itemsRows}
+use Rattle.structure.specs.Grammar.{expression, optionalExpression, place, branch, optionalBranch, optionalItem, statementRow, grammar, sortOf, sortAt, isExpression, isStatement, isLink, isRequired, link}
+use Rattle.structure.specs.Fields.{fits}
+use Rattle.structure.specs.StructuredLaws.{structured-tree}
+use Rattle.structure.specs.Structured.{Leads, Structured}
+use Rattle.accepted.specs.Sorts.{sorts, sortIn, expression-or-statement, statement-kind, both}
+use Rattle.accepted.specs.Fields.{holds, noLink, MayLink, link-none, linked, may-link, next-link}
+use Rattle.accepted.specs.Sums.{totalFrom, along, brought, total-one, gathers}
+use Rattle.accepted.specs.Expressions.{ExpressionRow, constant-row, variable-row, element-row, minus-row, not-row, binary-row, and-row, or-row, comma-row, conditional-row, assign-row, compound-row, prefix-row, postfix-row, placeAt, whole-rows, place-expression, expression-row}
+use Rattle.accepted.specs.Statements.{StatementRow, empty-row, express-row, block-row, ifThen-row, ifElse-row, while-row, doWhile-row, for-row, switch-row, case-row, default-row, break-row, continue-row, goto-row, label-row, part-some, list-some, root-inside, statement-row}
+
+unfoldable all : (ℕ → Bool) → ℕ → ℕ → Bool
+all test from zero = true
+all test from (suc count) = test from && all test (from + 1) count
+
+-- The rows of the tree at a row; from a statement on, with the items behind it.
+unfoldable pub treeRows : List ℤ → ℕ → ℕ
+treeRows rows row = pick (isExpression rows row) (expressionRows (expressionAt rows row)) (itemsRows (itemsAt rows row))
+
+module _ (form : Form) (header rows : List ℤ) (s : Structured form header rows) where
+  whole : Whole rows
+  whole = whole-rows form header rows s
+
+  expression-weight : (row : ℕ) → isExpression rows row ≡ true → treeRows rows row ≡ expressionRows (expressionAt rows row)
+  unfolding treeRows
+  expression-weight row e = rw e
+
+  statement-weight : (row : ℕ) → isStatement rows row ≡ true → treeRows rows row ≡ itemsRows (itemsAt rows row)
+  unfolding treeRows isExpression isStatement
+  statement-weight row e = rw (eqb-true (sortAt rows row 0) statementRow e)
+
+  some-link : (l : ℕ) → 0 < l → along (treeRows rows) l ≡ treeRows rows l
+  unfolding along
+  some-link l p = rw (ne-eqb l 0 (λ e. omega arith))
+
+  -- a row of a list: its own rows, and those of the items behind it
+  split-items : (row : ℕ) → row < rowCount rows → isStatement rows row ≡ true
+      → itemsRows (itemsAt rows row) ≡ statementRows (statementAt rows row) + itemsRows (listAt rows (link rows row 5))
+  unfolding isStatement itemsRows statementRows statementOf
+  split-items row inside e =
+      let next = next-link form header rows s row inside in
+      rw (next .same)
+      (⊎-elim (λ t. rw (at-item rows whole row t (next .later)))
+      (⊎-elim (λ k. rw (at-case rows whole row k (next .later), statement-at rows whole row, k))
+      (⊎-elim (λ k. rw (at-default rows whole row k (next .later), statement-at rows whole row, k))
+      (λ k. rw (at-label rows whole row k (next .later), statement-at rows whole row, k))))
+      (statement-kind form rows row (s .known row inside) (eqb-true _ _ e)))
+
+  -- a statement behind which nothing stands
+  lone-statement : (row : ℕ) → row < rowCount rows → isStatement rows row ≡ true → numberAt rows row 5 ≡ 0 → itemsRows (itemsAt rows row) ≡ statementRows (statementAt rows row)
+  unfolding itemsRows
+  lone-statement row inside e z =
+      let none : link rows row 5 ≡ 0 = next-link form header rows s row inside .same ∙ z in
+      let behind : itemsRows (listAt rows (link rows row 5)) ≡ 0 = rw none in
+      omega (arith, split-items row inside e, behind)
+
+  module _ (row : ℕ) (inside : row < rowCount rows) where
+    abbrev brings : ℕ → ℕ
+    brings field = brought (treeRows rows) rows row field
+
+    -- ---- what a field brings, by its sort
+
+    absent-brings : (field : ℕ) → link rows row field ≡ 0 → brings field ≡ 0
+    unfolding along
+    absent-brings field z = rw z
+
+    none-brings : {kind : Kind} → kindAt rows row ≡ kind → (field : ℕ) → holds noLink kind field ≡ true → brings field ≡ 0
+    none-brings k field t = absent-brings field (link-none form header rows s row inside k field t)
+
+    operand-brings : {kind : Kind} → kindAt rows row ≡ kind → (field : ℕ) → holds (eqb expression) kind field ≡ true
+        → brings field ≡ expressionRows (expressionAt rows (link rows row field))
+    unfolding isRequired fits
+    operand-brings k field t = let l = linked form header rows s row inside k expression field refl t in some-link _ (l .some) ∙ expression-weight _ (l .fit)
+
+    place-brings : {kind : Kind} → kindAt rows row ≡ kind → (field : ℕ) → holds (eqb place) kind field ≡ true
+        → expressionAt rows (link rows row field) ≡ read (placeAt rows (link rows row field)) → brings field ≡ placeRows (placeAt rows (link rows row field))
+    unfolding isRequired fits expressionRows
+    place-brings k field t i =
+        let l = linked form header rows s row inside k place field refl t in
+        some-link _ (l .some) ∙ expression-weight _ (place-expression form header rows s _ (l .fit)) ∙ ap expressionRows i
+
+    -- a branch or body has next 0
+    lone-brings : (field : ℕ) → Leads rows row field → (isStatement rows (link rows row field) && eqb (numberAt rows (link rows row field) 5) 0) ≡ true
+        → brings field ≡ statementRows (statementAt rows (link rows row field))
+    lone-brings field l lone =
+        let parts = both _ _ lone in
+        some-link _ (let later = l .later in omega arith) ∙ statement-weight _ (parts .0) ∙ lone-statement _ (l .inside) (parts .0) (eqb-true _ _ (parts .1))
+
+    body-brings : {kind : Kind} → kindAt rows row ≡ kind → (field : ℕ) → holds (eqb branch) kind field ≡ true → brings field ≡ statementRows (statementAt rows (link rows row field))
+    unfolding isRequired fits
+    body-brings k field t = let l = linked form header rows s row inside k branch field refl t in lone-brings field (l .leads) (l .fit)
+
+    otherwise-brings : {kind : Kind} → kindAt rows row ≡ kind → (field : ℕ) → holds (eqb optionalBranch) kind field ≡ true → Leads rows row field
+        → brings field ≡ statementRows (statementAt rows (link rows row field))
+    unfolding isLink fits
+    otherwise-brings k field t l =
+        lone-brings field l (may-link form header rows s row inside k optionalBranch field refl t .fit (let later = l .later in omega arith))
+
+    part-brings : {kind : Kind} → kindAt rows row ≡ kind → (field : ℕ) → holds (eqb optionalExpression) kind field ≡ true → brings field ≡ partRows (partAt rows (link rows row field))
+    unfolding isLink fits
+    part-brings k field t = go (link rows row field) refl
+      where
+        go : (l : ℕ) → link rows row field ≡ l → brings field ≡ partRows (partAt rows (link rows row field))
+        go zero z = absent-brings field z ∙ (rw z)
+        go (suc l) z =
+            let p : 0 < link rows row field = omega arith in
+            let fit = may-link form header rows s row inside k optionalExpression field refl t .fit p in
+            some-link _ p ∙ expression-weight _ fit ∙ ap partRows (sym (part-some rows _ p))
+
+    list-brings : (field : ℕ) → MayLink rows row optionalItem field → brings field ≡ itemsRows (listAt rows (link rows row field))
+    unfolding itemsRows fits
+    list-brings field may = go (link rows row field) refl
+      where
+        go : (l : ℕ) → link rows row field ≡ l → brings field ≡ itemsRows (listAt rows (link rows row field))
+        go zero z = absent-brings field z ∙ (rw z)
+        go (suc l) z =
+            let p : 0 < link rows row field = omega arith in
+            some-link _ p ∙ statement-weight _ (may .fit p) ∙ ap itemsRows (sym (list-some rows _ p))
+
+    items-bring : {kind : Kind} → kindAt rows row ≡ kind → (field : ℕ) → holds (eqb optionalItem) kind field ≡ true → brings field ≡ itemsRows (listAt rows (link rows row field))
+    unfolding isLink
+    items-bring k field t = list-brings field (may-link form header rows s row inside k optionalItem field refl t)
+
+    -- fields without links bring nothing
+    free : {kind : Kind} → kindAt rows row ≡ kind → (from count : ℕ) → all (holds noLink kind) from count ≡ true → totalFrom brings from count ≡ 0
+    unfolding totalFrom all
+    free k from zero t = refl
+    free k from (suc count) t =
+        let parts = both _ _ t in
+        omega (arith, none-brings k from (parts .0), free k (from + 1) count (parts .1))
+
+    -- ---- a row counts itself and what its links bring
+
+    expression-adds : ExpressionRow rows row → expressionRows (expressionAt rows row) ≡ 1 + totalFrom brings 1 5
+    unfolding expressionRows placeRows totalFrom all sortIn sorts isLink
+    expression-adds (constant-row k e) = rw e (omega (arith, free k 1 5 refl))
+    expression-adds (variable-row k e) = rw e (omega (arith, free k 1 5 refl))
+    expression-adds (element-row k p e x) = rw e (omega (arith, none-brings k 1 refl, operand-brings k 2 refl, free k 3 3 refl))
+    expression-adds (minus-row k p e x) = rw e (omega (arith, operand-brings k 1 refl, free k 2 4 refl))
+    expression-adds (not-row k p e x) = rw e (omega (arith, operand-brings k 1 refl, free k 2 4 refl))
+    expression-adds (binary-row k p q e x y) = rw e (omega (arith, operand-brings k 1 refl, operand-brings k 2 refl, free k 3 3 refl))
+    expression-adds (and-row k p q e x y) = rw e (omega (arith, operand-brings k 1 refl, operand-brings k 2 refl, free k 3 3 refl))
+    expression-adds (or-row k p q e x y) = rw e (omega (arith, operand-brings k 1 refl, operand-brings k 2 refl, free k 3 3 refl))
+    expression-adds (comma-row k p q e x y) = rw e (omega (arith, operand-brings k 1 refl, operand-brings k 2 refl, free k 3 3 refl))
+    expression-adds (conditional-row k p q r e x y z) =
+        rw e (omega (arith, operand-brings k 1 refl, operand-brings k 2 refl, operand-brings k 3 refl, free k 4 2 refl))
+    expression-adds (assign-row k p q i e x y) = rw e (omega (arith, place-brings k 1 refl i, operand-brings k 2 refl, free k 3 3 refl))
+    expression-adds (compound-row k p q i e x y) = rw e (omega (arith, place-brings k 1 refl i, operand-brings k 2 refl, free k 3 3 refl))
+    expression-adds (prefix-row k p i e x) = rw e (omega (arith, place-brings k 1 refl i, free k 2 4 refl))
+    expression-adds (postfix-row k p i e x) = rw e (omega (arith, place-brings k 1 refl i, free k 2 4 refl))
+
+    statement-adds : StatementRow rows row → statementRows (statementAt rows row) ≡ 1 + totalFrom brings 1 4
+    unfolding statementRows totalFrom all sortIn sorts isLink
+    statement-adds (empty-row k e) = rw e (omega (arith, free k 1 4 refl))
+    statement-adds (express-row k p e x) = rw e (omega (arith, operand-brings k 1 refl, free k 2 3 refl))
+    statement-adds (block-row k e x) = rw e (omega (arith, items-bring k 1 refl, free k 2 3 refl))
+    statement-adds (ifThen-row k p q z e x y) =
+        rw e (omega (arith, operand-brings k 1 refl, body-brings k 2 refl, absent-brings 3 z, free k 4 1 refl))
+    statement-adds (ifElse-row k p q r e x y z) =
+        rw e (omega (arith, operand-brings k 1 refl, body-brings k 2 refl, otherwise-brings k 3 refl r, free k 4 1 refl))
+    statement-adds (while-row k p q e x y) = rw e (omega (arith, operand-brings k 1 refl, body-brings k 2 refl, free k 3 2 refl))
+    statement-adds (doWhile-row k p q e x y) = rw e (omega (arith, body-brings k 1 refl, operand-brings k 2 refl, free k 3 2 refl))
+    statement-adds (for-row k p e x y z w) =
+        rw e (omega (arith, part-brings k 1 refl, part-brings k 2 refl, part-brings k 3 refl, body-brings k 4 refl))
+    statement-adds (switch-row k p e x y) = rw e (omega (arith, operand-brings k 1 refl, items-bring k 2 refl, free k 3 2 refl))
+    statement-adds (case-row k e) = rw e (omega (arith, free k 1 4 refl))
+    statement-adds (default-row k e) = rw e (omega (arith, free k 1 4 refl))
+    statement-adds (break-row k e) = rw e (omega (arith, free k 1 4 refl))
+    statement-adds (continue-row k e) = rw e (omega (arith, free k 1 4 refl))
+    statement-adds (goto-row k e) = rw e (omega (arith, free k 1 4 refl))
+    statement-adds (label-row k e) = rw e (omega (arith, free k 1 4 refl))
+
+    row-adds : treeRows rows row ≡ 1 + totalFrom brings 1 5
+    unfolding totalFrom
+    row-adds =
+        ⊎-elim (λ e. expression-weight row e ∙ expression-adds (expression-row form header rows s row inside e))
+        (λ e.
+        let own = statement-adds (statement-row form header rows s row inside e) in
+        let behind = list-brings 5 (next-link form header rows s row inside) in
+        omega (arith, statement-weight row e, split-items row inside e, own, behind))
+        (expression-or-statement form rows row (s .known row inside))
+
+-- "Every other row is linked exactly once": the tree has a row for each row of the table.
+pub structured-rows : (form : Form) (header rows : List ℤ) → Structured form header rows → statementRows (decode rows) ≡ rowCount rows
+unfolding decode isStatement sortAt sortOf grammar
+structured-rows form header rows s =
+    let inside = root-inside form header rows s in
+    let block-row : isStatement rows 0 ≡ true = rw (s .block) in
+    let all = gathers (treeRows rows) rows (structured-tree form header rows s) (λ row. 1) (row-adds form header rows s) in
+    omega (arith, all, total-one (rowCount rows), statement-weight form header rows s 0 block-row, lone-statement form header rows s 0 inside block-row (s .lone))

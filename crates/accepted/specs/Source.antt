@@ -1,0 +1,53 @@
+-- Source: what a legal source program gives to its users.
+use mathlib.Core.Path.{_≡_}
+use mathlib.Core.List.{List}
+use Prim.Native.Nat.{ℕ, _^_, _≤_, _<_}
+use lib.IntN.{ℤ, pos}
+use lib.ListN.{getD}
+use lib.Signed.{mag}
+use Rattle.words.specs.Table.{rowCount}
+use Rattle.words.specs.Layout.{layoutOf, storeWords}
+use Rattle.words.specs.declared.Form.the-variants.{Source}
+use Rattle.language.specs.Decode.{decode}
+use Rattle.language.specs.DecodeLaws.{listAt}
+use Rattle.language.specs.Sizes.{statementRows, statementDepth}
+use Rattle.language.specs.Sound.{Sound}
+use Rattle.language.specs.WellFormed.{SourceTree}
+use Rattle.structure.specs.Grammar.{link}
+use Rattle.source_check.specs.Legal.{Legal}
+use Rattle.accepted.specs.Statements.{program-block}
+use Rattle.accepted.specs.Names.{named-contents, source-variable}
+use Rattle.accepted.specs.Places.{placed-contents}
+use Rattle.accepted.specs.Sound.{structured-sound}
+use Rattle.accepted.specs.Rows.{structured-rows}
+use Rattle.accepted.specs.Depth.{structured-depth}
+use Rattle.accepted.specs.Worded.{Worded}
+use Rattle.accepted.specs.Words.{structured-worded}
+
+module _ (header rows : List ℤ) (legal : Legal header rows) where
+  -- A run may walk its rows.
+  pub legal-sound : Sound rows (layoutOf Source header) (storeWords Source header)
+  legal-sound = structured-sound Source header rows (legal .structured)
+
+  -- Its tree is a block, its numbers are in range, its jumps in place.
+  pub legal-tree : SourceTree (layoutOf Source header) (decode rows)
+  legal-tree =
+      let s = legal .structured in
+      record {
+        contents = listAt rows (link rows 0 1);
+        is-block = program-block Source header rows s;
+        named = named-contents Source header rows s (λ i. i < layoutOf Source header .variables) (source-variable header);
+        placed = placed-contents header rows legal;
+      }
+
+  -- Its tree has as many rows as the table.
+  pub legal-rows : statementRows (decode rows) ≡ rowCount rows
+  legal-rows = structured-rows Source header rows (legal .structured)
+
+  -- "The limit is 64."
+  pub legal-depth : statementDepth (decode rows) ≤ 64
+  legal-depth = structured-depth Source header rows (legal .structured) (legal .shallow)
+
+  -- Its constants and case values are words of the table.
+  pub legal-worded : ((i : ℕ) → mag (getD rows i (pos 0)) < 2 ^ 31) → Worded (decode rows)
+  legal-worded = structured-worded Source header rows (legal .structured)

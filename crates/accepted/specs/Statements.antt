@@ -1,0 +1,265 @@
+-- Statements: how the statements and lists of a structured table lie on its rows: each row's tree is made of those at its links. What is
+-- true of every statement of a table is shown by recursion on `StatementRow` and `ListRow`.
+use mathlib.Core.Path.{_≡_, refl, sym, _∙_}
+use mathlib.Core.Bool.{true}
+use mathlib.Core.List.{List}
+use mathlib.Core.Logic.{⊎-elim}
+use Prim.Native.Nat.{ℕ, zero, suc, _+_, _≤_, _<_}
+use native.Mathlib.Omega.{arith}
+use lib.Dec.{eqb}
+use lib.IntN.{ℤ}
+use borrow.Author.Tests.{eqb-true}
+use Rattle.words.specs.Table.{rowCount, wordAt, numberAt}
+use Rattle.words.specs.Kinds.{kinds, kindIn, kindOf, kindAt}
+use Rattle.words.specs.declared.Form.{Form}
+use Rattle.words.specs.declared.Kind.{Kind}
+use Rattle.words.specs.declared.Kind.the-variants.{Constant, Variable, Element, Minus, Not, Binary, And, Or, Conditional, Comma, Assign, Compound, Prefix, Postfix, Empty, Express, Block, If, While, Do, For, Switch, Case, Default, Break, Continue, Goto, Label, Other}
+use Rattle.language.specs.Trees.{Expression, absent, present, case, default, label, Statement, empty, express, block, ifThen, ifElse, while, doWhile, for, switch, break, continue, goto, none, _then_, _here_}
+use Rattle.language.specs.Decode.{expressionAt, statementOf, statementAt, itemsAt, decode}
+use Rattle.language.specs.DecodeLaws.{Whole, listAt, partAt, isStatement, statement-at, at-empty, at-express, at-block, at-ifThen, at-ifElse, at-while, at-doWhile, at-for, at-switch, at-break, at-continue, at-goto, at-item, at-case, at-default, at-label}
+use Rattle.structure.specs.Grammar.{expression, optionalExpression, branch, optionalBranch, optionalItem, statementRow, sortOf, sortAt, isLink, isRequired, link}
+use Rattle.structure.specs.Grammar as grammar
+use Rattle.structure.specs.Fields.{fits}
+use Rattle.structure.specs.SearchLaws.{clash}
+use Rattle.structure.specs.StructuredLaws.{structured-tree}
+use Rattle.structure.specs.Structured.{Leads, Structured}
+use Rattle.accepted.specs.Sorts.{sorts, sortIn, sort-is, statement-kind, both}
+use Rattle.accepted.specs.Fields.{holds, Linked, MayLink, linked, may-link, next-link}
+use Rattle.accepted.specs.Expressions.{ExpressionRow, whole-rows, expression-row}
+
+module _ (rows : List ℤ) where
+  abbrev pub expressionOf : ℕ → ℕ → Expression
+  expressionOf row field = expressionAt rows (link rows row field)
+
+  abbrev pub statementIn : ℕ → ℕ → Statement
+  statementIn row field = statementAt rows (link rows row field)
+
+  -- A part of a for, at a link.
+  pub data PartRow : ℕ → Type 0 where
+    absent-part : {l : ℕ} → l ≡ 0 → partAt rows l ≡ absent → PartRow l
+    present-part : {l : ℕ} → 0 < l → partAt rows l ≡ present (expressionAt rows l) → ExpressionRow rows l → PartRow l
+
+  mutual
+    -- A row that holds a statement: its kind, its links, its statement, and the rows that it links. Of a mark the statement is empty.
+    pub data StatementRow : ℕ → Type 0 where
+      empty-row : {row : ℕ} → kindAt rows row ≡ Empty → statementAt rows row ≡ empty → StatementRow row
+      express-row : {row : ℕ} → kindAt rows row ≡ Express → Leads rows row 1
+          → statementAt rows row ≡ express (expressionOf row 1) → ExpressionRow rows (link rows row 1) → StatementRow row
+      block-row : {row : ℕ} → kindAt rows row ≡ Block
+          → statementAt rows row ≡ block (listAt rows (link rows row 1)) → ListRow (link rows row 1) → StatementRow row
+      ifThen-row : {row : ℕ} → kindAt rows row ≡ If → Leads rows row 1 → Leads rows row 2 → link rows row 3 ≡ 0
+          → statementAt rows row ≡ ifThen (expressionOf row 1) (statementIn row 2)
+          → ExpressionRow rows (link rows row 1) → StatementRow (link rows row 2) → StatementRow row
+      ifElse-row : {row : ℕ} → kindAt rows row ≡ If → Leads rows row 1 → Leads rows row 2 → Leads rows row 3
+          → statementAt rows row ≡ ifElse (expressionOf row 1) (statementIn row 2) (statementIn row 3)
+          → ExpressionRow rows (link rows row 1) → StatementRow (link rows row 2) → StatementRow (link rows row 3) → StatementRow row
+      while-row : {row : ℕ} → kindAt rows row ≡ While → Leads rows row 1 → Leads rows row 2
+          → statementAt rows row ≡ while (expressionOf row 1) (statementIn row 2)
+          → ExpressionRow rows (link rows row 1) → StatementRow (link rows row 2) → StatementRow row
+      doWhile-row : {row : ℕ} → kindAt rows row ≡ Do → Leads rows row 1 → Leads rows row 2
+          → statementAt rows row ≡ doWhile (statementIn row 1) (expressionOf row 2)
+          → StatementRow (link rows row 1) → ExpressionRow rows (link rows row 2) → StatementRow row
+      for-row : {row : ℕ} → kindAt rows row ≡ For → Leads rows row 4
+          → statementAt rows row ≡ for (partAt rows (link rows row 1)) (partAt rows (link rows row 2)) (partAt rows (link rows row 3)) (statementIn row 4)
+          → PartRow (link rows row 1) → PartRow (link rows row 2) → PartRow (link rows row 3) → StatementRow (link rows row 4) → StatementRow row
+      switch-row : {row : ℕ} → kindAt rows row ≡ Switch → Leads rows row 1
+          → statementAt rows row ≡ switch (expressionOf row 1) (listAt rows (link rows row 2))
+          → ExpressionRow rows (link rows row 1) → ListRow (link rows row 2) → StatementRow row
+      case-row : {row : ℕ} → kindAt rows row ≡ Case → statementAt rows row ≡ empty → StatementRow row
+      default-row : {row : ℕ} → kindAt rows row ≡ Default → statementAt rows row ≡ empty → StatementRow row
+      break-row : {row : ℕ} → kindAt rows row ≡ Break → statementAt rows row ≡ break → StatementRow row
+      continue-row : {row : ℕ} → kindAt rows row ≡ Continue → statementAt rows row ≡ continue → StatementRow row
+      goto-row : {row : ℕ} → kindAt rows row ≡ Goto → statementAt rows row ≡ goto (numberAt rows row 1) → StatementRow row
+      label-row : {row : ℕ} → kindAt rows row ≡ Label → statementAt rows row ≡ empty → StatementRow row
+
+    -- A list, at a link: empty, or a statement or mark and the list behind it.
+    pub data ListRow : ℕ → Type 0 where
+      no-items : {l : ℕ} → l ≡ 0 → listAt rows l ≡ none → ListRow l
+      item : {l : ℕ} → 0 < l → listAt rows l ≡ statementAt rows l then listAt rows (link rows l 5)
+          → StatementRow l → ListRow (link rows l 5) → ListRow l
+      case-item : {l : ℕ} → 0 < l → kindAt rows l ≡ Case → listAt rows l ≡ case (wordAt rows l 1) here listAt rows (link rows l 5)
+          → StatementRow l → ListRow (link rows l 5) → ListRow l
+      default-item : {l : ℕ} → 0 < l → kindAt rows l ≡ Default → listAt rows l ≡ default here listAt rows (link rows l 5)
+          → StatementRow l → ListRow (link rows l 5) → ListRow l
+      label-item : {l : ℕ} → 0 < l → kindAt rows l ≡ Label → listAt rows l ≡ label (numberAt rows l 1) here listAt rows (link rows l 5)
+          → StatementRow l → ListRow (link rows l 5) → ListRow l
+
+  pub part-some : (l : ℕ) → 0 < l → partAt rows l ≡ present (expressionAt rows l)
+  part-some zero p = absurd (omega arith)
+  part-some (suc l) p = refl
+
+  pub list-some : (l : ℕ) → 0 < l → listAt rows l ≡ itemsAt rows l
+  list-some zero p = absurd (omega arith)
+  list-some (suc l) p = refl
+
+  -- both faces of a row
+  record Held (row : ℕ) : Type 0 where
+    statement : StatementRow row
+    list : 0 < row → ListRow row
+
+module _ (form : Form) (header rows : List ℤ) (s : Structured form header rows) where
+  whole : Whole rows
+  whole = whole-rows form header rows s
+
+  module _ (row : ℕ) (inside : row < rowCount rows) (later-rows : (l : ℕ) → row < l → l < rowCount rows → grammar.isStatement rows l ≡ true → Held rows l) where
+    -- the row that a field links: an expression, a branch or body, an else, a part of a for, a list
+    link-at : {kind : Kind} → kindAt rows row ≡ kind → (field : ℕ) → holds (eqb expression) kind field ≡ true → Linked rows row expression field
+    unfolding isRequired
+    link-at k field t = linked form header rows s row inside k expression field refl t
+
+    operand : {field : ℕ} → Linked rows row expression field → ExpressionRow rows (link rows row field)
+    unfolding fits
+    operand l = expression-row form header rows s _ (l .leads .inside) (l .fit)
+
+    body-at : {kind : Kind} → kindAt rows row ≡ kind → (field : ℕ) → holds (eqb branch) kind field ≡ true → Linked rows row branch field
+    unfolding isRequired
+    body-at k field t = linked form header rows s row inside k branch field refl t
+
+    body : {field : ℕ} → Linked rows row branch field → StatementRow rows (link rows row field)
+    unfolding fits
+    body l = later-rows _ (l .leads .later) (l .leads .inside) (both _ _ (l .fit) .0) .statement
+
+    may-at : {kind : Kind} → kindAt rows row ≡ kind → (sort field : ℕ) → isLink sort ≡ true → holds (eqb sort) kind field ≡ true → MayLink rows row sort field
+    may-at = may-link form header rows s row inside
+
+    otherwise : {field : ℕ} → MayLink rows row optionalBranch field → 0 < link rows row field → StatementRow rows (link rows row field)
+    unfolding fits
+    otherwise l p = later-rows _ (l .leads p .later) (l .leads p .inside) (both _ _ (l .fit p) .0) .statement
+
+    part : {field : ℕ} → MayLink rows row optionalExpression field → PartRow rows (link rows row field)
+    unfolding fits
+    part {field} l = go (link rows row field) refl
+      where
+        go : (l : ℕ) → link rows row field ≡ l → PartRow rows (link rows row field)
+        go zero z = absent-part z (rw z)
+        go (suc next) z =
+            let p : 0 < link rows row field = omega arith in
+            present-part p (part-some rows _ p) (expression-row form header rows s _ (l .leads p .inside) (l .fit p))
+
+    items : {field : ℕ} → MayLink rows row optionalItem field → ListRow rows (link rows row field)
+    unfolding fits
+    items {field} l = go (link rows row field) refl
+      where
+        go : (l : ℕ) → link rows row field ≡ l → ListRow rows (link rows row field)
+        go zero z = no-items z (rw z)
+        go (suc next) z =
+            let p : 0 < link rows row field = omega arith in
+            later-rows _ (l .leads p .later) (l .leads p .inside) (l .fit p) .list p
+
+    if-by : kindAt rows row ≡ If → (l : ℕ) → link rows row 3 ≡ l → StatementRow rows row
+    unfolding sortIn sorts isLink
+    if-by k zero z =
+        let a = link-at k 1 refl in
+        let b = body-at k 2 refl in
+        let c = may-at k optionalBranch 3 refl refl in
+        ifThen-row k (a .leads) (b .leads) z (rw (a .same, b .same) (at-ifThen rows whole row k (a .later) (b .later) (sym (c .same) ∙ z)))
+        (operand a) (body b)
+    if-by k (suc l) z =
+        let a = link-at k 1 refl in
+        let b = body-at k 2 refl in
+        let c = may-at k optionalBranch 3 refl refl in
+        let p : 0 < link rows row 3 = omega arith in
+        ifElse-row k (a .leads) (b .leads) (c .leads p)
+        (rw (a .same, b .same, c .same) (at-ifElse rows whole row k (a .later) (b .later) (c .later (rw (← c .same) p))))
+        (operand a) (body b) (otherwise c p)
+
+    statement-by : (kind : Kind) → kindAt rows row ≡ kind → eqb (sortIn kind 0) statementRow ≡ true → StatementRow rows row
+    unfolding sortIn sorts isLink statementOf
+    statement-by Empty k t = empty-row k (at-empty rows whole row k)
+    statement-by Express k t =
+        let a = link-at k 1 refl in
+        express-row k (a .leads) (rw (a .same) (at-express rows whole row k (a .later))) (operand a)
+    statement-by Block k t =
+        let a = may-at k optionalItem 1 refl refl in
+        block-row k (rw (a .same) (at-block rows whole row k (a .later))) (items a)
+    statement-by If k t = if-by k (link rows row 3) refl
+    statement-by While k t =
+        let a = link-at k 1 refl in
+        let b = body-at k 2 refl in
+        while-row k (a .leads) (b .leads) (rw (a .same, b .same) (at-while rows whole row k (a .later) (b .later))) (operand a) (body b)
+    statement-by Do k t =
+        let a = body-at k 1 refl in
+        let b = link-at k 2 refl in
+        doWhile-row k (a .leads) (b .leads) (rw (a .same, b .same) (at-doWhile rows whole row k (a .later) (b .later))) (body a) (operand b)
+    statement-by For k t =
+        let a = may-at k optionalExpression 1 refl refl in
+        let b = may-at k optionalExpression 2 refl refl in
+        let c = may-at k optionalExpression 3 refl refl in
+        let d = body-at k 4 refl in
+        for-row k (d .leads) (rw (a .same, b .same, c .same, d .same) (at-for rows whole row k (a .later) (b .later) (c .later) (d .later)))
+        (part a) (part b) (part c) (body d)
+    statement-by Switch k t =
+        let a = link-at k 1 refl in
+        let b = may-at k optionalItem 2 refl refl in
+        switch-row k (a .leads) (rw (a .same, b .same) (at-switch rows whole row k (a .later) (b .later))) (operand a) (items b)
+    statement-by Case k t = case-row k (rw (statement-at rows whole row, k))
+    statement-by Default k t = default-row k (rw (statement-at rows whole row, k))
+    statement-by Break k t = break-row k (at-break rows whole row k)
+    statement-by Continue k t = continue-row k (at-continue rows whole row k)
+    statement-by Goto k t = goto-row k (at-goto rows whole row k)
+    statement-by Label k t = label-row k (rw (statement-at rows whole row, k))
+    statement-by Constant k t = clash (sym t)
+    statement-by Variable k t = clash (sym t)
+    statement-by Element k t = clash (sym t)
+    statement-by Minus k t = clash (sym t)
+    statement-by Not k t = clash (sym t)
+    statement-by (Binary o) k t = clash (sym t)
+    statement-by And k t = clash (sym t)
+    statement-by Or k t = clash (sym t)
+    statement-by Conditional k t = clash (sym t)
+    statement-by Comma k t = clash (sym t)
+    statement-by Assign k t = clash (sym t)
+    statement-by (Compound o) k t = clash (sym t)
+    statement-by (Prefix o) k t = clash (sym t)
+    statement-by (Postfix o) k t = clash (sym t)
+    statement-by Other k t = clash (sym t)
+
+    list-by : 0 < row → sortAt rows row 0 ≡ statementRow → StatementRow rows row → ListRow rows row
+    list-by p e held =
+        let next = next-link form header rows s row inside in
+        let begins = list-some rows row p in
+        ⊎-elim (λ t. item p (rw (next .same) (begins ∙ at-item rows whole row t (next .later))) held (items next))
+        (⊎-elim (λ k. case-item p k (rw (next .same) (begins ∙ at-case rows whole row k (next .later))) held (items next))
+        (⊎-elim (λ k. default-item p k (rw (next .same) (begins ∙ at-default rows whole row k (next .later))) held (items next))
+        (λ k. label-item p k (rw (next .same) (begins ∙ at-label rows whole row k (next .later))) held (items next))))
+        (statement-kind form rows row (s .known row inside) e)
+
+  held-rows : (links row : ℕ) → rowCount rows ≤ row + links → row < rowCount rows → grammar.isStatement rows row ≡ true → Held rows row
+  unfolding grammar.isStatement
+  held-rows zero row enough inside t = absurd (omega arith)
+  held-rows (suc links) row enough inside t =
+      let later-rows : (l : ℕ) → row < l → l < rowCount rows → grammar.isStatement rows l ≡ true → Held rows l = λ l later there u. held-rows links l (omega arith) there u in
+      let own = statement-by row inside later-rows (kindAt rows row) refl (rw (sort-is form rows row (s .known row inside) 0 (omega arith)) at t) in
+      record { statement = own; list = λ p. list-by row inside later-rows p (eqb-true _ _ t) own }
+
+  -- Every row of a statement's kind holds a statement, and is, but for row 0, where a list begins.
+  pub statement-row : (row : ℕ) → row < rowCount rows → grammar.isStatement rows row ≡ true → StatementRow rows row
+  statement-row row inside t = held-rows (rowCount rows) row (omega arith) inside t .statement
+
+  pub list-row : (row : ℕ) → row < rowCount rows → grammar.isStatement rows row ≡ true → 0 < row → ListRow rows row
+  list-row row inside t = held-rows (rowCount rows) row (omega arith) inside t .list
+
+  -- ---- row 0: "Row 0 is a block with next 0"
+
+  pub root-kind : kindAt rows 0 ≡ Block
+  unfolding kindAt kindOf kindIn kinds
+  root-kind = rw (s .block)
+
+  pub root-inside : 0 < rowCount rows
+  root-inside = structured-tree form header rows s .some-rows
+
+  pub root-row : StatementRow rows 0
+  unfolding sortAt sortOf grammar.grammar grammar.isStatement
+  root-row = statement-row 0 root-inside (rw (s .block))
+
+  -- The program is a block, and its items hang at row 0's field a.
+  root-link : MayLink rows 0 optionalItem 1
+  unfolding sortIn sorts isLink
+  root-link = may-link form header rows s 0 root-inside root-kind optionalItem 1 refl refl
+
+  pub program-list : ListRow rows (link rows 0 1)
+  program-list = items 0 root-inside (λ l later there t. held-rows (rowCount rows) l (omega arith) there t) root-link
+
+  pub program-block : decode rows ≡ block (listAt rows (link rows 0 1))
+  unfolding decode
+  program-block = rw (root-link .same) (at-block rows whole 0 root-kind (root-link .later))

@@ -1,0 +1,65 @@
+-- `lowest_repeated_row` looks at the rows in order. The invariant: none of the rows passed repeats a mark.
+use mathlib.Core.Path.{_≡_, refl}
+use Prim.Native.Nat.{_≤_, _-_}
+use native.Mathlib.Omega.{arith}
+use Rattle.words.specs.Table.{rowCount}
+use Rattle.structure.specs.Search.{lowestRow}
+use Rattle.structure.specs.SearchLaws.{Looked, looked-start, looked-on, looked-hit, looked-end}
+use Rattle.source_check.specs.Marks.{repeated}
+use Rattle.source_check.proofs.marks.lowest_repeated_row.Statement.{statement}
+use Rattle.source_check.proofs.marks.lowest_repeated_row.Tie as tie
+use Rattle.source_check.proofs.marks.lowest_repeated_row.Reads as reads
+use Rattle.source_check.proofs.marks.lowest_repeated_row.Lts as lts
+use Rattle.source_check.proofs.marks.is_repeated.Reads as is-repeated-reads
+
+abbrev Inv-loop : tie.InvT-loop
+Inv-loop rows before count row₀ row =
+    (row ≤ count) × (count ≡ rowCount rows) × Looked (repeated rows) count row
+
+abbrev μ-loop : tie.MeasureT-loop
+μ-loop rows before count row₀ row =
+    count - row
+
+loop-holds : tie.Need-loop-holds Inv-loop μ-loop
+loop-holds c =
+    (omega arith, refl, looked-start _ _)
+
+is-repeated-requires : tie.Need-is-repeated-requires Inv-loop μ-loop
+is-repeated-requires c κs =
+    (c .before .before .before .pre .0, c .before .before .before .pre .1, omega arith)
+
+returns : tie.Need-returns Inv-loop μ-loop
+unfolding lowestRow
+returns c =
+    looked-hit _ _ _ _ (omega arith) (c .before .before .before .loop .inv .2) (c .before .is-repeated .ensures) (c .if1 .taken)
+
+add-row : tie.Need-add-row Inv-loop μ-loop
+add-row c =
+    omega arith
+
+loop-less : tie.Need-loop-less Inv-loop μ-loop
+loop-less c =
+    omega arith
+
+loop-again : tie.Need-loop-again Inv-loop μ-loop
+loop-again c =
+    (omega arith, refl, looked-on _ _ _ _ (omega arith) (c .before .before .before .loop .inv .2) (c .before .is-repeated .ensures) (c .if1 .left))
+
+returns-2 : tie.Need-returns-2 Inv-loop μ-loop
+unfolding lowestRow
+returns-2 c =
+    looked-end _ _ _ (omega arith) (c .before .loop .inv .2)
+
+pub lowest-repeated-row-spec : {M : Type 1} → statement M
+lowest-repeated-row-spec =
+    tie.close
+    (tie.spec
+    Inv-loop
+    μ-loop
+    loop-holds
+    is-repeated-requires
+    returns
+    add-row
+    loop-less
+    loop-again
+    returns-2)

@@ -1,0 +1,45 @@
+-- Legal: what document 01 demands of a source program.
+use mathlib.Core.Path.{_≡_}
+use mathlib.Core.Bool.{Bool, true, false}
+use mathlib.Core.List.{List}
+use Prim.Native.Nat.{ℕ, _<_}
+use lib.IntN.{ℤ}
+use Rattle.words.specs.Table.{rowCount, wordAt, numberAt}
+use Rattle.words.specs.declared.Form.the-variants.{Source}
+use Rattle.structure.specs.Grammar.{link}
+use Rattle.structure.specs.Structured.{Leads, Structured, Shallow}
+use Rattle.source_check.specs.Places.{isLoop, isLoopOrSwitch, isMark}
+
+-- A row stands inside a row of such a kind: as one of its parts, or linked by a row that does.
+pub data Inside (rows : List ℤ) (kinds : ℕ → Bool) : ℕ → Type 0 where
+  part : {row field : ℕ} → field < 5 → Leads rows row field → kinds (numberAt rows row 0) ≡ true → Inside rows kinds (link rows row field)
+  along : {row field : ℕ} → field < 6 → Leads rows row field → Inside rows kinds row → Inside rows kinds (link rows row field)
+
+-- An item of a switch's own list.
+pub data SwitchItem (rows : List ℤ) : ℕ → Type 0 where
+  first : {row : ℕ} → numberAt rows row 0 ≡ 47 → Leads rows row 2 → SwitchItem rows (link rows row 2)
+  next : {row : ℕ} → Leads rows row 5 → SwitchItem rows row → SwitchItem rows (link rows row 5)
+
+-- One item stands before another in a list.
+pub data Before (rows : List ℤ) : ℕ → ℕ → Type 0 where
+  adjacent : {item : ℕ} → Leads rows item 5 → Before rows item (link rows item 5)
+  further : {item row : ℕ} → Before rows item row → Leads rows row 5 → Before rows item (link rows row 5)
+
+-- "A case or default is an item of a switch's own list. Break stands inside a loop or switch, continue inside a loop."
+pub record Placed (rows : List ℤ) (row : ℕ) : Type 0 where
+  pub break-inside : numberAt rows row 0 ≡ 50 → Inside rows isLoopOrSwitch row
+  pub continue-inside : numberAt rows row 0 ≡ 51 → Inside rows isLoop row
+  pub mark-inside : isMark (numberAt rows row 0) ≡ true → SwitchItem rows row
+
+-- No "second equal case, or second default, in one switch".
+pub record Distinct (rows : List ℤ) (row : ℕ) : Type 0 where
+  pub no-equal-case : numberAt rows row 0 ≡ 48 → (mark : ℕ) → Before rows mark row → numberAt rows mark 0 ≡ 48 → wordAt rows mark 1 ≡ wordAt rows row 1 → ⊥
+  pub no-second-default : numberAt rows row 0 ≡ 49 → (mark : ℕ) → Before rows mark row → numberAt rows mark 0 ≡ 49 → ⊥
+
+pub record Legal (header rows : List ℤ) : Type 0 where
+  -- Limits, kinds, unused fields, links, row 0, numbers.
+  pub structured : Structured Source header rows
+  pub placed : (row : ℕ) → row < rowCount rows → Placed rows row
+  pub distinct : (row : ℕ) → row < rowCount rows → Distinct rows row
+  -- "The limit is 64."
+  pub shallow : Shallow Source rows

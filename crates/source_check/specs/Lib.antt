@@ -1,0 +1,17 @@
+-- The check of source programs. A line of comment for each file.
+-- Places: cause 7, "break, continue, case or default out of place".
+pub mod Places
+-- Marks: cause 8, "second equal case, or second default, in one switch".
+pub mod Marks
+-- Refusal: what the check answers.
+pub mod Refusal
+-- Legal: what document 01 demands of a source program.
+pub mod Legal
+-- Laws of marks: the mark before a row stands at a lower row; a search back through the marks of a list.
+pub mod MarkLaws
+-- Laws of places: cause 7 is document 01's sentence on break, continue, case and default.
+pub mod PlaceLaws
+-- Laws of distinct marks: cause 8 is document 01's "second equal case, or second default, in one switch".
+pub mod DistinctLaws
+-- The theorem: the check accepts the legal source programs and no others.
+pub mod AcceptsLegal

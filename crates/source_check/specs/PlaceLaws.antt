@@ -1,0 +1,123 @@
+-- Laws of places: the notes say what a row stands inside, so cause 7 is document 01's sentence on break, continue, case and default.
+-- Notes and relations both go along the links: each row by the row that links it.
+use mathlib.Core.Path.{_≡_, subst, refl, sym, ap, _∙_}
+use mathlib.Core.Bool.{Bool, true, false, _&&_}
+use mathlib.Core.List.{List}
+use Prim.Native.Nat.{ℕ, _<_}
+use native.Mathlib.Omega.{arith}
+use lib.Arith.{lt-of-le-ne}
+use lib.Dec.{eqb}
+use lib.IntN.{ℤ}
+use borrow.Author.Tests.{eqb-true, eqb-false, eq-eqb, ne-eqb}
+use Rattle.words.specs.Word.{pick}
+use Rattle.words.specs.Table.{rowCount, numberAt}
+use Rattle.structure.specs.Grammar.{link}
+use Rattle.structure.specs.SearchLaws.{clash}
+use Rattle.structure.specs.LinkLaws.{by-owner}
+use Rattle.structure.specs.Structured.{Leads, Tree}
+use Rattle.source_check.specs.Places.{isLoop, isLoopOrSwitch, isMark, handed, noteAt, outOfPlace, misplaced}
+use Rattle.source_check.specs.Legal.{Inside, part, along, SwitchItem, first, next, Placed}
+use Rattle.source_check.specs.MarkLaws.{noteAt-root, noteAt-link}
+use Rattle.source_check.specs.declared.Note.{Note}
+use Rattle.source_check.specs.declared.Note.the-variants.{InLoop, InLoopOrSwitch}
+use Rattle.source_check.specs.declared.Note.the-variants as note
+
+-- a case for each value of a test
+pub by-test : {A : Type 0} (test : Bool) → (test ≡ true → A) → (test ≡ false → A) → A
+by-test true holds fails = holds refl
+by-test false holds fails = fails refl
+
+module _ (rows : List ℤ) (t : Tree rows) where
+  -- ---- inside a loop, inside a loop or switch
+
+  -- the rule of a note that tells what stands inside a row of such a kind
+  abbrev Around : Note → (ℕ → Bool) → Type 0
+  Around which kinds = (owner field own : ℕ) → handed which rows owner field own ≡ pick (eqb field 5) own (pick (kinds (numberAt rows owner 0)) 1 own)
+
+  loop-around : Around InLoop isLoop
+  unfolding handed
+  loop-around owner field own = refl
+
+  loop-or-switch-around : Around InLoopOrSwitch isLoopOrSwitch
+  unfolding handed
+  loop-or-switch-around owner field own = refl
+
+  module _ (which : Note) (kinds : ℕ → Bool) (rule : Around which kinds) where
+    note-of : (row field : ℕ) → field < 6 → Leads rows row field → noteAt which rows (link rows row field) ≡ pick (eqb field 5) (noteAt which rows row) (pick (kinds (numberAt rows row 0)) 1 (noteAt which rows row))
+    note-of row field h leads = noteAt-link rows t which row field h leads ∙ rule row field (noteAt which rows row)
+
+    inside-noted : {row : ℕ} → Inside rows kinds row → noteAt which rows row ≡ 1
+    inside-noted (part {row} {field} h leads k) = note-of row field (omega arith) leads ∙ rw (ne-eqb field 5 (λ q. omega arith), k)
+    inside-noted (along {row} {field} h leads i) = note-of row field h leads ∙ rw (inside-noted i) (shared (eqb field 5) (kinds (numberAt rows row 0)))
+      where
+        shared : (a b : Bool) → _≡_ {A = ℕ} (pick a 1 (pick b 1 1)) 1
+        shared true b = refl
+        shared false true = refl
+        shared false false = refl
+
+    noted-inside : (row : ℕ) → row < rowCount rows → eqb (noteAt which rows row) 0 ≡ false → Inside rows kinds row
+    noted-inside =
+        by-owner rows t (λ (row : ℕ). eqb (noteAt which rows row) 0 ≡ false → Inside rows kinds row)
+        (λ e. clash (sym (eq-eqb _ _ (noteAt-root which rows)) ∙ e))
+        (λ owner field h leads above e.
+        let is = note-of owner field h leads in
+        by-test (eqb field 5)
+        (λ q. along h leads (above (rw (is, q) at e)))
+        (λ q. by-test (kinds (numberAt rows owner 0))
+        (λ k. part (let n = eqb-false field 5 q in lt-of-le-ne (omega arith) n) leads k)
+        (λ k. along h leads (above (rw (is, q, k) at e)))))
+
+  -- ---- an item of a switch's own list
+
+  item-of : (row field : ℕ) → field < 6 → Leads rows row field
+      → noteAt note.SwitchItem rows (link rows row field) ≡ pick (eqb field 5) (noteAt note.SwitchItem rows row) (pick (eqb (numberAt rows row 0) 47 && eqb field 2) 1 0)
+  unfolding handed
+  item-of row field h leads = noteAt-link rows t note.SwitchItem row field h leads
+
+  item-noted : {row : ℕ} → SwitchItem rows row → noteAt note.SwitchItem rows row ≡ 1
+  item-noted (first {row} k leads) = item-of row 2 (omega arith) leads ∙ rw k
+  item-noted (next {row} leads i) = item-of row 5 (omega arith) leads ∙ item-noted i
+
+  first-item : (owner field : ℕ) → Leads rows owner field → eqb (numberAt rows owner 0) 47 ≡ true → eqb field 2 ≡ true → SwitchItem rows (link rows owner field)
+  first-item owner field leads k f =
+      subst (λ (x : ℕ). Leads rows owner x → SwitchItem rows (link rows owner x)) (sym (eqb-true _ _ f)) (λ l. first (eqb-true _ _ k) l) leads
+
+  next-item : (owner field : ℕ) → Leads rows owner field → eqb field 5 ≡ true → SwitchItem rows owner → SwitchItem rows (link rows owner field)
+  next-item owner field leads f i = subst (λ (x : ℕ). Leads rows owner x → SwitchItem rows (link rows owner x)) (sym (eqb-true _ _ f)) (λ l. next l i) leads
+
+  noted-item : (row : ℕ) → row < rowCount rows → eqb (noteAt note.SwitchItem rows row) 0 ≡ false → SwitchItem rows row
+  noted-item =
+      by-owner rows t (λ (row : ℕ). eqb (noteAt note.SwitchItem rows row) 0 ≡ false → SwitchItem rows row)
+      (λ e. clash (sym (eq-eqb _ _ (noteAt-root note.SwitchItem rows)) ∙ e))
+      (λ owner field h leads above e.
+      let is = item-of owner field h leads in
+      by-test (eqb field 5)
+      (λ q. next-item owner field leads q (above (rw (is, q) at e)))
+      (λ q. by-test (eqb (numberAt rows owner 0) 47)
+      (λ k. by-test (eqb field 2) (λ f. first-item owner field leads k f) (λ f. clash (rw (is, q, k, f) at e)))
+      (λ k. clash (rw (is, q, k) at e))))
+
+  -- ---- cause 7
+
+  pub misplaced-placed : (row : ℕ) → row < rowCount rows → misplaced rows row ≡ false → Placed rows row
+  unfolding misplaced outOfPlace
+  misplaced-placed row n e =
+      record {
+        break-inside = λ k. noted-inside InLoopOrSwitch isLoopOrSwitch loop-or-switch-around row n (rw k at e);
+        continue-inside = λ k. noted-inside InLoop isLoop loop-around row n (rw k at e);
+        mark-inside = λ k. noted-item row n (rw (mark-other row k 50 refl, mark-other row k 51 refl, k) at e);
+      }
+    where
+      mark-other : (row : ℕ) → isMark (numberAt rows row 0) ≡ true → (kind : ℕ) → isMark kind ≡ false → eqb (numberAt rows row 0) kind ≡ false
+      mark-other row k kind other = ne-eqb (numberAt rows row 0) kind (λ q. clash (sym k ∙ ap isMark q ∙ other))
+
+  pub placed-misplaced : (row : ℕ) → Placed rows row → misplaced rows row ≡ false
+  unfolding misplaced outOfPlace
+  placed-misplaced row p =
+      by-test (eqb (numberAt rows row 0) 50)
+      (λ k. rw (k, inside-noted InLoopOrSwitch isLoopOrSwitch loop-or-switch-around (p .break-inside (eqb-true _ _ k))))
+      (λ a. by-test (eqb (numberAt rows row 0) 51)
+      (λ k. rw (a, k, inside-noted InLoop isLoop loop-around (p .continue-inside (eqb-true _ _ k))))
+      (λ b. by-test (isMark (numberAt rows row 0))
+      (λ k. rw (a, b, k, item-noted (p .mark-inside k)))
+      (λ c. rw (a, b, c))))

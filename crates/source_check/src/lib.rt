@@ -1,0 +1,65 @@
+// The check of source programs: the causes that both forms share, then 7, 8 and 9.
+use marks::lowest_repeated;
+use places::lowest_misplaced;
+use structure::Found;
+use structure::causes::at;
+use structure::causes::structural_refusal;
+use structure::depth::lowest_deep_row;
+use words::Form;
+use words::Refusal;
+use words::Verdict;
+
+pub mod marks; // marks.rt: cause 8
+pub mod notes; // notes.rt: what a pass along the links notes of each row
+pub mod places; // places.rt: cause 7
+
+ghost use mathlib.Core.Path.{_≡_};
+ghost use Prim.Native.Nat.{_/_, _≤_};
+ghost use lib.ListN.{length};
+ghost use Rattle.structure.specs.Structured.{Tree};
+ghost use Rattle.source_check.specs.Refusal.{laterRefusal, refusal};
+
+// What a pass along the links notes of each row.
+pub enum Note {
+    // 1 inside a loop
+    InLoop,
+    // 1 inside a loop or switch
+    InLoopOrSwitch,
+    // 1 for an item of a switch's own list
+    SwitchItem,
+    // the nearest mark before the row in its own list, or 0
+    MarkBefore,
+}
+
+// Causes 7 to 9, in a tree of rows.
+fn later_refusal(rows: &[i32]) -> Verdict
+    requires { ⌜ Tree (now rows) × (length (now rows) / 6 ≤ 2048) ⌝ }
+    ensures { λ r. ⌜ r ≡ laterRefusal (now (rows .entry)) ⌝ }
+{
+    let misplaced = lowest_misplaced(rows);
+    if let Found::At(row) = misplaced {
+        return Verdict::Refused(Refusal {
+            number: 7,
+            place: row,
+        });
+    }
+    let repeated = lowest_repeated(rows);
+    if let Found::At(row) = repeated {
+        return Verdict::Refused(Refusal {
+            number: 8,
+            place: row,
+        });
+    }
+    at(9, lowest_deep_row(Form::Source, rows))
+}
+
+// The check: accepted, or the number of the first cause and its place.
+pub fn check(header: &[i32], rows: &[i32]) -> Verdict
+    ensures { λ r. ⌜ r ≡ refusal (now (header .entry)) (now (rows .entry)) ⌝ }
+{
+    let verdict = structural_refusal(Form::Source, header, rows);
+    match verdict {
+        Verdict::Refused(found) => Verdict::Refused(found),
+        Verdict::Accepted => later_refusal(rows),
+    }
+}

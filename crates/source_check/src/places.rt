@@ -1,0 +1,64 @@
+// Cause 7: break, continue, case or default out of place.
+use super::Note;
+use super::notes::write_notes;
+use structure::Found;
+use structure::grammar::between;
+use words::table::number_at;
+ghost use mathlib.Core.Path.{_≡_};
+ghost use Prim.Native.Nat.{ℕ, _/_, _≤_};
+ghost use lib.ListN.{length, getD};
+ghost use Rattle.words.specs.Table.{numberAt};
+ghost use Rattle.structure.specs.Search.{lowestRow};
+ghost use Rattle.structure.specs.Structured.{Tree};
+ghost use Rattle.source_check.specs.Places.{outOfPlace, misplaced};
+
+// A row of this kind, with its notes.
+fn is_out_of_place(kind: usize, looped: u16, breakable: u16, item: u16) -> bool
+    ensures { λ r. ⌜ r ≡ outOfPlace kind looped breakable item ⌝ }
+{
+    if kind == 50 {
+        return breakable == 0;
+    }
+    if kind == 51 {
+        return looped == 0;
+    }
+    if between(48, 49, kind) {
+        return item == 0;
+    }
+    false
+}
+
+// The lowest row out of place, with the notes of all rows.
+fn lowest_out_of_place(rows: &[i32], loops: &[u16], breakable: &[u16], items: &[u16]) -> Found
+    requires { ⌜ (length (now rows) / 6 ≤ length (now loops)) × (length (now rows) / 6 ≤ length (now breakable)) × (length (now rows) / 6 ≤ length (now items)) ⌝ }
+    ensures { λ r. ⌜ r ≡ lowestRow (now (rows .entry)) (λ (row : ℕ). outOfPlace (numberAt (now (rows .entry)) row 0) (getD (now (loops .entry)) row 0) (getD (now (breakable .entry)) row 0) (getD (now (items .entry)) row 0)) ⌝ }
+{
+    let count = rows.len() / 6;
+    let mut row: usize = 0;
+    while row < count {
+        if is_out_of_place(
+            number_at(rows, row, 0),
+            loops[row],
+            breakable[row],
+            items[row],
+        ) {
+            return Found::At(row);
+        }
+        row += 1;
+    }
+    Found::Nothing
+}
+
+// The lowest row out of place.
+pub fn lowest_misplaced(rows: &[i32]) -> Found
+    requires { ⌜ Tree (now rows) × (length (now rows) / 6 ≤ 2048) ⌝ }
+    ensures { λ r. ⌜ r ≡ lowestRow (now (rows .entry)) (misplaced (now (rows .entry))) ⌝ }
+{
+    let mut loops = [0u16; 2048];
+    let mut breakable = [0u16; 2048];
+    let mut items = [0u16; 2048];
+    write_notes(Note::InLoop, rows, &mut loops);
+    write_notes(Note::InLoopOrSwitch, rows, &mut breakable);
+    write_notes(Note::SwitchItem, rows, &mut items);
+    lowest_out_of_place(rows, &loops, &breakable, &items)
+}

@@ -1,0 +1,204 @@
+-- Whole texts: the ways that reading one can go, by its first line and its rows.
+use mathlib.Core.Path.{_≡_, refl, sym, ap, _∙_}
+use mathlib.Core.Bool.{Bool, true, false}
+use mathlib.Core.List.{List, []}
+use mathlib.Core.Option.{Option, none, some}
+use Prim.Native.Nat.{ℕ, _+_, _-_, _≤_, _<_}
+use native.Mathlib.Omega.{arith}
+use lib.Dec.{leb, ltb}
+use lib.IntN.{ℤ}
+use lib.ListN.{length, take, drop}
+use lib.Seq.{take-at}
+use borrow.Author.Tests.{leb-true, le-leb, lt-leb, ltb-true, ltb-false}
+use Rattle.words.specs.Layout.{leading, headerFits, countFits}
+use Rattle.words.specs.Laws.{leading-limits}
+use Rattle.words.specs.declared.Form.{Form}
+use Rattle.text_form.specs.declared.ReadAnswer.the-variants.{Read, Refused}
+use Rattle.text_form.specs.Line.{ended, unended, linesOf, fieldsOf, numbersOf, lineNumbers}
+use Rattle.text_form.specs.Text.{keep, headerSized, headerLine, Parsed, parsed, malformed, rowsFrom, withHeader, programOf, parse}
+use Rattle.text_form.specs.Answers.{over, unless, causeOf, readRefused, readProgram, tablesHold, readParsed, readResult, Reads}
+use Rattle.text_form.specs.NumberLaws.{by-cases, not-some}
+use Rattle.text_form.specs.LineLaws.{lines-none}
+use Rattle.text_form.specs.TextLaws.{not-parsed, Kept, keep-reads, program-first}
+use Rattle.text_form.specs.Reader.{numbersIn, Holds, HoldsExactly, wordsOf, wordsIn, HoldsRows, HasLines}
+use Rattle.text_form.proofs.Buffers.{rest-of}
+use Rattle.text_form.proofs.Pieces.{Piece}
+use Rattle.text_form.proofs.Rows.{Sized, lines-step, lines-last}
+
+-- ---- the rows' answers
+
+pub words-malformed : (read : Parsed (List ℤ)) (line : ℕ) → malformed line ≡ wordsOf read → read ≡ malformed line
+words-malformed (parsed words) line e = not-parsed e
+words-malformed (malformed other) line e = ap malformed (let same : other ≡ line = cc in same)
+
+pub record SizedRows (read : Parsed (List ℤ)) (count : ℕ) : Type 0 where
+  pub words : List ℤ
+  pub is : read ≡ parsed words
+  pub size : length words ≡ count
+
+pub words-parsed : (read : Parsed (List ℤ)) (count : ℕ) → parsed count ≡ wordsOf read → SizedRows read count
+words-parsed (parsed words) count e = record { words = words; is = refl; size = cc }
+words-parsed (malformed line) count e = not-parsed (sym e)
+
+-- ---- the shape of a text
+
+first-part : (end : ℕ) (text : List ℕ) → take (end - 0) text ≡ take end text
+first-part end text = let e : end - 0 ≡ end = omega arith in rw e
+
+header-unended : (form : Form) (line : List ℕ) → headerLine form (unended line) ≡ none
+unfolding headerLine lineNumbers keep
+header-unended form line = refl
+
+with-none : (others : Parsed (List ℤ)) → withHeader none others ≡ malformed 1
+unfolding withHeader
+with-none others = refl
+
+program-none : (form : Form) → programOf form [] ≡ malformed 1
+unfolding programOf
+program-none form = refl
+
+module _ (form : Form) {text : List ℕ} {end : ℕ} (p : Piece 10 text 0 end) where
+  -- the first line lacks its newline, or there is none
+  pub shape-unended : length text ≤ end → parse form text ≡ malformed 1
+  unfolding parse
+  shape-unended h =
+      by-cases (ltb 0 (length text))
+      (λ t. ap (programOf form) (lines-last p (ltb-true _ _ t) h) ∙ program-first form _ _ ∙ rw (header-unended form _) (with-none _))
+      (λ t. ap (programOf form) (lines-none text (omega (arith, ltb-false 0 (length text) t))) ∙ program-none form)
+
+  module _ (h : end < length text) where
+    first : parse form text ≡ withHeader (headerLine form (ended (take (end - 0) text))) (rowsFrom 2 (linesOf (drop (end + 1) text)))
+    unfolding parse
+    first = ap (programOf form) (lines-step p h) ∙ program-first form _ _
+
+    pub shape-bad : headerLine form (ended (take (end - 0) text)) ≡ none → parse form text ≡ malformed 1
+    shape-bad e = first ∙ rw e (with-none _)
+
+    module _ {numbers : ℕ} (s : Sized (headerLine form (ended (take (end - 0) text))) numbers) where
+      pub shape-rows : (line : ℕ) → rowsFrom 2 (linesOf (drop (end + 1) text)) ≡ malformed line → parse form text ≡ malformed line
+      unfolding withHeader
+      shape-rows line e = first ∙ rw (s .is, e)
+
+      kept : Kept (headerSized form) (numbersOf (fieldsOf (take (end - 0) text))) (s .numbers)
+      unfolding headerLine lineNumbers
+      kept = keep-reads (headerSized form) (numbersOf (fieldsOf (take (end - 0) text))) (s .numbers) (s .is)
+
+      sized-few : headerSized form (s .numbers) ≡ true → numbers ≤ 34
+      sized-few t =
+          by-cases (leb (length (s .numbers)) (leading form + 32))
+          (λ b. omega (arith, leb-true (length (s .numbers)) (leading form + 32) b, leading-limits form, s .size))
+          (λ b. absurd (by-cases (leb (leading form) (length (s .numbers)))
+          (λ a. let f : false ≡ true = rw (a, b) at t in let z : _≡_ {A = ℕ} 0 1 = cc in omega arith)
+          (λ a. let f : false ≡ true = rw a at t in let z : _≡_ {A = ℕ} 0 1 = cc in omega arith)))
+
+      pub shape-lines : {words : ℕ} → SizedRows (rowsFrom 2 (linesOf (drop (end + 1) text))) words → HasLines form text end numbers words
+      unfolding withHeader
+      shape-lines r = record {
+        program = record { header = s .numbers; rows = r .words };
+        inside = h;
+        first-line = rw first-part at (kept .same);
+        other-lines = r .is;
+        header-size = s .size;
+        rows-size = r .size;
+        few = sized-few (kept .passes);
+        parses = first ∙ rw (s .is, r .is);
+      }
+
+-- what the rows were counted of
+pub rows-behind : (text : List ℕ) (k : ℕ) (said : Parsed ℕ) → said ≡ wordsOf (rowsFrom 2 (linesOf (take (length text - k) (drop k text)))) → said ≡ wordsOf (rowsFrom 2 (linesOf (drop k text)))
+rows-behind text k said e = rw (rest-of text k) at e
+
+-- ---- the causes 1 and 2 of a text
+
+module _ {read : Option (List ℤ)} {numbers : ℕ} (h : HoldsExactly read numbers) where
+  pub scratch-holds : (table : List ℤ) → length table ≡ 34 → Holds read table
+  scratch-holds table e = record { well-formed = h .well-formed; room = omega (arith, h .size, h .few) }
+
+  pub scratch-part : (table written : List ℤ) → written ≡ over (numbersIn read) table → take (numbers - 0) written ≡ numbersIn read
+  unfolding over
+  scratch-part table written e = let n : numbers - 0 ≡ numbers = omega arith in rw (n, e) (take-at _ _ numbers (h .size))
+
+-- ---- the lines of a well-formed text, as their readers are lent them
+
+module _ {form : Form} {text : List ℕ} {end numbers words : ℕ} (l : HasLines form text end numbers words) where
+  lent-line : numbersOf (fieldsOf (take (end - 0) text)) ≡ some (l .program .header)
+  lent-line = rw (first-part end text) (l .first-line)
+
+  lent-rows : rowsFrom 2 (linesOf (take (length text - (end + 1)) (drop (end + 1) text))) ≡ parsed (l .program .rows)
+  lent-rows = rw (rest-of text (end + 1)) (l .other-lines)
+
+  pub line-exactly : HoldsExactly (numbersOf (fieldsOf (take (end - 0) text))) numbers
+  line-exactly = record { well-formed = rw lent-line; size = rw lent-line (l .header-size); few = l .few }
+
+  pub line-cause : (said : Option ℕ) → said ≡ causeOf form (numbersIn (numbersOf (fieldsOf (take (end - 0) text)))) words true → causeOf form (l .program .header) words true ≡ said
+  line-cause said e = sym (rw lent-line at e)
+
+  pub line-holds : (header : List ℤ) → numbers ≤ length header → Holds (numbersOf (fieldsOf (take (end - 0) text))) header
+  line-holds header h = record { well-formed = rw lent-line; room = rw lent-line (omega (arith, l .header-size)) }
+
+  pub line-written : (header written : List ℤ) → written ≡ over (numbersIn (numbersOf (fieldsOf (take (end - 0) text)))) header → written ≡ over (l .program .header) header
+  line-written header written e = rw lent-line at e
+
+  pub rows-hold : (rows : List ℤ) → words ≤ length rows → HoldsRows (rowsFrom 2 (linesOf (take (length text - (end + 1)) (drop (end + 1) text)))) rows
+  rows-hold rows h = record { well-formed = rw lent-rows; room = rw lent-rows (omega (arith, l .rows-size)) }
+
+  pub rows-written : (rows written : List ℤ) → written ≡ over (wordsIn (rowsFrom 2 (linesOf (take (length text - (end + 1)) (drop (end + 1) text))))) rows → written ≡ over (l .program .rows) rows
+  rows-written rows written e = rw lent-rows at e
+
+-- ---- what a reader leaves
+
+pub cause-some : (form : Form) (header : List ℤ) (words number : ℕ) (room : Bool) → causeOf form header words true ≡ some number → causeOf form header words room ≡ some number
+unfolding causeOf unless
+cause-some form header words number room e =
+    by-cases (headerFits form header)
+    (λ h. by-cases (countFits form words)
+    (λ c. not-some (rw (h, c) at e))
+    (λ c. rw (h, c) (rw (h, c) at e)))
+    (λ h. rw h (rw h at e))
+
+pub cause-short : (form : Form) (header : List ℤ) (words : ℕ) → causeOf form header words true ≡ none → causeOf form header words false ≡ some 10
+unfolding causeOf unless
+cause-short form header words e =
+    by-cases (headerFits form header)
+    (λ h. by-cases (countFits form words)
+    (λ c. rw (h, c))
+    (λ c. not-some (sym (rw (h, c) at e))))
+    (λ h. not-some (sym (rw h at e)))
+
+pub reads-malformed : (form : Form) (text : List ℕ) (header rows : List ℤ) (line : ℕ) → parse form text ≡ malformed line
+    → Reads (readResult form text header rows) (Refused (record { number = 14; place = line })) header rows
+unfolding readResult readParsed readRefused
+reads-malformed form text header rows line e = rw e (record { outcome = refl; header-left = refl; rows-left = refl })
+
+module _ {form : Form} {text : List ℕ} {end numbers words : ℕ} (l : HasLines form text end numbers words) (header rows : List ℤ) where
+  read-is : readResult form text header rows ≡ readProgram (causeOf form (l .program .header) words (tablesHold (l .program) header rows)) (l .program) header rows
+  unfolding readResult readParsed
+  read-is = rw (l .parses, l .rows-size)
+
+  refuses : (number : ℕ) → causeOf form (l .program .header) words (tablesHold (l .program) header rows) ≡ some number
+      → Reads (readResult form text header rows) (Refused (record { number = number; place = 0 })) header rows
+  unfolding readProgram readRefused
+  refuses number e = rw (read-is, e) (record { outcome = refl; header-left = refl; rows-left = refl })
+
+  pub reads-cause : (number : ℕ) → causeOf form (l .program .header) words true ≡ some number
+      → Reads (readResult form text header rows) (Refused (record { number = number; place = 0 })) header rows
+  reads-cause number e = refuses number (cause-some form (l .program .header) words number _ e)
+
+  module _ (passes : causeOf form (l .program .header) words true ≡ none) where
+    short : tablesHold (l .program) header rows ≡ false → Reads (readResult form text header rows) (Refused (record { number = 10; place = 0 })) header rows
+    short t = refuses 10 (rw t (cause-short form (l .program .header) words passes))
+
+    pub reads-short-header : length header < numbers → Reads (readResult form text header rows) (Refused (record { number = 10; place = 0 })) header rows
+    reads-short-header h = short (rw (l .header-size, lt-leb numbers (length header) h))
+
+    module _ (header-room : numbers ≤ length header) where
+      pub reads-short-rows : length rows < words → Reads (readResult form text header rows) (Refused (record { number = 10; place = 0 })) header rows
+      reads-short-rows h = short (rw (l .header-size, l .rows-size, le-leb numbers (length header) header-room, lt-leb words (length rows) h))
+
+      pub reads-all : words ≤ length rows → (headerWritten rowsWritten : List ℤ) → headerWritten ≡ over (l .program .header) header → rowsWritten ≡ over (l .program .rows) rows
+          → Reads (readResult form text header rows) (Read numbers words) headerWritten rowsWritten
+      unfolding readProgram
+      reads-all h headerWritten rowsWritten e f =
+          let room : tablesHold (l .program) header rows ≡ true = rw (l .header-size, l .rows-size, le-leb numbers (length header) header-room, le-leb words (length rows) h) in
+          let cause : causeOf form (l .program .header) words (tablesHold (l .program) header rows) ≡ none = rw room passes in
+          rw (read-is, cause) (record { outcome = rw (l .header-size, l .rows-size); header-left = e; rows-left = f })

@@ -1,0 +1,163 @@
+// The reader: one pass finds the shape of a text, a second stores its words.
+use super::ReadAnswer;
+use super::limits::Cause;
+use super::limits::first_cause;
+use super::line::Count;
+use super::line::count_numbers;
+use super::line::piece_end;
+use super::line::store_numbers;
+use words::Form;
+use words::Refusal;
+use words::layout::leading;
+ghost use mathlib.Core.Path.{_≡_};
+ghost use mathlib.Core.Bool.{true};
+ghost use Prim.Native.Nat.{ℕ, _+_, _≤_};
+ghost use lib.ListN.{length, take, drop};
+ghost use Rattle.text_form.specs.Line.{ended, linesOf, fieldsOf, numbersOf};
+ghost use Rattle.text_form.specs.Text.{headerLine, rowLine, rowsFrom};
+ghost use Rattle.text_form.specs.Answers.{over, causeOf, readResult, Reads};
+ghost use Rattle.text_form.specs.Reader.{isFound, sizeOf, countSays, causeSays, numbersIn, HoldsExactly, rowsSay, wordsOf, wordsIn, HoldsRows, HasLines, Shaped};
+
+// How many words the rows of a text have, or its first malformed line.
+pub enum Rows {
+    Words(usize),
+    Malformed(usize),
+}
+
+// The length of a text's first line in bytes, the number of its header words and of its row words; or its first malformed line.
+pub enum Shape {
+    Lines(usize, usize, usize),
+    Malformed(usize),
+}
+
+// How many numbers a first line has.
+fn header_numbers(form: Form, line: &[u8]) -> Count
+    ensures { λ r. ⌜ countSays r ≡ sizeOf (headerLine form (ended (now (line .entry)))) ⌝ }
+{
+    let counted = count_numbers(line);
+    let Count::Numbers(count) = counted else {
+        return Count::Malformed;
+    };
+    let first = leading(form);
+    if count < first {
+        return Count::Malformed;
+    }
+    if count > first + 32 {
+        return Count::Malformed;
+    }
+    Count::Numbers(count)
+}
+
+fn is_row(line: &[u8]) -> bool
+    ensures { λ r. ⌜ r ≡ isFound (rowLine (ended (now (line .entry)))) ⌝ }
+{
+    let counted = count_numbers(line);
+    let Count::Numbers(count) = counted else {
+        return false;
+    };
+    count == 6
+}
+
+// Counts the words of the rows behind the first line, or finds the first malformed line.
+fn count_rows(text: &[u8]) -> Rows
+    ensures { λ r. ⌜ rowsSay r ≡ wordsOf (rowsFrom 2 (linesOf (now (text .entry)))) ⌝ }
+{
+    let mut at: usize = 0;
+    let mut count: usize = 0;
+    while at < text.len() {
+        let end = piece_end(text, at, b'\n');
+        if end == text.len() {
+            return Rows::Malformed(count + 2);
+        }
+        if !is_row(&text[at..end]) {
+            return Rows::Malformed(count + 2);
+        }
+        count += 1;
+        at = end + 1;
+    }
+    Rows::Words(6 * count)
+}
+
+// Writes the words of the rows behind the first line at the start of `table`.
+fn store_rows(text: &[u8], table: &mut [i32])
+    requires { ⌜ HoldsRows (rowsFrom 2 (linesOf (now text))) (now table) ⌝ }
+    ensures { λ _. ⌜ now (table .exit) ≡ over (wordsIn (rowsFrom 2 (linesOf (now (text .entry))))) (now (table .entry)) ⌝ }
+{
+    let mut at: usize = 0;
+    let mut count: usize = 0;
+    while at < text.len() {
+        let end = piece_end(text, at, b'\n');
+        let start = 6 * count;
+        store_numbers(&text[at..end], &mut table[start..]);
+        count += 1;
+        at = end + 1;
+    }
+}
+
+// The shape of a text.
+pub fn shape_of(form: Form, text: &[u8]) -> Shape
+    ensures { λ r. ⌜ Shaped form (now (text .entry)) r ⌝ }
+{
+    let end = piece_end(text, 0, b'\n');
+    if end == text.len() {
+        return Shape::Malformed(1);
+    }
+    let counted = header_numbers(form, &text[0..end]);
+    let Count::Numbers(numbers) = counted else {
+        return Shape::Malformed(1);
+    };
+    let next = end + 1;
+    let rows = count_rows(&text[next..]);
+    match rows {
+        Rows::Malformed(line) => Shape::Malformed(line),
+        Rows::Words(words) => Shape::Lines(end, numbers, words),
+    }
+}
+
+// The first of the causes 1 and 2 that a text meets.
+fn text_cause(form: Form, line: &[u8], numbers: usize, words: usize) -> Cause
+    requires { ⌜ HoldsExactly (numbersOf (fieldsOf (now line))) numbers ⌝ }
+    ensures { λ r. ⌜ causeSays r ≡ causeOf form (numbersIn (numbersOf (fieldsOf (now (line .entry))))) words true ⌝ }
+{
+    let mut header = [0i32; 34];
+    store_numbers(line, &mut header);
+    first_cause(form, &header[0..numbers], words)
+}
+
+// Reads a well-formed text. A refusal leaves both tables as they were.
+pub fn read_lines(
+    form: Form,
+    text: &[u8],
+    end: usize,
+    numbers: usize,
+    words: usize,
+    header: &mut [i32],
+    rows: &mut [i32],
+) -> ReadAnswer
+    requires { ⌜ HasLines form (now text) end numbers words ⌝ }
+    ensures { λ r. ⌜ Reads (readResult form (now (text .entry)) (now (header .entry)) (now (rows .entry))) r (now (header .exit)) (now (rows .exit)) ⌝ }
+{
+    let cause = text_cause(form, &text[0..end], numbers, words);
+    if let Cause::Number(number) = cause {
+        return ReadAnswer::Refused(Refusal {
+            number: number,
+            place: 0,
+        });
+    }
+    if header.len() < numbers {
+        return ReadAnswer::Refused(Refusal {
+            number: 10,
+            place: 0,
+        });
+    }
+    if rows.len() < words {
+        return ReadAnswer::Refused(Refusal {
+            number: 10,
+            place: 0,
+        });
+    }
+    store_numbers(&text[0..end], header);
+    let next = end + 1;
+    store_rows(&text[next..], rows);
+    ReadAnswer::Read(numbers, words)
+}

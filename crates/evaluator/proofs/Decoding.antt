@@ -1,0 +1,217 @@
+-- Decoding: answers as the code handles them: words cast to 64 bits, numbers handed on, stops.
+use mathlib.Core.Path.{_≡_, refl, sym, ap, ap₂, _∙_}
+use mathlib.Core.Bool.{Bool, true, false}
+use mathlib.Core.List.{List}
+use Prim.Native.Nat.{ℕ, zero, suc, _+_, _^_, _≤_, _<_}
+use native.Mathlib.Omega.{arith}
+use lib.Dec.{T, ltb, eqb}
+use lib.IntN.{ℤ, pos, negsuc, natAbs}
+use lib.Signed.{mag, ltZ, nonNeg}
+use mir.Syntax.{w32, w64}
+use mir.Val.{SFits, Fits, toZ, ofZ}
+use mir.Facts.{toZ-ofZ, sfits-widen, fits-natAbs}
+use borrow.Author.Tests.{ltb-true, ltb-false, lt-ltb, le-ltb}
+use Rattle.words.specs.Word.{isWord, natural, pick}
+use lib.ListN.{getD, set}
+use Rattle.words.specs.Arithmetic.{Outcome, value, fault as faulty, apply, element}
+use Rattle.words.specs.declared.Operator.{Operator}
+use Rattle.language.specs.Meaning.{update, oldValue, newValue}
+use Rattle.words.specs.Answers.{computed, located}
+use Rattle.words.specs.Laws.{back, natural-pos, element-inside}
+use Rattle.words.specs.declared.FaultSort.{FaultSort}
+use Rattle.words.specs.declared.FaultSort.the-variants.{Overflow, ZeroDivisor, Index}
+use Rattle.words.specs.declared.Computed.{Computed}
+use Rattle.words.specs.declared.Computed.the-variants.{Value as Computes, Fails}
+use Rattle.computation.specs.Computation.{settle}
+use Rattle.computation.specs.Run.{Stop, spent, fault}
+use Rattle.computation.specs.Remaining.{Rest, gives, halts, spend, onward}
+use Rattle.evaluator.specs.Answers.{stopNumber, stopOf, operandOf, operandRest, answered, positionOf, positionRest, placed, Settles, Places}
+use Rattle.evaluator.specs.declared.Operand.{Operand}
+use Rattle.evaluator.specs.declared.Operand.the-variants.{Value, Halted}
+use Rattle.evaluator.specs.declared.Position.{Position}
+use Rattle.evaluator.specs.declared.Position.the-variants.{At as Lies, Nowhere}
+use Rattle.words.specs.declared.Located.{Located}
+use Rattle.words.specs.declared.Located.the-variants.{At, Outside}
+
+-- a word that was cast to 64 bits, and an answer that was handed on
+abbrev pub wide : ℤ → ℤ
+wide z = toZ w64 (ofZ w64 (toZ w32 (ofZ w32 z)))
+
+abbrev pub handed : ℤ → ℤ
+handed z = toZ w64 (ofZ w64 z)
+
+pub handed-is : (z : ℤ) → mag z < 2 ^ 63 → handed z ≡ z
+handed-is z h = toZ-ofZ (record { sfits = h })
+
+pub wide-fits : (z : ℤ) → mag z < 2 ^ 31 → SFits w64 (toZ w32 (ofZ w32 z))
+wide-fits z h = rw (back z h) (record { sfits = omega arith })
+
+pub wide-is : (z : ℤ) → mag z < 2 ^ 31 → wide z ≡ z
+wide-is z h = ap (λ (x : ℤ). toZ w64 (ofZ w64 x)) (back z h) ∙ handed-is z (omega arith)
+
+-- ---- decoding
+
+pub operand-word : (z : ℤ) → mag z < 2 ^ 31 → operandOf z ≡ Value z
+unfolding operandOf isWord
+operand-word z h = rw (lt-ltb _ _ h)
+
+pub operand-other : (z : ℤ) → 2 ^ 31 ≤ mag z → operandOf z ≡ Halted
+unfolding operandOf isWord
+operand-other z h = rw (le-ltb _ _ h)
+
+above : (z : ℤ) → ltZ (pos 2147483647) z ≡ true → 2 ^ 31 ≤ mag z
+above (pos n) e = omega (arith, ltb-true 2147483647 n e)
+above (negsuc n) e = absurd (let w : _≡_ {A = ℕ} 0 1 = cc in omega arith)
+
+below : (z : ℤ) → ltZ z (negsuc 2147483647) ≡ true → 2 ^ 31 ≤ mag z
+below (pos n) e = absurd (let w : _≡_ {A = ℕ} 0 1 = cc in omega arith)
+below (negsuc n) e = omega (arith, ltb-true 2147483647 n e)
+
+between : (z : ℤ) → ltZ (pos 2147483647) z ≡ false → ltZ z (negsuc 2147483647) ≡ false → mag z < 2 ^ 31
+between (pos n) e g = omega (arith, ltb-false 2147483647 n e)
+between (negsuc n) e g = omega (arith, ltb-false 2147483647 n g)
+
+-- the tests of `operand`
+module _ (z : ℤ) (h : SFits w64 z) where
+  pub operand-above : ltZ (pos 2147483647) (handed z) ≡ true → Halted ≡ operandOf z
+  operand-above e = sym (operand-other z (above z (rw (toZ-ofZ {z = z} h) at e)))
+
+  pub operand-below : ltZ (handed z) (negsuc 2147483647) ≡ true → Halted ≡ operandOf z
+  operand-below e = sym (operand-other z (below z (rw (toZ-ofZ {z = z} h) at e)))
+
+  module _ (e : ltZ (pos 2147483647) (handed z) ≡ false) (g : ltZ (handed z) (negsuc 2147483647) ≡ false) where
+    pub operand-fits : SFits w32 (handed z)
+    operand-fits = record { sfits = between (handed z) e g }
+
+    pub operand-is : Value (toZ w32 (ofZ w32 (handed z))) ≡ operandOf z
+    operand-is =
+        let same = toZ-ofZ {z = z} h in
+        ap Value (toZ-ofZ operand-fits ∙ same) ∙ sym (operand-word z (rw same at (operand-fits .sfits)))
+
+-- ---- what answers say
+
+pub answered-word : (z : ℤ) → mag z < 2 ^ 31 → (n : ℕ) (s : List ℤ) → answered z n s ≡ gives z n s
+answered-word z h n s = rw (operand-word z h)
+
+pub placed-word : (z : ℤ) → mag z < 2 ^ 31 → (n : ℕ) (s : List ℤ) → placed z n s ≡ gives (natural z) n s
+placed-word z h n s = rw (operand-word z h)
+
+-- a word that was cast
+pub answered-wide : (z : ℤ) → mag z < 2 ^ 31 → (n : ℕ) (s : List ℤ) → answered (wide z) n s ≡ gives z n s
+answered-wide z h n s = rw (wide-is z h) (answered-word z h n s)
+
+-- a stop
+pub stop-other : (why : Stop) → 2 ^ 31 ≤ mag (stopNumber why)
+unfolding stopNumber
+stop-other spent = omega arith
+stop-other (fault Overflow) = omega arith
+stop-other (fault ZeroDivisor) = omega arith
+stop-other (fault Index) = omega arith
+
+pub stop-again : (why : Stop) → stopOf (stopNumber why) ≡ why
+unfolding stopOf stopNumber
+stop-again spent = refl
+stop-again (fault Overflow) = refl
+stop-again (fault ZeroDivisor) = refl
+stop-again (fault Index) = refl
+
+pub answered-stop : (why : Stop) (n : ℕ) (s : List ℤ) → answered (stopNumber why) n s ≡ halts why n s
+answered-stop why n s = rw (operand-other (stopNumber why) (stop-other why), stop-again why)
+
+pub placed-stop : (why : Stop) (n : ℕ) (s : List ℤ) → placed (stopNumber why) n s ≡ halts why n s
+placed-stop why n s = rw (operand-other (stopNumber why) (stop-other why), stop-again why)
+
+-- a run that has no step left
+module _ (n : ℕ) (s : List ℤ) where
+  pub answered-spent : answered (pos 2147483648) n s ≡ halts spent n s
+  unfolding stopNumber
+  answered-spent = answered-stop spent n s
+
+  pub placed-spent : placed (pos 2147483648) n s ≡ halts spent n s
+  unfolding stopNumber
+  placed-spent = placed-stop spent n s
+
+-- a place's word that was cast
+pub placed-wide : (z : ℤ) → mag z < 2 ^ 31 → (n : ℕ) (s : List ℤ) → placed (wide z) n s ≡ gives (natural z) n s
+placed-wide z h n s = ap (λ (x : ℤ). placed x n s) (wide-is z h) ∙ placed-word z h n s
+
+-- ---- operations
+
+module _ (c : Computed) where
+  pub settles-value : (v : ℤ) → c ≡ Computes v → mag v < 2 ^ 31 → Settles (wide v) (computed c)
+  unfolding spend
+  settles-value v e h n s = answered-wide v h n s ∙ rw e
+
+  pub settles-fault : (sort : FaultSort) (z : ℤ) → c ≡ Fails sort → z ≡ stopNumber (fault sort) → mag z < 2 ^ 63 → Settles (handed z) (computed c)
+  unfolding spend
+  settles-fault sort z e g h n s = rw (handed-is z h, g, answered-stop (fault sort) n s, e)
+
+pub settled-settles : (z : ℤ) (o : Outcome ℤ) → mag z < 2 ^ 63 → Settles z o → Settles (handed z) o
+settled-settles z o h p = rw (handed-is z h) p
+
+-- ---- read, operate, store
+
+module _ (o : Operator) (i : ℕ) (right : ℤ) (s : List ℤ) (c : Computed) (e : computed c ≡ apply o (toZ w32 (ofZ w32 (getD s i (pos 0)))) (toZ w32 (ofZ w32 right)))
+    (g : mag (getD s i (pos 0)) < 2 ^ 31) (h : mag right < 2 ^ 31) (result : ℤ → ℤ → ℤ) (n : ℕ) where
+  computes : computed c ≡ apply o (getD s i (pos 0)) right
+  computes = e ∙ ap₂ (apply o) (back (getD s i (pos 0)) g) (back right h)
+
+  update-is : spend (update o i right result) n s ≡ onward (spend (settle (computed c)) n s) (λ new n t. gives (result (getD s i (pos 0)) new) n (set t i new))
+  unfolding spend
+  update-is = ap (λ (x : Outcome ℤ). onward (spend (settle x) n s) (λ new n t. gives (result (getD s i (pos 0)) new) n (set t i new))) (sym computes)
+
+  pub update-fails : (sort : FaultSort) (z : ℤ) → c ≡ Fails sort → Settles z (computed c) → answered z n s ≡ spend (update o i right result) n s
+  unfolding spend
+  update-fails sort z f p = p n s ∙ same ∙ sym update-is
+    where
+      same : spend (settle (computed c)) n s ≡ onward (spend (settle (computed c)) n s) (λ new n t. gives (result (getD s i (pos 0)) new) n (set t i new))
+      same = rw f
+
+  pub update-gives : (v : ℤ) → c ≡ Computes v → spend (update o i right result) n s ≡ gives (result (getD s i (pos 0)) v) n (set s i v)
+  unfolding spend
+  update-gives v f = update-is ∙ rw f
+
+module _ (o : Operator) (i : ℕ) (right : ℤ) (s : List ℤ) (c : Computed) (e : computed c ≡ apply o (toZ w32 (ofZ w32 (getD s i (pos 0)))) (toZ w32 (ofZ w32 right)))
+    (g : mag (getD s i (pos 0)) < 2 ^ 31) (h : mag right < 2 ^ 31) (v : ℤ) (f : c ≡ Computes v) (k : mag v < 2 ^ 31) (old : Bool) (n : ℕ) where
+  stored : gives (pick old oldValue newValue (getD s i (pos 0)) v) n (set s i (toZ w32 (ofZ w32 v))) ≡ spend (update o i right (pick old oldValue newValue)) n s
+  stored = rw (back v k) (sym (update-gives o i right s c e g h (pick old oldValue newValue) n v f))
+
+  pub update-old : old ≡ true → answered (wide (getD s i (pos 0))) n (set s i (toZ w32 (ofZ w32 v))) ≡ spend (update o i right (pick old oldValue newValue)) n s
+  update-old t = answered-wide (getD s i (pos 0)) g n _ ∙ ap (λ (b : Bool). gives (pick b oldValue newValue (getD s i (pos 0)) v) n (set s i (toZ w32 (ofZ w32 v)))) (sym t) ∙ stored
+
+  pub update-new : old ≡ false → answered (wide v) n (set s i (toZ w32 (ofZ w32 v))) ≡ spend (update o i right (pick old oldValue newValue)) n s
+  update-new t = answered-wide v k n _ ∙ ap (λ (b : Bool). gives (pick b oldValue newValue (getD s i (pos 0)) v) n (set s i (toZ w32 (ofZ w32 v)))) (sym t) ∙ stored
+
+-- ---- links and positions
+
+-- a number below the words' end is that of a word which is not negative
+pub link-cast : (z : ℤ) → mag z < 2 ^ 31 → natural z < 2147483648 → T (nonNeg (toZ w32 (ofZ w32 z))) × Fits w64 (natAbs (toZ w32 (ofZ w32 z)))
+unfolding natural
+link-cast (pos n) h g = rw (back (pos n) h) (tt, record { fits = omega arith })
+link-cast (negsuc n) h g = absurd (omega arith)
+
+pub link-is : (z : ℤ) → mag z < 2 ^ 31 → natural z < 2147483648 → natAbs (toZ w32 (ofZ w32 z)) ≡ natural z
+unfolding natural
+link-is (pos n) h g = rw (back (pos n) h)
+link-is (negsuc n) h g = absurd (omega arith)
+
+-- a position, as an answer
+pub placed-position : (i : ℕ) → i < 2 ^ 31 → (n : ℕ) (s : List ℤ) → placed (toZ w64 i) n s ≡ gives i n s
+unfolding natural
+placed-position i h n s = ap (λ (z : ℤ). placed z n s) (handed-is (pos i) (omega arith)) ∙ placed-word (pos i) (omega arith) n s
+
+-- the bounds test, handed on
+module _ (base length : ℕ) (index : ℤ) (l : Located) (e : located l ≡ element base length (toZ w32 (ofZ w32 index))) (g : mag index < 2 ^ 31) where
+  tested : located l ≡ element base length index
+  tested = e ∙ ap (element base length) (back index g)
+
+  pub within-small : (i : ℕ) → l ≡ At i → base + length < 65536 → i < 65536
+  within-small i f small = let here = element-inside base length index i (sym tested ∙ ap located f) in omega (arith, here .most)
+
+  pub within-at : (i : ℕ) → l ≡ At i → base + length < 65536 → Places (toZ w64 i) (element base length index)
+  unfolding spend
+  within-at i f small n s = placed-position i (omega (arith, within-small i f small)) n s ∙ rw (← tested, f)
+
+  pub within-outside : (z : ℤ) → l ≡ Outside → z ≡ stopNumber (fault Index) → mag z < 2 ^ 63 → Places (handed z) (element base length index)
+  unfolding spend
+  within-outside z f q h n s = ap (λ (x : ℤ). placed x n s) (handed-is z h ∙ q) ∙ placed-stop (fault Index) n s ∙ rw (← tested, f)

@@ -1,0 +1,66 @@
+-- Positions that a place's answer gives lie in the store, since the table is sound.
+use mathlib.Core.Path.{_≡_, refl, sym, ap, _∙_}
+use mathlib.Core.List.{List}
+use Prim.Native.Nat.{ℕ, zero, suc, _+_, _-_, _^_, _<_, _≤_}
+use native.Mathlib.Omega.{arith}
+use lib.IntN.{ℤ}
+use lib.ListN.{length}
+use lib.Signed.{mag}
+use Rattle.words.specs.Table.{rowCount, numberAt}
+use Rattle.words.specs.Kinds.{kindAt}
+use Rattle.words.specs.Layout.{arrayBase, arrayLength}
+use Rattle.words.specs.Arithmetic.{Outcome, value, fault, element}
+use Rattle.words.specs.Laws.{element-inside, array-in-store}
+use Rattle.words.specs.declared.Kind.the-variants.{Variable, Element}
+use Rattle.computation.specs.Computation.{settle}
+use Rattle.computation.specs.Remaining.{Rest, gives, halts, onward, spend}
+use Rattle.language.specs.Sound.{isPlace}
+use Rattle.evaluator.specs.Answers.{operandOf, positionOf, placed}
+use Rattle.evaluator.specs.Bounds.{layoutFrom}
+use Rattle.evaluator.specs.Ready.{Ready, ReadyPlace, Entered}
+use Rattle.evaluator.specs.Rows.{valueAt, locateAt, placeAt}
+use Rattle.evaluator.specs.declared.Position.{Position}
+use Rattle.evaluator.specs.declared.Position.the-variants.{At, Nowhere}
+use Rattle.evaluator.proofs.Decoding.{handed, handed-is}
+use Rattle.evaluator.proofs.Enter.{entered, not-entered}
+use Rattle.evaluator.proofs.Rows.{sound-row, place-variable-row, locate-row}
+use Rattle.evaluator.proofs.Tags.{place-cases}
+
+-- the run of the place that this answer is of
+pub given-at : {m : Rest ℕ} (r : ℤ) (n : ℕ) (s : List ℤ) → mag r < 2 ^ 63 → placed r n s ≡ m → (p : Position) → p ≡ positionOf (operandOf (handed r)) → (i : ℕ) → p ≡ At i → m ≡ gives i n s
+given-at r n s fits h p e i q =
+    let lies : positionOf (operandOf r) ≡ At i = ap (λ (z : ℤ). positionOf (operandOf z)) (sym (handed-is r fits)) ∙ sym e ∙ q in
+    sym h ∙ rw lies
+
+same-position : {i j : ℕ} {n k : ℕ} {s t : List ℤ} → gives i n s ≡ gives j k t → i ≡ j
+same-position e = cc
+
+module _ {rows : List ℤ} {bounds : List ℕ} {words row : ℕ} where
+  pub locate-inside : Entered rows bounds words row Element → (n : ℕ) (s : List ℤ) (i k : ℕ) (t : List ℤ) → spend (locateAt rows bounds row) n s ≡ gives i k t → i < words
+  unfolding spend
+  locate-inside here n s i k t e = index (spend (valueAt rows bounds (numberAt rows row 2)) n s) (sym (locate-row here refl refl n s) ∙ e)
+    where
+      array : ℕ
+      array = numberAt rows row 1
+
+      position : (o : Outcome ℕ) (v : ℤ) (n : ℕ) (s : List ℤ) → o ≡ element (arrayBase (layoutFrom bounds) array) (arrayLength (layoutFrom bounds) array) v → spend (settle o) n s ≡ gives i k t → i < words
+      position (value j) v n s q e =
+          let same : j ≡ i = cc in
+          let inside = element-inside _ _ v j (sym q) in
+          omega (arith, inside .most, array-in-store (layoutFrom bounds) array (sound-row here .0), here .ready .setting .sound .store-fits)
+      position (fault sort) v n s q e = let z : _≡_ {A = ℕ} 0 1 = cc in omega arith
+
+      index : (m : Rest ℤ) → onward m (λ v n s. spend (settle (element (arrayBase (layoutFrom bounds) array) (arrayLength (layoutFrom bounds) array) v)) n s) ≡ gives i k t → i < words
+      index (gives v n s) e = position (element (arrayBase (layoutFrom bounds) array) (arrayLength (layoutFrom bounds) array) v) v n s refl e
+      index (halts why n s) e = let z : _≡_ {A = ℕ} 0 1 = cc in omega arith
+
+  located-inside : ReadyPlace rows bounds words row → (n : ℕ) (s : List ℤ) (i k : ℕ) (t : List ℤ) → spend (locateAt rows bounds row) n s ≡ gives i k t → i < words
+  located-inside here n s i k t e =
+      place-cases (kindAt rows row) (here .place-is)
+      (λ v. let entry : Entered rows bounds words row Variable = record { ready = here .ready; kind-is = v } in
+      let same : numberAt rows row 1 ≡ i = same-position (sym (place-variable-row entry n s) ∙ e) in omega (arith, sound-row entry))
+      (λ v. locate-inside (record { ready = here .ready; kind-is = v }) n s i k t e)
+
+  pub place-inside : ReadyPlace rows bounds words row → (n : ℕ) (s : List ℤ) (i k : ℕ) (t : List ℤ) → spend (placeAt rows bounds row) n s ≡ gives i k t → i < words
+  place-inside here zero s i k t e = let q = sym (not-entered (locateAt rows bounds row) s zero refl) ∙ e in let z : _≡_ {A = ℕ} 0 1 = cc in omega arith
+  place-inside here (suc n) s i k t e = located-inside here _ s i k t (sym (entered (locateAt rows bounds row) s (suc n) (λ z. omega arith)) ∙ e)

@@ -1,0 +1,131 @@
+-- The test, then one branch.
+use borrow.Author.Needs.{needs}
+use mathlib.Core.Path.{_≡_, refl, sym, ap, ap₂, _∙_}
+use Prim.Native.Nat.{ℕ, _-_}
+use native.Mathlib.Omega.{arith}
+use lib.IntN.{ℤ, pos}
+use lib.ListN.{length, getD, set, length-set}
+use mathlib.Core.Bool.{not}
+use Rattle.words.specs.Word.{natural, pick}
+use Rattle.words.specs.Table.{numberAt}
+use Rattle.words.specs.Arithmetic.{isTrue, bit, logicalNot, apply, minus as minusWord}
+use Rattle.words.specs.Laws.{back}
+use Rattle.words.specs.declared.Kind.the-variants.{Constant, Variable}
+use Rattle.computation.specs.Remaining.{gives, spend}
+use Rattle.language.specs.Meaning.{update, newValue}
+use Rattle.evaluator.specs.Ready.{Entered}
+use Rattle.evaluator.specs.Rows.{evaluateAt, locateAt}
+use Rattle.evaluator.proofs.Bounds.{lies}
+use Rattle.evaluator.proofs.Decoding.{wide-fits, answered-word, answered-wide, placed-wide, answered-spent, placed-spent}
+use Rattle.evaluator.proofs.Enter.{entered, not-entered}
+use Rattle.evaluator.proofs.Operands.{goes, hands-up, hands-placed, found, lost, handed-on, handed-on-placed, handed-value, element-handed, settled-is, link-asks, linked, nearer, linked-place, array-asks, array-is, chosen-true, chosen-false, decided-left, decided-right, decided-bit, truth-is}
+use Rattle.evaluator.proofs.Positions.{given-at, locate-inside, place-inside}
+use Rattle.evaluator.proofs.Rows.{sound-row, field-inside, constant-row, place-variable-row, element-row, locate-row, minus-row, not-row, binary-row, logical-row, logical-links, comma-row, conditional-row, assign-row, compound-row, increment-link, increment-row, other-row}
+use Rattle.evaluator.proofs.Tags.{number-constant, number-variable, number-element, place-variable-kind}
+use Rattle.evaluator.proofs.expressions.conditional.Reads as reads
+use Rattle.evaluator.proofs.expressions.+assign+binary+comma+compound+compute+conditional+element+eval+increment+locate+logical+minus+not+place.Lts-conditional as lts
+use Rattle.evaluator.proofs.expressions.+assign+binary+comma+compound+compute+conditional+element+eval+increment+locate+logical+minus+not+place.Proof.Claims.{conditional-claims, conditional-at}
+
+pub link-at-requires : (t : ℕ) → lts.Need-link-at-requires (conditional-claims t) (conditional-at t) reads.Post
+link-at-requires t c κs =
+    let start = c .before in
+    let here = start .pre .1 in
+    link-asks (here .ready) (sound-row here .0) (omega arith)
+
+pub eval-requires : (t : ℕ) → lts.Need-eval-requires (conditional-claims t) (conditional-at t) reads.Post
+eval-requires t c κs =
+    let start = c .before .before .before .before in
+    let past-link-at = c .before .before .link-at in
+    let here = start .pre .1 in
+    (omega (arith, nearer (here .ready) (sound-row here .0) (past-link-at .ensures) 3 1 (omega arith), start .pre .0), linked (here .ready) (sound-row here .0) (past-link-at .ensures) (refl))
+
+pub operand-requires : (t : ℕ) → lts.Need-operand-requires (conditional-claims t) (conditional-at t) reads.Post
+operand-requires t c κs = search needs
+
+pub enum-known-test : (t : ℕ) → lts.Need-enum-known-test (conditional-claims t) (conditional-at t) reads.Post
+enum-known-test t c = search needs
+
+pub enum-told : (t : ℕ) → lts.Need-enum-told (conditional-claims t) (conditional-at t) reads.Post
+enum-told t c = search needs
+
+pub same-length : (t : ℕ) → lts.Need-same-length (conditional-claims t) (conditional-at t) reads.Post
+same-length t c = search needs
+
+pub returns : (t : ℕ) → lts.Need-returns (conditional-claims t) (conditional-at t) reads.Post
+returns t c =
+    let start = c .before .before .before .before .before .before .before .before .before in
+    let past-link-at = c .before .before .before .before .before .before .before .link-at in
+    let past-eval = c .before .before .before .before .eval in
+    let past-operand = c .before .before .operand in
+    let past-enum-told = c .enum-told in
+    let here = start .pre .1 in
+    hands-up (past-eval .result) (past-eval .last .1 .1 .1 .1 .0) (past-eval .last .1 .1 .1 .0) (past-eval .ok) (past-eval .ensures) (past-operand .result) (past-operand .ensures) (past-enum-told .given .1) _ ∙ sym (conditional-row here (past-link-at .ensures) refl refl (start .args .left .now) (start .args .store .now))
+
+pub is-true-requires : (t : ℕ) → lts.Need-is-true-requires (conditional-claims t) (conditional-at t) reads.Post
+is-true-requires t c κs = search needs
+
+pub link-at-requires-2 : (t : ℕ) → lts.Need-link-at-requires-2 (conditional-claims t) (conditional-at t) reads.Post
+link-at-requires-2 t c κs =
+    let start = c .before .before .before .before .before .before .before .before .before .before .before .before in
+    let here = start .pre .1 in
+    link-asks (here .ready) (sound-row here .1) (omega arith)
+
+pub eval-requires-2 : (t : ℕ) → lts.Need-eval-requires-2 (conditional-claims t) (conditional-at t) reads.Post
+eval-requires-2 t c κs =
+    let start = c .before .before .before .before .before .before .before .before .before .before .before .before .before .before .before in
+    let past-eval = c .before .before .before .before .before .before .before .before .before .before .eval in
+    let past-link-at2 = c .before .before .link-at2 in
+    let here = start .pre .1 in
+    (omega (arith, nearer (here .ready) (sound-row here .1) (past-link-at2 .ensures) 3 1 (omega arith), start .pre .0), linked (here .ready) (sound-row here .1) (past-link-at2 .ensures) (past-eval .kept .1 .1 .1 .0))
+
+pub same-length-2 : (t : ℕ) → lts.Need-same-length-2 (conditional-claims t) (conditional-at t) reads.Post
+same-length-2 t c = search needs
+
+pub returns-2 : (t : ℕ) → lts.Need-returns-2 (conditional-claims t) (conditional-at t) reads.Post
+returns-2 t c =
+    let start = c .before .before .before .before .before .before .before .before .before .before .before .before .before .before .before .before .before in
+    let past-link-at = c .before .before .before .before .before .before .before .before .before .before .before .before .before .before .before .link-at in
+    let past-eval = c .before .before .before .before .before .before .before .before .before .before .before .before .eval in
+    let past-operand = c .before .before .before .before .before .before .before .before .before .before .operand in
+    let past-test = c .before .before .before .before .before .before .before .before .test in
+    let past-known-told = c .before .before .before .before .before .before .before .known-told in
+    let past-is-true = c .before .before .before .before .before .before .is-true in
+    let past-if1 = c .before .before .before .before .before .if1 in
+    let past-link-at2 = c .before .before .before .before .link-at2 in
+    let past-eval2 = c .before .eval2 in
+    let here = start .pre .1 in
+    handed-on (past-eval2 .result) _ _ (past-eval2 .ok) ∙ past-eval2 .ensures
+    ∙ sym (conditional-row here (past-link-at .ensures) (past-link-at2 .ensures) refl (start .args .left .now) (start .args .store .now) ∙ goes _ (past-eval .result) (past-eval .last .1 .1 .1 .1 .0) (past-eval .last .1 .1 .1 .0) (past-eval .ok) (past-eval .ensures) (past-operand .result) (past-operand .ensures) (past-test .given .0 .0) (past-test .given .1) ∙ chosen-true _ _ _ (sym (ap isTrue (back (past-test .given .0 .0) (past-known-told .given .0 .1))) ∙ sym (past-is-true .ensures) ∙ past-if1 .taken))
+
+pub link-at-requires-3 : (t : ℕ) → lts.Need-link-at-requires-3 (conditional-claims t) (conditional-at t) reads.Post
+link-at-requires-3 t c κs =
+    let start = c .before .before .before .before .before .before .before .before .before .before .before .before in
+    let here = start .pre .1 in
+    link-asks (here .ready) (sound-row here .2) (omega arith)
+
+pub eval-requires-3 : (t : ℕ) → lts.Need-eval-requires-3 (conditional-claims t) (conditional-at t) reads.Post
+eval-requires-3 t c κs =
+    let start = c .before .before .before .before .before .before .before .before .before .before .before .before .before .before .before in
+    let past-eval = c .before .before .before .before .before .before .before .before .before .before .eval in
+    let past-link-at3 = c .before .before .link-at3 in
+    let here = start .pre .1 in
+    (omega (arith, nearer (here .ready) (sound-row here .2) (past-link-at3 .ensures) 3 1 (omega arith), start .pre .0), linked (here .ready) (sound-row here .2) (past-link-at3 .ensures) (past-eval .kept .1 .1 .1 .0))
+
+pub same-length-3 : (t : ℕ) → lts.Need-same-length-3 (conditional-claims t) (conditional-at t) reads.Post
+same-length-3 t c = search needs
+
+pub returns-3 : (t : ℕ) → lts.Need-returns-3 (conditional-claims t) (conditional-at t) reads.Post
+returns-3 t c =
+    let start = c .before .before .before .before .before .before .before .before .before .before .before .before .before .before .before .before .before in
+    let past-link-at = c .before .before .before .before .before .before .before .before .before .before .before .before .before .before .before .link-at in
+    let past-eval = c .before .before .before .before .before .before .before .before .before .before .before .before .eval in
+    let past-operand = c .before .before .before .before .before .before .before .before .before .before .operand in
+    let past-test = c .before .before .before .before .before .before .before .before .test in
+    let past-known-told = c .before .before .before .before .before .before .before .known-told in
+    let past-is-true = c .before .before .before .before .before .before .is-true in
+    let past-if1 = c .before .before .before .before .before .if1 in
+    let past-link-at3 = c .before .before .before .before .link-at3 in
+    let past-eval3 = c .before .eval3 in
+    let here = start .pre .1 in
+    handed-on (past-eval3 .result) _ _ (past-eval3 .ok) ∙ past-eval3 .ensures
+    ∙ sym (conditional-row here (past-link-at .ensures) refl (past-link-at3 .ensures) (start .args .left .now) (start .args .store .now) ∙ goes _ (past-eval .result) (past-eval .last .1 .1 .1 .1 .0) (past-eval .last .1 .1 .1 .0) (past-eval .ok) (past-eval .ensures) (past-operand .result) (past-operand .ensures) (past-test .given .0 .0) (past-test .given .1) ∙ chosen-false _ _ _ (sym (ap isTrue (back (past-test .given .0 .0) (past-known-told .given .0 .1))) ∙ sym (past-is-true .ensures) ∙ past-if1 .left))

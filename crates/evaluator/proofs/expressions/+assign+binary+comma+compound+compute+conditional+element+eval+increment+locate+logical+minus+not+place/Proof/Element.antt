@@ -1,0 +1,92 @@
+-- The position, then the word there.
+use borrow.Author.Needs.{needs}
+use mathlib.Core.Path.{_≡_, refl, sym, ap, ap₂, _∙_}
+use Prim.Native.Nat.{ℕ, _-_}
+use native.Mathlib.Omega.{arith}
+use lib.IntN.{ℤ, pos}
+use lib.ListN.{length, getD, set, length-set}
+use mathlib.Core.Bool.{not}
+use Rattle.words.specs.Word.{natural, pick}
+use Rattle.words.specs.Table.{numberAt}
+use Rattle.words.specs.Arithmetic.{isTrue, bit, logicalNot, apply, minus as minusWord}
+use Rattle.words.specs.Laws.{back}
+use Rattle.words.specs.declared.Kind.the-variants.{Constant, Variable}
+use Rattle.computation.specs.Remaining.{gives, spend}
+use Rattle.language.specs.Meaning.{update, newValue}
+use Rattle.evaluator.specs.Ready.{Entered}
+use Rattle.evaluator.specs.Rows.{evaluateAt, locateAt}
+use Rattle.evaluator.proofs.Bounds.{lies}
+use Rattle.evaluator.proofs.Decoding.{wide-fits, answered-word, answered-wide, placed-wide, answered-spent, placed-spent}
+use Rattle.evaluator.proofs.Enter.{entered, not-entered}
+use Rattle.evaluator.proofs.Operands.{goes, hands-up, hands-placed, found, lost, handed-on, handed-on-placed, handed-value, element-handed, settled-is, link-asks, linked, nearer, linked-place, array-asks, array-is, chosen-true, chosen-false, decided-left, decided-right, decided-bit, truth-is}
+use Rattle.evaluator.proofs.Positions.{given-at, locate-inside, place-inside}
+use Rattle.evaluator.proofs.Rows.{sound-row, field-inside, constant-row, place-variable-row, element-row, locate-row, minus-row, not-row, binary-row, logical-row, logical-links, comma-row, conditional-row, assign-row, compound-row, increment-link, increment-row, other-row}
+use Rattle.evaluator.proofs.Tags.{number-constant, number-variable, number-element, place-variable-kind}
+use Rattle.evaluator.proofs.expressions.element.Reads as reads
+use Rattle.evaluator.proofs.expressions.+assign+binary+comma+compound+compute+conditional+element+eval+increment+locate+logical+minus+not+place.Lts-element as lts
+use Rattle.evaluator.proofs.expressions.+assign+binary+comma+compound+compute+conditional+element+eval+increment+locate+logical+minus+not+place.Proof.Claims.{element-claims, element-at}
+
+pub locate-requires : (t : ℕ) → lts.Need-locate-requires (element-claims t) (element-at t) reads.Post
+locate-requires t c κs =
+    let start = c .before .before .before in
+    let here = start .pre .1 in
+    (omega (arith, start .pre .0), here)
+
+pub position-requires : (t : ℕ) → lts.Need-position-requires (element-claims t) (element-at t) reads.Post
+position-requires t c κs = search needs
+
+pub enum-known-place : (t : ℕ) → lts.Need-enum-known-place (element-claims t) (element-at t) reads.Post
+enum-known-place t c = search needs
+
+pub enum-told : (t : ℕ) → lts.Need-enum-told (element-claims t) (element-at t) reads.Post
+enum-told t c = search needs
+
+pub same-length : (t : ℕ) → lts.Need-same-length (element-claims t) (element-at t) reads.Post
+same-length t c = search needs
+
+pub returns : (t : ℕ) → lts.Need-returns (element-claims t) (element-at t) reads.Post
+returns t c =
+    let start = c .before .before .before .before .before .before .before .before in
+    let past-locate = c .before .before .before .before .locate in
+    let past-position = c .before .before .position in
+    let past-enum-told = c .enum-told in
+    let here = start .pre .1 in
+    lost (past-locate .result) (past-locate .last .1 .1 .1 .1 .0) (past-locate .last .1 .1 .1 .0) (past-locate .ok) (past-locate .ensures) (past-position .result) (past-position .ensures) _ (past-enum-told .given .1) ∙ sym (element-row here (start .args .left .now) (start .args .store .now))
+
+pub mul-result : (t : ℕ) → lts.Need-mul-result (element-claims t) (element-at t) reads.Post
+mul-result t c =
+    let start = c .before .before .before .before .before .before .before .before .before in
+    let past-locate = c .before .before .before .before .before .locate in
+    let past-position = c .before .before .before .position in
+    let past-place = c .before .place in
+    let here = start .pre .1 in
+    let inside = locate-inside here (start .args .left .now) (start .args .store .now) (past-place .given .0 .0) (past-locate .last .1 .1 .1 .1 .0) (past-locate .last .1 .1 .1 .0) (given-at (past-locate .result) (past-locate .last .1 .1 .1 .1 .0) (past-locate .last .1 .1 .1 .0) (past-locate .ok) (past-locate .ensures) (past-position .result) (past-position .ensures) (past-place .given .0 .0) (past-place .given .1)) in omega (arith, inside, here .ready .setting .few-words)
+
+pub slice-copy-out-result : (t : ℕ) → lts.Need-slice-copy-out-result (element-claims t) (element-at t) reads.Post
+slice-copy-out-result t c =
+    let start = c .before .before .before .before .before .before .before .before .before in
+    let past-locate = c .before .before .before .before .before .locate in
+    let past-position = c .before .before .before .position in
+    let past-place = c .before .place in
+    let here = start .pre .1 in
+    let inside = locate-inside here (start .args .left .now) (start .args .store .now) (past-place .given .0 .0) (past-locate .last .1 .1 .1 .1 .0) (past-locate .last .1 .1 .1 .0) (given-at (past-locate .result) (past-locate .last .1 .1 .1 .1 .0) (past-locate .last .1 .1 .1 .0) (past-locate .ok) (past-locate .ensures) (past-position .result) (past-position .ensures) (past-place .given .0 .0) (past-place .given .1)) in omega (arith, inside, past-locate .kept .1 .1 .1 .0)
+
+pub cast-result : (t : ℕ) → lts.Need-cast-result (element-claims t) (element-at t) reads.Post
+cast-result t c =
+    let past-locate = c .before .before .before .before .before .before .locate in
+    let past-place = c .before .before .place in
+    let past-result = c .result in
+    wide-fits (getD (past-locate .last .1 .1 .1 .0) (past-place .given .0 .0) (pos 0)) (past-result .given)
+
+pub same-length-2 : (t : ℕ) → lts.Need-same-length-2 (element-claims t) (element-at t) reads.Post
+same-length-2 t c = search needs
+
+pub returns-2 : (t : ℕ) → lts.Need-returns-2 (element-claims t) (element-at t) reads.Post
+returns-2 t c =
+    let start = c .before .before .before .before .before .before .before .before .before .before in
+    let past-locate = c .before .before .before .before .before .before .locate in
+    let past-position = c .before .before .before .before .position in
+    let past-place = c .before .before .place in
+    let past-result = c .result in
+    let here = start .pre .1 in
+    answered-wide (getD (past-locate .last .1 .1 .1 .0) (past-place .given .0 .0) (pos 0)) (past-result .given) _ _ ∙ sym (element-row here (start .args .left .now) (start .args .store .now) ∙ found (past-locate .result) (past-locate .last .1 .1 .1 .1 .0) (past-locate .last .1 .1 .1 .0) (past-locate .ok) (past-locate .ensures) (past-position .result) (past-position .ensures) _ (past-place .given .0 .0) (past-place .given .1))

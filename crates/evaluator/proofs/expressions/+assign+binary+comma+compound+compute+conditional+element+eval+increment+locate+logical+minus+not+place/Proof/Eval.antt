@@ -1,0 +1,93 @@
+-- A step, and then the row by its number.
+use borrow.Author.Needs.{needs}
+use mathlib.Core.Path.{_≡_, refl, sym, ap, ap₂, _∙_}
+use Prim.Native.Nat.{ℕ, _-_}
+use native.Mathlib.Omega.{arith}
+use lib.IntN.{ℤ, pos}
+use lib.ListN.{length, getD, set, length-set}
+use mathlib.Core.Bool.{not}
+use Rattle.words.specs.Word.{natural, pick}
+use Rattle.words.specs.Table.{numberAt}
+use Rattle.words.specs.Arithmetic.{isTrue, bit, logicalNot, apply, minus as minusWord}
+use Rattle.words.specs.Laws.{back}
+use Rattle.words.specs.declared.Kind.the-variants.{Constant, Variable}
+use Rattle.computation.specs.Remaining.{gives, spend}
+use Rattle.language.specs.Meaning.{update, newValue}
+use Rattle.evaluator.specs.Ready.{Entered}
+use Rattle.evaluator.specs.Rows.{evaluateAt, locateAt}
+use Rattle.evaluator.proofs.Bounds.{lies}
+use Rattle.evaluator.proofs.Decoding.{wide-fits, answered-word, answered-wide, placed-wide, answered-spent, placed-spent}
+use Rattle.evaluator.proofs.Enter.{entered, not-entered}
+use Rattle.evaluator.proofs.Operands.{goes, hands-up, hands-placed, found, lost, handed-on, handed-on-placed, handed-value, element-handed, settled-is, link-asks, linked, nearer, linked-place, array-asks, array-is, chosen-true, chosen-false, decided-left, decided-right, decided-bit, truth-is}
+use Rattle.evaluator.proofs.Positions.{given-at, locate-inside, place-inside}
+use Rattle.evaluator.proofs.Rows.{sound-row, field-inside, constant-row, place-variable-row, element-row, locate-row, minus-row, not-row, binary-row, logical-row, logical-links, comma-row, conditional-row, assign-row, compound-row, increment-link, increment-row, other-row}
+use Rattle.evaluator.proofs.Tags.{number-constant, number-variable, number-element, place-variable-kind}
+use Rattle.evaluator.proofs.expressions.eval.Reads as reads
+use Rattle.evaluator.proofs.expressions.+assign+binary+comma+compound+compute+conditional+element+eval+increment+locate+logical+minus+not+place.Lts-eval as lts
+use Rattle.evaluator.proofs.expressions.+assign+binary+comma+compound+compute+conditional+element+eval+increment+locate+logical+minus+not+place.Proof.Claims.{eval-claims, eval-at}
+
+pub returns : (t : ℕ) → lts.Need-returns (eval-claims t) (eval-at t) reads.Post
+returns t c =
+    let start = c .before .before .before in
+    let past-if1 = c .if1 in
+    answered-spent (start .args .left .now) (start .args .store .now) ∙ sym (not-entered (evaluateAt (start .args .rows .now) (start .args .bounds .now) (start .args .row)) (start .args .store .now) (start .args .left .now) (past-if1 .taken))
+
+pub sub-left : (t : ℕ) → lts.Need-sub-left (eval-claims t) (eval-at t) reads.Post
+sub-left t c = search needs
+
+pub number-at-requires : (t : ℕ) → lts.Need-number-at-requires (eval-claims t) (eval-at t) reads.Post
+number-at-requires t c κs =
+    let start = c .before .before .before in
+    let here = start .pre .1 in
+    field-inside here 0 (omega arith)
+
+pub constant-requires : (t : ℕ) → lts.Need-constant-requires (eval-claims t) (eval-at t) reads.Post
+constant-requires t c κs =
+    let start = c .before .before .before .before .before in
+    let here = start .pre .1 in
+    field-inside here 1 (omega arith)
+
+pub returns-2 : (t : ℕ) → lts.Need-returns-2 (eval-claims t) (eval-at t) reads.Post
+returns-2 t c =
+    let start = c .before .before .before .before .before .before in
+    let past-if1 = c .before .before .before .if1 in
+    let past-number-at = c .before .before .number-at in
+    let past-if2 = c .before .if2 in
+    let past-constant = c .constant in
+    let here = start .pre .1 in
+    let entry : Entered (start .args .rows .now) (start .args .bounds .now) (length (start .args .store .now)) (start .args .row) Constant = record { ready = here; kind-is = number-constant _ _ _ (past-number-at .ensures) (past-if2 .taken) } in
+    handed-on (past-constant .result) _ _ (past-constant .ok) ∙ past-constant .ensures _ _ ∙ sym (constant-row entry ((start .args .left .now) - 1) (start .args .store .now)) ∙ sym (entered (evaluateAt (start .args .rows .now) (start .args .bounds .now) (start .args .row)) (start .args .store .now) (start .args .left .now) (past-if1 .left))
+
+pub variable-requires : (t : ℕ) → lts.Need-variable-requires (eval-claims t) (eval-at t) reads.Post
+variable-requires t c κs =
+    let past-number-at = c .before .before .before .number-at in
+    let past-if3 = c .before .if3 in
+    let start = c .before .before .before .before .before .before .before in
+    let here = start .pre .1 in
+    record { ready = here; kind-is = number-variable _ _ _ (past-number-at .ensures) (past-if3 .taken) }
+
+pub same-length : (t : ℕ) → lts.Need-same-length (eval-claims t) (eval-at t) reads.Post
+same-length t c = search needs
+
+pub returns-3 : (t : ℕ) → lts.Need-returns-3 (eval-claims t) (eval-at t) reads.Post
+returns-3 t c =
+    let start = c .before .before .before .before .before .before .before .before in
+    let past-if1 = c .before .before .before .before .before .if1 in
+    let past-variable = c .variable in
+    handed-on (past-variable .result) _ _ (past-variable .ok) ∙ past-variable .ensures ((start .args .left .now) - 1) ∙ sym (entered (evaluateAt (start .args .rows .now) (start .args .bounds .now) (start .args .row)) (start .args .store .now) (start .args .left .now) (past-if1 .left))
+
+pub compute-requires : (t : ℕ) → lts.Need-compute-requires (eval-claims t) (eval-at t) reads.Post
+compute-requires t c κs =
+    let start = c .before .before .before .before .before .before .before .before in
+    let here = start .pre .1 in
+    (omega (arith, start .pre .0), here)
+
+pub same-length-2 : (t : ℕ) → lts.Need-same-length-2 (eval-claims t) (eval-at t) reads.Post
+same-length-2 t c = search needs
+
+pub returns-4 : (t : ℕ) → lts.Need-returns-4 (eval-claims t) (eval-at t) reads.Post
+returns-4 t c =
+    let start = c .before .before .before .before .before .before .before .before .before .before in
+    let past-if1 = c .before .before .before .before .before .before .before .if1 in
+    let past-compute = c .before .compute in
+    handed-on (past-compute .result) _ _ (past-compute .ok) ∙ past-compute .ensures ∙ sym (entered (evaluateAt (start .args .rows .now) (start .args .bounds .now) (start .args .row)) (start .args .store .now) (start .args .left .now) (past-if1 .left))

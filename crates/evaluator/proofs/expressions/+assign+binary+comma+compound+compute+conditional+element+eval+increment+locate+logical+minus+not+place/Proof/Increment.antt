@@ -1,0 +1,86 @@
+-- The place, then the update by 1.
+use borrow.Author.Needs.{needs}
+use mathlib.Core.Path.{_≡_, refl, sym, ap, ap₂, _∙_}
+use Prim.Native.Nat.{ℕ, _-_}
+use native.Mathlib.Omega.{arith}
+use lib.IntN.{ℤ, pos}
+use lib.ListN.{length, getD, set, length-set}
+use mathlib.Core.Bool.{not}
+use Rattle.words.specs.Word.{natural, pick}
+use Rattle.words.specs.Table.{numberAt}
+use Rattle.words.specs.Arithmetic.{isTrue, bit, logicalNot, apply, minus as minusWord}
+use Rattle.words.specs.Laws.{back}
+use Rattle.words.specs.declared.Kind.the-variants.{Constant, Variable}
+use Rattle.computation.specs.Remaining.{gives, spend}
+use Rattle.language.specs.Meaning.{update, newValue}
+use Rattle.evaluator.specs.Ready.{Entered}
+use Rattle.evaluator.specs.Rows.{evaluateAt, locateAt}
+use Rattle.evaluator.proofs.Bounds.{lies}
+use Rattle.evaluator.proofs.Decoding.{wide-fits, answered-word, answered-wide, placed-wide, answered-spent, placed-spent}
+use Rattle.evaluator.proofs.Enter.{entered, not-entered}
+use Rattle.evaluator.proofs.Operands.{goes, hands-up, hands-placed, found, lost, handed-on, handed-on-placed, handed-value, element-handed, settled-is, link-asks, linked, nearer, linked-place, array-asks, array-is, chosen-true, chosen-false, decided-left, decided-right, decided-bit, truth-is}
+use Rattle.evaluator.proofs.Positions.{given-at, locate-inside, place-inside}
+use Rattle.evaluator.proofs.Rows.{sound-row, field-inside, constant-row, place-variable-row, element-row, locate-row, minus-row, not-row, binary-row, logical-row, logical-links, comma-row, conditional-row, assign-row, compound-row, increment-link, increment-row, other-row}
+use Rattle.evaluator.proofs.Tags.{number-constant, number-variable, number-element, place-variable-kind}
+use Rattle.evaluator.proofs.expressions.increment.Reads as reads
+use Rattle.evaluator.proofs.expressions.+assign+binary+comma+compound+compute+conditional+element+eval+increment+locate+logical+minus+not+place.Lts-increment as lts
+use Rattle.evaluator.proofs.expressions.+assign+binary+comma+compound+compute+conditional+element+eval+increment+locate+logical+minus+not+place.Proof.Claims.{increment-claims, increment-at}
+
+pub link-at-requires : (t : ℕ) → lts.Need-link-at-requires (increment-claims t) (increment-at t) reads.Post
+link-at-requires t c κs =
+    let start = c .before in
+    let here = start .pre .1 in
+    link-asks (here .ready) (increment-link (start .args .old) (start .args .operator) here .0) (omega arith)
+
+pub place-requires : (t : ℕ) → lts.Need-place-requires (increment-claims t) (increment-at t) reads.Post
+place-requires t c κs =
+    let start = c .before .before .before .before in
+    let past-link-at = c .before .before .link-at in
+    let here = start .pre .1 in
+    (omega (arith, nearer (here .ready) ((increment-link (start .args .old) (start .args .operator) here) .0) (past-link-at .ensures) 1 1 (omega arith), start .pre .0), linked-place (here .ready) (increment-link (start .args .old) (start .args .operator) here) (past-link-at .ensures) (refl))
+
+pub position-requires : (t : ℕ) → lts.Need-position-requires (increment-claims t) (increment-at t) reads.Post
+position-requires t c κs = search needs
+
+pub enum-known-first : (t : ℕ) → lts.Need-enum-known-first (increment-claims t) (increment-at t) reads.Post
+enum-known-first t c = search needs
+
+pub enum-told : (t : ℕ) → lts.Need-enum-told (increment-claims t) (increment-at t) reads.Post
+enum-told t c = search needs
+
+pub same-length : (t : ℕ) → lts.Need-same-length (increment-claims t) (increment-at t) reads.Post
+same-length t c = search needs
+
+pub returns : (t : ℕ) → lts.Need-returns (increment-claims t) (increment-at t) reads.Post
+returns t c =
+    let start = c .before .before .before .before .before .before .before .before .before in
+    let past-link-at = c .before .before .before .before .before .before .before .link-at in
+    let past-place = c .before .before .before .before .place in
+    let past-position = c .before .before .position in
+    let past-enum-told = c .enum-told in
+    let here = start .pre .1 in
+    lost (past-place .result) (past-place .last .1 .1 .1 .1 .0) (past-place .last .1 .1 .1 .0) (past-place .ok) (past-place .ensures) (past-position .result) (past-position .ensures) _ (past-enum-told .given .1) ∙ sym (increment-row (start .args .old) (start .args .operator) here (past-link-at .ensures) (start .args .left .now) (start .args .store .now))
+
+pub update-requires : (t : ℕ) → lts.Need-update-requires (increment-claims t) (increment-at t) reads.Post
+update-requires t c κs =
+    let start = c .before .before .before .before .before .before .before .before .before .before .before in
+    let past-link-at = c .before .before .before .before .before .before .before .before .before .link-at in
+    let past-place = c .before .before .before .before .before .before .place in
+    let past-position = c .before .before .before .before .position in
+    let past-first = c .before .before .first in
+    let here = start .pre .1 in
+    let inside = place-inside (linked-place (here .ready) (increment-link (start .args .old) (start .args .operator) here) (past-link-at .ensures) (refl)) (start .args .left .now) (start .args .store .now) (past-first .given .0 .0) (past-place .last .1 .1 .1 .1 .0) (past-place .last .1 .1 .1 .0) (given-at (past-place .result) (past-place .last .1 .1 .1 .1 .0) (past-place .last .1 .1 .1 .0) (past-place .ok) (past-place .ensures) (past-position .result) (past-position .ensures) (past-first .given .0 .0) (past-first .given .1)) in omega (arith, inside, past-place .kept .1 .1 .1 .0)
+
+pub same-length-2 : (t : ℕ) → lts.Need-same-length-2 (increment-claims t) (increment-at t) reads.Post
+same-length-2 t c = search needs
+
+pub returns-2 : (t : ℕ) → lts.Need-returns-2 (increment-claims t) (increment-at t) reads.Post
+returns-2 t c =
+    let start = c .before .before .before .before .before .before .before .before .before .before .before .before .before in
+    let past-link-at = c .before .before .before .before .before .before .before .before .before .before .before .link-at in
+    let past-place = c .before .before .before .before .before .before .before .before .place in
+    let past-position = c .before .before .before .before .before .before .position in
+    let past-first = c .before .before .before .before .first in
+    let past-update = c .before .update in
+    let here = start .pre .1 in
+    handed-on (past-update .result) _ _ (past-update .ok) ∙ past-update .ensures (past-place .last .1 .1 .1 .1 .0) ∙ sym (increment-row (start .args .old) (start .args .operator) here (past-link-at .ensures) (start .args .left .now) (start .args .store .now) ∙ found (past-place .result) (past-place .last .1 .1 .1 .1 .0) (past-place .last .1 .1 .1 .0) (past-place .ok) (past-place .ensures) (past-position .result) (past-position .ensures) _ (past-first .given .0 .0) (past-first .given .1))

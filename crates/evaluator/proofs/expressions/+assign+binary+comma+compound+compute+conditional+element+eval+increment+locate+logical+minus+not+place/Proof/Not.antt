@@ -1,0 +1,86 @@
+-- The operand, then its truth.
+use borrow.Author.Needs.{needs}
+use mathlib.Core.Path.{_≡_, refl, sym, ap, ap₂, _∙_}
+use Prim.Native.Nat.{ℕ, _-_}
+use native.Mathlib.Omega.{arith}
+use lib.IntN.{ℤ, pos}
+use lib.ListN.{length, getD, set, length-set}
+use mathlib.Core.Bool.{not}
+use Rattle.words.specs.Word.{natural, pick}
+use Rattle.words.specs.Table.{numberAt}
+use Rattle.words.specs.Arithmetic.{isTrue, bit, logicalNot, apply, minus as minusWord}
+use Rattle.words.specs.Laws.{back}
+use Rattle.words.specs.declared.Kind.the-variants.{Constant, Variable}
+use Rattle.computation.specs.Remaining.{gives, spend}
+use Rattle.language.specs.Meaning.{update, newValue}
+use Rattle.evaluator.specs.Ready.{Entered}
+use Rattle.evaluator.specs.Rows.{evaluateAt, locateAt}
+use Rattle.evaluator.proofs.Bounds.{lies}
+use Rattle.evaluator.proofs.Decoding.{wide-fits, answered-word, answered-wide, placed-wide, answered-spent, placed-spent}
+use Rattle.evaluator.proofs.Enter.{entered, not-entered}
+use Rattle.evaluator.proofs.Operands.{goes, hands-up, hands-placed, found, lost, handed-on, handed-on-placed, handed-value, element-handed, settled-is, link-asks, linked, nearer, linked-place, array-asks, array-is, chosen-true, chosen-false, decided-left, decided-right, decided-bit, truth-is}
+use Rattle.evaluator.proofs.Positions.{given-at, locate-inside, place-inside}
+use Rattle.evaluator.proofs.Rows.{sound-row, field-inside, constant-row, place-variable-row, element-row, locate-row, minus-row, not-row, binary-row, logical-row, logical-links, comma-row, conditional-row, assign-row, compound-row, increment-link, increment-row, other-row}
+use Rattle.evaluator.proofs.Tags.{number-constant, number-variable, number-element, place-variable-kind}
+use Rattle.evaluator.proofs.expressions.not.Reads as reads
+use Rattle.evaluator.proofs.expressions.+assign+binary+comma+compound+compute+conditional+element+eval+increment+locate+logical+minus+not+place.Lts-not as lts
+use Rattle.evaluator.proofs.expressions.+assign+binary+comma+compound+compute+conditional+element+eval+increment+locate+logical+minus+not+place.Proof.Claims.{not-claims, not-at}
+
+pub link-at-requires : (t : ℕ) → lts.Need-link-at-requires (not-claims t) (not-at t) reads.Post
+link-at-requires t c κs =
+    let start = c .before in
+    let here = start .pre .1 in
+    link-asks (here .ready) (sound-row here) (omega arith)
+
+pub eval-requires : (t : ℕ) → lts.Need-eval-requires (not-claims t) (not-at t) reads.Post
+eval-requires t c κs =
+    let start = c .before .before .before .before in
+    let past-link-at = c .before .before .link-at in
+    let here = start .pre .1 in
+    (omega (arith, nearer (here .ready) (sound-row here) (past-link-at .ensures) 3 1 (omega arith), start .pre .0), linked (here .ready) (sound-row here) (past-link-at .ensures) (refl))
+
+pub operand-requires : (t : ℕ) → lts.Need-operand-requires (not-claims t) (not-at t) reads.Post
+operand-requires t c κs = search needs
+
+pub enum-known-first : (t : ℕ) → lts.Need-enum-known-first (not-claims t) (not-at t) reads.Post
+enum-known-first t c = search needs
+
+pub enum-told : (t : ℕ) → lts.Need-enum-told (not-claims t) (not-at t) reads.Post
+enum-told t c = search needs
+
+pub same-length : (t : ℕ) → lts.Need-same-length (not-claims t) (not-at t) reads.Post
+same-length t c = search needs
+
+pub returns : (t : ℕ) → lts.Need-returns (not-claims t) (not-at t) reads.Post
+returns t c =
+    let start = c .before .before .before .before .before .before .before .before .before in
+    let past-link-at = c .before .before .before .before .before .before .before .link-at in
+    let past-eval = c .before .before .before .before .eval in
+    let past-operand = c .before .before .operand in
+    let past-enum-told = c .enum-told in
+    let here = start .pre .1 in
+    hands-up (past-eval .result) (past-eval .last .1 .1 .1 .1 .0) (past-eval .last .1 .1 .1 .0) (past-eval .ok) (past-eval .ensures) (past-operand .result) (past-operand .ensures) (past-enum-told .given .1) _ ∙ sym (not-row here (past-link-at .ensures) (start .args .left .now) (start .args .store .now))
+
+pub logical-not-requires : (t : ℕ) → lts.Need-logical-not-requires (not-claims t) (not-at t) reads.Post
+logical-not-requires t c κs = search needs
+
+pub cast-result : (t : ℕ) → lts.Need-cast-result (not-claims t) (not-at t) reads.Post
+cast-result t c =
+    let past-logical-not = c .logical-not in
+    wide-fits (past-logical-not .result) (past-logical-not .ok)
+
+pub same-length-2 : (t : ℕ) → lts.Need-same-length-2 (not-claims t) (not-at t) reads.Post
+same-length-2 t c = search needs
+
+pub returns-2 : (t : ℕ) → lts.Need-returns-2 (not-claims t) (not-at t) reads.Post
+returns-2 t c =
+    let start = c .before .before .before .before .before .before .before .before .before .before .before in
+    let past-link-at = c .before .before .before .before .before .before .before .before .before .link-at in
+    let past-eval = c .before .before .before .before .before .before .eval in
+    let past-operand = c .before .before .before .before .operand in
+    let past-first = c .before .before .first in
+    let past-known-told = c .before .known-told in
+    let past-logical-not = c .logical-not in
+    let here = start .pre .1 in
+    answered-wide (past-logical-not .result) (past-logical-not .ok) _ _ ∙ ap (λ (z : ℤ). gives z (past-eval .last .1 .1 .1 .1 .0) (past-eval .last .1 .1 .1 .0)) (past-logical-not .ensures ∙ ap logicalNot (back (past-first .given .0 .0) (past-known-told .given .0 .1)))
+    ∙ sym (not-row here (past-link-at .ensures) (start .args .left .now) (start .args .store .now) ∙ goes _ (past-eval .result) (past-eval .last .1 .1 .1 .1 .0) (past-eval .last .1 .1 .1 .0) (past-eval .ok) (past-eval .ensures) (past-operand .result) (past-operand .ensures) (past-first .given .0 .0) (past-first .given .1))

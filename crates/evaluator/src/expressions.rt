@@ -1,0 +1,307 @@
+// Evaluation by recursion down links: the measure is the number of rows from the row on. `eval` enters a row, and `compute` hands
+// it to the function of its kind.
+use super::Operand;
+use super::Position;
+use super::answers::operand;
+use super::answers::position;
+use super::answers::settled;
+use super::operations::decides;
+use super::operations::link_at;
+use super::operations::update;
+use super::operations::within;
+use words::Kind;
+use words::Operator;
+use words::arithmetic::apply;
+use words::arithmetic::bit;
+use words::arithmetic::is_true;
+use words::arithmetic::logical_not;
+use words::arithmetic::minus as minus_word;
+use words::kinds::kind_at;
+use words::table::number_at;
+use words::table::word_at;
+ghost use mathlib.Core.Path.{_≡_};
+ghost use mathlib.Core.List.{List};
+ghost use Prim.Native.Nat.{ℕ, _+_, _*_, _<_};
+ghost use lib.IntN.{ℤ};
+ghost use lib.ListN.{length};
+ghost use Rattle.words.specs.Word.{pick};
+ghost use Rattle.words.specs.declared.Kind as kinds;
+ghost use Rattle.words.specs.Table.{wordAt};
+ghost use Rattle.computation.specs.Remaining.{gives, spend};
+ghost use Rattle.evaluator.specs.Answers.{answered, placed};
+ghost use Rattle.evaluator.specs.Ready.{Ready, ReadyPlace, Entered};
+ghost use Rattle.evaluator.specs.Rows.{valueAt, evaluateAt, placeAt, locateAt};
+
+// The value of the expression at a row. Constants and variables, half of all rows entered, are taken here.
+pub fn eval(rows: &[i32], bounds: &[usize], row: usize, store: &mut [i32], left: &mut u32) -> i64
+    requires { ⌜ Ready (now rows) (now bounds) (length (now store)) row ⌝ }
+    ensures { λ r. ⌜ answered r (now (left .exit)) (now (store .exit)) ≡ spend (valueAt (now (rows .entry)) (now (bounds .entry)) row) (now (left .entry)) (now (store .entry)) ⌝ }
+{
+    let n = *left;
+    if n == 0 {
+        return 2147483648;
+    }
+    *left = n - 1;
+    let number = number_at(rows, row, 0);
+    if number == 1 {
+        return constant(rows, row);
+    }
+    if number == 2 {
+        return variable(rows, bounds, row, store);
+    }
+    compute(rows, bounds, row, store, left)
+}
+
+// A row that was entered: what follows, by its kind. A row that is no expression has the value 0.
+pub fn compute(rows: &[i32], bounds: &[usize], row: usize, store: &mut [i32], left: &mut u32) -> i64
+    requires { ⌜ Ready (now rows) (now bounds) (length (now store)) row ⌝ }
+    ensures { λ r. ⌜ answered r (now (left .exit)) (now (store .exit)) ≡ spend (evaluateAt (now (rows .entry)) (now (bounds .entry)) row) (now (left .entry)) (now (store .entry)) ⌝ }
+{
+    let kind = kind_at(rows, row);
+    match kind {
+        Kind::Constant => constant(rows, row),
+        Kind::Variable => variable(rows, bounds, row, store),
+        Kind::Element => element(rows, bounds, row, store, left),
+        Kind::Minus => minus(rows, bounds, row, store, left),
+        Kind::Not => not(rows, bounds, row, store, left),
+        Kind::Binary(operator) => binary(rows, bounds, row, operator, store, left),
+        Kind::And => logical(rows, bounds, row, false, store, left),
+        Kind::Or => logical(rows, bounds, row, true, store, left),
+        Kind::Conditional => conditional(rows, bounds, row, store, left),
+        Kind::Comma => comma(rows, bounds, row, store, left),
+        Kind::Assign => assign(rows, bounds, row, store, left),
+        Kind::Compound(operator) => compound(rows, bounds, row, operator, store, left),
+        Kind::Prefix(operator) => increment(rows, bounds, row, operator, false, store, left),
+        Kind::Postfix(operator) => increment(rows, bounds, row, operator, true, store, left),
+        _ => 0,
+    }
+}
+
+// A constant's row, entered.
+fn constant(rows: &[i32], row: usize) -> i64
+    requires { ⌜ 6 * row + 1 < length (now rows) ⌝ }
+    ensures { λ r. ⌜ ((n : ℕ) (s : List ℤ) → answered r n s ≡ gives (wordAt (now (rows .entry)) row 1) n s) ⌝ }
+{
+    word_at(rows, row, 1) as i64
+}
+
+// A variable's row, entered: its word of the store.
+fn variable(rows: &[i32], bounds: &[usize], row: usize, store: &[i32]) -> i64
+    requires { ⌜ Entered (now rows) (now bounds) (length (now store)) row kinds.Kind.Variable ⌝ }
+    ensures { λ r. ⌜ ((n : ℕ) → answered r n (now (store .entry)) ≡ spend (evaluateAt (now (rows .entry)) (now (bounds .entry)) row) n (now (store .entry))) ⌝ }
+{
+    let at = link_at(rows, row, 1);
+    store[at] as i64
+}
+
+// An element's row, entered: the element's word of the store.
+fn element(rows: &[i32], bounds: &[usize], row: usize, store: &mut [i32], left: &mut u32) -> i64
+    requires { ⌜ Entered (now rows) (now bounds) (length (now store)) row kinds.Kind.Element ⌝ }
+    ensures { λ r. ⌜ answered r (now (left .exit)) (now (store .exit)) ≡ spend (evaluateAt (now (rows .entry)) (now (bounds .entry)) row) (now (left .entry)) (now (store .entry)) ⌝ }
+{
+    let p = locate(rows, bounds, row, store, left);
+    let place = position(p);
+    let Position::At(at) = place else {
+        return p;
+    };
+    store[at] as i64
+}
+
+// An element's row, entered: the index, then the bounds test.
+fn locate(rows: &[i32], bounds: &[usize], row: usize, store: &mut [i32], left: &mut u32) -> i64
+    requires { ⌜ Entered (now rows) (now bounds) (length (now store)) row kinds.Kind.Element ⌝ }
+    ensures { λ r. ⌜ placed r (now (left .exit)) (now (store .exit)) ≡ spend (locateAt (now (rows .entry)) (now (bounds .entry)) row) (now (left .entry)) (now (store .entry)) ⌝ }
+{
+    let r = eval(rows, bounds, link_at(rows, row, 2), store, left);
+    let index = operand(r);
+    let Operand::Value(value) = index else {
+        return r;
+    };
+    within(bounds, link_at(rows, row, 1), value)
+}
+
+// The store position of the place at a row.
+fn place(rows: &[i32], bounds: &[usize], row: usize, store: &mut [i32], left: &mut u32) -> i64
+    requires { ⌜ ReadyPlace (now rows) (now bounds) (length (now store)) row ⌝ }
+    ensures { λ r. ⌜ placed r (now (left .exit)) (now (store .exit)) ≡ spend (placeAt (now (rows .entry)) (now (bounds .entry)) row) (now (left .entry)) (now (store .entry)) ⌝ }
+{
+    let n = *left;
+    if n == 0 {
+        return 2147483648;
+    }
+    *left = n - 1;
+    let number = number_at(rows, row, 0);
+    if number == 3 {
+        return locate(rows, bounds, row, store, left);
+    }
+    word_at(rows, row, 1) as i64
+}
+
+fn minus(rows: &[i32], bounds: &[usize], row: usize, store: &mut [i32], left: &mut u32) -> i64
+    requires { ⌜ Entered (now rows) (now bounds) (length (now store)) row kinds.Kind.Minus ⌝ }
+    ensures { λ r. ⌜ answered r (now (left .exit)) (now (store .exit)) ≡ spend (evaluateAt (now (rows .entry)) (now (bounds .entry)) row) (now (left .entry)) (now (store .entry)) ⌝ }
+{
+    let r = eval(rows, bounds, link_at(rows, row, 1), store, left);
+    let first = operand(r);
+    let Operand::Value(value) = first else {
+        return r;
+    };
+    settled(minus_word(value))
+}
+
+fn not(rows: &[i32], bounds: &[usize], row: usize, store: &mut [i32], left: &mut u32) -> i64
+    requires { ⌜ Entered (now rows) (now bounds) (length (now store)) row kinds.Kind.Not ⌝ }
+    ensures { λ r. ⌜ answered r (now (left .exit)) (now (store .exit)) ≡ spend (evaluateAt (now (rows .entry)) (now (bounds .entry)) row) (now (left .entry)) (now (store .entry)) ⌝ }
+{
+    let r = eval(rows, bounds, link_at(rows, row, 1), store, left);
+    let first = operand(r);
+    let Operand::Value(value) = first else {
+        return r;
+    };
+    logical_not(value) as i64
+}
+
+// Kinds 6 to 16: "right operand, then left, then the operation".
+fn binary(
+    rows: &[i32],
+    bounds: &[usize],
+    row: usize,
+    operator: Operator,
+    store: &mut [i32],
+    left: &mut u32,
+) -> i64
+    requires { ⌜ Entered (now rows) (now bounds) (length (now store)) row (kinds.Kind.Binary operator) ⌝ }
+    ensures { λ r. ⌜ answered r (now (left .exit)) (now (store .exit)) ≡ spend (evaluateAt (now (rows .entry)) (now (bounds .entry)) row) (now (left .entry)) (now (store .entry)) ⌝ }
+{
+    let r = eval(rows, bounds, link_at(rows, row, 2), store, left);
+    let second = operand(r);
+    let Operand::Value(right) = second else {
+        return r;
+    };
+    let q = eval(rows, bounds, link_at(rows, row, 1), store, left);
+    let first = operand(q);
+    let Operand::Value(value) = first else {
+        return q;
+    };
+    settled(apply(operator, value, right))
+}
+
+// And, or: the left operand decides where it is false, or true.
+fn logical(
+    rows: &[i32],
+    bounds: &[usize],
+    row: usize,
+    decided: bool,
+    store: &mut [i32],
+    left: &mut u32,
+) -> i64
+    requires { ⌜ Entered (now rows) (now bounds) (length (now store)) row (pick decided kinds.Kind.Or kinds.Kind.And) ⌝ }
+    ensures { λ r. ⌜ answered r (now (left .exit)) (now (store .exit)) ≡ spend (evaluateAt (now (rows .entry)) (now (bounds .entry)) row) (now (left .entry)) (now (store .entry)) ⌝ }
+{
+    let r = eval(rows, bounds, link_at(rows, row, 1), store, left);
+    let first = operand(r);
+    let Operand::Value(value) = first else {
+        return r;
+    };
+    if decides(value, decided) {
+        return bit(decided) as i64;
+    }
+    let q = eval(rows, bounds, link_at(rows, row, 2), store, left);
+    let second = operand(q);
+    let Operand::Value(right) = second else {
+        return q;
+    };
+    bit(is_true(right)) as i64
+}
+
+fn conditional(rows: &[i32], bounds: &[usize], row: usize, store: &mut [i32], left: &mut u32) -> i64
+    requires { ⌜ Entered (now rows) (now bounds) (length (now store)) row kinds.Kind.Conditional ⌝ }
+    ensures { λ r. ⌜ answered r (now (left .exit)) (now (store .exit)) ≡ spend (evaluateAt (now (rows .entry)) (now (bounds .entry)) row) (now (left .entry)) (now (store .entry)) ⌝ }
+{
+    let r = eval(rows, bounds, link_at(rows, row, 1), store, left);
+    let test = operand(r);
+    let Operand::Value(value) = test else {
+        return r;
+    };
+    if is_true(value) {
+        return eval(rows, bounds, link_at(rows, row, 2), store, left);
+    }
+    eval(rows, bounds, link_at(rows, row, 3), store, left)
+}
+
+fn comma(rows: &[i32], bounds: &[usize], row: usize, store: &mut [i32], left: &mut u32) -> i64
+    requires { ⌜ Entered (now rows) (now bounds) (length (now store)) row kinds.Kind.Comma ⌝ }
+    ensures { λ r. ⌜ answered r (now (left .exit)) (now (store .exit)) ≡ spend (evaluateAt (now (rows .entry)) (now (bounds .entry)) row) (now (left .entry)) (now (store .entry)) ⌝ }
+{
+    let r = eval(rows, bounds, link_at(rows, row, 1), store, left);
+    let first = operand(r);
+    let Operand::Value(_) = first else {
+        return r;
+    };
+    eval(rows, bounds, link_at(rows, row, 2), store, left)
+}
+
+// "Value, then the place's index, then the bounds test, then the store. The result is the value stored."
+fn assign(rows: &[i32], bounds: &[usize], row: usize, store: &mut [i32], left: &mut u32) -> i64
+    requires { ⌜ Entered (now rows) (now bounds) (length (now store)) row kinds.Kind.Assign ⌝ }
+    ensures { λ r. ⌜ answered r (now (left .exit)) (now (store .exit)) ≡ spend (evaluateAt (now (rows .entry)) (now (bounds .entry)) row) (now (left .entry)) (now (store .entry)) ⌝ }
+{
+    let r = eval(rows, bounds, link_at(rows, row, 2), store, left);
+    let second = operand(r);
+    let Operand::Value(value) = second else {
+        return r;
+    };
+    let p = place(rows, bounds, link_at(rows, row, 1), store, left);
+    let first = position(p);
+    let Position::At(at) = first else {
+        return p;
+    };
+    store[at] = value;
+    r
+}
+
+// Kinds 22 to 26: "value, index, bounds test, read, operate, store".
+fn compound(
+    rows: &[i32],
+    bounds: &[usize],
+    row: usize,
+    operator: Operator,
+    store: &mut [i32],
+    left: &mut u32,
+) -> i64
+    requires { ⌜ Entered (now rows) (now bounds) (length (now store)) row (kinds.Kind.Compound operator) ⌝ }
+    ensures { λ r. ⌜ answered r (now (left .exit)) (now (store .exit)) ≡ spend (evaluateAt (now (rows .entry)) (now (bounds .entry)) row) (now (left .entry)) (now (store .entry)) ⌝ }
+{
+    let r = eval(rows, bounds, link_at(rows, row, 2), store, left);
+    let second = operand(r);
+    let Operand::Value(right) = second else {
+        return r;
+    };
+    let p = place(rows, bounds, link_at(rows, row, 1), store, left);
+    let first = position(p);
+    let Position::At(at) = first else {
+        return p;
+    };
+    update(operator, at, right, false, store)
+}
+
+// Kinds 27 to 30: by 1, with the new value as the result, or the old one.
+fn increment(
+    rows: &[i32],
+    bounds: &[usize],
+    row: usize,
+    operator: Operator,
+    old: bool,
+    store: &mut [i32],
+    left: &mut u32,
+) -> i64
+    requires { ⌜ Entered (now rows) (now bounds) (length (now store)) row (pick old (kinds.Kind.Postfix operator) (kinds.Kind.Prefix operator)) ⌝ }
+    ensures { λ r. ⌜ answered r (now (left .exit)) (now (store .exit)) ≡ spend (evaluateAt (now (rows .entry)) (now (bounds .entry)) row) (now (left .entry)) (now (store .entry)) ⌝ }
+{
+    let p = place(rows, bounds, link_at(rows, row, 1), store, left);
+    let first = position(p);
+    let Position::At(at) = first else {
+        return p;
+    };
+    update(operator, at, 1, old, store)
+}

@@ -1,0 +1,17 @@
+// Expressions: the part of the machine that evaluates them. An answer is one number, so that it comes back in a register: a word
+// is the value, and 2147483648 and the three numbers behind it say why the run stops.
+pub mod answers; // answers.rt: what an answer says
+pub mod expressions; // expressions.rt: evaluation by recursion down links
+pub mod operations; // operations.rt: what an evaluation does without entering a row
+
+// What an operand comes to: its value, or the run stops there.
+pub enum Operand {
+    Value(i32),
+    Halted,
+}
+
+// Where a place lies in the store, or the run stops there.
+pub enum Position {
+    At(usize),
+    Nowhere,
+}

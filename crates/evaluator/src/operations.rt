@@ -1,0 +1,70 @@
+// What an evaluation does without entering a row: links, the bounds test, stores.
+use super::answers::fault;
+use super::answers::settled;
+use words::Computed;
+use words::FaultSort;
+use words::Located;
+use words::Operator;
+use words::arithmetic::apply;
+use words::arithmetic::element;
+use words::arithmetic::is_true;
+ghost use mathlib.Core.Path.{_≡_};
+ghost use mathlib.Core.Bool.{not};
+ghost use Prim.Native.Nat.{ℕ, _+_, _*_, _-_, _<_};
+ghost use lib.ListN.{length, getD};
+ghost use Rattle.words.specs.Word.{pick};
+ghost use Rattle.words.specs.Table.{numberAt};
+ghost use Rattle.words.specs.Arithmetic.{isTrue, element as elementOf};
+ghost use Rattle.computation.specs.Remaining.{spend};
+ghost use Rattle.language.specs.Meaning.{update as updateOf, oldValue, newValue};
+ghost use Rattle.evaluator.specs.Answers.{answered, Places};
+ghost use Rattle.evaluator.specs.Ready.{Bounded};
+
+// A field that is no negative word, as the number it names.
+pub fn link_at(rows: &[i32], row: usize, field: usize) -> usize
+    requires { ⌜ (6 * row + field < length (now rows)) × (numberAt (now rows) row field < 2147483648) ⌝ }
+    ensures { λ r. ⌜ r ≡ numberAt (now (rows .entry)) row field ⌝ }
+{
+    rows[6 * row + field] as usize
+}
+
+// Whether the left operand of an and (false) or an or (true) decides its value.
+pub fn decides(value: i32, decided: bool) -> bool
+    ensures { λ r. ⌜ r ≡ pick decided (isTrue value) (not (isTrue value)) ⌝ }
+{
+    if decided {
+        return is_true(value);
+    }
+    !is_true(value)
+}
+
+// The bounds test: an array lies from its own bound up to the next.
+pub fn within(bounds: &[usize], array: usize, index: i32) -> i64
+    requires { ⌜ Bounded (now bounds) array ⌝ }
+    ensures { λ r. ⌜ Places r (elementOf (getD (now (bounds .entry)) array 0) (getD (now (bounds .entry)) (array + 1) 0 - getD (now (bounds .entry)) array 0) index) ⌝ }
+{
+    let base = bounds[array];
+    let end = bounds[array + 1];
+    let located = element(base, end - base, index);
+    match located {
+        Located::At(at) => at as i64,
+        Located::Outside => fault(FaultSort::Index),
+    }
+}
+
+// Read a word, operate, store; the result is the old value or the new one.
+pub fn update(operator: Operator, at: usize, right: i32, old: bool, store: &mut [i32]) -> i64
+    requires { ⌜ at < length (now store) ⌝ }
+    ensures { λ r. ⌜ ((n : ℕ) → answered r n (now (store .exit)) ≡ spend (updateOf operator at right (pick old oldValue newValue)) n (now (store .entry))) ⌝ }
+{
+    let before = store[at];
+    let result = apply(operator, before, right);
+    let Computed::Value(after) = result else {
+        return settled(result);
+    };
+    store[at] = after;
+    if old {
+        return before as i64;
+    }
+    after as i64
+}

@@ -1,6 +1,6 @@
 -- The check accepts the legal source programs and no others.
-use mathlib.Core.Path.{_≡_, refl, sym, ap, _∙_}
-use mathlib.Core.Bool.{Bool, true, false}
+use mathlib.Core.Path.{_≡_, sym, ap, _∙_}
+use mathlib.Core.Bool.{true, false}
 use mathlib.Core.List.{List}
 use mathlib.Core.Logic.{_↔_}
 use Prim.Native.Nat.{ℕ, _<_}
@@ -9,15 +9,12 @@ use native.Mathlib.Decide.{ℕ-discrete}
 use lib.Dec.{leb}
 use lib.IntN.{ℤ, pos}
 use borrow.Author.Tests.{leb-true}
-use Rattle.words.specs.Word.{natural}
 use Rattle.words.specs.Table.{rowCount, wordAt, numberAt}
 use Rattle.words.specs.Laws.{natural-pos}
 use Rattle.words.specs.declared.Form.the-variants.{Source}
 use Rattle.words.specs.declared.Verdict.the-variants.{Accepted}
-use Rattle.structure.specs.Grammar.{unused, grammar, sortOf, sortAt}
-use Rattle.structure.specs.Search.{lowestRow}
+use Rattle.structure.specs.Grammar.{grammar, sortOf, sortAt}
 use Rattle.structure.specs.SearchLaws.{clash, lowestRow-all, all-lowestRow}
-use Rattle.structure.specs.Links.{tooDeep}
 use Rattle.structure.specs.DepthLaws.{none-deep-shallow, shallow-none-deep}
 use Rattle.structure.specs.Refusal.{at, _next_, structuralRefusal}
 use Rattle.structure.specs.RefusalLaws.{next-accepts, accepts-next, at-accepts, accepts-at}
@@ -26,7 +23,7 @@ use Rattle.structure.specs.StructuredLaws.{accepted-structured, structured-acce
 use Rattle.source_check.specs.Places.{isMark, misplaced}
 use Rattle.source_check.specs.Marks.{repeated}
 use Rattle.source_check.specs.Refusal.{laterRefusal, refusal}
-use Rattle.source_check.specs.Legal.{Before, Placed, Distinct, Legal}
+use Rattle.source_check.specs.Legal.{Distinct, Legal}
 use Rattle.source_check.specs.PlaceLaws.{by-test, misplaced-placed, placed-misplaced}
 use Rattle.source_check.specs.DistinctLaws.{both, before-later, Repeats, repeated-by, repeats}
 

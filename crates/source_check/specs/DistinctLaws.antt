@@ -9,7 +9,7 @@ use native.Mathlib.Decide.{ℕ-discrete}
 use lib.Dec.{eqb}
 use lib.IntN.{ℤ}
 use borrow.Author.Tests.{eqb-true, eqb-false, eq-eqb, ne-eqb}
-use Rattle.words.specs.Word.{pick, sameWord}
+use Rattle.words.specs.Word.{pick}
 use Rattle.words.specs.Table.{rowCount, wordAt, numberAt}
 use Rattle.words.specs.Laws.{sameWord-refl, sameWord-equal}
 use Rattle.structure.specs.Grammar.{link}
@@ -18,7 +18,7 @@ use Rattle.structure.specs.LinkLaws.{by-owner}
 use Rattle.structure.specs.Structured.{Leads, Tree}
 use Rattle.source_check.specs.Places.{isMark, handed, noteAt}
 use Rattle.source_check.specs.Marks.{sameMark, equalAmong, repeated}
-use Rattle.source_check.specs.Legal.{Before, adjacent, further, Distinct}
+use Rattle.source_check.specs.Legal.{Before, adjacent, further}
 use Rattle.source_check.specs.MarkLaws.{noteAt-root, noteAt-link, mark-inside, equal-here, equal-on}
 use Rattle.source_check.specs.PlaceLaws.{by-test}
 use Rattle.source_check.specs.declared.Note.the-variants.{MarkBefore}

@@ -1,8 +1,8 @@
 -- Laws of marks: the mark before a row stands at a lower row; a search back through the marks of a list, one mark at a time.
-use mathlib.Core.Path.{_≡_, subst, refl, sym, ap, _∙_}
+use mathlib.Core.Path.{_≡_, subst, refl, sym}
 use mathlib.Core.Bool.{Bool, true, false}
 use mathlib.Core.List.{List}
-use Prim.Native.Nat.{ℕ, zero, suc, _+_, _≤_, _<_}
+use Prim.Native.Nat.{ℕ, zero, suc, _≤_, _<_}
 use native.Mathlib.Omega.{arith}
 use native.Mathlib.Decide.{ℕ-discrete}
 use lib.Dec.{eqb}
@@ -11,13 +11,13 @@ use borrow.Author.Tests.{eq-eqb, ne-eqb}
 use Rattle.words.specs.Word.{pick}
 use Rattle.words.specs.Table.{rowCount, numberAt}
 use Rattle.structure.specs.Grammar.{link}
-use Rattle.structure.specs.LinkLaws.{Owner, owner-of, by-owner}
+use Rattle.structure.specs.LinkLaws.{owner-of, by-owner}
 use Rattle.structure.specs.NoteLaws.{above-zero, note-root, note-link}
 use Rattle.structure.specs.Structured.{Leads, Tree}
 use Rattle.source_check.specs.Places.{isMark, handed, noteAt}
 use Rattle.source_check.specs.Marks.{sameMark, equalAmong}
 use Rattle.source_check.specs.declared.Note.{Note}
-use Rattle.source_check.specs.declared.Note.the-variants.{InLoop, InLoopOrSwitch, SwitchItem, MarkBefore}
+use Rattle.source_check.specs.declared.Note.the-variants.{MarkBefore}
 
 -- ---- notes
 

@@ -1,5 +1,5 @@
 -- Fields: the causes that lie in one field of a row: 3, 4 and 6. Each test is true where the field breaks the cause.
-use mathlib.Core.Bool.{Bool, true, false, not, _&&_, _||_}
+use mathlib.Core.Bool.{Bool, true, not, _&&_, _||_}
 use mathlib.Core.List.{List}
 use Prim.Native.Nat.{ℕ}
 use lib.Dec.{ltb, leb, eqb}

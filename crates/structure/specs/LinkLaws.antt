@@ -1,6 +1,5 @@
 -- Laws of links: in a tree of rows each row but row 0 has one owner, the row that links it, and `linker` finds it.
-use mathlib.Core.Path.{_≡_, subst, refl, sym, ap, _∙_}
-use mathlib.Core.Bool.{Bool, true, false}
+use mathlib.Core.Path.{_≡_, subst, sym}
 use mathlib.Core.List.{List}
 use Prim.Native.Nat.{ℕ, zero, suc, _+_, _*_, _-_, _/_, _%_, _≤_, _<_}
 use native.Mathlib.Nat.{add-zero, add-suc}
@@ -14,7 +13,7 @@ use Rattle.words.specs.Table.{rowCount}
 use Rattle.structure.specs.Grammar.{link}
 use Rattle.structure.specs.GrammarLaws.{kind-links-none}
 use Rattle.structure.specs.SearchLaws.{lowest-at}
-use Rattle.structure.specs.Links.{target, one, linksAmong, linkCount, linker}
+use Rattle.structure.specs.Links.{target, linksAmong, linkCount, linker}
 use Rattle.structure.specs.Structured.{Leads, Tree}
 use Rattle.structure.specs.declared.Found.the-variants.{At}
 

@@ -1,6 +1,5 @@
 -- Laws of notes: in a tree of rows a row's note is what the row that links it hands on; and what a pass over the words has written.
-use mathlib.Core.Path.{_≡_, subst, refl, sym, ap, _∙_}
-use mathlib.Core.Bool.{Bool, true, false}
+use mathlib.Core.Path.{_≡_, refl, sym, ap, _∙_}
 use mathlib.Core.List.{List}
 use Prim.Native.Nat.{ℕ, zero, suc, _+_, _*_, _-_, _/_, _%_, _≤_, _<_}
 use native.Mathlib.Omega.{arith}
@@ -15,8 +14,8 @@ use Rattle.words.specs.Table.{rowCount}
 use Rattle.structure.specs.Grammar.{link}
 use Rattle.structure.specs.Search.{lowest}
 use Rattle.structure.specs.SearchLaws.{lowest-below}
-use Rattle.structure.specs.Links.{target, linksAmong, linkCount, linker, received, noteBy, note}
-use Rattle.structure.specs.LinkLaws.{links-since, links-hit, links-miss, word-of, linker-of, Owner, owner-of}
+use Rattle.structure.specs.Links.{target, linksAmong, linker, received, noteBy, note}
+use Rattle.structure.specs.LinkLaws.{links-since, links-miss, word-of, linker-of, owner-of}
 use Rattle.structure.specs.Structured.{Leads, Tree}
 use Rattle.structure.specs.declared.Found.{Found}
 use Rattle.structure.specs.declared.Found.the-variants.{At, Nothing}

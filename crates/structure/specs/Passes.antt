@@ -1,6 +1,6 @@
 -- Passes: what the code's loops compute: one search for the causes 3 to 6, marks for cause 5, a walk down the links for cause 9.
 use mathlib.Core.Path.{_≡_}
-use mathlib.Core.Bool.{Bool, true, false}
+use mathlib.Core.Bool.{Bool, false}
 use mathlib.Core.List.{List}
 use Prim.Native.Nat.{ℕ, zero, suc, _+_, _/_, _%_, _<_, _≤_}
 use lib.Dec.{ltb, eqb}
@@ -71,7 +71,7 @@ pub data Under (rows : List ℤ) : ℕ → ℕ → Type 0 where
   here : {row : ℕ} → Under rows row row
   down : {row field below : ℕ} → field < 6 → Leads rows row field → Under rows (link rows row field) below → Under rows row below
 
--- Reached through a row's fields from a up to, but not with, `last`.
+-- Reached through one of the fields of a row before `last`.
 pub record Through (rows : List ℤ) (row last below : ℕ) : Type 0 where
   pub field : ℕ
   pub before : field < last

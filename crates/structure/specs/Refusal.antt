@@ -1,5 +1,5 @@
 -- Refusal: the causes in order of number, each at the lowest row that breaks it. Here those from 1 to 6, which both forms share.
-use mathlib.Core.Bool.{Bool, true, false}
+use mathlib.Core.Bool.{Bool}
 use mathlib.Core.List.{List}
 use Prim.Native.Nat.{ℕ}
 use lib.IntN.{ℤ}

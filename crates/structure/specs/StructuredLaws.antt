@@ -1,14 +1,14 @@
 -- Laws of structure: the causes 1 to 6 accept exactly the structured tables, whose rows make a tree. Each cause by itself, then the chain.
-use mathlib.Core.Path.{_≡_, subst, refl, sym, ap, _∙_}
+use mathlib.Core.Path.{_≡_, refl, sym, ap, _∙_}
 use mathlib.Core.Bool.{Bool, true, false, not, _&&_}
 use mathlib.Core.List.{List}
-use Prim.Native.Nat.{ℕ, zero, suc, _+_, _*_, _≤_, _<_}
+use Prim.Native.Nat.{ℕ, zero, suc, _≤_, _<_}
 use native.Mathlib.Omega.{arith}
 use native.Mathlib.Decide.{ℕ-discrete}
 use lib.Dec.{eqb, ltb}
 use lib.IntN.{ℤ}
 use lib.ListN.{length}
-use borrow.Author.Tests.{eqb-true, eqb-false, eq-eqb, ne-eqb, ltb-true, lt-ltb, not-true, not-false}
+use borrow.Author.Tests.{eqb-true, eq-eqb, ne-eqb, ltb-true, lt-ltb, not-false}
 use Rattle.words.specs.Word.{pick}
 use Rattle.words.specs.Table.{rowCount, numberAt}
 use Rattle.words.specs.Layout.{headerFits, countFits}
@@ -24,7 +24,7 @@ use Rattle.structure.specs.GrammarLaws.{kind-no-link, kind-no-number, ki
 use Rattle.structure.specs.NoteLaws.{above-zero}
 use Rattle.structure.specs.Refusal.{at, unless, _next_, rowCauses, structuralRefusal}
 use Rattle.structure.specs.RefusalLaws.{next-accepts, accepts-next, at-accepts, accepts-at, unless-accepts, accepts-unless}
-use Rattle.structure.specs.Structured.{Leads, EachField, Structured, Tree}
+use Rattle.structure.specs.Structured.{Leads, Structured, Tree}
 use Rattle.structure.specs.declared.Bounds.{Bounds}
 use Rattle.structure.specs.declared.Found.the-variants.{Nothing}
 

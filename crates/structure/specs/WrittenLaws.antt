@@ -1,5 +1,5 @@
 -- Laws of written notes: a pass over the words, in order, writes every row's note.
-use mathlib.Core.Path.{_≡_, refl, sym, ap, _∙_}
+use mathlib.Core.Path.{_≡_, refl}
 use mathlib.Core.Bool.{Bool, true, false}
 use mathlib.Core.List.{List}
 use Prim.Native.Nat.{ℕ, _+_, _*_, _/_, _%_, _≤_, _<_}
@@ -14,7 +14,7 @@ use Rattle.words.specs.Table.{rowCount}
 use Rattle.structure.specs.Grammar.{link}
 use Rattle.structure.specs.Links.{target, note}
 use Rattle.structure.specs.NoteLaws.{above-zero, Noted, noted-none, noted-link, noted-all}
-use Rattle.structure.specs.Structured.{Leads, Tree}
+use Rattle.structure.specs.Structured.{Tree}
 use Rattle.structure.specs.Passes.{written, Notes}
 
 -- the row that a word links, in the code's terms

@@ -15,7 +15,7 @@ use words::layout::count_fits;
 use words::layout::header_fits;
 ghost use mathlib.Core.Path.{_≡_};
 ghost use mathlib.Core.Bool.{true};
-ghost use Prim.Native.Nat.{ℕ, _+_, _*_, _/_, _<_, _≤_};
+ghost use Prim.Native.Nat.{ℕ, _+_, _*_, _/_, _<_};
 ghost use lib.ListN.{length, getD};
 ghost use Rattle.words.specs.Layout.{countFits};
 ghost use Rattle.structure.specs.Search.{lowestRow, someField};

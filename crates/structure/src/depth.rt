@@ -3,7 +3,7 @@ use super::Found;
 use super::grammar::link;
 use words::Form;
 ghost use mathlib.Core.Path.{_≡_};
-ghost use Prim.Native.Nat.{_+_, _*_, _/_, _<_, _≤_, min};
+ghost use Prim.Native.Nat.{_+_, _/_, _<_, _≤_, min};
 ghost use lib.ListN.{length};
 ghost use Rattle.words.specs.Layout.{depthLimit};
 ghost use Rattle.structure.specs.Search.{lowestRow};

@@ -9,10 +9,6 @@ use Rattle.source_check.specs.Refusal.{refusal}
 use borrow.Author.Needs.{needs}
 use Rattle.source_check.proofs.check.Statement.{statement}
 use Rattle.source_check.proofs.check.Tie as tie
-use Rattle.source_check.proofs.check.Reads as reads
-use Rattle.source_check.proofs.check.Lts as lts
-use Rattle.source_check.proofs.later_refusal.Reads as later-refusal-reads
-use Rattle.structure.proofs.causes.structural_refusal.Reads as structural-refusal-reads
 
 structural-refusal-requires : tie.Need-structural-refusal-requires
 structural-refusal-requires c κs = search needs

@@ -5,12 +5,6 @@ use Rattle.source_check.specs.Refusal.{laterRefusal}
 use borrow.Author.Needs.{needs}
 use Rattle.source_check.proofs.later_refusal.Statement.{statement}
 use Rattle.source_check.proofs.later_refusal.Tie as tie
-use Rattle.source_check.proofs.later_refusal.Reads as reads
-use Rattle.source_check.proofs.later_refusal.Lts as lts
-use Rattle.source_check.proofs.marks.lowest_repeated.Reads as lowest-repeated-reads
-use Rattle.source_check.proofs.places.lowest_misplaced.Reads as lowest-misplaced-reads
-use Rattle.structure.proofs.causes.at.Reads as at-reads
-use Rattle.structure.proofs.depth.lowest_deep_row.Reads as lowest-deep-row-reads
 
 lowest-misplaced-requires : tie.Need-lowest-misplaced-requires
 lowest-misplaced-requires c κs = search needs

@@ -1,19 +1,13 @@
 -- `equals_one` goes back from mark to mark. The invariant: the marks passed differ from the row's; the measure is the mark's row.
 use mathlib.Core.Path.{_≡_, refl, sym, _∙_}
-use Prim.Native.Nat.{ℕ, _≤_, _<_}
+use Prim.Native.Nat.{_<_}
 use native.Mathlib.Omega.{arith}
 use Rattle.words.specs.Table.{rowCount}
 use Rattle.structure.specs.NoteLaws.{above-zero}
-use Rattle.source_check.specs.Places.{noteAt}
 use Rattle.source_check.specs.Marks.{equalAmong}
 use Rattle.source_check.specs.MarkLaws.{mark-lower, mark-inside, equal-none, equal-here, equal-on}
-use Rattle.source_check.specs.declared.Note.the-variants.{MarkBefore}
 use Rattle.source_check.proofs.marks.equals_one.Statement.{statement}
 use Rattle.source_check.proofs.marks.equals_one.Tie as tie
-use Rattle.source_check.proofs.marks.equals_one.Reads as reads
-use Rattle.source_check.proofs.marks.equals_one.Lts as lts
-use Rattle.source_check.proofs.marks.same_mark.Reads as same-mark-reads
-use Rattle.source_check.proofs.notes.wide.Reads as wide-reads
 
 abbrev Inv-loop : tie.InvT-loop
 Inv-loop rows before last row mark₀ mark =

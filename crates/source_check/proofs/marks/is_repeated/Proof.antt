@@ -1,17 +1,10 @@
 -- `is_repeated` asks of a mark whether one before it in its list is equal.
 use mathlib.Core.Path.{_∙_}
-use native.Mathlib.Omega.{arith}
 use Rattle.source_check.specs.Marks.{repeated}
 use Rattle.source_check.specs.MarkLaws.{mark-inside}
 use borrow.Author.Needs.{needs}
 use Rattle.source_check.proofs.marks.is_repeated.Statement.{statement}
 use Rattle.source_check.proofs.marks.is_repeated.Tie as tie
-use Rattle.source_check.proofs.marks.is_repeated.Reads as reads
-use Rattle.source_check.proofs.marks.is_repeated.Lts as lts
-use Rattle.source_check.proofs.marks.equals_one.Reads as equals-one-reads
-use Rattle.source_check.proofs.notes.wide.Reads as wide-reads
-use Rattle.structure.proofs.grammar.between.Reads as between-reads
-use Rattle.words.proofs.table.number_at.Reads as number-at-reads
 
 number-at-requires : tie.Need-number-at-requires
 number-at-requires c κs = search needs

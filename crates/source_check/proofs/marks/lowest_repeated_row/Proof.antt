@@ -8,9 +8,6 @@ use Rattle.structure.specs.SearchLaws.{Looked, looked-start, looked-on, looked-
 use Rattle.source_check.specs.Marks.{repeated}
 use Rattle.source_check.proofs.marks.lowest_repeated_row.Statement.{statement}
 use Rattle.source_check.proofs.marks.lowest_repeated_row.Tie as tie
-use Rattle.source_check.proofs.marks.lowest_repeated_row.Reads as reads
-use Rattle.source_check.proofs.marks.lowest_repeated_row.Lts as lts
-use Rattle.source_check.proofs.marks.is_repeated.Reads as is-repeated-reads
 
 abbrev Inv-loop : tie.InvT-loop
 Inv-loop rows before count row₀ row =

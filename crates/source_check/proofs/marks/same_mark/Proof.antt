@@ -1,15 +1,10 @@
 -- `same_mark` compares the kinds, then the values; words are compared by their bits.
-use mathlib.Core.Path.{_∙_}
 use borrow.Author.Tests.{eq-eqb, ne-eqb}
 use Rattle.words.specs.Laws.{sameWord-bits}
 use Rattle.source_check.specs.Marks.{sameMark}
 use borrow.Author.Needs.{needs}
 use Rattle.source_check.proofs.marks.same_mark.Statement.{statement}
 use Rattle.source_check.proofs.marks.same_mark.Tie as tie
-use Rattle.source_check.proofs.marks.same_mark.Reads as reads
-use Rattle.source_check.proofs.marks.same_mark.Lts as lts
-use Rattle.words.proofs.table.number_at.Reads as number-at-reads
-use Rattle.words.proofs.table.word_at.Reads as word-at-reads
 
 number-at-requires : tie.Need-number-at-requires
 number-at-requires c κs = search needs

@@ -3,13 +3,6 @@ use Rattle.source_check.specs.Places.{handed}
 use borrow.Author.Needs.{needs}
 use Rattle.source_check.proofs.notes.hand.Statement.{statement}
 use Rattle.source_check.proofs.notes.hand.Tie as tie
-use Rattle.source_check.proofs.notes.hand.Reads as reads
-use Rattle.source_check.proofs.notes.hand.Lts as lts
-use Rattle.source_check.proofs.notes.inside.Reads as inside-reads
-use Rattle.source_check.proofs.notes.mark_before.Reads as mark-before-reads
-use Rattle.source_check.proofs.notes.switch_item.Reads as switch-item-reads
-use Rattle.structure.proofs.grammar.between.Reads as between-reads
-use Rattle.words.proofs.table.number_at.Reads as number-at-reads
 
 number-at-requires : tie.Need-number-at-requires
 number-at-requires c κs = search needs

@@ -2,8 +2,6 @@
 use borrow.Author.Tests.{eq-eqb, ne-eqb}
 use Rattle.source_check.proofs.notes.inside.Statement.{statement}
 use Rattle.source_check.proofs.notes.inside.Tie as tie
-use Rattle.source_check.proofs.notes.inside.Reads as reads
-use Rattle.source_check.proofs.notes.inside.Lts as lts
 
 returns : tie.Need-returns
 returns c =

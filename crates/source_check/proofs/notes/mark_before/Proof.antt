@@ -3,9 +3,6 @@ use borrow.Author.Tests.{eq-eqb, ne-eqb}
 use borrow.Author.Needs.{needs}
 use Rattle.source_check.proofs.notes.mark_before.Statement.{statement}
 use Rattle.source_check.proofs.notes.mark_before.Tie as tie
-use Rattle.source_check.proofs.notes.mark_before.Reads as reads
-use Rattle.source_check.proofs.notes.mark_before.Lts as lts
-use Rattle.source_check.proofs.notes.narrow.Reads as narrow-reads
 
 narrow-requires : tie.Need-narrow-requires
 narrow-requires c κs = search needs

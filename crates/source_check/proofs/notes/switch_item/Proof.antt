@@ -2,8 +2,6 @@
 use borrow.Author.Tests.{eq-eqb, ne-eqb}
 use Rattle.source_check.proofs.notes.switch_item.Statement.{statement}
 use Rattle.source_check.proofs.notes.switch_item.Tie as tie
-use Rattle.source_check.proofs.notes.switch_item.Reads as reads
-use Rattle.source_check.proofs.notes.switch_item.Lts as lts
 
 returns : tie.Need-returns
 returns c =

@@ -5,10 +5,6 @@ use Rattle.structure.specs.WrittenLaws.{linked-inside, written-none, written-li
 use borrow.Author.Needs.{needs}
 use Rattle.source_check.proofs.notes.write_note.Statement.{statement}
 use Rattle.source_check.proofs.notes.write_note.Tie as tie
-use Rattle.source_check.proofs.notes.write_note.Reads as reads
-use Rattle.source_check.proofs.notes.write_note.Lts as lts
-use Rattle.source_check.proofs.notes.hand.Reads as hand-reads
-use Rattle.structure.proofs.grammar.link.Reads as link-reads
 
 link-requires : tie.Need-link-requires
 link-requires c κs =

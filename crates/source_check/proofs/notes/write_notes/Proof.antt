@@ -9,9 +9,6 @@ use Rattle.structure.specs.WrittenLaws.{written-length, written-noted, notes-wr
 use Rattle.source_check.specs.Places.{handed, noteAt}
 use Rattle.source_check.proofs.notes.write_notes.Statement.{statement}
 use Rattle.source_check.proofs.notes.write_notes.Tie as tie
-use Rattle.source_check.proofs.notes.write_notes.Reads as reads
-use Rattle.source_check.proofs.notes.write_notes.Lts as lts
-use Rattle.source_check.proofs.notes.write_note.Reads as write-note-reads
 
 abbrev Inv-loop : tie.InvT-loop
 Inv-loop which rows notes₀ word₀ word-end notes word =

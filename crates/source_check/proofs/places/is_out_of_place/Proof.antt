@@ -4,9 +4,6 @@ use Rattle.source_check.specs.Places.{outOfPlace}
 use borrow.Author.Needs.{needs}
 use Rattle.source_check.proofs.places.is_out_of_place.Statement.{statement}
 use Rattle.source_check.proofs.places.is_out_of_place.Tie as tie
-use Rattle.source_check.proofs.places.is_out_of_place.Reads as reads
-use Rattle.source_check.proofs.places.is_out_of_place.Lts as lts
-use Rattle.structure.proofs.grammar.between.Reads as between-reads
 
 returns : tie.Need-returns
 unfolding outOfPlace

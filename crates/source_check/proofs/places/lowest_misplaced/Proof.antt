@@ -5,10 +5,6 @@ use Rattle.source_check.specs.Places.{misplaced}
 use borrow.Author.Needs.{needs}
 use Rattle.source_check.proofs.places.lowest_misplaced.Statement.{statement}
 use Rattle.source_check.proofs.places.lowest_misplaced.Tie as tie
-use Rattle.source_check.proofs.places.lowest_misplaced.Reads as reads
-use Rattle.source_check.proofs.places.lowest_misplaced.Lts as lts
-use Rattle.source_check.proofs.notes.write_notes.Reads as write-notes-reads
-use Rattle.source_check.proofs.places.lowest_out_of_place.Reads as lowest-out-of-place-reads
 
 slice-aggregate-write-notes : tie.Need-slice-aggregate-write-notes
 slice-aggregate-write-notes c = search needs

@@ -2,17 +2,13 @@
 use mathlib.Core.Path.{_≡_, refl}
 use Prim.Native.Nat.{ℕ, _≤_, _-_}
 use native.Mathlib.Omega.{arith}
-use lib.ListN.{length, getD}
+use lib.ListN.{getD}
 use Rattle.words.specs.Table.{rowCount, numberAt}
 use Rattle.structure.specs.Search.{lowestRow}
 use Rattle.structure.specs.SearchLaws.{Looked, looked-start, looked-on, looked-hit, looked-end}
 use Rattle.source_check.specs.Places.{outOfPlace}
 use Rattle.source_check.proofs.places.lowest_out_of_place.Statement.{statement}
 use Rattle.source_check.proofs.places.lowest_out_of_place.Tie as tie
-use Rattle.source_check.proofs.places.lowest_out_of_place.Reads as reads
-use Rattle.source_check.proofs.places.lowest_out_of_place.Lts as lts
-use Rattle.source_check.proofs.places.is_out_of_place.Reads as is-out-of-place-reads
-use Rattle.words.proofs.table.number_at.Reads as number-at-reads
 
 abbrev Inv-loop : tie.InvT-loop
 Inv-loop rows loops breakable items count row₀ row =

@@ -3,8 +3,6 @@ use Rattle.structure.specs.Refusal.{at}
 use borrow.Author.Needs.{needs}
 use Rattle.structure.proofs.causes.at.Statement.{statement}
 use Rattle.structure.proofs.causes.at.Tie as tie
-use Rattle.structure.proofs.causes.at.Reads as reads
-use Rattle.structure.proofs.causes.at.Lts as lts
 
 enum-known-found : tie.Need-enum-known-found
 enum-known-found c = search needs

@@ -2,11 +2,6 @@
 use borrow.Author.Needs.{needs}
 use Rattle.structure.proofs.causes.field_breaks.Statement.{statement}
 use Rattle.structure.proofs.causes.field_breaks.Tie as tie
-use Rattle.structure.proofs.causes.field_breaks.Reads as reads
-use Rattle.structure.proofs.causes.field_breaks.Lts as lts
-use Rattle.structure.proofs.fields.is_foreign.Reads as is-foreign-reads
-use Rattle.structure.proofs.fields.is_mislinked.Reads as is-mislinked-reads
-use Rattle.structure.proofs.fields.is_outside.Reads as is-outside-reads
 
 enum-told : tie.Need-enum-told
 enum-told c = search needs

@@ -7,10 +7,6 @@ use Rattle.structure.proofs.Marks.{marked-start, marked-once}
 use borrow.Author.Needs.{needs}
 use Rattle.structure.proofs.causes.lowest_not_once.Statement.{statement}
 use Rattle.structure.proofs.causes.lowest_not_once.Tie as tie
-use Rattle.structure.proofs.causes.lowest_not_once.Reads as reads
-use Rattle.structure.proofs.causes.lowest_not_once.Lts as lts
-use Rattle.structure.proofs.causes.lowest_row.Reads as lowest-row-reads
-use Rattle.structure.proofs.links.mark_links.Reads as mark-links-reads
 
 slice-aggregate-mark-links : tie.Need-slice-aggregate-mark-links
 slice-aggregate-mark-links c = search needs

@@ -1,17 +1,14 @@
+-- `lowest_row` looks at the rows in order. The invariant: none of the rows passed breaks the cause.
 use mathlib.Core.Path.{_≡_, refl}
 use Prim.Native.Nat.{ℕ, _≤_, _-_}
 use native.Mathlib.Omega.{arith}
-use lib.ListN.{length, getD}
+use lib.ListN.{getD}
 use Rattle.words.specs.Table.{rowCount}
 use Rattle.structure.specs.Search.{lowestRow}
 use Rattle.structure.specs.SearchLaws.{Looked, looked-start, looked-on, looked-hit, looked-end}
 use Rattle.structure.specs.Passes.{rowBreaks}
 use Rattle.structure.proofs.causes.lowest_row.Statement.{statement}
 use Rattle.structure.proofs.causes.lowest_row.Tie as tie
-use Rattle.structure.proofs.causes.lowest_row.Reads as reads
-use Rattle.structure.proofs.causes.lowest_row.Lts as lts
-use Rattle.structure.proofs.causes.mark_at.Reads as mark-at-reads
-use Rattle.structure.proofs.causes.row_breaks.Reads as row-breaks-reads
 
 abbrev Inv-loop : tie.InvT-loop
 Inv-loop cause form bounds rows marks count row₀ row =

@@ -4,8 +4,6 @@ use lib.ListN.{List·getD-eq-default}
 use borrow.Author.Needs.{needs}
 use Rattle.structure.proofs.causes.mark_at.Statement.{statement}
 use Rattle.structure.proofs.causes.mark_at.Tie as tie
-use Rattle.structure.proofs.causes.mark_at.Reads as reads
-use Rattle.structure.proofs.causes.mark_at.Lts as lts
 
 shared-slice-read-result : tie.Need-shared-slice-read-result
 shared-slice-read-result c = search needs

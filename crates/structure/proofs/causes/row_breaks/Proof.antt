@@ -2,10 +2,6 @@
 use borrow.Author.Needs.{needs}
 use Rattle.structure.proofs.causes.row_breaks.Statement.{statement}
 use Rattle.structure.proofs.causes.row_breaks.Tie as tie
-use Rattle.structure.proofs.causes.row_breaks.Reads as reads
-use Rattle.structure.proofs.causes.row_breaks.Lts as lts
-use Rattle.structure.proofs.causes.some_field_breaks.Reads as some-field-breaks-reads
-use Rattle.structure.proofs.links.is_not_once.Reads as is-not-once-reads
 
 enum-told : tie.Need-enum-told
 enum-told c = search needs

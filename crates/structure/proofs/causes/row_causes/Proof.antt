@@ -1,14 +1,10 @@
+-- `row_causes` takes the causes 3 to 6 in order; each search ends the chain or hands on.
 use mathlib.Core.Path.{sym, _∙_}
 use Rattle.structure.specs.Refusal.{rowCauses}
 use Rattle.structure.specs.RefusalLaws.{ends, goes-on, last}
 use borrow.Author.Needs.{needs}
 use Rattle.structure.proofs.causes.row_causes.Statement.{statement}
 use Rattle.structure.proofs.causes.row_causes.Tie as tie
-use Rattle.structure.proofs.causes.row_causes.Reads as reads
-use Rattle.structure.proofs.causes.row_causes.Lts as lts
-use Rattle.structure.proofs.causes.at.Reads as at-reads
-use Rattle.structure.proofs.causes.lowest_not_once.Reads as lowest-not-once-reads
-use Rattle.structure.proofs.causes.lowest_row.Reads as lowest-row-reads
 
 slice-aggregate-lowest-row : tie.Need-slice-aggregate-lowest-row
 slice-aggregate-lowest-row c = search needs

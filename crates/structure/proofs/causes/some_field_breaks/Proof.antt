@@ -6,9 +6,6 @@ use Rattle.structure.specs.SearchLaws.{Tried, tried-start, tried-on, tri
 use Rattle.structure.specs.Passes.{fieldBreaks}
 use Rattle.structure.proofs.causes.some_field_breaks.Statement.{statement}
 use Rattle.structure.proofs.causes.some_field_breaks.Tie as tie
-use Rattle.structure.proofs.causes.some_field_breaks.Reads as reads
-use Rattle.structure.proofs.causes.some_field_breaks.Lts as lts
-use Rattle.structure.proofs.causes.field_breaks.Reads as field-breaks-reads
 
 abbrev Inv-loop : tie.InvT-loop
 Inv-loop cause form bounds rows row field₀ field =

@@ -5,12 +5,6 @@ use Rattle.structure.specs.Refusal.{unless, _next_, structuralRefusal}
 use borrow.Author.Needs.{needs}
 use Rattle.structure.proofs.causes.structural_refusal.Statement.{statement}
 use Rattle.structure.proofs.causes.structural_refusal.Tie as tie
-use Rattle.structure.proofs.causes.structural_refusal.Reads as reads
-use Rattle.structure.proofs.causes.structural_refusal.Lts as lts
-use Rattle.structure.proofs.causes.row_causes.Reads as row-causes-reads
-use Rattle.structure.proofs.fields.bounds_of.Reads as bounds-of-reads
-use Rattle.words.proofs.layout.count_fits.Reads as count-fits-reads
-use Rattle.words.proofs.layout.header_fits.Reads as header-fits-reads
 
 header-fits-requires : tie.Need-header-fits-requires
 header-fits-requires c κs = search needs

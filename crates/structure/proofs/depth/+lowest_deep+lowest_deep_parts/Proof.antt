@@ -6,10 +6,9 @@ use native.Mathlib.Omega.{arith}
 use lib.ListN.{length}
 use Rattle.words.specs.Table.{rowCount}
 use Rattle.structure.specs.Links.{depthAt}
-use Rattle.structure.specs.Structured.{Leads, Tree}
 use Rattle.structure.specs.DepthLaws.{depth-owned, depth-beside}
 use Rattle.structure.specs.Passes.{Through, LowestDeep}
-use Rattle.structure.proofs.Walk.{over, through-start, through-none, through-more, Along, along-start, along-to, along-end, Follows, follows}
+use Rattle.structure.proofs.Walk.{over, through-start, through-none, through-more, Along, along-start, along-to, along-end, follows}
 use Prim.Native.Nat.{ℕ, _<_}
 use borrow.Fn.Kinds.{In}
 use borrow.Fn.PlainCycle.{Measures, is, falls, and}

@@ -1,18 +1,10 @@
 -- `lowest_deep_row` walks down from row 0; every row of a tree is below it.
-use mathlib.Core.Path.{subst}
-use Prim.Native.Nat.{ℕ}
 use native.Mathlib.Omega.{arith}
-use Rattle.words.specs.Layout.{depthLimit}
 use Rattle.structure.specs.DepthLaws.{depth-root}
-use Rattle.structure.specs.Passes.{Under, LowestDeep}
 use Rattle.structure.proofs.Walk.{limit-most, deep-found, deep-none}
 use borrow.Author.Needs.{needs}
 use Rattle.structure.proofs.depth.lowest_deep_row.Statement.{statement}
 use Rattle.structure.proofs.depth.lowest_deep_row.Tie as tie
-use Rattle.structure.proofs.depth.lowest_deep_row.Reads as reads
-use Rattle.structure.proofs.depth.lowest_deep_row.Lts as lts
-use Rattle.structure.proofs.depth.depth_limit.Reads as depth-limit-reads
-use Rattle.structure.proofs.depth.lowest_deep.Reads as lowest-deep-reads
 
 depth-limit-requires : tie.Need-depth-limit-requires
 depth-limit-requires c κs = search needs

@@ -17,12 +17,6 @@ use Rattle.structure.specs.Fields.{boundsOf}
 use borrow.Author.Needs.{needs}
 use Rattle.structure.proofs.fields.bounds_of.Statement.{statement}
 use Rattle.structure.proofs.fields.bounds_of.Tie as tie
-use Rattle.structure.proofs.fields.bounds_of.Reads as reads
-use Rattle.structure.proofs.fields.bounds_of.Lts as lts
-use Rattle.words.proofs.layout.leading.Reads as leading-reads
-use Rattle.words.proofs.layout.store_size.Reads as store-size-reads
-use Rattle.words.proofs.layout.store_words.Reads as store-words-reads
-use Rattle.words.proofs.table.natural.Reads as natural-reads
 
 bounds-are : (form : Form) (header : List ℤ) (v a s w : ℕ) → v ≡ layoutOf form header .variables → a ≡ length (layoutOf form header .lengths)
     → s ≡ storeSize (layoutOf form header) → w ≡ storeWords form header → _≡_ {A = Bounds} (record { variables = v; arrays = a; store = s; words = w }) (boundsOf form header)

@@ -4,12 +4,6 @@ use Rattle.structure.specs.Fields.{fits}
 use borrow.Author.Needs.{needs}
 use Rattle.structure.proofs.fields.fits.Statement.{statement}
 use Rattle.structure.proofs.fields.fits.Tie as tie
-use Rattle.structure.proofs.fields.fits.Reads as reads
-use Rattle.structure.proofs.fields.fits.Lts as lts
-use Rattle.structure.proofs.grammar.is_expression.Reads as is-expression-reads
-use Rattle.structure.proofs.grammar.is_place.Reads as is-place-reads
-use Rattle.structure.proofs.grammar.is_statement.Reads as is-statement-reads
-use Rattle.words.proofs.table.number_at.Reads as number-at-reads
 
 is-expression-requires : tie.Need-is-expression-requires
 is-expression-requires c κs = search needs

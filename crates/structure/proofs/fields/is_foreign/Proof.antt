@@ -6,11 +6,6 @@ use Rattle.structure.specs.Fields.{foreign}
 use borrow.Author.Needs.{needs}
 use Rattle.structure.proofs.fields.is_foreign.Statement.{statement}
 use Rattle.structure.proofs.fields.is_foreign.Tie as tie
-use Rattle.structure.proofs.fields.is_foreign.Reads as reads
-use Rattle.structure.proofs.fields.is_foreign.Lts as lts
-use Rattle.structure.proofs.grammar.in_language.Reads as in-language-reads
-use Rattle.structure.proofs.grammar.sort_at.Reads as sort-at-reads
-use Rattle.words.proofs.table.number_at.Reads as number-at-reads
 
 number-at-requires : tie.Need-number-at-requires
 number-at-requires c κs = search needs

@@ -6,13 +6,6 @@ use Rattle.structure.specs.Fields.{mislinked}
 use borrow.Author.Needs.{needs}
 use Rattle.structure.proofs.fields.is_mislinked.Statement.{statement}
 use Rattle.structure.proofs.fields.is_mislinked.Tie as tie
-use Rattle.structure.proofs.fields.is_mislinked.Reads as reads
-use Rattle.structure.proofs.fields.is_mislinked.Lts as lts
-use Rattle.structure.proofs.fields.leads_right.Reads as leads-right-reads
-use Rattle.structure.proofs.grammar.is_link.Reads as is-link-reads
-use Rattle.structure.proofs.grammar.is_required.Reads as is-required-reads
-use Rattle.structure.proofs.grammar.sort_at.Reads as sort-at-reads
-use Rattle.words.proofs.table.number_at.Reads as number-at-reads
 
 sort-at-requires : tie.Need-sort-at-requires
 sort-at-requires c κs = search needs

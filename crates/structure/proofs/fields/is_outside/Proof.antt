@@ -5,11 +5,6 @@ use Rattle.structure.specs.Fields.{outside}
 use borrow.Author.Needs.{needs}
 use Rattle.structure.proofs.fields.is_outside.Statement.{statement}
 use Rattle.structure.proofs.fields.is_outside.Tie as tie
-use Rattle.structure.proofs.fields.is_outside.Reads as reads
-use Rattle.structure.proofs.fields.is_outside.Lts as lts
-use Rattle.structure.proofs.fields.number_fits.Reads as number-fits-reads
-use Rattle.structure.proofs.grammar.sort_at.Reads as sort-at-reads
-use Rattle.words.proofs.table.number_at.Reads as number-at-reads
 
 sort-at-requires : tie.Need-sort-at-requires
 sort-at-requires c κs = search needs

@@ -4,9 +4,6 @@ use Rattle.structure.specs.Fields.{leadsRight}
 use borrow.Author.Needs.{needs}
 use Rattle.structure.proofs.fields.leads_right.Statement.{statement}
 use Rattle.structure.proofs.fields.leads_right.Tie as tie
-use Rattle.structure.proofs.fields.leads_right.Reads as reads
-use Rattle.structure.proofs.fields.leads_right.Lts as lts
-use Rattle.structure.proofs.fields.fits.Reads as fits-reads
 
 fits-requires : tie.Need-fits-requires
 fits-requires c κs = search needs

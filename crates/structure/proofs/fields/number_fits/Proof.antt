@@ -3,8 +3,6 @@ use borrow.Author.Tests.{lt-ltb, le-ltb, le-leb, lt-leb, eq-eqb, ne-eqb}
 use Rattle.structure.specs.Fields.{numberFits}
 use Rattle.structure.proofs.fields.number_fits.Statement.{statement}
 use Rattle.structure.proofs.fields.number_fits.Tie as tie
-use Rattle.structure.proofs.fields.number_fits.Reads as reads
-use Rattle.structure.proofs.fields.number_fits.Lts as lts
 
 returns : tie.Need-returns
 unfolding numberFits

@@ -2,8 +2,6 @@
 use borrow.Author.Tests.{le-leb, lt-leb}
 use Rattle.structure.proofs.grammar.between.Statement.{statement}
 use Rattle.structure.proofs.grammar.between.Tie as tie
-use Rattle.structure.proofs.grammar.between.Reads as reads
-use Rattle.structure.proofs.grammar.between.Lts as lts
 
 returns : tie.Need-returns
 returns c =

@@ -2,10 +2,6 @@
 use borrow.Author.Needs.{needs}
 use Rattle.structure.proofs.grammar.in_language.Statement.{statement}
 use Rattle.structure.proofs.grammar.in_language.Tie as tie
-use Rattle.structure.proofs.grammar.in_language.Reads as reads
-use Rattle.structure.proofs.grammar.in_language.Lts as lts
-use Rattle.structure.proofs.grammar.in_kernel.Reads as in-kernel-reads
-use Rattle.structure.proofs.grammar.in_source.Reads as in-source-reads
 
 enum-told : tie.Need-enum-told
 enum-told c = search needs

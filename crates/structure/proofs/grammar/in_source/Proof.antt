@@ -3,9 +3,6 @@ use Rattle.structure.specs.Grammar.{inLanguage}
 use borrow.Author.Needs.{needs}
 use Rattle.structure.proofs.grammar.in_source.Statement.{statement}
 use Rattle.structure.proofs.grammar.in_source.Tie as tie
-use Rattle.structure.proofs.grammar.in_source.Reads as reads
-use Rattle.structure.proofs.grammar.in_source.Lts as lts
-use Rattle.structure.proofs.grammar.between.Reads as between-reads
 
 between-requires : tie.Need-between-requires
 between-requires c κs = search needs

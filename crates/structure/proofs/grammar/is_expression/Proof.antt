@@ -4,9 +4,6 @@ use Rattle.structure.specs.Grammar.{isExpression}
 use borrow.Author.Needs.{needs}
 use Rattle.structure.proofs.grammar.is_expression.Statement.{statement}
 use Rattle.structure.proofs.grammar.is_expression.Tie as tie
-use Rattle.structure.proofs.grammar.is_expression.Reads as reads
-use Rattle.structure.proofs.grammar.is_expression.Lts as lts
-use Rattle.structure.proofs.grammar.sort_at.Reads as sort-at-reads
 
 sort-at-requires : tie.Need-sort-at-requires
 sort-at-requires c κs = search needs

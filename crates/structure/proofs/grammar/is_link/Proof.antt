@@ -3,8 +3,6 @@ use borrow.Author.Tests.{le-leb, lt-leb}
 use Rattle.structure.specs.Grammar.{isLink}
 use Rattle.structure.proofs.grammar.is_link.Statement.{statement}
 use Rattle.structure.proofs.grammar.is_link.Tie as tie
-use Rattle.structure.proofs.grammar.is_link.Reads as reads
-use Rattle.structure.proofs.grammar.is_link.Lts as lts
 
 returns : tie.Need-returns
 unfolding isLink

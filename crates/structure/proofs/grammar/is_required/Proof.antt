@@ -3,8 +3,6 @@ use borrow.Author.Tests.{eq-eqb, ne-eqb}
 use Rattle.structure.specs.Grammar.{isRequired}
 use Rattle.structure.proofs.grammar.is_required.Statement.{statement}
 use Rattle.structure.proofs.grammar.is_required.Tie as tie
-use Rattle.structure.proofs.grammar.is_required.Reads as reads
-use Rattle.structure.proofs.grammar.is_required.Lts as lts
 
 returns : tie.Need-returns
 unfolding isRequired

@@ -3,9 +3,6 @@ use Rattle.structure.specs.Grammar.{isStatement}
 use borrow.Author.Needs.{needs}
 use Rattle.structure.proofs.grammar.is_statement.Statement.{statement}
 use Rattle.structure.proofs.grammar.is_statement.Tie as tie
-use Rattle.structure.proofs.grammar.is_statement.Reads as reads
-use Rattle.structure.proofs.grammar.is_statement.Lts as lts
-use Rattle.structure.proofs.grammar.sort_at.Reads as sort-at-reads
 
 sort-at-requires : tie.Need-sort-at-requires
 sort-at-requires c κs = search needs

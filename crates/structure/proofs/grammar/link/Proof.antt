@@ -3,11 +3,6 @@ use Rattle.structure.specs.Grammar.{link}
 use borrow.Author.Needs.{needs}
 use Rattle.structure.proofs.grammar.link.Statement.{statement}
 use Rattle.structure.proofs.grammar.link.Tie as tie
-use Rattle.structure.proofs.grammar.link.Reads as reads
-use Rattle.structure.proofs.grammar.link.Lts as lts
-use Rattle.structure.proofs.grammar.is_link.Reads as is-link-reads
-use Rattle.structure.proofs.grammar.sort_at.Reads as sort-at-reads
-use Rattle.words.proofs.table.number_at.Reads as number-at-reads
 
 sort-at-requires : tie.Need-sort-at-requires
 sort-at-requires c κs = search needs

@@ -3,10 +3,6 @@ use Rattle.structure.specs.Grammar.{sortAt}
 use borrow.Author.Needs.{needs}
 use Rattle.structure.proofs.grammar.sort_at.Statement.{statement}
 use Rattle.structure.proofs.grammar.sort_at.Tie as tie
-use Rattle.structure.proofs.grammar.sort_at.Reads as reads
-use Rattle.structure.proofs.grammar.sort_at.Lts as lts
-use Rattle.structure.proofs.grammar.sort_of.Reads as sort-of-reads
-use Rattle.words.proofs.table.number_at.Reads as number-at-reads
 
 number-at-requires : tie.Need-number-at-requires
 number-at-requires c κs = search needs

@@ -5,8 +5,6 @@ use Rattle.structure.specs.GrammarLaws.{sort-beyond}
 use borrow.Author.Needs.{needs}
 use Rattle.structure.proofs.grammar.sort_of.Statement.{statement}
 use Rattle.structure.proofs.grammar.sort_of.Tie as tie
-use Rattle.structure.proofs.grammar.sort_of.Reads as reads
-use Rattle.structure.proofs.grammar.sort_of.Lts as lts
 
 mul-row : tie.Need-mul-row
 mul-row c = search needs

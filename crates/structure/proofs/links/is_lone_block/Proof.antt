@@ -4,9 +4,6 @@ use Rattle.structure.specs.Links.{loneBlock}
 use borrow.Author.Needs.{needs}
 use Rattle.structure.proofs.links.is_lone_block.Statement.{statement}
 use Rattle.structure.proofs.links.is_lone_block.Tie as tie
-use Rattle.structure.proofs.links.is_lone_block.Reads as reads
-use Rattle.structure.proofs.links.is_lone_block.Lts as lts
-use Rattle.words.proofs.table.number_at.Reads as number-at-reads
 
 number-at-requires : tie.Need-number-at-requires
 number-at-requires c κs = search needs

@@ -6,9 +6,6 @@ use Rattle.structure.specs.Links.{notOnce}
 use borrow.Author.Needs.{needs}
 use Rattle.structure.proofs.links.is_not_once.Statement.{statement}
 use Rattle.structure.proofs.links.is_not_once.Tie as tie
-use Rattle.structure.proofs.links.is_not_once.Reads as reads
-use Rattle.structure.proofs.links.is_not_once.Lts as lts
-use Rattle.structure.proofs.links.is_lone_block.Reads as is-lone-block-reads
 
 is-lone-block-requires : tie.Need-is-lone-block-requires
 is-lone-block-requires c κs = search needs

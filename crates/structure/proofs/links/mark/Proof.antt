@@ -3,8 +3,6 @@ use Rattle.structure.proofs.Marks.{mark-low, mark-high, mark-out}
 use borrow.Author.Needs.{needs}
 use Rattle.structure.proofs.links.mark.Statement.{statement}
 use Rattle.structure.proofs.links.mark.Tie as tie
-use Rattle.structure.proofs.links.mark.Reads as reads
-use Rattle.structure.proofs.links.mark.Lts as lts
 
 slice-read-mark : tie.Need-slice-read-mark
 slice-read-mark c = search needs

@@ -8,10 +8,6 @@ use Rattle.structure.specs.Passes.{Marked}
 use Rattle.structure.proofs.Marks.{length-marked, marked-more}
 use Rattle.structure.proofs.links.mark_links.Statement.{statement}
 use Rattle.structure.proofs.links.mark_links.Tie as tie
-use Rattle.structure.proofs.links.mark_links.Reads as reads
-use Rattle.structure.proofs.links.mark_links.Lts as lts
-use Rattle.structure.proofs.grammar.link.Reads as link-reads
-use Rattle.structure.proofs.links.mark.Reads as mark-reads
 
 abbrev Inv-loop : tie.InvT-loop
 Inv-loop rows marks₀ word₀ word-end marks word =

@@ -1,0 +1,1 @@
+// The legality of emitted tables: definitions and theorems alone, in specs/.

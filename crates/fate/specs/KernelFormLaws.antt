@@ -1,0 +1,151 @@
+-- The theorem: every accepted program has a kernel form that is legal and shares its fate. From the theorems about trees
+-- (`translation-preserves`, `translated-legal`), since decode reads both tables.
+use mathlib.Core.Path.{_≡_, refl, sym, ap, _∙_}
+use mathlib.Core.List.{List, _++_}
+use Prim.Native.Nat.{ℕ, _+_, _*_, _/_, _≤_}
+use native.Mathlib.Omega.{arith}
+use lib.IntN.{ℤ}
+use lib.ListN.{length, take}
+use lib.Seq.{take-at}
+use Rattle.words.specs.Table.{rowCount}
+use Rattle.words.specs.Layout.{Layout, layoutOf, storeSize, temporariesOf}
+use Rattle.words.specs.Laws.{countFits-facts}
+use Rattle.words.specs.declared.Form.the-variants.{Source, Kernel}
+use Rattle.words.specs.declared.Ending.the-variants.{Spent}
+use Rattle.words.specs.declared.Verdict.the-variants.{Accepted}
+use Rattle.computation.specs.Run.{Result, ok, stopped, spent, fault, steps, run, start, final, endingOf, Settled}
+use Rattle.computation.specs.RunLaws.{store-keeps-length}
+use Rattle.computation.specs.Unlimited.{Ends}
+use Rattle.language.specs.Trees.{Statement}
+use Rattle.language.specs.Decode.{decode}
+use Rattle.language.specs.Meaning.{Signal, exec}
+use Rattle.language.specs.Program.{Finished, finished, programOf, runUnder, runProgram}
+use Rattle.language.specs.Sizes.{statementRows, statementDepth}
+use Rattle.language.specs.WellFormed.{SourceTree}
+use Rattle.translation.specs.Translate.{translate, temporaries, kernelHeader}
+use Rattle.translation.specs.TranslatePreserves.{SameWords, SharedFate as TreesShareFate, translation-preserves}
+use Rattle.translation.specs.TranslateBounds.{rows-bound, temporaries-bound}
+use Rattle.translation.specs.TranslateKernel.{header-layout, header-temporaries}
+use Rattle.emission.specs.Emission.{emit}
+use Rattle.emission.specs.EmissionLaws.{length-emit}
+use Rattle.emission_legal.specs.EmittedLegal.{translated-legal, translated-decodes}
+use Rattle.structure.specs.Structured.{Structured}
+use Rattle.source_check.specs.Legal.{Legal}
+use Rattle.source_check.specs.AcceptsLegal.{accepts-legal as source-accepts}
+use Rattle.kernel_check.specs.Accepts.{accepts-legal as kernel-accepts}
+use Rattle.accepted.specs.Source.{legal-tree, legal-rows, legal-depth}
+use Rattle.fate.specs.Fate.{SourceEnds, KernelEnds, SharedFate, ShareFate}
+use Rattle.fate.specs.KernelForms.{kernelHeaderOf, kernelRowsOf, KernelFormOf, HasKernelForm}
+
+-- ---- ended is settled
+
+settled-ends : {A : Type 0} (r : Result A) → Settled r → endingOf r ≡ Spent → ⊥
+settled-ends (ok a σ) s e = let z : _≡_ {A = ℕ} 0 1 = cc in omega arith
+settled-ends (stopped spent σ) s e = s
+settled-ends (stopped (fault sort) σ) s e = let z : _≡_ {A = ℕ} 0 1 = cc in omega arith
+
+ends-settled : {A : Type 0} (r : Result A) → (endingOf r ≡ Spent → ⊥) → Settled r
+ends-settled (ok a σ) e = tt
+ends-settled (stopped spent σ) e = e refl
+ends-settled (stopped (fault sort) σ) e = tt
+
+module _ (header rows : List ℤ) (legal : Legal header rows) where
+  abbrev L : Layout
+  L = layoutOf Source header
+
+  abbrev program : Statement
+  program = decode rows
+
+  tree : SourceTree L program
+  tree = legal-tree header rows legal
+
+  source-rows : statementRows program ≡ rowCount rows
+  source-rows = legal-rows header rows legal
+
+  few-source-rows : rowCount rows ≤ 2048
+  few-source-rows = let c = countFits-facts Source (length rows) (legal .structured .count-fits) in omega (arith, c .most)
+
+  few : statementRows program ≤ 2048
+  few = omega (arith, source-rows, few-source-rows)
+
+  shallow : statementDepth program ≤ 64
+  shallow = legal-depth header rows legal
+
+  -- ---- the kernel's tables say the translation
+
+  kernel-layout : layoutOf Kernel (kernelHeaderOf header rows) ≡ L
+  unfolding kernelHeaderOf
+  kernel-layout = header-layout L (temporaries program)
+
+  kernel-temporaries : temporariesOf Kernel (kernelHeaderOf header rows) ≡ temporaries program
+  unfolding kernelHeaderOf
+  kernel-temporaries = header-temporaries L (temporaries program)
+
+  kernel-tree : decode (kernelRowsOf header rows) ≡ translate L program
+  unfolding kernelRowsOf
+  kernel-tree = translated-decodes header program (legal .structured .header-fits) tree few shallow
+
+  kernel-rows : rowCount (kernelRowsOf header rows) ≡ statementRows (translate L program)
+  unfolding kernelRowsOf
+  kernel-rows = let l = length-emit (translate L program) in omega arith
+
+  module _ (store temporaryWords : List ℤ) (all-words : length store ≡ storeSize L) (enough : length temporaryWords ≡ temporariesOf Kernel (kernelHeaderOf header rows)) where
+    trees : TreesShareFate L program store temporaryWords
+    trees = translation-preserves L program store temporaryWords tree all-words (omega (arith, kernel-temporaries))
+
+    abbrev source : ℕ → Result Signal
+    source b = run (steps b) (exec L program) (start store)
+
+    abbrev kernel : ℕ → Result Signal
+    kernel d = run (steps d) (exec L (translate L program)) (start (store ++ temporaryWords))
+
+    source-run : (b : ℕ) → runProgram Source header rows b store ≡ finished (source b)
+    unfolding runProgram runUnder programOf
+    source-run b = refl
+
+    kernel-run : (d : ℕ) → runProgram Kernel (kernelHeaderOf header rows) (kernelRowsOf header rows) d (store ++ temporaryWords) ≡ finished (kernel d)
+    unfolding runProgram runUnder programOf
+    kernel-run d = rw (kernel-layout, kernel-tree)
+
+    source-settled : (b : ℕ) → ((runProgram Source header rows b store) .ending ≡ Spent → ⊥) → Settled (source b)
+    source-settled b e = ends-settled (source b) (rw (source-run b) at e)
+
+    kernel-settled : (d : ℕ) → ((runProgram Kernel (kernelHeaderOf header rows) (kernelRowsOf header rows) d (store ++ temporaryWords)) .ending ≡ Spent → ⊥) → Settled (kernel d)
+    kernel-settled d e = ends-settled (kernel d) (rw (kernel-run d) at e)
+
+    source-ends : SourceEnds header rows (kernelHeaderOf header rows) (kernelRowsOf header rows) store temporaryWords → Ends (exec L program) (start store)
+    source-ends e = record { budget = e .budget; settled = source-settled (e .budget) (e .ends) }
+
+    ends-source : Ends (exec L program) (start store) → SourceEnds header rows (kernelHeaderOf header rows) (kernelRowsOf header rows) store temporaryWords
+    ends-source e = record { budget = e .budget; ends = rw (source-run (e .budget)) (settled-ends (source (e .budget)) (e .settled)) }
+
+    kernel-ends : KernelEnds header rows (kernelHeaderOf header rows) (kernelRowsOf header rows) store temporaryWords → Ends (exec L (translate L program)) (start (store ++ temporaryWords))
+    kernel-ends e = record { budget = e .budget; settled = kernel-settled (e .budget) (e .ends) }
+
+    ends-kernel : Ends (exec L (translate L program)) (start (store ++ temporaryWords)) → KernelEnds header rows (kernelHeaderOf header rows) (kernelRowsOf header rows) store temporaryWords
+    ends-kernel e = record { budget = e .budget; ends = rw (kernel-run (e .budget)) (settled-ends (kernel (e .budget)) (e .settled)) }
+
+    shared-fate : SharedFate header rows (kernelHeaderOf header rows) (kernelRowsOf header rows) store temporaryWords
+    shared-fate = record {
+      end-together = (λ e. ends-kernel (trees .ends-together .0 (source-ends e)), λ e. ends-source (trees .ends-together .1 (kernel-ends e)));
+      same-ending = λ b d s t. rw (source-run b, kernel-run d) (trees .same-ending b d (source-settled b s) (kernel-settled d t));
+      same-cells = λ b d s t. cells b d (trees .same-state b d (source-settled b s) (kernel-settled d t));
+      count-bound = λ b d s t. rw (source-run b, kernel-run d, kernel-rows) (trees .same-state b d (source-settled b s) (kernel-settled d t) .few-steps);
+    }
+      where
+        cells : (b d : ℕ) → SameWords (statementRows (translate L program)) (length temporaryWords) (final (source b)) (final (kernel d))
+            → take (length store) ((runProgram Kernel (kernelHeaderOf header rows) (kernelRowsOf header rows) d (store ++ temporaryWords)) .store) ≡ (runProgram Source header rows b store) .store
+        cells b d w = rw (source-run b, kernel-run d, w .same-words) (take-at ((final (source b)) .store) (w .left) (length store) (store-keeps-length (steps b) (exec L program) (start store)))
+
+  kernel-form-of : KernelFormOf header rows
+  unfolding kernelHeaderOf kernelRowsOf
+  kernel-form-of = record {
+    accepted = kernel-accepts (kernelHeaderOf header rows) (kernelRowsOf header rows) .1 (translated-legal header program (legal .structured .header-fits) tree few shallow);
+    share-fate = λ store temporaryWords s t. shared-fate store temporaryWords s t;
+    few-rows = omega (arith, kernel-rows, rows-bound L program, source-rows);
+    few-temporaries = omega (arith, kernel-temporaries, temporaries-bound program, source-rows);
+  }
+
+-- Demands 2 and 3, for every accepted program.
+pub has-kernel-form : (header rows : List ℤ) → HasKernelForm header rows
+has-kernel-form header rows e = kernel-form-of header rows (source-accepts header rows .0 e)

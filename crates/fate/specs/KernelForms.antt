@@ -1,0 +1,35 @@
+-- Kernel forms: the kernel header and rows of a source program, and what holds of them.
+use mathlib.Core.Path.{_≡_}
+use mathlib.Core.List.{List}
+use Prim.Native.Nat.{ℕ, _+_, _*_, _≤_}
+use lib.IntN.{ℤ}
+use Rattle.words.specs.Table.{rowCount}
+use Rattle.words.specs.Layout.{layoutOf, temporariesOf}
+use Rattle.words.specs.declared.Form.the-variants.{Source, Kernel}
+use Rattle.words.specs.declared.Verdict.the-variants.{Accepted}
+use Rattle.language.specs.Decode.{decode}
+use Rattle.translation.specs.Translate.{translate, temporaries, kernelHeader}
+use Rattle.emission.specs.Emission.{emit}
+use Rattle.source_check.specs.Refusal.{refusal as sourceRefusal}
+use Rattle.kernel_check.specs.Refusal.{refusal as kernelRefusal}
+use Rattle.fate.specs.Fate.{ShareFate}
+
+-- The rewriting of docs/REWRITING.md, written out: V, T, the array lengths; and the rows of the translation.
+unfoldable pub kernelHeaderOf : List ℤ → List ℤ → List ℤ
+kernelHeaderOf header rows = kernelHeader (layoutOf Source header) (temporaries (decode rows))
+
+unfoldable pub kernelRowsOf : List ℤ → List ℤ → List ℤ
+kernelRowsOf header rows = emit (translate (layoutOf Source header) (decode rows))
+
+pub record KernelFormOf (header rows : List ℤ) : Type 0 where
+  -- Demand 2: "The translation of an accepted program is a legal kernel program."
+  pub accepted : kernelRefusal (kernelHeaderOf header rows) (kernelRowsOf header rows) ≡ Accepted
+  -- Demand 3.
+  pub share-fate : ShareFate header rows (kernelHeaderOf header rows) (kernelRowsOf header rows)
+  -- "From n source rows come at most 20×n+20 kernel rows and at most 4×n temporaries."
+  pub few-rows : rowCount (kernelRowsOf header rows) ≤ 20 * rowCount rows + 20
+  pub few-temporaries : temporariesOf Kernel (kernelHeaderOf header rows) ≤ 4 * rowCount rows
+
+-- What holds of every source program that the check accepts.
+abbrev pub HasKernelForm : List ℤ → List ℤ → Type 0
+HasKernelForm header rows = sourceRefusal header rows ≡ Accepted → KernelFormOf header rows

@@ -1,0 +1,7 @@
+-- Demands 2 and 3 about rows and words. A line of comment for each file.
+-- Fate: what it is for two programs to share their fate.
+pub mod Fate
+-- Kernel forms: the kernel header and rows of a source program, and what holds of them.
+pub mod KernelForms
+-- The theorem: every accepted program has such a kernel form.
+pub mod KernelFormLaws

@@ -1,0 +1,43 @@
+-- Legal: what document 01 demands of a kernel program ("Kernel form").
+use mathlib.Core.Path.{_≡_}
+use mathlib.Core.Bool.{true}
+use mathlib.Core.List.{List}
+use Prim.Native.Nat.{ℕ, _<_}
+use lib.IntN.{ℤ}
+use Rattle.words.specs.Table.{rowCount, numberAt}
+use Rattle.words.specs.declared.Form.the-variants.{Kernel}
+use Rattle.structure.specs.Grammar.{isStatement, link}
+use Rattle.structure.specs.Structured.{Leads, Structured, Shallow}
+use Rattle.kernel_check.specs.Statements.{isKernelStatement}
+
+-- 53 label, with this label number.
+pub record Label (rows : List ℤ) (number row : ℕ) : Type 0 where
+  pub label : numberAt rows row 0 ≡ 53
+  pub number-is : numberAt rows row 1 ≡ number
+
+-- One item stands before another in a list.
+pub data Before (rows : List ℤ) : ℕ → ℕ → Type 0 where
+  adjacent : {item : ℕ} → Leads rows item 5 → Before rows item (link rows item 5)
+  further : {item row : ℕ} → Before rows item row → Leads rows row 5 → Before rows item (link rows row 5)
+
+-- The owner of a row is the row whose part it is; items of one list share theirs.
+pub data Owner (rows : List ℤ) : ℕ → ℕ → Type 0 where
+  part : {row field : ℕ} → field < 5 → Leads rows row field → Owner rows row (link rows row field)
+  beside : {owner row : ℕ} → Owner rows owner row → Leads rows row 5 → Owner rows owner (link rows row 5)
+
+-- A label with this number is a later item of the row's own list, or of a list around that.
+pub data Ahead (rows : List ℤ) (number : ℕ) : ℕ → Type 0 where
+  behind : {row item : ℕ} → Before rows row item → Label rows number item → Ahead rows number row
+  outward : {owner row : ℕ} → Owner rows owner row → Ahead rows number owner → Ahead rows number row
+
+pub record Legal (header rows : List ℤ) : Type 0 where
+  -- Limits, kinds, unused fields, links, row 0, numbers.
+  pub structured : Structured Kernel header rows
+  -- "Depth up to 512."
+  pub shallow : Shallow Kernel rows
+  -- "Statements: empty; block; ..".
+  pub formed : (row : ℕ) → row < rowCount rows → isStatement rows row ≡ true → isKernelStatement rows row ≡ true
+  -- "A label number (0 to 40,979) stands once",
+  pub labels-once : (number row other : ℕ) → Label rows number row → Label rows number other → row ≡ other
+  -- "and a goto's label is a later item of a list that encloses it."
+  pub gotos-ahead : (row : ℕ) → row < rowCount rows → numberAt rows row 0 ≡ 52 → Ahead rows (numberAt rows row 1) row

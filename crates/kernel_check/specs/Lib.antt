@@ -1,0 +1,19 @@
+-- The check of kernel programs. A line of comment for each file.
+-- Statements: cause 12, "statement not of kernel form".
+pub mod Statements
+-- Labels: cause 13, "goto without its label ahead, or label repeated".
+pub mod Labels
+-- Refusal: what the check answers.
+pub mod Refusal
+-- Legal: what document 01 demands of a kernel program.
+pub mod Legal
+-- Passes: what the code's loops for cause 13 compute.
+pub mod Passes
+-- Laws of lists: which rows stand in one list, and who owns them.
+pub mod ListLaws
+-- Laws of labels: the search of cause 13 finds a label exactly where one is ahead.
+pub mod LabelLaws
+-- Accepts: the check accepts the legal kernel programs and no others.
+pub mod Accepts
+-- Sample: a small kernel program that is legal.
+pub mod Sample

@@ -1,0 +1,61 @@
+// The check of kernel programs: what both forms share, then causes 9, 12 and 13.
+pub mod chains; // chains.rt: the gotos and labels of one label number, in order
+pub mod labels; // labels.rt: cause 13, one label number at a time
+pub mod notes; // notes.rt: the first row of each row's list, and its owner
+pub mod statements; // statements.rt: cause 12, the statements of the kernel language
+
+use labels::lowest_label_fault;
+use statements::lowest_not_kernel_form;
+use structure::Found;
+use structure::causes::at;
+use structure::causes::structural_refusal;
+use structure::depth::lowest_deep_row;
+use words::Form;
+use words::Refusal;
+use words::Verdict;
+ghost use mathlib.Core.Path.{_≡_};
+ghost use Rattle.structure.specs.Grammar.{link};
+ghost use Rattle.structure.specs.Structured.{Tree};
+ghost use Rattle.kernel_check.specs.Passes.{LabelNumbers};
+ghost use Rattle.kernel_check.specs.Refusal.{kernelCauses, refusal as refusalOf};
+
+// What a pass along the links notes of each row.
+pub enum Note {
+    // the first row of its list
+    First,
+    // the row whose part it is, or whose list it stands in
+    Owner,
+}
+
+// Causes 9, 12 and 13, in order.
+fn kernel_causes(rows: &[i32]) -> Verdict
+    requires { ⌜ Tree (now rows) × (link (now rows) 0 5 ≡ 0) × LabelNumbers (now rows) ⌝ }
+    ensures { λ r. ⌜ r ≡ kernelCauses (now (rows .entry)) ⌝ }
+{
+    let deep = lowest_deep_row(Form::Kernel, rows);
+    if let Found::At(row) = deep {
+        return Verdict::Refused(Refusal {
+            number: 9,
+            place: row,
+        });
+    }
+    let formless = lowest_not_kernel_form(rows);
+    if let Found::At(row) = formless {
+        return Verdict::Refused(Refusal {
+            number: 12,
+            place: row,
+        });
+    }
+    at(13, lowest_label_fault(rows))
+}
+
+// The check of a kernel program: "The kernel check accepts the legal kernel programs and no others."
+pub fn check(header: &[i32], rows: &[i32]) -> Verdict
+    ensures { λ r. ⌜ r ≡ refusalOf (now (header .entry)) (now (rows .entry)) ⌝ }
+{
+    let structural = structural_refusal(Form::Kernel, header, rows);
+    if let Verdict::Refused(refusal) = structural {
+        return Verdict::Refused(refusal);
+    }
+    kernel_causes(rows)
+}

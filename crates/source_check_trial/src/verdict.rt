@@ -1,0 +1,17 @@
+// Writes what the check answers: accepted, or refused with its number and place.
+use words::Verdict;
+
+pub fn write(verdict: Verdict) {
+    match verdict {
+        Verdict::Accepted => {
+            io::write_all(1, b"accepted\n");
+        }
+        Verdict::Refused(refusal) => {
+            io::write_all(1, b"refused ");
+            io::print_decimal(1, refusal.number as u64);
+            io::write_all(1, b" ");
+            io::print_decimal(1, refusal.place as u64);
+            io::write_all(1, b"\n");
+        }
+    }
+}

@@ -1,0 +1,13 @@
+-- What the proofs of the functions share. A line of comment for each file.
+-- Answers: laws of the answers of statements and rounds.
+pub mod Answers
+-- Enter: what entering a row of each kind of statement does, told by the steps left; loops and lists.
+pub mod Enter
+-- Items: the items of a list by the rows that hold them.
+pub mod Items
+-- Rows: the laws of Enter for a row of a sound table, by its kind.
+pub mod Rows
+-- Bounds: how the list of bounds is written, and that a layout is read off its own bounds.
+pub mod Bounds
+-- Endings: why a run ended, and what its answer says of the run under the budget.
+pub mod Endings

@@ -1,0 +1,57 @@
+-- `ending_of` makes the tests of its definition in order.
+use Rattle.machine.proofs.Endings.{ending-plain, ending-spent, ending-overflow, ending-zero, ending-index}
+use borrow.Author.Needs.{needs}
+use Rattle.machine.proofs.whole.ending_of.Statement.{statement}
+use Rattle.machine.proofs.whole.ending_of.Tie as tie
+
+operand-requires : tie.Need-operand-requires
+operand-requires c κs = search needs
+
+enum-told : tie.Need-enum-told
+enum-told c = search needs
+
+enum-told-2 : tie.Need-enum-told-2
+enum-told-2 c = search needs
+
+returns : tie.Need-returns
+returns c =
+    let start = c .before .before .before in
+    let past-operand = c .before .before .operand in
+    ending-plain (start .args .answer) (start .fits .answer .sfits) (past-operand .result) (past-operand .ensures) (c .enum-told2 .given .0 .0) (c .enum-told2 .given .1)
+
+returns-2 : tie.Need-returns-2
+returns-2 c =
+    let start = c .before .before .before .before in
+    let past-operand = c .before .before .before .operand in
+    ending-spent (start .args .answer) (start .fits .answer .sfits) (past-operand .result) (past-operand .ensures) (c .before .enum-told .given .1) (c .if1 .taken)
+
+returns-3 : tie.Need-returns-3
+returns-3 c =
+    let start = c .before .before .before .before .before in
+    let past-operand = c .before .before .before .before .operand in
+    ending-overflow (start .args .answer) (start .fits .answer .sfits) (past-operand .result) (past-operand .ensures) (c .before .before .enum-told .given .1) (c .if2 .taken)
+
+returns-4 : tie.Need-returns-4
+returns-4 c =
+    let start = c .before .before .before .before .before .before in
+    let past-operand = c .before .before .before .before .before .operand in
+    ending-zero (start .args .answer) (start .fits .answer .sfits) (past-operand .result) (past-operand .ensures) (c .before .before .before .enum-told .given .1) (c .if3 .taken)
+
+returns-5 : tie.Need-returns-5
+returns-5 c =
+    let start = c .before .before .before .before .before .before in
+    let past-operand = c .before .before .before .before .before .operand in
+    ending-index (start .args .answer) (start .fits .answer .sfits) (past-operand .result) (past-operand .ensures) (c .before .before .before .enum-told .given .1) (c .before .before .if1 .left) (c .before .if2 .left) (c .if3 .left)
+
+pub ending-of-spec : {M : Type 1} → statement M
+ending-of-spec =
+    tie.close
+    (tie.spec
+    operand-requires
+    enum-told
+    enum-told-2
+    returns
+    returns-2
+    returns-3
+    returns-4
+    returns-5)

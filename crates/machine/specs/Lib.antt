@@ -1,0 +1,9 @@
+-- What statement runs and list runs answer and ask. A line of comment for each file.
+-- Flows: what a statement's answer says of a run.
+pub mod Flows
+-- Lists: where a list goes on.
+pub mod Lists
+-- Rows: what is done at a row, and what the code asks for it.
+pub mod Rows
+-- Whole: the run of a program.
+pub mod Whole

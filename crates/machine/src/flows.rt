@@ -1,0 +1,76 @@
+// What a statement's answer says: -1 next, -2 break, -3 continue, a label that is sought (-4 for one that no label has), or, beyond
+// the words, why the run stops, as an evaluation says it. A round's answer says the same, where a continue goes round again.
+use super::Flow;
+use evaluator::Operand;
+use evaluator::answers::operand;
+use words::table::natural;
+ghost use mathlib.Core.Path.{_≡_};
+ghost use mathlib.Core.List.{List};
+ghost use Prim.Native.Nat.{ℕ};
+ghost use lib.IntN.{ℤ};
+ghost use Rattle.words.specs.Word.{natural as naturalOf};
+ghost use Rattle.language.specs.Trees.{label as labelOf};
+ghost use Rattle.language.specs.Meaning.{seeking};
+ghost use Rattle.computation.specs.Remaining.{gives};
+ghost use Rattle.machine.specs.Flows.{flowOf, passingOf, ran, EndsSwitch, EndsBody};
+
+// How the statement with this answer ended.
+pub fn flow(answer: i64) -> Flow
+    ensures { λ r. ⌜ r ≡ flowOf answer ⌝ }
+{
+    let word = operand(answer);
+    let Operand::Value(number) = word else {
+        return Flow::Halted;
+    };
+    passing(number)
+}
+
+fn passing(number: i32) -> Flow
+    ensures { λ r. ⌜ r ≡ passingOf number ⌝ }
+{
+    if number == -1 {
+        return Flow::Next;
+    }
+    if number == -2 {
+        return Flow::Break;
+    }
+    if number == -3 {
+        return Flow::Continue;
+    }
+    Flow::Goto(natural(number))
+}
+
+// The answer of a goto to this label.
+pub fn jump(label: i32) -> i64
+    ensures { λ r. ⌜ ((n : ℕ) (s : List ℤ) → ran r n s ≡ gives (seeking (labelOf (naturalOf label))) n s) ⌝ }
+{
+    if label < 0 {
+        return -4;
+    }
+    label as i64
+}
+
+// The answer of a switch whose items ended with this one.
+pub fn after_switch(answer: i64) -> i64
+    ensures { λ r. ⌜ EndsSwitch answer r ⌝ }
+{
+    let ended = flow(answer);
+    let Flow::Break = ended else {
+        return answer;
+    };
+    -1
+}
+
+// The answer of a round whose body ended with this one.
+pub fn after_body(answer: i64) -> i64
+    ensures { λ r. ⌜ EndsBody answer r ⌝ }
+{
+    let ended = flow(answer);
+    match ended {
+        Flow::Next => -3,
+        Flow::Break => -1,
+        Flow::Continue => answer,
+        Flow::Goto(_) => answer,
+        Flow::Halted => answer,
+    }
+}

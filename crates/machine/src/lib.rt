@@ -1,0 +1,22 @@
+// The machine: the core that walks rows, one for both forms. Statements' answers are one number each, so that they come back in a
+// register: flows.rt says what they mean.
+pub mod flows; // flows.rt: what a statement's answer says
+pub mod lists; // lists.rt: where a list goes on: the search for a mark
+pub mod statements; // statements.rt: statement runs and list runs
+pub mod whole; // whole.rt: the run of a program
+
+// How a statement ended: the next item follows; a break, a continue or the search for a label is under way; or the run stops there.
+pub enum Flow {
+    Next,
+    Break,
+    Continue,
+    Goto(usize),
+    Halted,
+}
+
+// What is sought in a list.
+pub enum Mark {
+    Case(i32),
+    Default,
+    Label(usize),
+}

@@ -1,0 +1,287 @@
+// Statement runs and list runs, which call each other: the measure is the unspent budget, and the rows ahead in a list.
+use super::Flow;
+use super::flows::after_body;
+use super::flows::after_switch;
+use super::flows::flow;
+use super::flows::jump;
+use super::lists::find_start;
+use super::lists::resume;
+use evaluator::Operand;
+use evaluator::answers::operand;
+use evaluator::expressions::eval;
+use evaluator::operations::link_at;
+use words::Kind;
+use words::arithmetic::is_true;
+use words::kinds::kind_at;
+use words::table::word_at;
+ghost use mathlib.Core.Path.{_≡_};
+ghost use lib.ListN.{length};
+ghost use Rattle.words.specs.declared.Kind as kinds;
+ghost use Rattle.computation.specs.Remaining.{spend};
+ghost use Rattle.evaluator.specs.Answers.{answered};
+ghost use Rattle.evaluator.specs.Ready.{Ready, Entered};
+ghost use Rattle.machine.specs.Flows.{ran, turned};
+ghost use Rattle.machine.specs.Rows.{partOr, performAt, execAt, itemsFrom, roundAt, roundsAt, doRoundAt, doAt, ReadyRounds, ReadyDo};
+
+// A part of a for; an absent one has this value.
+fn part(
+    rows: &[i32],
+    bounds: &[usize],
+    row: usize,
+    absent: i32,
+    store: &mut [i32],
+    left: &mut u32,
+) -> i64
+    requires { ⌜ Ready (now rows) (now bounds) (length (now store)) row ⌝ }
+    ensures { λ r. ⌜ answered r (now (left .exit)) (now (store .exit)) ≡ spend (partOr absent (now (rows .entry)) (now (bounds .entry)) row) (now (left .entry)) (now (store .entry)) ⌝ }
+{
+    if row == 0 {
+        return absent as i64;
+    }
+    eval(rows, bounds, row, store, left)
+}
+
+// An expression statement's row, entered.
+fn express(rows: &[i32], bounds: &[usize], row: usize, store: &mut [i32], left: &mut u32) -> i64
+    requires { ⌜ Entered (now rows) (now bounds) (length (now store)) row kinds.Kind.Express ⌝ }
+    ensures { λ r. ⌜ ran r (now (left .exit)) (now (store .exit)) ≡ spend (performAt (now (rows .entry)) (now (bounds .entry)) row) (now (left .entry)) (now (store .entry)) ⌝ }
+{
+    let r = eval(rows, bounds, link_at(rows, row, 1), store, left);
+    let value = operand(r);
+    let Operand::Value(_) = value else {
+        return r;
+    };
+    -1
+}
+
+// The statement at a row.
+pub fn run_statement(
+    rows: &[i32],
+    bounds: &[usize],
+    row: usize,
+    store: &mut [i32],
+    left: &mut u32,
+) -> i64
+    requires { ⌜ Ready (now rows) (now bounds) (length (now store)) row ⌝ }
+    ensures { λ r. ⌜ ran r (now (left .exit)) (now (store .exit)) ≡ spend (execAt (now (rows .entry)) (now (bounds .entry)) row) (now (left .entry)) (now (store .entry)) ⌝ }
+{
+    let n = *left;
+    if n == 0 {
+        return 2147483648;
+    }
+    *left = n - 1;
+    perform(rows, bounds, row, store, left)
+}
+
+// A row that was entered: what follows, by its kind. A row that is no statement does nothing.
+fn perform(rows: &[i32], bounds: &[usize], row: usize, store: &mut [i32], left: &mut u32) -> i64
+    requires { ⌜ Ready (now rows) (now bounds) (length (now store)) row ⌝ }
+    ensures { λ r. ⌜ ran r (now (left .exit)) (now (store .exit)) ≡ spend (performAt (now (rows .entry)) (now (bounds .entry)) row) (now (left .entry)) (now (store .entry)) ⌝ }
+{
+    let kind = kind_at(rows, row);
+    match kind {
+        Kind::Express => express(rows, bounds, row, store, left),
+        Kind::Block => run_list(rows, bounds, link_at(rows, row, 1), store, left),
+        Kind::If => run_if(rows, bounds, row, store, left),
+        Kind::While => run_rounds(
+            rows,
+            bounds,
+            link_at(rows, row, 1),
+            0,
+            link_at(rows, row, 2),
+            store,
+            left,
+        ),
+        Kind::Do => run_do(
+            rows,
+            bounds,
+            link_at(rows, row, 1),
+            link_at(rows, row, 2),
+            store,
+            left,
+        ),
+        Kind::For => run_for(rows, bounds, row, store, left),
+        Kind::Switch => run_switch(rows, bounds, row, store, left),
+        Kind::Break => -2,
+        Kind::Continue => -3,
+        Kind::Goto => jump(word_at(rows, row, 1)),
+        _ => -1,
+    }
+}
+
+// The list from a first item on; 0 is the empty list.
+pub fn run_list(
+    rows: &[i32],
+    bounds: &[usize],
+    first: usize,
+    store: &mut [i32],
+    left: &mut u32,
+) -> i64
+    requires { ⌜ Ready (now rows) (now bounds) (length (now store)) first ⌝ }
+    ensures { λ r. ⌜ ran r (now (left .exit)) (now (store .exit)) ≡ spend (itemsFrom (now (rows .entry)) (now (bounds .entry)) first) (now (left .entry)) (now (store .entry)) ⌝ }
+{
+    let mut at = first;
+    let mut answer: i64 = -1;
+    while at != 0 {
+        answer = run_statement(rows, bounds, at, store, left);
+        at = resume(rows, at, answer);
+    }
+    answer
+}
+
+fn run_if(rows: &[i32], bounds: &[usize], row: usize, store: &mut [i32], left: &mut u32) -> i64
+    requires { ⌜ Entered (now rows) (now bounds) (length (now store)) row kinds.Kind.If ⌝ }
+    ensures { λ r. ⌜ ran r (now (left .exit)) (now (store .exit)) ≡ spend (performAt (now (rows .entry)) (now (bounds .entry)) row) (now (left .entry)) (now (store .entry)) ⌝ }
+{
+    let r = eval(rows, bounds, link_at(rows, row, 1), store, left);
+    let test = operand(r);
+    let Operand::Value(value) = test else {
+        return r;
+    };
+    if is_true(value) {
+        return run_statement(rows, bounds, link_at(rows, row, 2), store, left);
+    }
+    let other = link_at(rows, row, 3);
+    if other == 0 {
+        return -1;
+    }
+    run_statement(rows, bounds, other, store, left)
+}
+
+// A round of a while or a for: test, body, step.
+fn round(
+    rows: &[i32],
+    bounds: &[usize],
+    test: usize,
+    action: usize,
+    body: usize,
+    store: &mut [i32],
+    left: &mut u32,
+) -> i64
+    requires { ⌜ ReadyRounds (now rows) (now bounds) (length (now store)) test action body ⌝ }
+    ensures { λ r. ⌜ turned r (now (left .exit)) (now (store .exit)) ≡ spend (roundAt (now (rows .entry)) (now (bounds .entry)) test action body) (now (left .entry)) (now (store .entry)) ⌝ }
+{
+    let r = part(rows, bounds, test, 1, store, left);
+    let tested = operand(r);
+    let Operand::Value(value) = tested else {
+        return r;
+    };
+    if !is_true(value) {
+        return -1;
+    }
+    let q = after_body(run_statement(rows, bounds, body, store, left));
+    let turn = flow(q);
+    let Flow::Continue = turn else {
+        return q;
+    };
+    let p = part(rows, bounds, action, 0, store, left);
+    let stepped = operand(p);
+    let Operand::Value(_) = stepped else {
+        return p;
+    };
+    -3
+}
+
+// The rounds of a while or a for, until one is the last.
+fn run_rounds(
+    rows: &[i32],
+    bounds: &[usize],
+    test: usize,
+    action: usize,
+    body: usize,
+    store: &mut [i32],
+    left: &mut u32,
+) -> i64
+    requires { ⌜ ReadyRounds (now rows) (now bounds) (length (now store)) test action body ⌝ }
+    ensures { λ r. ⌜ ran r (now (left .exit)) (now (store .exit)) ≡ spend (roundsAt (now (rows .entry)) (now (bounds .entry)) test action body) (now (left .entry)) (now (store .entry)) ⌝ }
+{
+    loop {
+        let q = round(rows, bounds, test, action, body, store, left);
+        let turn = flow(q);
+        let Flow::Continue = turn else {
+            return q;
+        };
+    }
+}
+
+// A round of a do: body, test.
+fn do_round(
+    rows: &[i32],
+    bounds: &[usize],
+    body: usize,
+    test: usize,
+    store: &mut [i32],
+    left: &mut u32,
+) -> i64
+    requires { ⌜ ReadyDo (now rows) (now bounds) (length (now store)) body test ⌝ }
+    ensures { λ r. ⌜ turned r (now (left .exit)) (now (store .exit)) ≡ spend (doRoundAt (now (rows .entry)) (now (bounds .entry)) body test) (now (left .entry)) (now (store .entry)) ⌝ }
+{
+    let q = after_body(run_statement(rows, bounds, body, store, left));
+    let turn = flow(q);
+    let Flow::Continue = turn else {
+        return q;
+    };
+    let r = eval(rows, bounds, test, store, left);
+    let tested = operand(r);
+    let Operand::Value(value) = tested else {
+        return r;
+    };
+    if is_true(value) {
+        return -3;
+    }
+    -1
+}
+
+fn run_do(
+    rows: &[i32],
+    bounds: &[usize],
+    body: usize,
+    test: usize,
+    store: &mut [i32],
+    left: &mut u32,
+) -> i64
+    requires { ⌜ ReadyDo (now rows) (now bounds) (length (now store)) body test ⌝ }
+    ensures { λ r. ⌜ ran r (now (left .exit)) (now (store .exit)) ≡ spend (doAt (now (rows .entry)) (now (bounds .entry)) body test) (now (left .entry)) (now (store .entry)) ⌝ }
+{
+    loop {
+        let q = do_round(rows, bounds, body, test, store, left);
+        let turn = flow(q);
+        let Flow::Continue = turn else {
+            return q;
+        };
+    }
+}
+
+fn run_for(rows: &[i32], bounds: &[usize], row: usize, store: &mut [i32], left: &mut u32) -> i64
+    requires { ⌜ Entered (now rows) (now bounds) (length (now store)) row kinds.Kind.For ⌝ }
+    ensures { λ r. ⌜ ran r (now (left .exit)) (now (store .exit)) ≡ spend (performAt (now (rows .entry)) (now (bounds .entry)) row) (now (left .entry)) (now (store .entry)) ⌝ }
+{
+    let r = part(rows, bounds, link_at(rows, row, 1), 0, store, left);
+    let start = operand(r);
+    let Operand::Value(_) = start else {
+        return r;
+    };
+    run_rounds(
+        rows,
+        bounds,
+        link_at(rows, row, 2),
+        link_at(rows, row, 3),
+        link_at(rows, row, 4),
+        store,
+        left,
+    )
+}
+
+// "Go to the case of equal value, else to default, else past the switch; then fall through until break."
+fn run_switch(rows: &[i32], bounds: &[usize], row: usize, store: &mut [i32], left: &mut u32) -> i64
+    requires { ⌜ Entered (now rows) (now bounds) (length (now store)) row kinds.Kind.Switch ⌝ }
+    ensures { λ r. ⌜ ran r (now (left .exit)) (now (store .exit)) ≡ spend (performAt (now (rows .entry)) (now (bounds .entry)) row) (now (left .entry)) (now (store .entry)) ⌝ }
+{
+    let r = eval(rows, bounds, link_at(rows, row, 1), store, left);
+    let selector = operand(r);
+    let Operand::Value(value) = selector else {
+        return r;
+    };
+    let first = find_start(rows, link_at(rows, row, 2), value);
+    after_switch(run_list(rows, bounds, first, store, left))
+}

@@ -1,0 +1,95 @@
+// The run of a program.
+use super::statements::run_statement;
+use evaluator::Operand;
+use evaluator::answers::operand;
+use words::Ending;
+use words::FaultSort;
+use words::Form;
+use words::RunAnswer;
+use words::layout::leading;
+use words::table::natural;
+ghost use mathlib.Core.Path.{_≡_};
+ghost use mathlib.Core.List.{map};
+ghost use Prim.Native.Nat.{_+_, _≤_};
+ghost use lib.ListN.{length};
+ghost use Rattle.words.specs.Word.{natural as naturalOf};
+ghost use Rattle.words.specs.Layout.{sum};
+ghost use Rattle.computation.specs.Remaining.{spend};
+ghost use Rattle.language.specs.Program.{runProgram};
+ghost use Rattle.evaluator.specs.Bounds.{boundsFrom};
+ghost use Rattle.machine.specs.Flows.{ran};
+ghost use Rattle.machine.specs.Whole.{endingOfAnswer, finishedOf, wholeAt, Runnable, Startable};
+
+// The bounds of the arrays: where each begins, and where the last one ends.
+fn fill_bounds(lengths: &[i32], variables: usize, bounds: &mut [usize])
+    requires { ⌜ (length (now bounds) ≡ length (now lengths) + 1) × (variables + sum (map naturalOf (now lengths)) ≤ 8192) ⌝ }
+    ensures { λ _. ⌜ now (bounds .exit) ≡ boundsFrom variables (map naturalOf (now (lengths .entry))) ⌝ }
+{
+    let mut total = variables;
+    let mut i: usize = 0;
+    while i < lengths.len() {
+        bounds[i] = total;
+        total += natural(lengths[i]);
+        i += 1;
+    }
+    bounds[i] = total;
+}
+
+// Why the run with this answer ended.
+fn ending_of(answer: i64) -> Ending
+    ensures { λ r. ⌜ r ≡ endingOfAnswer answer ⌝ }
+{
+    let ended = operand(answer);
+    let Operand::Halted = ended else {
+        return Ending::Plain;
+    };
+    if answer == 2147483648 {
+        return Ending::Spent;
+    }
+    if answer == 2147483649 {
+        return Ending::Fault(FaultSort::Overflow);
+    }
+    if answer == 2147483650 {
+        return Ending::Fault(FaultSort::ZeroDivisor);
+    }
+    Ending::Fault(FaultSort::Index)
+}
+
+// The statement at row 0, with the bounds written into what is lent for them.
+fn start(
+    lengths: &[i32],
+    variables: usize,
+    bounds: &mut [usize],
+    rows: &[i32],
+    store: &mut [i32],
+    left: &mut u32,
+) -> i64
+    requires { ⌜ Startable (now lengths) variables (now bounds) (now rows) (length (now store)) ⌝ }
+    ensures { λ r. ⌜ ran r (now (left .exit)) (now (store .exit)) ≡ spend (wholeAt (now (lengths .entry)) variables (now (rows .entry))) (now (left .entry)) (now (store .entry)) ⌝ }
+{
+    fill_bounds(lengths, variables, bounds);
+    run_statement(rows, bounds, 0, store, left)
+}
+
+// The run of a program with a budget.
+pub fn run(form: Form, header: &[i32], rows: &[i32], store: &mut [i32], budget: u32) -> RunAnswer
+    requires { ⌜ Runnable form (now header) (now rows) (now store) ⌝ }
+    ensures { λ r. ⌜ finishedOf r (now (store .exit)) ≡ runProgram form (now (header .entry)) (now (rows .entry)) budget (now (store .entry)) ⌝ }
+{
+    let first = leading(form);
+    let n = header.len() - first + 1;
+    let mut bounds: [usize; 33] = [0; 33];
+    let mut left = budget;
+    let answer = start(
+        &header[first..],
+        natural(header[0]),
+        &mut bounds[..n],
+        rows,
+        store,
+        &mut left,
+    );
+    RunAnswer {
+        ending: ending_of(answer),
+        count: budget - left,
+    }
+}

@@ -1,0 +1,34 @@
+-- Laws of accepted programs, of both forms: what the entries need to hand them on to the machine.
+use mathlib.Core.Path.{_≡_}
+use mathlib.Core.Bool.{true}
+use mathlib.Core.List.{List}
+use Prim.Native.Nat.{ℕ, _≤_}
+use native.Mathlib.Omega.{arith}
+use lib.IntN.{ℤ}
+use lib.ListN.{length}
+use Rattle.words.specs.Table.{rowCount}
+use Rattle.words.specs.Layout.{headerFits, layoutOf, storeWords}
+use Rattle.words.specs.Laws.{countFits-facts, rowLimit-most}
+use Rattle.words.specs.declared.Form.{Form}
+use Rattle.words.specs.declared.Form.the-variants.{Source, Kernel}
+use Rattle.words.specs.declared.Verdict.the-variants.{Accepted}
+use Rattle.language.specs.Sound.{Sound}
+use Rattle.structure.specs.Structured.{Structured}
+use Rattle.source_check.specs.AcceptsLegal.{accepts-legal as source-accepts}
+use Rattle.kernel_check.specs.Accepts.{accepts-legal as kernel-accepts}
+use Rattle.accepted.specs.Sound.{structured-sound}
+use Rattle.clight.specs.Runs.{refusalOf}
+
+accepted-structured : (form : Form) (header rows : List ℤ) → refusalOf form header rows ≡ Accepted → Structured form header rows
+accepted-structured Source header rows e = source-accepts header rows .0 e .structured
+accepted-structured Kernel header rows e = kernel-accepts header rows .0 e .structured
+
+module _ (form : Form) (header rows : List ℤ) (accepted : refusalOf form header rows ≡ Accepted) where
+  pub accepted-header : headerFits form header ≡ true
+  accepted-header = accepted-structured form header rows accepted .header-fits
+
+  pub accepted-sound : Sound rows (layoutOf form header) (storeWords form header)
+  accepted-sound = structured-sound form header rows (accepted-structured form header rows accepted)
+
+  pub accepted-rows : rowCount rows ≤ 40980
+  accepted-rows = omega (arith, countFits-facts form (length rows) (accepted-structured form header rows accepted .count-fits) .most, rowLimit-most form)

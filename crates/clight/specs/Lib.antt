@@ -1,0 +1,5 @@
+-- The public entries: what each answers, for all words it can be lent. A line of comment for each file.
+-- Runs: the answers of run and kernel run, and what they leave in the store.
+pub mod Runs
+-- Laws of accepted programs, of both forms.
+pub mod AcceptedLaws

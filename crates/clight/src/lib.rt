@@ -1,0 +1,4 @@
+// The public entries. None has a `requires`: for all words that it is lent, each gives its result or the one refusal that document
+// 01's table of causes names, and a refusal leaves everything lent as it was.
+pub mod runs; // runs.rt: check, run, kernel check, kernel run
+pub mod texts; // texts.rt: reader and writer of both forms' texts

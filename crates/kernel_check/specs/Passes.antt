@@ -11,6 +11,8 @@ use Rattle.words.specs.Word.{pick}
 use Rattle.words.specs.Table.{rowCount, numberAt}
 use Rattle.structure.specs.Grammar.{between, link}
 use Rattle.structure.specs.Links.{note}
+use Rattle.structure.specs.Passes.{Notes}
+use Rattle.structure.specs.Structured.{Tree}
 use Rattle.kernel_check.specs.Labels.{isLabel, owning}
 use Rattle.kernel_check.specs.Legal.{Label}
 use Rattle.kernel_check.specs.declared.Note.{Note}
@@ -24,6 +26,13 @@ handed Owner rows linker field owner = owning linker field owner
 
 unfoldable pub noteAt : Note → List ℤ → ℕ → ℕ
 noteAt which rows row = note (handed which rows) 0 rows row
+
+-- What a climb from owner to owner goes by. (Row 0 has no next.)
+pub record Noted (rows : List ℤ) (firsts owners : List ℕ) : Type 0 where
+  pub tree : Tree rows
+  pub lone : link rows 0 5 ≡ 0
+  pub first-rows : Notes rows (noteAt First rows) firsts
+  pub owner-rows : Notes rows (noteAt Owner rows) owners
 
 -- ---- chains: the gotos and labels of one number, in order
 

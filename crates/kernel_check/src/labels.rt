@@ -16,7 +16,7 @@ ghost use Rattle.structure.specs.Search.{some, lowestRow};
 ghost use Rattle.structure.specs.Passes.{Notes};
 ghost use Rattle.structure.specs.Structured.{Tree};
 ghost use Rattle.kernel_check.specs.Labels.{isLabel, labelBehind, labelAhead, labelFault};
-ghost use Rattle.kernel_check.specs.Passes.{noteAt, Jump, NextJump, LabelNumbers, Heads, Chain, Marks, Marked, LowestAmong, NumberBelow, lower};
+ghost use Rattle.kernel_check.specs.Passes.{noteAt, Noted, Jump, NextJump, LabelNumbers, Heads, Chain, Marks, Marked, LowestAmong, NumberBelow, lower};
 ghost use Rattle.kernel_check.specs.declared.Note.the-variants.{First, Owner};
 
 // A label with this number.
@@ -83,7 +83,7 @@ fn is_ahead(
     number: usize,
     goto: usize,
 ) -> bool
-    requires { ⌜ Tree (now rows) × (link (now rows) 0 5 ≡ 0) × (goto < length (now rows) / 6) × Notes (now rows) (noteAt First (now rows)) (now firsts) × Notes (now rows) (noteAt Owner (now rows)) (now owners) × Marked (now rows) number (length (now rows) / 6) (now marks) ⌝ }
+    requires { ⌜ Noted (now rows) (now firsts) (now owners) × Marked (now rows) number (length (now rows) / 6) (now marks) × (goto < length (now rows) / 6) ⌝ }
     ensures { λ r. ⌜ r ≡ labelAhead goto (now (rows .entry)) number goto ⌝ }
 {
     let mut row = goto;
@@ -106,7 +106,7 @@ fn is_label_fault(
     seen: bool,
     row: usize,
 ) -> bool
-    requires { ⌜ Tree (now rows) × (link (now rows) 0 5 ≡ 0) × Notes (now rows) (noteAt First (now rows)) (now firsts) × Notes (now rows) (noteAt Owner (now rows)) (now owners) × Marked (now rows) number (length (now rows) / 6) (now marks) × Jump (now rows) number row × (seen ≡ some (isLabel (now rows) number) 0 row) ⌝ }
+    requires { ⌜ Noted (now rows) (now firsts) (now owners) × Marked (now rows) number (length (now rows) / 6) (now marks) × Jump (now rows) number row × (seen ≡ some (isLabel (now rows) number) 0 row) ⌝ }
     ensures { λ r. ⌜ r ≡ labelFault (now (rows .entry)) row ⌝ }
 {
     if number_at(rows, row, 0) == 53 {
@@ -150,7 +150,7 @@ pub fn lowest_of_number(
     head: usize,
     found: usize,
 ) -> usize
-    requires { ⌜ Tree (now rows) × (link (now rows) 0 5 ≡ 0) × Notes (now rows) (noteAt First (now rows)) (now firsts) × Notes (now rows) (noteAt Owner (now rows)) (now owners) × Chain (now rows) 0 (now chain) × Marked (now rows) number (length (now rows) / 6) (now marks) × NextJump (now rows) number 0 head × LowestAmong (now rows) (NumberBelow (now rows) number) (labelFault (now rows)) found ⌝ }
+    requires { ⌜ Noted (now rows) (now firsts) (now owners) × Marked (now rows) number (length (now rows) / 6) (now marks) × Chain (now rows) 0 (now chain) × NextJump (now rows) number 0 head × LowestAmong (now rows) (NumberBelow (now rows) number) (labelFault (now rows)) found ⌝ }
     ensures { λ r. ⌜ LowestAmong (now (rows .entry)) (NumberBelow (now (rows .entry)) (number + 1)) (labelFault (now (rows .entry))) r ⌝ }
 {
     let count = rows.len() / 6;
@@ -175,7 +175,7 @@ fn lowest_of_all(
     chain: &[u16],
     marks: &mut [u16],
 ) -> usize
-    requires { ⌜ Tree (now rows) × (link (now rows) 0 5 ≡ 0) × Notes (now rows) (noteAt First (now rows)) (now firsts) × Notes (now rows) (noteAt Owner (now rows)) (now owners) × Heads (now rows) 0 (now heads) × Chain (now rows) 0 (now chain) × Marks (now rows) (now marks) ⌝ }
+    requires { ⌜ Noted (now rows) (now firsts) (now owners) × Heads (now rows) 0 (now heads) × Chain (now rows) 0 (now chain) × Marks (now rows) (now marks) ⌝ }
     ensures { λ r. ⌜ LowestAmong (now (rows .entry)) (NumberBelow (now (rows .entry)) 40980) (labelFault (now (rows .entry))) r ⌝ }
 {
     let mut found = rows.len() / 6;

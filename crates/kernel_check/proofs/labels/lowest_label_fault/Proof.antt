@@ -49,8 +49,12 @@ slice-aggregate-lowest-of-all-5 c = search needs
 
 lowest-of-all-requires : tie.Need-lowest-of-all-requires
 lowest-of-all-requires c κs =
-    let s : tie.Start = c .before .before .before .before .before .before .before .before .before .before .before .before .before .before .before .before in
-    (s .pre .0, s .pre .1, c .before .before .before .before .before .before .before .before .before .before .before .before .before .before .write-notes .ensures, c .before .before .before .before .before .before .before .before .before .before .before .write-notes2 .ensures, c .before .before .before .before .before .before .before .chain-rows .ensures .0, c .before .before .before .before .before .before .before .chain-rows .ensures .1, marks-start _ 40980 (s .pre .0 .few))
+    let s : tie.Start = c .before .before .before .before .before .before .before .before .before .before .before .before .before .before .before .before in (
+      record { tree = s .pre .0; lone = s .pre .1; first-rows = c .before .before .before .before .before .before .before .before .before .before .before .before .before .before .write-notes .ensures; owner-rows = c .before .before .before .before .before .before .before .before .before .before .before .write-notes2 .ensures },
+      c .before .before .before .before .before .before .before .chain-rows .ensures .0,
+      c .before .before .before .before .before .before .before .chain-rows .ensures .1,
+      marks-start _ 40980 (s .pre .0 .few),
+    )
 
 returns : tie.Need-returns
 returns c = let s : tie.Start = c .before .before .before .before .before .before .before .before .before .before .before .before .before .before .before .before .before .before .before in lowest-found _ _ (s .pre .2) (c .before .before .lowest-of-all .ensures) (c .if1 .taken)

@@ -17,13 +17,13 @@ abbrev μ-loop : tie.MeasureT-loop
 μ-loop rows firsts owners heads chain marks₀ found₀ number₀ marks found number = 40980 - number
 
 loop-holds : tie.Need-loop-holds Inv-loop μ-loop
-loop-holds c = (omega arith, c .before .before .before .before .before .pre .6, lowest-none _, refl)
+loop-holds c = (omega arith, c .before .before .before .before .before .pre .3, lowest-none _, refl)
 
 mul-wide : tie.Need-mul-wide Inv-loop μ-loop
 mul-wide c = record { fits = omega arith }
 
 shared-slice-read-wide : tie.Need-shared-slice-read-wide Inv-loop μ-loop
-shared-slice-read-wide c = let room = c .before .before .before .before .before .before .before .before .pre .4 .room in omega arith
+shared-slice-read-wide c = let room = c .before .before .before .before .before .before .before .before .pre .1 .room in omega arith
 
 wide-requires : tie.Need-wide-requires Inv-loop μ-loop
 wide-requires c κs = tt
@@ -31,12 +31,12 @@ wide-requires c κs = tt
 mark-labels-requires : tie.Need-mark-labels-requires Inv-loop μ-loop
 mark-labels-requires c κs =
     let pre = c .before .before .before .before .before .before .before .before .before .before .pre in
-    (pre .0, pre .2, pre .5, c .before .before .before .before .loop .inv .1, rw (c .before .wide .ensures) (pre .4 .head _ (omega arith)))
+    (pre .0 .tree, pre .0 .first-rows, pre .2, c .before .before .before .before .loop .inv .1, rw (c .before .wide .ensures) (pre .1 .head _ (omega arith)))
 
 lowest-of-number-requires : tie.Need-lowest-of-number-requires Inv-loop μ-loop
 lowest-of-number-requires c κs =
     let pre = c .before .before .before .before .before .before .before .before .before .before .before .before .before .before .pre in
-    (pre .0, pre .1, pre .2, pre .3, pre .5, c .before .before .before .mark-labels .ensures, rw (c .before .before .before .before .before .wide .ensures) (pre .4 .head _ (omega arith)), c .before .before .before .before .before .before .before .before .loop .inv .2)
+    (pre .0, c .before .before .before .mark-labels .ensures, pre .2, rw (c .before .before .before .before .before .wide .ensures) (pre .1 .head _ (omega arith)), c .before .before .before .before .before .before .before .before .loop .inv .2)
 
 add-number : tie.Need-add-number Inv-loop μ-loop
 add-number c = omega arith

@@ -23,31 +23,31 @@ loop-holds : tie.Need-loop-holds Inv-loop μ-loop
 unfolding some
 loop-holds c =
     let pre = c .before .before .before .before .pre in
-    (refl, pre .6 .is, (λ n. sym (seen-skip _ _ _ _ (pre .6) (omega arith))), lowest-skip _ _ _ _ _ (pre .6) (lowest-start _ _ _ (pre .7)))
+    (refl, pre .3 .is, (λ n. sym (seen-skip _ _ _ _ (pre .3) (omega arith))), lowest-skip _ _ _ _ _ (pre .3) (lowest-start _ _ _ (pre .4)))
 
 is-label-fault-requires : tie.Need-is-label-fault-requires Inv-loop μ-loop
 is-label-fault-requires c κs =
     let pre = c .before .before .before .before .before .before .pre in
-    (pre .0, pre .1, pre .2, pre .3, pre .5, c .before .loop .inv .1 (omega arith), c .before .loop .inv .2 (omega arith))
+    (pre .0, pre .1, c .before .loop .inv .1 (omega arith), c .before .loop .inv .2 (omega arith))
 
 lower-row-requires : tie.Need-lower-row-requires Inv-loop μ-loop
 lower-row-requires c κs = tt
 
 has-seen-requires : tie.Need-has-seen-requires Inv-loop μ-loop
-has-seen-requires c κs = (c .before .before .before .before .before .before .before .before .pre .0 .whole, c .before .before .before .loop .inv .2 (omega arith))
+has-seen-requires c κs = (c .before .before .before .before .before .before .before .before .pre .0 .tree .whole, c .before .before .before .loop .inv .2 (omega arith))
 
 mul-wide : tie.Need-mul-wide Inv-loop μ-loop
-mul-wide c = let few = c .before .before .before .before .before .before .before .before .before .pre .0 .few in record { fits = omega arith }
+mul-wide c = let few = c .before .before .before .before .before .before .before .before .before .pre .0 .tree .few in record { fits = omega arith }
 
 shared-slice-read-wide : tie.Need-shared-slice-read-wide Inv-loop μ-loop
-shared-slice-read-wide c = let room = c .before .before .before .before .before .before .before .before .before .before .pre .4 .room in omega arith
+shared-slice-read-wide c = let room = c .before .before .before .before .before .before .before .before .before .before .pre .2 .room in omega arith
 
 wide-requires : tie.Need-wide-requires Inv-loop μ-loop
 wide-requires c κs = tt
 
 -- what follows in the chain
 next-is : (c : tie.After-wide Inv-loop μ-loop) → NextJump (c .before .before .before .before .before .before .before .before .before .before .before .args .rows .now) (c .before .before .before .before .before .before .before .before .before .before .before .args .number) (c .before .before .before .before .before .before .loop .row + 1) (c .wide .result)
-next-is c = rw (c .wide .ensures) (c .before .before .before .before .before .before .before .before .before .before .before .pre .4 .follows _ _ (omega arith) (c .before .before .before .before .before .before .loop .inv .1 (omega arith)))
+next-is c = rw (c .wide .ensures) (c .before .before .before .before .before .before .before .before .before .before .before .pre .2 .follows _ _ (omega arith) (c .before .before .before .before .before .before .loop .inv .1 (omega arith)))
 
 loop-less : tie.Need-loop-less Inv-loop μ-loop
 loop-less c = let next = next-is c .least in omega arith

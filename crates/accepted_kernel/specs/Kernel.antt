@@ -1,0 +1,49 @@
+-- Kernel: what a legal kernel program gives to its users.
+use mathlib.Core.Path.{_≡_}
+use mathlib.Core.List.{List}
+use Prim.Native.Nat.{_≤_}
+use lib.IntN.{ℤ}
+use Rattle.words.specs.Table.{rowCount}
+use Rattle.words.specs.Layout.{layoutOf, storeWords}
+use Rattle.words.specs.declared.Form.the-variants.{Kernel}
+use Rattle.computation.specs.Run.{Limit, start}
+use Rattle.language.specs.Trees.{block, none}
+use Rattle.language.specs.Decode.{decode}
+use Rattle.language.specs.DecodeLaws.{listAt}
+use Rattle.language.specs.Meaning.{next}
+use Rattle.language.specs.Program.{programOf, runUnder}
+use Rattle.language.specs.Sizes.{statementRows, statementDepth}
+use Rattle.language.specs.Sound.{Sound}
+use Rattle.structure.specs.Grammar.{link}
+use Rattle.translation.specs.KernelForm.{KernelItems}
+use Rattle.kernel_check.specs.Legal.{Legal}
+use Rattle.accepted.specs.Sound.{structured-sound}
+use Rattle.accepted.specs.Statements.{program-block}
+use Rattle.accepted.specs.Rows.{structured-rows}
+use Rattle.accepted.specs.Depth.{structured-depth}
+use Rattle.accepted_kernel.specs.Jumps.{Gives, program-lands}
+use Rattle.accepted_kernel.specs.Forms.{contents-form}
+
+module _ (header rows : List ℤ) (legal : Legal header rows) where
+  -- A run may walk its rows.
+  pub legal-sound : Sound rows (layoutOf Kernel header) (storeWords Kernel header)
+  legal-sound = structured-sound Kernel header rows (legal .structured)
+
+  -- Its tree is a block of kernel form.
+  pub legal-block : decode rows ≡ block (listAt rows (link rows 0 1))
+  legal-block = program-block Kernel header rows (legal .structured)
+
+  pub legal-form : KernelItems none (listAt rows (link rows 0 1))
+  legal-form = contents-form header rows legal
+
+  -- Its tree has as many rows as the table. "Depth up to 512."
+  pub legal-rows : statementRows (decode rows) ≡ rowCount rows
+  legal-rows = structured-rows Kernel header rows (legal .structured)
+
+  pub legal-depth : statementDepth (decode rows) ≤ 512
+  legal-depth = structured-depth Kernel header rows (legal .structured) (legal .shallow)
+
+  -- "Goto: the run goes on at its label": a run that comes to its end is not on its way to a label, under any limit and from any store.
+  pub legal-jumps : (limit : Limit) (store : List ℤ) → Gives (λ signal. signal ≡ next) (runUnder limit Kernel header rows store)
+  unfolding runUnder programOf
+  legal-jumps limit store = rw legal-block (program-lands (layoutOf Kernel header) limit (listAt rows (link rows 0 1)) legal-form (start store))

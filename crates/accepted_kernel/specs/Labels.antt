@@ -1,0 +1,111 @@
+-- Labels: a label that is ahead of a row stands among the items ahead of its tree.
+use mathlib.Core.Path.{_≡_, subst, refl, sym, _∙_}
+use mathlib.Core.Bool.{Bool, true, false, _||_}
+use mathlib.Core.List.{List}
+use Prim.Native.Nat.{ℕ, _<_}
+use native.Mathlib.Omega.{arith}
+use lib.IntN.{ℤ}
+use borrow.Author.Tests.{eq-eqb}
+use Rattle.words.specs.Table.{rowCount}
+use Rattle.words.specs.Kinds.{kinds, kindIn, kindOf, kindAt}
+use Rattle.words.specs.declared.Form.the-variants.{Kernel}
+use Rattle.words.specs.declared.Kind.the-variants.{Label}
+use Rattle.language.specs.Trees.{Mark, label, sameMark, has, Items, none, _then_, _here_, _⧺_}
+use Rattle.language.specs.DecodeLaws.{listAt, at-label}
+use Rattle.structure.specs.Grammar.{link}
+use Rattle.structure.specs.Fields.{fits}
+use Rattle.structure.specs.Structured.{Leads, Structured}
+use Rattle.structure.specs.StructuredLaws.{structured-tree}
+use Rattle.kernel_check.specs.Legal.{Before, adjacent, further, Owner, Ahead, behind, outward}
+use Rattle.kernel_check.specs.Legal as legal
+use Rattle.kernel_check.specs.LabelLaws.{label-inside}
+use Rattle.kernel_check.specs.ListLaws.{owner-is}
+use Rattle.accepted.specs.Fields.{next-link}
+use Rattle.accepted.specs.Expressions.{whole-rows}
+use Rattle.accepted.specs.Statements.{ListRow, no-items, item, case-item, default-item, label-item, list-row, list-some}
+
+-- ---- marks in a list
+
+or-right : (a b : Bool) → b ≡ true → (a || b) ≡ true
+or-right true b e = refl
+or-right false b e = e
+
+or-left : (a b : Bool) → a ≡ true → (a || b) ≡ true
+or-left a b e = rw e
+
+-- a mark of a list, or of what follows it
+pub has-behind : (m : Mark) (is ahead : Items) → has m ahead ≡ true → has m (is ⧺ ahead) ≡ true
+unfolding has _⧺_
+has-behind m none ahead e = e
+has-behind m (s then is) ahead e = has-behind m is ahead e
+has-behind m (n here is) ahead e = or-right (sameMark m n) (has m (is ⧺ ahead)) (has-behind m is ahead e)
+
+pub has-in : (m : Mark) (is ahead : Items) → has m is ≡ true → has m (is ⧺ ahead) ≡ true
+unfolding has _⧺_
+has-in m none ahead e = absurd (let z : _≡_ {A = ℕ} 0 1 = cc in omega arith)
+has-in m (s then is) ahead e = has-in m is ahead e
+has-in m (n here is) ahead e = go (sameMark m n) e (has-in m is ahead)
+  where
+    go : (b : Bool) → (b || has m is) ≡ true → (has m is ≡ true → has m (is ⧺ ahead) ≡ true) → (b || has m (is ⧺ ahead)) ≡ true
+    go true e r = refl
+    go false e r = r e
+
+module _ (header rows : List ℤ) (s : Structured Kernel header rows) where
+  -- an item of a list, which another leads to
+  item-row : (row : ℕ) → row < rowCount rows → Leads rows row 5 → ListRow rows (link rows row 5)
+  unfolding fits
+  item-row row n leads =
+      let p : 0 < link rows row 5 = (let l = leads .later in omega arith) in
+      list-row Kernel header rows s (link rows row 5) (leads .inside) (next-link Kernel header rows s row n .fit p) p
+
+  leads-inside : {row field : ℕ} → Leads rows row field → row < rowCount rows
+  leads-inside leads = let l = leads .later in let i = leads .inside in omega arith
+
+  -- what stands behind an item stands in the list from it on
+  from-item : (m : Mark) {l : ℕ} → ListRow rows l → 0 < l → has m (listAt rows (link rows l 5)) ≡ true → has m (listAt rows l) ≡ true
+  unfolding has
+  from-item m (no-items z e) p h = absurd (omega arith)
+  from-item m (item q e statement rest) p h = rw e h
+  from-item m (case-item q k e statement rest) p h = rw e (or-right (sameMark m _) _ h)
+  from-item m (default-item q k e statement rest) p h = rw e (or-right (sameMark m _) _ h)
+  from-item m (label-item q k e statement rest) p h = rw e (or-right (sameMark m _) _ h)
+
+  from-earlier : (m : Mark) {item row : ℕ} → Before rows item row → has m (listAt rows (link rows row 5)) ≡ true → has m (listAt rows (link rows item 5)) ≡ true
+  from-earlier m (adjacent {item} leads) h = from-item m (item-row item (leads-inside leads) leads) (let l = leads .later in omega arith) h
+  from-earlier m (further {item} {row} b leads) h =
+      from-earlier m b (from-item m (item-row row (leads-inside leads) leads) (let l = leads .later in omega arith) h)
+
+  -- a label stands in the list that begins with it
+  label-first : (number row : ℕ) → 0 < row → legal.Label rows number row → has (label number) (listAt rows row) ≡ true
+  unfolding has sameMark kindAt kindOf kindIn kinds
+  label-first number row p l =
+      let inside = label-inside rows number row (structured-tree Kernel header rows s) l in
+      let next = next-link Kernel header rows s row inside in
+      rw (list-some rows row p, at-label rows (whole-rows Kernel header rows s) row (rw (l .label)) (next .later)) (or-left _ _ (eq-eqb _ _ (sym (l .number-is))))
+
+  behind-has : (number : ℕ) {row item : ℕ} → Before rows row item → legal.Label rows number item → has (label number) (listAt rows (link rows row 5)) ≡ true
+  behind-has number (adjacent {item} leads) l = label-first number (link rows item 5) (let later = leads .later in omega arith) l
+  behind-has number (further {item} {row} b leads) l = from-earlier (label number) b (label-first number (link rows row 5) (let later = leads .later in omega arith) l)
+
+  -- ---- the items ahead of a row's tree have every label that is ahead of the row
+
+  abbrev pub Covers : Items → ℕ → Type 0
+  Covers ahead row = (number : ℕ) → Ahead rows number row → has (label number) ahead ≡ true
+
+  -- for an item of a list: those behind it, and those ahead of the list's owner
+  pub covers-item : (ahead : Items) (owner row : ℕ) → Owner rows owner row → Covers ahead owner → Covers (listAt rows (link rows row 5) ⧺ ahead) row
+  covers-item ahead owner row o c number (behind b l) = has-in (label number) (listAt rows (link rows row 5)) ahead (behind-has number b l)
+  covers-item ahead owner row o c number (outward p a) =
+      let t = structured-tree Kernel header rows s in
+      has-behind (label number) (listAt rows (link rows row 5)) ahead (c number (subst (Ahead rows number) (sym (owner-is rows t p) ∙ owner-is rows t o) a))
+
+  -- for a branch or body, which has nothing behind it: those ahead of its owner
+  pub covers-branch : (ahead : Items) (owner row : ℕ) → Owner rows owner row → link rows row 5 ≡ 0 → Covers ahead owner → Covers ahead row
+  covers-branch ahead owner row o lone c number (behind b l) = absurd (let later = next-of b in omega arith)
+    where
+      next-of : {item row : ℕ} → Before rows item row → 0 < link rows item 5
+      next-of (adjacent leads) = let l = leads .later in omega arith
+      next-of (further b leads) = next-of b
+  covers-branch ahead owner row o lone c number (outward p a) =
+      let t = structured-tree Kernel header rows s in
+      c number (subst (Ahead rows number) (sym (owner-is rows t p) ∙ owner-is rows t o) a)

@@ -25,6 +25,7 @@ pub fn flow(answer: i64) -> Flow
     passing(number)
 }
 
+// How a statement that was not stopped ended, by its word.
 fn passing(number: i32) -> Flow
     ensures { λ r. ⌜ r ≡ passingOf number ⌝ }
 {

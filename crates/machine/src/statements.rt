@@ -129,6 +129,7 @@ pub fn run_list(
     answer
 }
 
+// An if's row, entered: the test, then one branch.
 fn run_if(rows: &[i32], bounds: &[usize], row: usize, store: &mut [i32], left: &mut u32) -> i64
     requires { ⌜ Entered (now rows) (now bounds) (length (now store)) row kinds.Kind.If ⌝ }
     ensures { λ r. ⌜ ran r (now (left .exit)) (now (store .exit)) ≡ spend (performAt (now (rows .entry)) (now (bounds .entry)) row) (now (left .entry)) (now (store .entry)) ⌝ }
@@ -252,6 +253,7 @@ fn run_do(
     }
 }
 
+// A for's row, entered: the start, then the rounds.
 fn run_for(rows: &[i32], bounds: &[usize], row: usize, store: &mut [i32], left: &mut u32) -> i64
     requires { ⌜ Entered (now rows) (now bounds) (length (now store)) row kinds.Kind.For ⌝ }
     ensures { λ r. ⌜ ran r (now (left .exit)) (now (store .exit)) ≡ spend (performAt (now (rows .entry)) (now (bounds .entry)) row) (now (left .entry)) (now (store .entry)) ⌝ }
@@ -272,7 +274,7 @@ fn run_for(rows: &[i32], bounds: &[usize], row: usize, store: &mut [i32], left: 
     )
 }
 
-// "Go to the case of equal value, else to default, else past the switch; then fall through until break."
+// A switch's row, entered: "go to the case of equal value, else to default, else past the switch; then fall through until break".
 fn run_switch(rows: &[i32], bounds: &[usize], row: usize, store: &mut [i32], left: &mut u32) -> i64
     requires { ⌜ Entered (now rows) (now bounds) (length (now store)) row kinds.Kind.Switch ⌝ }
     ensures { λ r. ⌜ ran r (now (left .exit)) (now (store .exit)) ≡ spend (performAt (now (rows .entry)) (now (bounds .entry)) row) (now (left .entry)) (now (store .entry)) ⌝ }

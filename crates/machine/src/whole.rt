@@ -88,8 +88,9 @@ pub fn run(form: Form, header: &[i32], rows: &[i32], store: &mut [i32], budget: 
         store,
         &mut left,
     );
+    let count = budget - left;
     RunAnswer {
         ending: ending_of(answer),
-        count: budget - left,
+        count,
     }
 }

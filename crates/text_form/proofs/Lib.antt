@@ -1,6 +1,4 @@
 -- The proofs of the reader and the writer: laws that several functions use, then a folder for each function.
--- Buffers: values written from the start, and parts that are lent.
-pub mod Buffers
 -- Signs: a word from its size, and its size.
 pub mod Signs
 -- Decimal: the walk over a field's digits.
@@ -15,8 +13,6 @@ pub mod Rows
 pub mod Filling
 -- Shapes: the ways that reading a whole text can go.
 pub mod Shapes
--- Puts: bytes put one after the other at the start of a buffer.
-pub mod Puts
 -- Writing: lines, rows and whole texts put into a buffer.
 pub mod Writing
 -- Sizing: how many bytes a text takes, and what a writer leaves.

@@ -2,13 +2,12 @@
 use mathlib.Core.Path.{_≡_, refl, sym, ap, _∙_}
 use mathlib.Core.Bool.{Bool, true, false}
 use mathlib.Core.List.{List, []}
-use mathlib.Core.Option.{Option, none, some}
+use mathlib.Core.Option.{none, some}
 use Prim.Native.Nat.{ℕ, _+_, _-_, _≤_, _<_}
 use native.Mathlib.Omega.{arith}
 use lib.Dec.{leb, ltb}
 use lib.IntN.{ℤ}
 use lib.ListN.{length, take, drop}
-use lib.Seq.{take-at}
 use borrow.Author.Tests.{leb-true, le-leb, lt-leb, ltb-true, ltb-false}
 use Rattle.words.specs.Layout.{leading, headerFits, countFits}
 use Rattle.words.specs.Laws.{leading-limits}
@@ -20,8 +19,9 @@ use Rattle.text_form.specs.Answers.{over, unless, causeOf, readRefused, 
 use Rattle.text_form.specs.NumberLaws.{by-cases, not-some}
 use Rattle.text_form.specs.LineLaws.{lines-none}
 use Rattle.text_form.specs.TextLaws.{not-parsed, Kept, keep-reads, program-first}
-use Rattle.text_form.specs.Reader.{numbersIn, Holds, HoldsExactly, wordsOf, wordsIn, HoldsRows, HasLines}
-use Rattle.text_form.proofs.Buffers.{rest-of}
+use Rattle.text_form.specs.Reader.{wordsOf, HasLines}
+use Rattle.text_form.specs.BufferLaws.{rest-of}
+use Rattle.text_form.specs.ReaderLaws.{first-part}
 use Rattle.text_form.proofs.Pieces.{Piece}
 use Rattle.text_form.proofs.Rows.{Sized, lines-step, lines-last}
 
@@ -41,9 +41,6 @@ words-parsed (parsed words) count e = record { words = words; is = refl; size = 
 words-parsed (malformed line) count e = not-parsed (sym e)
 
 -- ---- the shape of a text
-
-first-part : (end : ℕ) (text : List ℕ) → take (end - 0) text ≡ take end text
-first-part end text = let e : end - 0 ≡ end = omega arith in rw e
 
 header-unended : (form : Form) (line : List ℕ) → headerLine form (unended line) ≡ none
 unfolding headerLine lineNumbers keep
@@ -107,43 +104,6 @@ module _ (form : Form) {text : List ℕ} {end : ℕ} (p : Piece 10 text 0 end) w
 -- what the rows were counted of
 pub rows-behind : (text : List ℕ) (k : ℕ) (said : Parsed ℕ) → said ≡ wordsOf (rowsFrom 2 (linesOf (take (length text - k) (drop k text)))) → said ≡ wordsOf (rowsFrom 2 (linesOf (drop k text)))
 rows-behind text k said e = rw (rest-of text k) at e
-
--- ---- the causes 1 and 2 of a text
-
-module _ {read : Option (List ℤ)} {numbers : ℕ} (h : HoldsExactly read numbers) where
-  pub scratch-holds : (table : List ℤ) → length table ≡ 34 → Holds read table
-  scratch-holds table e = record { well-formed = h .well-formed; room = omega (arith, h .size, h .few) }
-
-  pub scratch-part : (table written : List ℤ) → written ≡ over (numbersIn read) table → take (numbers - 0) written ≡ numbersIn read
-  unfolding over
-  scratch-part table written e = let n : numbers - 0 ≡ numbers = omega arith in rw (n, e) (take-at _ _ numbers (h .size))
-
--- ---- the lines of a well-formed text, as their readers are lent them
-
-module _ {form : Form} {text : List ℕ} {end numbers words : ℕ} (l : HasLines form text end numbers words) where
-  lent-line : numbersOf (fieldsOf (take (end - 0) text)) ≡ some (l .program .header)
-  lent-line = rw (first-part end text) (l .first-line)
-
-  lent-rows : rowsFrom 2 (linesOf (take (length text - (end + 1)) (drop (end + 1) text))) ≡ parsed (l .program .rows)
-  lent-rows = rw (rest-of text (end + 1)) (l .other-lines)
-
-  pub line-exactly : HoldsExactly (numbersOf (fieldsOf (take (end - 0) text))) numbers
-  line-exactly = record { well-formed = rw lent-line; size = rw lent-line (l .header-size); few = l .few }
-
-  pub line-cause : (said : Option ℕ) → said ≡ causeOf form (numbersIn (numbersOf (fieldsOf (take (end - 0) text)))) words true → causeOf form (l .program .header) words true ≡ said
-  line-cause said e = sym (rw lent-line at e)
-
-  pub line-holds : (header : List ℤ) → numbers ≤ length header → Holds (numbersOf (fieldsOf (take (end - 0) text))) header
-  line-holds header h = record { well-formed = rw lent-line; room = rw lent-line (omega (arith, l .header-size)) }
-
-  pub line-written : (header written : List ℤ) → written ≡ over (numbersIn (numbersOf (fieldsOf (take (end - 0) text)))) header → written ≡ over (l .program .header) header
-  line-written header written e = rw lent-line at e
-
-  pub rows-hold : (rows : List ℤ) → words ≤ length rows → HoldsRows (rowsFrom 2 (linesOf (take (length text - (end + 1)) (drop (end + 1) text)))) rows
-  rows-hold rows h = record { well-formed = rw lent-rows; room = rw lent-rows (omega (arith, l .rows-size)) }
-
-  pub rows-written : (rows written : List ℤ) → written ≡ over (wordsIn (rowsFrom 2 (linesOf (take (length text - (end + 1)) (drop (end + 1) text))))) rows → written ≡ over (l .program .rows) rows
-  rows-written rows written e = rw lent-rows at e
 
 -- ---- what a reader leaves
 

@@ -7,7 +7,7 @@ use Prim.Native.Nat.{ℕ, zero, suc, _+_, _*_, _-_, _^_, _≤_, _<_}
 use native.Mathlib.Omega.{arith}
 use native.Mathlib.Numerals.{add-one}
 use lib.Dec.{leb}
-use lib.IntN.{ℤ, pos, negsuc}
+use lib.IntN.{ℤ, pos}
 use lib.Signed.{mag}
 use lib.ListN.{length, take, drop, getD, length-append, length-drop, take-append-drop}
 use lib.Seq.{length-take-le, take-suc, take-length}
@@ -19,10 +19,10 @@ use Rattle.text_form.specs.declared.WriteAnswer.the-variants.{Written, R
 use Rattle.text_form.specs.Number.{numberBytes}
 use Rattle.text_form.specs.Line.{lineBytes}
 use Rattle.text_form.specs.Text.{rowsBytes, textBytes}
-use Rattle.text_form.specs.Answers.{finished, over, causeOf, writeBytes, writeResult, Writes}
+use Rattle.text_form.specs.Answers.{finished, causeOf, writeBytes, writeResult, Writes}
 use Rattle.text_form.specs.AnswerLaws.{cause-none}
 use Rattle.text_form.specs.Writer.{Put, bytesOf, Measured, Fills}
-use Rattle.text_form.proofs.Puts.{digits-ten}
+use Rattle.text_form.specs.PutLaws.{number-eleven}
 use Rattle.text_form.proofs.Shapes.{cause-some, cause-short}
 use Rattle.text_form.proofs.Writing.{line-one, line-more, text-size}
 
@@ -68,12 +68,6 @@ bytes-text : (header rows : List ℤ) → 0 < length header → length rows ≡ 
 bytes-text header rows h e = text-size header rows ∙ omega (arith, bytes-line header h, bytes-rows (rowCount rows) rows e)
 
 -- ---- the sum over words
-
--- a word takes at most eleven bytes
-number-eleven : (z : ℤ) → mag z < 2 ^ 31 → length (numberBytes z) ≤ 11
-unfolding numberBytes
-number-eleven (pos n) h = omega (arith, digits-ten n (omega arith))
-number-eleven (negsuc n) h = omega (arith, digits-ten (suc n) (omega arith))
 
 pub record Summed (words : List ℤ) (size i : ℕ) : Type 0 where
   pub inside : i ≤ length words

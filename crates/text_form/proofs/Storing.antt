@@ -12,7 +12,7 @@ use Rattle.text_form.specs.Line.{fieldsOf, numbersOf}
 use Rattle.text_form.specs.Answers.{over}
 use Rattle.text_form.specs.Reader.{numbersIn, Holds}
 use Rattle.text_form.specs.NumberLaws.{not-some, number-reads}
-use Rattle.text_form.proofs.Buffers.{length-over, over-set, over-none}
+use Rattle.text_form.specs.BufferLaws.{length-over, over-set, over-none}
 use Rattle.text_form.proofs.Signs.{again}
 use Rattle.text_form.proofs.Pieces.{Piece, behind, Counted, counted-start, counted-end, counted-bad, counted-next, start-before, next-before}
 

@@ -15,9 +15,9 @@ use Rattle.text_form.specs.Number.{numberBytes}
 use Rattle.text_form.specs.Line.{parted, lineBytes}
 use Rattle.text_form.specs.Text.{rowsBytes, textBytes}
 use Rattle.text_form.specs.Writer.{Put, Fills}
-use Rattle.text_form.proofs.Buffers.{part, back-in, rest-of}
+use Rattle.text_form.specs.BufferLaws.{part, back-in, rest-of}
 use Rattle.text_form.proofs.Signs.{again}
-use Rattle.text_form.proofs.Puts.{put-none, put-as, put-length, put-byte, put-next, put-room, put-inside, put-back}
+use Rattle.text_form.specs.PutLaws.{put-none, put-as, put-length, put-byte, put-next, put-room, put-inside, put-back}
 
 -- ---- a line
 

@@ -1,5 +1,5 @@
 -- Laws of answers: what is known where the reader accepted a text, or the writer a header and rows.
-use mathlib.Core.Path.{_≡_, refl, sym, ap, _∙_}
+use mathlib.Core.Path.{_≡_, refl, sym, ap}
 use mathlib.Core.Bool.{Bool, true, false, _&&_}
 use mathlib.Core.List.{List, [], _∷_}
 use mathlib.Core.Option.{Option, none, some}
@@ -9,7 +9,7 @@ use lib.Dec.{leb}
 use lib.IntN.{ℤ}
 use lib.ListN.{length, take, drop}
 use lib.Seq.{take-append-seam}
-use borrow.Author.Tests.{leb-true}
+use borrow.Author.Tests.{leb-true, le-leb}
 use Rattle.words.specs.Layout.{headerFits, countFits}
 use Rattle.words.specs.declared.Form.{Form}
 use Rattle.text_form.specs.declared.ReadAnswer.the-variants.{Read}
@@ -49,7 +49,7 @@ cause-room form header rowWords false e =
     let p = cause-none form header rowWords false e in
     some-none (rw (p .header-fits, p .count-fits) at e)
 
-refused-finished : {G : Type 0} {number place : ℕ} {counts : List ℕ} → refused number place ≡ finished counts → G
+pub refused-finished : {G : Type 0} {number place : ℕ} {counts : List ℕ} → refused number place ≡ finished counts → G
 refused-finished {number = number} {place = place} {counts = counts} e = absurd (let z : _≡_ {A = ℕ} 0 1 = cc in omega arith)
 
 both-hold : (a b c d : ℕ) → (leb a b && leb c d) ≡ true → (a ≤ b) × (c ≤ d)
@@ -58,9 +58,21 @@ both-hold a b c d e =
     (λ t. (leb-true a b t, leb-true c d (rw t at e)))
     (λ t. absurd (let f : false ≡ true = rw t at e in let z : _≡_ {A = ℕ} 0 1 = cc in omega arith))
 
-take-over : {A : Type 0} (values buffer : List A) → take (length values) (over values buffer) ≡ values
+pub take-over : {A : Type 0} (values buffer : List A) → take (length values) (over values buffer) ≡ values
 unfolding over
 take-over values buffer = take-append-seam values (drop (length values) buffer)
+
+-- ---- a text that nothing turns away
+
+-- It is read into any tables that hold its words.
+pub read-passing : (form : Form) (text : List ℕ) (program : Program) → parse form text ≡ parsed program → Passes form (program .header) (length (program .rows))
+    → (header rows : List ℤ) → length (program .header) ≤ length header → length (program .rows) ≤ length rows
+    → readResult form text header rows
+    ≡ record { outcome = finished (length (program .header) ∷ length (program .rows) ∷ []); header = over (program .header) header; rows = over (program .rows) rows }
+unfolding readResult readParsed readProgram
+read-passing form text program parses p header rows h r =
+    let room : tablesHold program header rows ≡ true = rw (le-leb _ _ h, le-leb _ _ r) in
+    rw (parses, passes-cause form (program .header) (length (program .rows)) (tablesHold program header rows) p room)
 
 -- ---- a text that was accepted
 

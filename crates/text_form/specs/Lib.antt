@@ -19,6 +19,12 @@ pub mod NumberLaws
 pub mod LineLaws
 -- TextLaws: a text is read as the header and rows that it is written for.
 pub mod TextLaws
+-- BufferLaws: values written from the start of a buffer, and parts that are lent.
+pub mod BufferLaws
+-- PutLaws: bytes put one after the other at the start of a buffer.
+pub mod PutLaws
+-- ReaderLaws: the lines of a well-formed text, as the functions that store their numbers are lent them.
+pub mod ReaderLaws
 -- AnswerLaws: what is known where a text was accepted, or a header and rows written.
 pub mod AnswerLaws
 -- RoundTrip: text written again gives the same bytes, rows read again the same rows.

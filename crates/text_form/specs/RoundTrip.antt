@@ -1,7 +1,7 @@
 -- The round trips: "Text that is accepted and written again gives the same bytes; rows written and read give the same rows."
 -- Both follow from the laws of texts, since reader and writer share the causes 1, 2 and 10.
 use mathlib.Core.Path.{_≡_}
-use mathlib.Core.Bool.{true, _&&_}
+use mathlib.Core.Bool.{true}
 use mathlib.Core.List.{List, [], _∷_}
 use Prim.Native.Nat.{ℕ, _≤_}
 use lib.Dec.{leb}
@@ -12,10 +12,10 @@ use Rattle.words.specs.Layout.{headerFits}
 use Rattle.words.specs.Laws.{headerFits-facts, countFits-facts}
 use Rattle.words.specs.declared.Form.{Form}
 use Rattle.text_form.specs.Text.{textBytes, headerSized}
-use Rattle.text_form.specs.Answers.{finished, over, readProgram, readParsed, readResult, writeBytes, writeResult}
+use Rattle.text_form.specs.Answers.{finished, over, readResult, writeBytes, writeResult}
 use Rattle.text_form.specs.LineLaws.{Words}
 use Rattle.text_form.specs.TextLaws.{text-shows}
-use Rattle.text_form.specs.AnswerLaws.{Passes, passes-cause, Accepted, accepted, WrittenText, written}
+use Rattle.text_form.specs.AnswerLaws.{Passes, passes-cause, read-passing, accepted, written}
 
 -- ---- text that is accepted and written again
 
@@ -46,11 +46,9 @@ read-again : (form : Form) (header rows : List ℤ) → Passes form header (leng
     → (headerTable rowTable : List ℤ) → length header ≤ length headerTable → length rows ≤ length rowTable
     → readResult form (textBytes header rows) headerTable rowTable
     ≡ record { outcome = finished (length header ∷ length rows ∷ []); header = over header headerTable; rows = over rows rowTable }
-unfolding readResult readParsed readProgram
 read-again form header rows p w v headerTable rowTable h r =
     let parses = text-shows form header rows (fits-sized form header (p .header-fits)) (countFits-facts form (length rows) (p .count-fits) .whole) w v in
-    let room : (leb (length header) (length headerTable) && leb (length rows) (length rowTable)) ≡ true = rw (le-leb _ _ h, le-leb _ _ r) in
-    rw (parses, passes-cause form header (length rows) (leb (length header) (length headerTable) && leb (length rows) (length rowTable)) p room)
+    read-passing form (textBytes header rows) (record { header = header; rows = rows }) parses p headerTable rowTable h r
 
 -- A header and rows that the writer accepts are read back from the bytes it wrote, into any tables that hold them.
 pub rows-round-trip : (form : Form) (header rows : List ℤ) (buffer : List ℕ) (bytes : ℕ) → Words header → Words rows

@@ -39,7 +39,7 @@ pub fn number_size(number: i32) -> usize
 }
 
 // Writes the digits of `n` at the start of `text`, and answers how many there are.
-fn put_digits(n: u64, text: &mut [u8]) -> usize
+pub fn put_digits(n: u64, text: &mut [u8]) -> usize
     requires { ⌜ length (digits n) ≤ length (now text) ⌝ }
     ensures { λ r. ⌜ Put (digits n) (now (text .entry)) r (now (text .exit)) ⌝ }
 {

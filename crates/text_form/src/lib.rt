@@ -1,9 +1,9 @@
 // The text form: reader and writer for source and kernel texts.
-mod digits; // digits.rt: how many bytes a number is written with, and those bytes
-mod limits; // limits.rt: the causes that reader and writer test alike
-mod line; // line.rt: where a field or a line ends, and the numbers of a line
+pub mod digits; // digits.rt: how many bytes a number is written with, and those bytes
+pub mod limits; // limits.rt: the causes that reader and writer test alike
+pub mod line; // line.rt: where a field or a line ends, and the numbers of a line
 mod number; // number.rt: the word that a field's bytes are
-mod reader; // reader.rt: the shape of a text, and its words
+pub mod reader; // reader.rt: the shape of a text, and its words
 mod writer; // writer.rt: how many bytes a text takes, and those bytes
 
 use self::limits::Cause;

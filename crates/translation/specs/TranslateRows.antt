@@ -33,7 +33,7 @@ statement-some continue = omega arith
 statement-some (goto l) = omega arith
 
 module _ (S : ℕ) where
-  rows-atom : (t : ℕ) (h : Atom) → expressionRows (atom S t h) ≡ 1
+  pub rows-atom : (t : ℕ) (h : Atom) → expressionRows (atom S t h) ≡ 1
   unfolding expressionRows
   rows-atom t (number v) = refl
   rows-atom t top = refl
@@ -86,17 +86,17 @@ module _ (S : ℕ) where
     rows-index (variable i) t = refl
     rows-index (element array e) t = rows-expression e t
 
-  rows-part : (p : Part) → itemsRows (partCode S p) ≡ partSize p
+  pub rows-part : (p : Part) → itemsRows (partCode S p) ≡ partSize p
   unfolding itemsRows
   rows-part absent = refl
   rows-part (present e) = rows-expression e 0
 
-  rows-test : (p : Part) (l : ℕ) (xs : Items) → itemsRows (testCode S p l xs) ≡ testSize p + itemsRows xs
+  pub rows-test : (p : Part) (l : ℕ) (xs : Items) → itemsRows (testCode S p l xs) ≡ testSize p + itemsRows xs
   unfolding expressionRows itemsRows
   rows-test absent l xs = omega arith
   rows-test (present e) l xs = simp (rows-append, rows-atom) (omega (arith, rows-expression e 0))
 
-  rows-cases : (t u : ℕ) (h : Atom) (is : Items) (l : ℕ) → itemsRows (caseTests S (atom S t h) u is l) ≡ 11 * cases is
+  pub rows-cases : (t u : ℕ) (h : Atom) (is : Items) (l : ℕ) → itemsRows (caseTests S (atom S t h) u is l) ≡ 11 * cases is
   unfolding expressionRows itemsRows caseTests
   rows-cases t u h none l = refl
   rows-cases t u h (s then is) l = rows-cases t u h is (l + labels s)

@@ -67,16 +67,14 @@ start-requires c κs =
     let past-natural = c .before .before .before .natural in
     startable (begin .pre) (past-leading .result) (past-leading .ensures) (past-natural .result) (natural-again _ _ (past-natural-arg .given) (past-natural .ensures)) _ (length-take-le _ _ (array-borrow-prefix-bounds (c .before .before .before)))
 
+sub-count : tie.Need-sub-count
+sub-count c =
+    let begin = c .before .before .before .before .before .before .before .before .before .before in
+    let past-start = c .before .before .start in
+    omega (arith, ran-least (past-start .result) (past-start .last .1 .1 .1 .1 .1 .0) (past-start .last .1 .1 .1 .1 .0) (begin .args .budget) (begin .args .store .now) _ (past-start .ensures))
+
 ending-of-requires : tie.Need-ending-of-requires
 ending-of-requires c κs = tt
-
-sub-t26 : tie.Need-sub-t26
-sub-t26 c =
-    let begin = c .before .before .before .before .before .before .before .before .before .before .before in
-    let past-leading = c .before .before .before .before .before .before .before .before .before .before .leading in
-    let past-natural = c .before .before .before .before .before .before .before .natural in
-    let past-start = c .before .before .before .start in
-    omega (arith, ran-least (past-start .result) (past-start .last .1 .1 .1 .1 .1 .0) (past-start .last .1 .1 .1 .1 .0) (begin .args .budget) (begin .args .store .now) _ (past-start .ensures))
 
 same-length : tie.Need-same-length
 same-length c = search needs
@@ -111,7 +109,7 @@ run-spec =
     array-borrow-prefix-bounds
     slice-aggregate-start
     start-requires
+    sub-count
     ending-of-requires
-    sub-t26
     same-length
     returns)

@@ -3,7 +3,7 @@ use mathlib.Core.Path.{sym, ap, _∙_}
 use native.Mathlib.Omega.{arith}
 use Prim.Native.Nat.{_+_, _/_}
 use Rattle.text_form.specs.NumberLaws.{length-one, length-more}
-use Rattle.text_form.proofs.Puts.{digits-ten}
+use Rattle.text_form.specs.PutLaws.{digits-ten}
 use Prim.Native.Nat.{ℕ, _<_}
 use borrow.Fn.Kinds.{In}
 use borrow.Fn.PlainCycle.{Measures, is, falls, and}

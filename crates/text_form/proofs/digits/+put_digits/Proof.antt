@@ -3,7 +3,7 @@ use mathlib.Core.Path.{sym}
 use native.Mathlib.Omega.{arith}
 use lib.ListN.{length-set}
 use Rattle.text_form.specs.NumberLaws.{digits-more, length-one, length-more}
-use Rattle.text_form.proofs.Puts.{put-one, put-as, put-byte}
+use Rattle.text_form.specs.PutLaws.{put-one, put-as, put-byte}
 use Prim.Native.Nat.{ℕ, _<_}
 use borrow.Fn.Kinds.{In}
 use borrow.Fn.PlainCycle.{Measures, is, falls, and}

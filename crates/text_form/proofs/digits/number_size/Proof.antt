@@ -4,7 +4,7 @@ use native.Mathlib.Omega.{arith}
 use Prim.Native.Nat.{ℕ, _+_}
 use native.Mathlib.Numerals.{add-one}
 use lib.ListN.{length}
-use Rattle.text_form.proofs.Puts.{digits-ten}
+use Rattle.text_form.specs.PutLaws.{digits-ten}
 use Rattle.text_form.proofs.Signs.{bytes-negative, bytes-positive, size-small}
 use borrow.Author.Needs.{needs}
 use Rattle.text_form.proofs.digits.number_size.Statement.{statement}

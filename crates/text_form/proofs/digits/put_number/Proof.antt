@@ -4,7 +4,7 @@ use native.Mathlib.Omega.{arith}
 use mathlib.Core.List.{_∷_}
 use lib.ListN.{length-set}
 use Rattle.text_form.specs.Number.{digits, numberBytes}
-use Rattle.text_form.proofs.Puts.{put-as, SignRoom, sign-room, sign-back, sign-digits}
+use Rattle.text_form.specs.PutLaws.{put-as, LedRoom, led-room, led-back, led-put}
 use Rattle.text_form.proofs.Signs.{bytes-negative, bytes-positive}
 use borrow.Author.Needs.{needs}
 use Rattle.text_form.proofs.digits.put_number.Statement.{statement}
@@ -14,7 +14,7 @@ use Rattle.text_form.proofs.digits.put_number.Tie as tie
 signed : (c : tie.Then1) → numberBytes (c .before .before .before .args .number) ≡ 45 ∷ digits (c .before .magnitude .result)
 signed c = bytes-negative _ _ (c .before .before .before .fits .number) (c .before .magnitude .ensures) (c .if1 .taken)
 
-room : (c : tie.Then1) → SignRoom (c .before .magnitude .result) (c .before .before .before .args .text .now)
+room : (c : tie.Then1) → LedRoom 45 (digits (c .before .magnitude .result)) (c .before .before .before .args .text .now)
 room c = record { room = rw (signed c) at (c .before .before .before .pre) }
 
 unsigned : (c : tie.Else1) → numberBytes (c .before .before .before .args .number) ≡ digits (c .before .magnitude .result)
@@ -36,16 +36,16 @@ part-put-digits-end : tie.Need-part-put-digits-end
 part-put-digits-end c = search needs
 
 put-digits-requires : tie.Need-put-digits-requires
-put-digits-requires c κs = sign-room (room (c .before))
+put-digits-requires c κs = led-room (room (c .before))
 
 add-result : tie.Need-add-result
 add-result c = omega (arith, c .before .before .put-digits .ensures .size, room (c .before .before .before .before) .room)
 
 same-length : tie.Need-same-length
-same-length c = sign-back (room (c .before .before .before .before)) (c .before .before .put-digits .last .1 .0) (c .before .before .put-digits .kept .1 .0)
+same-length c = led-back (room (c .before .before .before .before)) (c .before .before .put-digits .last .1 .0) (c .before .before .put-digits .kept .1 .0)
 
 returns : tie.Need-returns
-returns c = put-as (sym (signed (c .before .before .before .before))) (sign-digits (room (c .before .before .before .before)) _ _ (c .before .before .put-digits .ensures))
+returns c = put-as (sym (signed (c .before .before .before .before))) (led-put (room (c .before .before .before .before)) _ _ (c .before .before .put-digits .ensures))
 
 put-digits-requires-2 : tie.Need-put-digits-requires-2
 put-digits-requires-2 c κs = rw (unsigned (c .before)) at (c .before .before .before .before .pre)

@@ -2,7 +2,8 @@
 use mathlib.Core.Path.{ap, _∙_}
 use native.Mathlib.Omega.{arith}
 use Rattle.text_form.specs.Reader.{causeSays}
-use Rattle.text_form.proofs.Shapes.{line-exactly, line-cause, line-holds, line-written, rows-hold, rows-written, reads-cause, reads-short-header, reads-short-rows, reads-all}
+use Rattle.text_form.specs.ReaderLaws.{line-exactly, line-cause, line-holds, line-written, rows-hold, rows-written}
+use Rattle.text_form.proofs.Shapes.{reads-cause, reads-short-header, reads-short-rows, reads-all}
 use borrow.Author.Needs.{needs}
 use Rattle.text_form.proofs.reader.read_lines.Statement.{statement}
 use Rattle.text_form.proofs.reader.read_lines.Tie as tie

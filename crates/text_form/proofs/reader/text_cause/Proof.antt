@@ -5,7 +5,7 @@ use mathlib.Core.Bool.{true}
 use mathlib.Core.List.{List}
 use lib.IntN.{ℤ}
 use Rattle.text_form.specs.Answers.{causeOf}
-use Rattle.text_form.proofs.Shapes.{scratch-holds, scratch-part}
+use Rattle.text_form.specs.ReaderLaws.{scratch-holds, scratch-part}
 use borrow.Author.Needs.{needs}
 use Rattle.text_form.proofs.reader.text_cause.Statement.{statement}
 use Rattle.text_form.proofs.reader.text_cause.Tie as tie

@@ -1,17 +1,20 @@
--- Bytes put one after the other at the start of a buffer: a byte more, and a part behind.
+-- PutLaws: bytes put one after the other at the start of a buffer: a byte more, a part behind, digits.
 use mathlib.Core.Path.{_≡_, refl, sym, ap, _∙_}
 use mathlib.Core.List.{List, [], _∷_, _++_}
-use Prim.Native.Nat.{ℕ, _+_, _*_, _-_, _/_, _≤_, _<_}
+use Prim.Native.Nat.{ℕ, zero, suc, _+_, _-_, _/_, _^_, _≤_, _<_}
+use native.Mathlib.Nat.{pow-suc}
 use native.Mathlib.Omega.{arith}
 use lib.Dec.{ltb}
+use lib.IntN.{ℤ, pos, negsuc}
+use lib.Signed.{mag}
 use lib.ListN.{length, set, length-append, length-drop}
 use borrow.Rule.Slice.PartMut.{same-len-mid}
 use borrow.Author.Tests.{ltb-true, ltb-false}
-use Rattle.text_form.specs.Number.{digits}
+use Rattle.text_form.specs.Number.{digits, numberBytes}
 use Rattle.text_form.specs.Answers.{over}
 use Rattle.text_form.specs.NumberLaws.{by-cases, digits-one, length-one, length-more}
 use Rattle.text_form.specs.Writer.{Put}
-use Rattle.text_form.proofs.Buffers.{part, back-in, part-is, length-over, over-none, over-set, over-next}
+use Rattle.text_form.specs.BufferLaws.{part, back-in, part-is, length-over, over-fits, over-none, over-set, over-next}
 
 pub put-none : (buffer : List ℕ) → Put [] buffer 0 buffer
 put-none buffer = record { size = refl; written = over-none buffer }
@@ -19,6 +22,9 @@ put-none buffer = record { size = refl; written = over-none buffer }
 module _ {bytes buffer : List ℕ} {count : ℕ} {left : List ℕ} (p : Put bytes buffer count left) where
   pub put-length : length bytes ≤ length buffer → length left ≡ length buffer
   put-length h = length-over bytes buffer left (p .written) h
+
+  pub put-fits : length left ≡ length buffer → length bytes ≤ length buffer
+  put-fits e = over-fits bytes buffer (sym (ap length (p .written)) ∙ e)
 
   pub put-byte : (byte : ℕ) → length bytes < length buffer → Put (bytes ++ (byte ∷ [])) buffer (count + 1) (set left count byte)
   put-byte byte h = record {
@@ -32,11 +38,12 @@ module _ {bytes buffer : List ℕ} {count : ℕ} {left : List ℕ} (p : Put byte
     written = over-next bytes others buffer left lent count (p .size) (p .written) (q .written);
   }
 
-  -- there is room for others behind
+  -- there is room behind, for so many bytes and for others
+  pub put-space : (more : ℕ) → length bytes + more ≤ length buffer → more ≤ length (part count left)
+  put-space more h = rw (part-is count left, length-drop) (omega (arith, put-length (omega arith), p .size))
+
   pub put-room : (others : List ℕ) → length (bytes ++ others) ≤ length buffer → length others ≤ length (part count left)
-  put-room others h =
-      let room : length bytes + length others ≤ length buffer = rw length-append at h in
-      rw (part-is count left, length-drop) (omega (arith, put-length (omega arith), p .size))
+  put-room others h = put-space (length others) (rw length-append at h)
 
   pub put-inside : length bytes ≤ length buffer → count ≤ length left
   put-inside h = omega (arith, p .size, put-length h)
@@ -54,38 +61,41 @@ put-as {buffer = buffer} e p = record { size = p .size ∙ ap length e; written 
 pub put-one : (n : ℕ) (buffer : List ℕ) → n < 10 → length (digits n) ≤ length buffer → Put (digits n) buffer 1 (set buffer 0 (48 + n))
 put-one n buffer h room = put-as (sym (digits-one n h)) (put-byte (put-none buffer) (48 + n) (omega (arith, length-one n h)))
 
-digits-step : (k m : ℕ) → ((n : ℕ) → n ≤ m → length (digits n) ≤ k) → (n : ℕ) → n ≤ 10 * m + 9 → length (digits n) ≤ k + 1
-digits-step k m f n h =
+-- a number below 10 ^ (k + 1) has at most k + 1 digits
+pub digits-within : (k n : ℕ) → n < 10 ^ suc k → length (digits n) ≤ suc k
+digits-within zero n h = omega (arith, length-one n h)
+digits-within (suc k) n h =
     by-cases (ltb n 10)
     (λ t. omega (arith, length-one n (ltb-true n 10 t)))
-    (λ t. omega (arith, length-more n (ltb-false n 10 t), f (n / 10) (omega arith)))
-
-digits-first : (n : ℕ) → n ≤ 9 → length (digits n) ≤ 1
-digits-first n h = omega (arith, length-one n (omega arith))
+    (λ t. omega (arith, length-more n (ltb-false n 10 t), digits-within k (n / 10) (omega (arith, pow-suc 10 (suc k)))))
 
 -- a word's size has at most ten digits
 pub digits-ten : (n : ℕ) → n ≤ 2147483648 → length (digits n) ≤ 10
-digits-ten n h =
-    digits-step 9 999999999 (digits-step 8 99999999 (digits-step 7 9999999 (digits-step 6 999999 (digits-step 5 99999
-    (digits-step 4 9999 (digits-step 3 999 (digits-step 2 99 (digits-step 1 9 digits-first)))))))) n (omega arith)
+digits-ten n h = digits-within 9 n (omega arith)
 
--- ---- a minus sign and digits
+-- a word takes at most eleven bytes
+pub number-eleven : (z : ℤ) → mag z < 2 ^ 31 → length (numberBytes z) ≤ 11
+unfolding numberBytes
+number-eleven (pos n) h = omega (arith, digits-ten n (omega arith))
+number-eleven (negsuc n) h = omega (arith, digits-ten (suc n) (omega arith))
 
-pub record SignRoom (n : ℕ) (buffer : List ℕ) : Type 0 where
-  pub room : length (45 ∷ digits n) ≤ length buffer
+-- ---- a byte, and others behind it
 
-module _ {n : ℕ} {buffer : List ℕ} (r : SignRoom n buffer) where
-  sign : Put (45 ∷ []) buffer 1 (set buffer 0 45)
-  sign = put-byte (put-none buffer) 45 (omega (arith, r .room))
+pub record LedRoom (byte : ℕ) (others buffer : List ℕ) : Type 0 where
+  pub room : length (byte ∷ others) ≤ length buffer
 
-  pub sign-room : length (digits n) ≤ length (part 1 (set buffer 0 45))
-  sign-room = put-room sign (digits n) (r .room)
+module _ {byte : ℕ} {others buffer : List ℕ} (r : LedRoom byte others buffer) where
+  lead : Put (byte ∷ []) buffer 1 (set buffer 0 byte)
+  lead = put-byte (put-none buffer) byte (omega (arith, r .room))
 
-  pub sign-back : (lent : List ℕ) → length lent ≡ length (part 1 (set buffer 0 45)) → length (back-in 1 (set buffer 0 45) lent) ≡ length buffer
-  sign-back lent e = put-back sign lent (omega (arith, r .room)) e
+  pub led-room : length others ≤ length (part 1 (set buffer 0 byte))
+  led-room = put-room lead others (r .room)
 
-  pub sign-digits : (count : ℕ) (lent : List ℕ) → Put (digits n) (part 1 (set buffer 0 45)) count lent → Put (45 ∷ digits n) buffer (count + 1) (back-in 1 (set buffer 0 45) lent)
-  sign-digits count lent p =
-      let whole = put-next sign (digits n) count lent p in
+  pub led-back : (lent : List ℕ) → length lent ≡ length (part 1 (set buffer 0 byte)) → length (back-in 1 (set buffer 0 byte) lent) ≡ length buffer
+  led-back lent e = put-back lead lent (omega (arith, r .room)) e
+
+  pub led-put : (count : ℕ) (lent : List ℕ) → Put others (part 1 (set buffer 0 byte)) count lent → Put (byte ∷ others) buffer (count + 1) (back-in 1 (set buffer 0 byte) lent)
+  led-put count lent p =
+      let whole = put-next lead others count lent p in
       let e : 1 + count ≡ count + 1 = omega arith in
       rw (← e) whole

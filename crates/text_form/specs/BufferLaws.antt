@@ -1,4 +1,4 @@
--- Buffers: values written one after the other from the start, and parts that are lent and given back.
+-- BufferLaws: values written one after the other from the start of a buffer, and parts that are lent and given back.
 use mathlib.Core.Path.{_≡_, refl, sym, ap, _∙_}
 use mathlib.Core.List.{List, [], _∷_, _++_, append-assoc, append-nil}
 use Prim.Native.Nat.{ℕ, _+_, _-_, _≤_, _<_}
@@ -17,6 +17,13 @@ module _ {A : Type 0} where
   pub length-over : (u l m : List A) → m ≡ over u l → length u ≤ length l → length m ≡ length l
   unfolding over
   length-over u l m e h = rw e (simp (length-append, length-drop) (omega arith))
+
+  -- what kept a buffer's length had room in it
+  pub over-fits : (u l : List A) → length (over u l) ≡ length l → length u ≤ length l
+  unfolding over
+  over-fits u l e =
+      let sum : length u + (length l - length u) ≡ length l = simp (length-append, length-drop) at e in
+      omega arith
 
   -- one value more
   pub over-set : (u l m : List A) (k : ℕ) (b : A) → m ≡ over u l → k ≡ length u → length u < length l → set m k b ≡ over (u ++ (b ∷ [])) l

@@ -1,0 +1,77 @@
+-- Asks: what the leaves ask of their caller, and what they find of atoms and places.
+use mathlib.Core.Path.{_≡_}
+use mathlib.Core.List.{List}
+use Prim.Native.Nat.{ℕ, _+_, _*_, _≤_, _<_}
+use lib.IntN.{ℤ}
+use Rattle.words.specs.Table.{rowCount}
+use Rattle.language.specs.Decode.{placeOf, expressionAt}
+use Rattle.translation.specs.Translate.{atomOf, atom, kernelPlace}
+use Rattle.translation.specs.TranslateSize.{indexRows as indexRowsOf}
+use Rattle.measures.specs.Measures.{Measured}
+use Rattle.measures.specs.Shapes.{placeTree as placeShapeTree}
+use Rattle.measures.specs.Operands.{isNumberAtom}
+use Rattle.measures.specs.declared.PlaceShape.{PlaceShape}
+use Rattle.measures.specs.declared.PlaceShape.the-variants.{Variable as VariableShape, Element as ElementShape}
+use Rattle.leaves.specs.Over.{Room}
+use Rattle.leaves.specs.Atoms.{atomTree, placeTree, AtomFits, PlaceFits, indexRows, isNumber}
+use Rattle.leaves.specs.Straight.{lastSize}
+use Rattle.leaves.specs.declared.Atom.{Atom}
+use Rattle.leaves.specs.declared.KernelPlace.{KernelPlace}
+
+-- The source is measured; the store has S words.
+pub record Writing (rows : List ℤ) (table : List ℕ) (S : ℕ) : Type 0 where
+  pub measured : Measured rows table
+  pub small-store : S ≤ 8192
+
+-- What an expression does behind its first two operands.
+pub record LastAsks (rows : List ℤ) (row level base words : ℕ) : Type 0 where
+  pub inside : row < rowCount rows
+  pub level-low : level ≤ row
+  pub room : Room (lastSize (expressionAt rows row)) base words
+
+-- ---- atoms and places
+
+-- The atom of the expression at a row, worked out at level t.
+pub record AtomAt (S : ℕ) (rows : List ℤ) (row t : ℕ) (x : Atom) : Type 0 where
+  pub is : atomTree x ≡ atom S t (atomOf (expressionAt rows row))
+  pub fits : AtomFits x
+  pub number : isNumber x ≡ isNumberAtom (atomOf (expressionAt rows row))
+
+-- The numbers and the index row of a place are inside.
+abbrev pub PlaceInside : List ℤ → PlaceShape → Type 0
+PlaceInside rows (VariableShape i) = i < 8192
+PlaceInside rows (ElementShape array index) = (array < 32) × (index < rowCount rows)
+
+-- A place whose index is held at level t.
+pub record HeldPlace (S : ℕ) (rows : List ℤ) (place : PlaceShape) (t : ℕ) (p : KernelPlace) : Type 0 where
+  pub is : placeTree p ≡ kernelPlace S (placeShapeTree rows place) t
+  pub fits : PlaceFits p
+  pub rows-are : indexRows p ≡ indexRowsOf (placeShapeTree rows place)
+
+-- The place at a row, its index held at level t.
+pub record PlaceAt (S : ℕ) (rows : List ℤ) (row t : ℕ) (p : KernelPlace) : Type 0 where
+  pub is : placeTree p ≡ kernelPlace S (placeOf (expressionAt rows row)) t
+  pub fits : PlaceFits p
+  pub rows-are : indexRows p ≡ indexRowsOf (placeOf (expressionAt rows row))
+
+-- ---- what ends the code of an expression
+
+pub record AssignmentAsks (rows : List ℤ) (table : List ℕ) (S place value level base words : ℕ) : Type 0 where
+  pub writing : Writing rows table S
+  pub place-inside : place < rowCount rows
+  pub value-inside : value < rowCount rows
+  pub level-low : level ≤ 2048
+  pub room : Room (4 + indexRowsOf (placeOf (expressionAt rows place))) base words
+
+pub record OperationAsks (rows : List ℤ) (table : List ℕ) (S place level base words : ℕ) : Type 0 where
+  pub writing : Writing rows table S
+  pub place-inside : place < rowCount rows
+  pub level-low : level ≤ 2048
+  pub room : Room (10 + 6 * indexRowsOf (placeOf (expressionAt rows place))) base words
+
+pub record OperatorAsks (rows : List ℤ) (table : List ℕ) (S left right level base words : ℕ) : Type 0 where
+  pub writing : Writing rows table S
+  pub left-inside : left < rowCount rows
+  pub right-inside : right < rowCount rows
+  pub level-low : level ≤ 2048
+  pub room : Room 6 base words

@@ -1,0 +1,109 @@
+-- Laws of atoms and places: the kernel's atom of an expression at a row, and the kernel's place.
+use mathlib.Core.Path.{_≡_, refl, sym, ap, subst, _∙_}
+use mathlib.Core.Bool.{Bool, true, false}
+use mathlib.Core.List.{List}
+use Prim.Native.Nat.{ℕ, _+_, _≤_, _<_}
+use native.Mathlib.Omega.{arith}
+use lib.IntN.{ℤ}
+use Rattle.words.specs.Table.{rowCount}
+use Rattle.language.specs.Trees.{Expression, constant, read, Place, variable, element}
+use Rattle.language.specs.Sizes.{expressionRows, placeRows}
+use Rattle.language.specs.Decode.{placeOf, expressionAt}
+use Rattle.translation.specs.Translate.{Atom as Held, number, top, atomOf, taken, placeTaken, atom, kernelPlace}
+use Rattle.translation.specs.TranslateSize.{indexRows as indexRowsOf}
+use Rattle.measures.specs.Source.{Source, Onward}
+use Rattle.measures.specs.Shapes.{placeTree as placeShapeTree, shapeTree, PlaceOnward, ShapeAt, PlaceAt as ShapePlaceAt}
+use Rattle.measures.specs.Operands.{plainAtom, isNumberAtom}
+use Rattle.measures.specs.declared.PlaceShape.{PlaceShape}
+use Rattle.measures.specs.declared.PlaceShape.the-variants.{Variable as VariableShape, Element as ElementShape}
+use Rattle.measures.specs.declared.Shape.{Shape}
+use Rattle.measures.specs.declared.Shape.the-variants.{Number, Read, Minus, Not, Binary, And, Or, Comma, Conditional, Assign, Compound, Prefix, Postfix}
+use Rattle.leaves.specs.Over.{Room}
+use Rattle.leaves.specs.Straight.{lastSize}
+use Rattle.leaves.specs.Atoms.{atomTree, placeTree, AtomFits, PlaceFits, indexRows, isNumber}
+use Rattle.leaves.specs.Asks.{AtomAt, PlaceInside, HeldPlace, PlaceAt}
+use Rattle.leaves.specs.declared.Atom.{Atom}
+use Rattle.leaves.specs.declared.Atom.the-variants.{Constant, Variable}
+use Rattle.leaves.specs.declared.KernelPlace.{KernelPlace}
+use Rattle.leaves.specs.declared.KernelPlace.the-variants.{Variable as VariablePlace, Element}
+
+-- What the code makes of the shape of the row that the value comes from; n is the temporary.
+abbrev pub atomBy : Shape → ℕ → Atom
+atomBy (Number v) n = Constant v
+atomBy (Read p) n = Variable n
+atomBy (Minus a) n = Variable n
+atomBy (Not a) n = Variable n
+atomBy (Binary o a b) n = Variable n
+atomBy (And a b) n = Variable n
+atomBy (Or a b) n = Variable n
+atomBy (Comma a b) n = Variable n
+atomBy (Conditional c a b) n = Variable n
+atomBy (Assign p e) n = Variable n
+atomBy (Compound o p e) n = Variable n
+atomBy (Prefix o p) n = Variable n
+atomBy (Postfix o p) n = Variable n
+
+-- An atom that holds what `held` says.
+record Holds (S t : ℕ) (held : Held) (x : Atom) : Type 0 where
+  pub is : atomTree x ≡ atom S t held
+  pub fits : AtomFits x
+  pub number : isNumber x ≡ isNumberAtom held
+
+holds : (S t : ℕ) (rows : List ℤ) (s : Shape) → S + t < 65536 → Holds S t (plainAtom (shapeTree rows s)) (atomBy s (S + t))
+holds S t rows (Number v) h = record { is = refl; fits = tt; number = refl }
+holds S t rows (Read p) h = record { is = refl; fits = h; number = refl }
+holds S t rows (Minus a) h = record { is = refl; fits = h; number = refl }
+holds S t rows (Not a) h = record { is = refl; fits = h; number = refl }
+holds S t rows (Binary o a b) h = record { is = refl; fits = h; number = refl }
+holds S t rows (And a b) h = record { is = refl; fits = h; number = refl }
+holds S t rows (Or a b) h = record { is = refl; fits = h; number = refl }
+holds S t rows (Comma a b) h = record { is = refl; fits = h; number = refl }
+holds S t rows (Conditional c a b) h = record { is = refl; fits = h; number = refl }
+holds S t rows (Assign p e) h = record { is = refl; fits = h; number = refl }
+holds S t rows (Compound o p e) h = record { is = refl; fits = h; number = refl }
+holds S t rows (Prefix o p) h = record { is = refl; fits = h; number = refl }
+holds S t rows (Postfix o p) h = record { is = refl; fits = h; number = refl }
+
+pub atom-found : {rows : List ℤ} {row value : ℕ} {s : Shape} (S t : ℕ) {x : Atom} → ShapeAt rows value s → plainAtom (expressionAt rows value) ≡ atomOf (expressionAt rows row) → S + t < 65536 → x ≡ atomBy s (S + t) → AtomAt S rows row t x
+atom-found {rows} {row} {value} {s} S t {x} f h l e =
+    let o : Holds S t (atomOf (expressionAt rows row)) x = subst (λ (held : Held). Holds S t held x) (ap plainAtom (sym (f .is)) ∙ h) (rw e (holds S t rows s l)) in
+    record { is = o .is; fits = o .fits; number = o .number }
+
+-- an atom is one row
+pub atom-rows : (x : Atom) → expressionRows (atomTree x) ≡ 1
+unfolding expressionRows
+atom-rows (Constant v) = refl
+atom-rows (Variable n) = refl
+
+-- ---- places
+
+pub onward-inside : (rows : List ℤ) (row : ℕ) (p : PlaceShape) → PlaceOnward rows row p → PlaceInside rows p
+onward-inside rows row (VariableShape i) f = f
+onward-inside rows row (ElementShape array index) f = (f .0, f .1 .inside)
+
+pub place-inside : {rows : List ℤ} {row : ℕ} (p : PlaceShape) → ShapePlaceAt rows row p → PlaceInside rows p
+place-inside {rows} {row} p f = onward-inside rows row p (f .onward)
+
+pub held-variable : (S : ℕ) (rows : List ℤ) (t : ℕ) {place : PlaceShape} {i : ℕ} → PlaceInside rows place → place ≡ VariableShape i → HeldPlace S rows place t (VariablePlace i)
+unfolding kernelPlace
+held-variable S rows t {place} {i} f e =
+    let low : PlaceInside rows (VariableShape i) = subst (λ (p : PlaceShape). PlaceInside rows p) e f in
+    rw e (record { is = refl; fits = omega arith; rows-are = refl })
+
+pub held-element : (S : ℕ) (rows : List ℤ) (t : ℕ) {place : PlaceShape} {array index : ℕ} {x : Atom} → PlaceInside rows place → place ≡ ElementShape array index → AtomAt S rows index t x → HeldPlace S rows place t (Element array x)
+unfolding kernelPlace
+held-element S rows t {place} {array} {index} {x} f e a =
+    let low : PlaceInside rows (ElementShape array index) = subst (λ (p : PlaceShape). PlaceInside rows p) e f in
+    rw e (record { is = ap (element array) (a .is); fits = (omega (arith, low .0), a .fits); rows-are = refl })
+
+pub place-found : {S : ℕ} {rows : List ℤ} {row t : ℕ} {place : PlaceShape} {p : KernelPlace} → ShapePlaceAt rows row place → HeldPlace S rows place t p → PlaceAt S rows row t p
+place-found {S} {rows} {row} {t} f h =
+    record { is = h .is ∙ ap (λ (q : Place). kernelPlace S q t) (sym (f .is)); fits = h .fits; rows-are = h .rows-are ∙ ap indexRowsOf (sym (f .is)) }
+
+pub place-index : (rows : List ℤ) {place : PlaceShape} {array index : ℕ} → PlaceInside rows place → place ≡ ElementShape array index → index < rowCount rows
+place-index rows f e = (subst (λ (p : PlaceShape). PlaceInside rows p) e f) .1
+
+-- ---- room, by the shape
+
+pub room-by-shape : {rows : List ℤ} {row base words : ℕ} {s : Shape} → ShapeAt rows row s → Room (lastSize (expressionAt rows row)) base words → Room (lastSize (shapeTree rows s)) base words
+room-by-shape {rows} {row} {base} {words} f r = subst (λ (e : Expression). Room (lastSize e) base words) (f .is) r

@@ -1,0 +1,44 @@
+-- Atoms: the kernel's atoms and places, as the code holds them.
+use mathlib.Core.Bool.{Bool, true, false}
+use Prim.Native.Nat.{ℕ, _<_}
+use lib.IntN.{ℤ, pos}
+use Rattle.language.specs.Trees.{Expression, constant, read, Place, variable, element}
+use Rattle.leaves.specs.declared.Atom.{Atom}
+use Rattle.leaves.specs.declared.Atom.the-variants.{Constant, Variable}
+use Rattle.leaves.specs.declared.KernelPlace.{KernelPlace}
+use Rattle.leaves.specs.declared.KernelPlace.the-variants.{Variable as VariablePlace, Element}
+
+abbrev pub atomTree : Atom → Expression
+atomTree (Constant v) = constant v
+atomTree (Variable n) = read (variable n)
+
+abbrev pub placeTree : KernelPlace → Place
+placeTree (VariablePlace n) = variable n
+placeTree (Element array index) = element array (atomTree index)
+
+-- The kind and the value of an atom's row.
+abbrev pub atomKind : Atom → ℤ
+atomKind (Constant v) = pos 1
+atomKind (Variable n) = pos 2
+
+abbrev pub atomValue : Atom → ℤ
+atomValue (Constant v) = v
+atomValue (Variable n) = pos n
+
+-- Numbers that a word holds.
+abbrev pub AtomFits : Atom → Type 0
+AtomFits (Constant v) = Unit {0}
+AtomFits (Variable n) = n < 65536
+
+abbrev pub PlaceFits : KernelPlace → Type 0
+PlaceFits (VariablePlace n) = n < 65536
+PlaceFits (Element array index) = (array < 65536) × AtomFits index
+
+-- The rows of a place below its own.
+abbrev pub indexRows : KernelPlace → ℕ
+indexRows (VariablePlace n) = 0
+indexRows (Element array index) = 1
+
+abbrev pub isNumber : Atom → Bool
+isNumber (Constant v) = true
+isNumber (Variable n) = false

@@ -1,0 +1,188 @@
+-- Chains: parts of a table written one behind the other. What two writers in a row write is what one writes for both.
+use mathlib.Core.Path.{_≡_, refl, sym, ap, ap₂, subst, _∙_}
+use mathlib.Core.Bool.{Bool, true, false}
+use mathlib.Core.List.{List, [], _∷_, _++_, append-assoc, append-nil}
+use Prim.Native.Nat.{ℕ, zero, suc, _+_, _*_, _-_, _≤_, _<_}
+use native.Mathlib.Omega.{arith}
+use lib.IntN.{ℤ, pos}
+use lib.ListN.{length, take, drop, length-append, length-drop, drop-of-length-le}
+use lib.Seq.{take-at, drop-at, drop-drop, take-all}
+use borrow.Rule.Slice.PartMut.{midOf, postOf, putMid}
+use Rattle.words.specs.Word.{pick}
+use Rattle.language.specs.Trees.{Expression, Statement, empty, express, block, ifThen, ifElse, while, doWhile, for, switch, break, continue, goto, Mark, Items, none, _then_, _here_, _⧺_}
+use Rattle.language.specs.Sizes.{expressionRows, statementRows, itemsRows}
+use Rattle.translation.specs.TranslateRows.{rows-append}
+use Rattle.emission.specs.Emission.{rowOf, listLink, emitExpression, emitStatement, emitItems}
+use Rattle.emission.specs.EmissionLaws.{orMore, emit-append, length-expression, length-statement, length-items}
+use Rattle.leaves.specs.Over.{over, Room, moreRows}
+
+-- ---- a part of a table
+
+-- The part from row n on that is lent, and the table when the part is back.
+abbrev pub part : ℕ → List ℤ → List ℤ
+part n l = midOf (6 * n) (length l - 6 * n) l
+
+abbrev pub back-in : ℕ → List ℤ → List ℤ → List ℤ
+back-in n l m = putMid (6 * n) (length l - 6 * n) l m
+
+part-is : (k : ℕ) (l : List ℤ) → midOf k (length l - k) l ≡ drop k l
+part-is k l = take-all (length l - k) (drop k l) (rw length-drop (omega arith))
+
+rest-is : (k : ℕ) (l : List ℤ) → postOf k (length l - k) l ≡ []
+rest-is k l = drop-of-length-le (drop k l) {i = length l - k} (rw length-drop (omega arith))
+
+-- words v written from word k on, after k words u were written from the start
+next : (u v l l1 l2 : List ℤ) (k : ℕ) → length u ≡ k → l1 ≡ over u l → l2 ≡ over v (midOf k (length l1 - k) l1)
+    → putMid k (length l1 - k) l1 l2 ≡ over (u ++ v) l
+unfolding over
+next u v l l1 l2 k h e1 e2 =
+    let d : drop k l1 ≡ drop k l = rw e1 (drop-at u _ k h ∙ ap (λ (n : ℕ). drop n l) h) in
+    let t : take k l1 ≡ u = rw e1 (take-at u _ k h) in
+    let e : l2 ≡ v ++ drop (length v) (drop k l) = e2 ∙ ap (λ (m : List ℤ). v ++ drop (length v) m) (part-is k l1 ∙ d) in
+    rw (rest-is k l1) (simp (append-nil, t, e, drop-drop, length-append, append-assoc, h))
+
+-- ---- words
+
+-- n rows, the words u, were written from the start of l, which gave m.
+pub record Put (u : List ℤ) (n : ℕ) (l m : List ℤ) : Type 0 where
+  pub table : m ≡ over u l
+  pub size : length u ≡ 6 * n
+
+-- Two parts, one behind the other.
+pub put-next : {u v : List ℤ} {n k : ℕ} {l l1 l2 : List ℤ} → Put u n l l1 → Put v k (part n l1) l2 → Put (u ++ v) (n + k) l (back-in n l1 l2)
+put-next {u} {v} {n} p q = record {
+  table = next u v _ _ _ (6 * n) (p .size) (p .table) (q .table);
+  size = rw (length-append u v) (omega (arith, p .size, q .size));
+}
+
+-- The same words, said otherwise.
+pub reworded : {u : List ℤ} {n : ℕ} {l m : List ℤ} (w : List ℤ) → Put u n l m → u ≡ w → m ≡ over w l
+reworded {u} {n} {l} {m} w p h = rw h at (p .table)
+
+pub put-length : {u : List ℤ} {n : ℕ} {l m : List ℤ} → Put u n l m → 6 * n ≤ length l → length m ≡ length l
+unfolding over
+put-length {u} {n} {l} {m} p h = rw (p .table) (simp (length-append, length-drop) (omega (arith, p .size)))
+
+-- Where the next part begins.
+pub record Reach (n base : ℕ) (l : List ℤ) : Type 0 where
+  pub inside : 6 * n ≤ length l
+  pub low : base + n ≤ 40980
+
+pub put-reach : {u : List ℤ} {n w base : ℕ} {l m : List ℤ} (k : ℕ) → Put u n l m → Room w base (length l) → n + k ≤ w → Reach n base m
+put-reach k p r e = record { inside = omega (arith, put-length p (omega (arith, r .inside)), r .inside); low = omega (arith, r .low) }
+
+-- The room that is left behind n rows.
+pub put-room : {u : List ℤ} {n w base : ℕ} {l m : List ℤ} (k : ℕ) → Put u n l m → Room w base (length l) → n + k ≤ w → Room k (base + n) (length (part n m))
+put-room {u} {n} {w} {base} {l} {m} k p r e = record {
+  inside = rw (part-is (6 * n) m, length-drop) (omega (arith, put-length p (omega (arith, r .inside)), r .inside));
+  low = omega (arith, r .low);
+}
+
+pub room-less : {w base words : ℕ} (n : ℕ) → Room w base words → n ≤ w → Room n base words
+room-less n r e = record { inside = omega (arith, r .inside); low = omega (arith, r .low) }
+
+-- ---- lists
+
+statement-some : (s : Statement) → 1 ≤ statementRows s
+unfolding statementRows
+statement-some empty = omega arith
+statement-some (express e) = omega arith
+statement-some (block is) = omega arith
+statement-some (ifThen e onTrue) = omega arith
+statement-some (ifElse e onTrue onFalse) = omega arith
+statement-some (while e body) = omega arith
+statement-some (doWhile body e) = omega arith
+statement-some (for first test action body) = omega arith
+statement-some (switch e is) = omega arith
+statement-some break = omega arith
+statement-some continue = omega arith
+statement-some (goto l) = omega arith
+
+pub more-some : (follows : Bool) (n : ℕ) → 0 < n → moreRows follows n ≡ true
+more-some follows zero h = absurd (omega arith)
+more-some follows (suc n) h = refl
+
+-- A list says by its rows whether anything stands in it.
+pub more-is : (follows : Bool) (is : Items) → orMore follows is ≡ moreRows follows (itemsRows is)
+unfolding itemsRows
+more-is follows none = refl
+more-is follows (s then is) = sym (more-some follows (statementRows s + itemsRows is) (omega (arith, statement-some s)))
+more-is follows (m here is) = sym (more-some follows (1 + itemsRows is) (omega arith))
+
+pub link-is : (follows : Bool) (is : Items) (base : ℕ) → listLink follows is base ≡ pick (moreRows follows (itemsRows is)) base 0
+unfolding itemsRows
+link-is follows none base = refl
+link-is follows (s then is) base = rw (more-some follows (statementRows s + itemsRows is) (omega (arith, statement-some s)))
+link-is follows (m here is) base = rw (more-some follows (1 + itemsRows is) (omega arith))
+
+-- The list `is`, n rows from the row `base` on, was written from the start of l, which gave m.
+pub record Wrote (follows : Bool) (is : Items) (base n : ℕ) (l m : List ℤ) : Type 0 where
+  pub table : m ≡ over (emitItems follows is base) l
+  pub size : itemsRows is ≡ n
+
+pub wrote-put : {follows : Bool} {is : Items} {base n : ℕ} {l m : List ℤ} → Wrote follows is base n l m → Put (emitItems follows is base) n l m
+wrote-put {follows} {is} {base} {n} w = record { table = w .table; size = length-items follows is base ∙ ap (λ (k : ℕ). 6 * k) (w .size) }
+
+emit-two : (follows : Bool) (xs ys : Items) (base n k : ℕ) → itemsRows xs ≡ n → itemsRows ys ≡ k
+    → emitItems (moreRows follows k) xs base ++ emitItems follows ys (base + n) ≡ emitItems follows (xs ⧺ ys) base
+emit-two follows xs ys base n k e h =
+    ap₂ (λ (f : Bool) (b : ℕ). emitItems f xs base ++ emitItems follows ys (base + b)) (ap (moreRows follows) (sym h) ∙ sym (more-is follows ys)) (sym e) ∙ sym (emit-append follows xs ys base)
+
+-- One list behind the other.
+pub wrote-next : {follows : Bool} {xs ys : Items} {base n k : ℕ} {l l1 l2 : List ℤ}
+    → Wrote (moreRows follows k) xs base n l l1 → Wrote follows ys (base + n) k (part n l1) l2 → Wrote follows (xs ⧺ ys) base (n + k) l (back-in n l1 l2)
+wrote-next {follows} {xs} {ys} {base} {n} {k} w v = record {
+  table = reworded _ (put-next (wrote-put w) (wrote-put v)) (emit-two follows xs ys base n k (w .size) (v .size));
+  size = rows-append xs ys ∙ ap₂ _+_ (w .size) (v .size);
+}
+
+-- The same list, said otherwise; the same number of rows.
+pub wrote-as : {follows : Bool} {is : Items} {base n : ℕ} {l m : List ℤ} (is′ : Items) → Wrote follows is base n l m → is ≡ is′ → Wrote follows is′ base n l m
+wrote-as {follows} {is} {base} {n} {l} {m} is′ w e = rw e at w
+
+pub append-none : (is : Items) → is ⧺ none ≡ is
+unfolding _⧺_
+append-none none = refl
+append-none (s then is) = ap (λ (x : Items). s then x) (append-none is)
+append-none (m here is) = ap (λ (x : Items). m here x) (append-none is)
+
+pub append-append : (xs ys zs : Items) → (xs ⧺ ys) ⧺ zs ≡ xs ⧺ (ys ⧺ zs)
+unfolding _⧺_
+append-append none ys zs = refl
+append-append (s then xs) ys zs = ap (λ (x : Items). s then x) (append-append xs ys zs)
+append-append (m here xs) ys zs = ap (λ (x : Items). m here x) (append-append xs ys zs)
+
+-- ---- an if
+
+-- A list of one statement.
+pub one-item : (follows : Bool) (s : Statement) (base : ℕ) → emitItems follows (s then none) base ≡ emitStatement s base (pick follows (base + statementRows s) 0)
+unfolding emitItems
+one-item follows s base = append-nil (emitStatement s base (pick follows (base + statementRows s) 0))
+
+if-is : (x : Expression) (onTrue onFalse : Statement) (base next : ℕ)
+    → emitStatement (ifElse x onTrue onFalse) base next
+    ≡ rowOf 43 (pos (base + 1)) (base + 1 + expressionRows x) (base + 1 + expressionRows x + statementRows onTrue) 0 next
+    ++ emitExpression x (base + 1) ++ emitStatement onTrue (base + 1 + expressionRows x) 0 ++ emitStatement onFalse (base + 1 + expressionRows x + statementRows onTrue) 0
+unfolding emitStatement
+if-is x onTrue onFalse base next = refl
+
+if-rows : (x : Expression) (onTrue onFalse : Statement) → statementRows (ifElse x onTrue onFalse) ≡ 1 + expressionRows x + statementRows onTrue + statementRows onFalse
+unfolding statementRows
+if-rows x onTrue onFalse = refl
+
+-- The rows of an if and its test, and then its branches.
+pub choice-words : (follows : Bool) (x : Expression) (onTrue onFalse : Statement) (base n k next : ℕ) → expressionRows x ≡ 1 → statementRows onTrue ≡ n → statementRows onFalse ≡ k
+    → next ≡ pick follows (base + (2 + n + k)) 0
+    → ((rowOf 43 (pos (base + 1)) (base + 2) (base + (2 + n)) 0 next ++ emitExpression x (base + 1)) ++ emitStatement onTrue (base + 2) 0) ++ emitStatement onFalse (base + (2 + n)) 0
+    ≡ emitItems follows (ifElse x onTrue onFalse then none) base
+choice-words follows x onTrue onFalse base n k next e h g z =
+    let one : base + 1 + expressionRows x ≡ base + 2 = omega arith in
+    let two : base + 2 + statementRows onTrue ≡ base + (2 + n) = omega arith in
+    let all : base + (1 + expressionRows x + statementRows onTrue + statementRows onFalse) ≡ base + (2 + n + k) = omega arith in
+    rw (one-item, if-is, if-rows, all, one, two, z, append-assoc (emitExpression x (base + 1)))
+
+-- ---- a block
+
+pub block-words : (is : Items) (base k : ℕ) → itemsRows is ≡ k → rowOf 42 (pos (pick (moreRows false k) (base + 1) 0)) 0 0 0 0 ++ emitItems false is (base + 1) ≡ emitStatement (block is) base 0
+unfolding emitStatement
+block-words is base k e = rw (← e, ← link-is false is (base + 1))

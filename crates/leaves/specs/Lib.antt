@@ -1,0 +1,15 @@
+-- What the leaves write. A line of comment for each file.
+-- Over: what stands in a table after words were written from its start.
+pub mod Over
+-- Atoms: the kernel's atoms and places, as the code holds them.
+pub mod Atoms
+-- Straight: what an expression does with the values of its first two operands.
+pub mod Straight
+-- Asks: what the leaves ask of their caller.
+pub mod Asks
+-- Chains: parts of a table written one behind the other.
+pub mod Chain
+-- Laws of atoms and places.
+pub mod AtomLaws
+-- Laws of the leaves: what they wrote, as lists of kernel items with their rows.
+pub mod LeafLaws

@@ -1,0 +1,36 @@
+-- Straight: what an expression does with the values of its first two operands, and the rows that head a loop.
+use mathlib.Core.List.{List, _++_}
+use Prim.Native.Nat.{ℕ, _+_}
+use lib.IntN.{ℤ, pos}
+use Rattle.words.specs.declared.Operator.the-variants.{Equal}
+use Rattle.language.specs.Trees.{Expression, constant, read, minus, not, binary, and, or, comma, conditional, assign, compound, prefix, postfix, Place, variable, element, Part, absent, present, Mark, case, default, label, Statement, empty, express, block, ifElse, while, goto, Items, none, _then_, _here_, _⧺_}
+use Rattle.translation.specs.Translate.{atomOf, taken, placeTaken, atom, temporary, assigning, kernelPlace, updateCode, postfixCode}
+use Rattle.translation.specs.TranslateSize.{partSize, ownRows}
+use Rattle.emission.specs.Emission.{rowOf}
+use Rattle.measures.specs.Operands.{thirdOperand, fourthOperand}
+
+module _ (S : ℕ) where
+  -- What an expression does with the values of its first two operands.
+  abbrev pub straightCode : Expression → ℕ → Items
+  straightCode (constant v) t = none
+  straightCode (read p) t = assigning S (temporary S t) (read (kernelPlace S p t)) none
+  straightCode (minus e) t = assigning S (temporary S t) (minus (atom S t (atomOf e))) none
+  straightCode (not e) t = assigning S (temporary S t) (binary Equal (atom S t (atomOf e)) (constant (pos 0))) none
+  straightCode (binary operator a b) t =
+      assigning S (temporary S t) (binary operator (atom S (t + taken (atomOf b)) (atomOf a)) (atom S t (atomOf b))) none
+  straightCode (and a b) t = none
+  straightCode (or a b) t = none
+  straightCode (comma a b) t = none
+  straightCode (conditional c a b) t = none
+  straightCode (assign p e) t = assigning S (kernelPlace S p (t + taken (atomOf e))) (atom S t (atomOf e)) none
+  straightCode (compound operator p e) t = updateCode S operator (kernelPlace S p (t + 1)) (atom S t (atomOf e)) t (t + 1 + placeTaken p)
+  straightCode (prefix operator p) t = updateCode S operator (kernelPlace S p (t + 1)) (constant (pos 1)) t (t + 1 + placeTaken p)
+  straightCode (postfix operator p) t = postfixCode S operator (kernelPlace S p (t + 1)) t (t + 1 + placeTaken p)
+
+-- The kernel rows behind an expression's first two operands.
+abbrev pub lastSize : Expression → ℕ
+lastSize e = partSize (thirdOperand e) + partSize (fourthOperand e) + ownRows e
+
+-- The rows that head a loop: the while, its constant test, and the block of its body, which takes `rows` rows.
+abbrev pub loopHead : ℕ → ℕ → List ℤ
+loopHead base rows = rowOf 44 (pos (base + 1)) (base + 2) 0 0 (base + 3 + rows) ++ rowOf 1 (pos 1) 0 0 0 0 ++ rowOf 42 (pos (base + 3)) 0 0 0 0

@@ -1,0 +1,97 @@
+// Kernel atoms and places, from the source rows.
+use super::Atom;
+use super::KernelPlace;
+use measures::PlaceShape;
+use measures::Shape;
+use measures::expressions::taken_at;
+use measures::shapes::place_at;
+use measures::shapes::shape_at;
+use measures::table::measure_at;
+ghost use mathlib.Core.Path.{_≡_};
+ghost use Prim.Native.Nat.{_+_, _≤_, _<_};
+ghost use Rattle.words.specs.Table.{rowCount};
+ghost use Rattle.language.specs.Decode.{placeOf, expressionAt};
+ghost use Rattle.language.specs.DecodeLaws.{partAt};
+ghost use Rattle.translation.specs.Translate.{placeTaken};
+ghost use Rattle.translation.specs.TranslateSize.{partSize};
+ghost use Rattle.measures.specs.Measures.{Measured};
+ghost use Rattle.leaves.specs.Asks.{Writing, AtomAt, PlaceInside, HeldPlace, PlaceAt};
+
+// The atom of the expression at a row, worked out at a level.
+pub fn atom_at(rows: &[i32], table: &[usize], store: usize, row: usize, level: usize) -> Atom
+    requires { ⌜ Writing (now rows) (now table) store × (row < rowCount (now rows)) × (level ≤ 4096) ⌝ }
+    ensures { λ r. ⌜ AtomAt store (now (rows .entry)) row level r ⌝ }
+{
+    let temporary = Atom::Variable(store + level);
+    let shape = shape_at(rows, table[11 * row + 2]);
+    match shape {
+        Shape::Number(v) => Atom::Constant(v),
+        Shape::Read(_) => temporary,
+        Shape::Minus(_) => temporary,
+        Shape::Not(_) => temporary,
+        Shape::Binary(_, _, _) => temporary,
+        Shape::And(_, _) => temporary,
+        Shape::Or(_, _) => temporary,
+        Shape::Comma(_, _) => temporary,
+        Shape::Conditional(_, _, _) => temporary,
+        Shape::Assign(_, _) => temporary,
+        Shape::Compound(_, _, _) => temporary,
+        Shape::Prefix(_, _) => temporary,
+        Shape::Postfix(_, _) => temporary,
+    }
+}
+
+// A place, whose index is held at a level.
+pub fn held_place(
+    rows: &[i32],
+    table: &[usize],
+    store: usize,
+    place: PlaceShape,
+    level: usize,
+) -> KernelPlace
+    requires { ⌜ Writing (now rows) (now table) store × PlaceInside (now rows) place × (level ≤ 4096) ⌝ }
+    ensures { λ r. ⌜ HeldPlace store (now (rows .entry)) place level r ⌝ }
+{
+    match place {
+        PlaceShape::Variable(i) => KernelPlace::Variable(i),
+        PlaceShape::Element(array, index) => KernelPlace::Element(
+            array,
+            atom_at(rows, table, store, index, level),
+        ),
+    }
+}
+
+// The place at a row, its index held at a level.
+pub fn kernel_place(
+    rows: &[i32],
+    table: &[usize],
+    store: usize,
+    row: usize,
+    level: usize,
+) -> KernelPlace
+    requires { ⌜ Writing (now rows) (now table) store × (row < rowCount (now rows)) × (level ≤ 4096) ⌝ }
+    ensures { λ r. ⌜ PlaceAt store (now (rows .entry)) row level r ⌝ }
+{
+    let place = place_at(rows, row);
+    held_place(rows, table, store, place, level)
+}
+
+// How many temporaries the index of the place at a row takes.
+pub fn place_taken(rows: &[i32], table: &[usize], row: usize) -> usize
+    requires { ⌜ Measured (now rows) (now table) × (row < rowCount (now rows)) ⌝ }
+    ensures { λ r. ⌜ r ≡ placeTaken (placeOf (expressionAt (now (rows .entry)) row)) ⌝ }
+{
+    let place = place_at(rows, row);
+    match place {
+        PlaceShape::Variable(_) => 0,
+        PlaceShape::Element(_, index) => taken_at(rows, table, index),
+    }
+}
+
+// The kernel rows of the expression at a link.
+pub fn operand_size(rows: &[i32], table: &[usize], row: usize) -> usize
+    requires { ⌜ Measured (now rows) (now table) × (row < rowCount (now rows)) × (partSize (partAt (now rows) row) ≤ 40980) ⌝ }
+    ensures { λ r. ⌜ r ≡ partSize (partAt (now (rows .entry)) row) ⌝ }
+{
+    measure_at(table, row, 0)
+}

@@ -1,0 +1,191 @@
+-- [[
+-- The labels of a statement, line by line.
+use mathlib.Core.Path.{refl, ap, _∙_}
+use native.Mathlib.Omega.{arith}
+use Rattle.translation.specs.Translate.{labels}
+use Rattle.measures.specs.Measures.{limited}
+use Rattle.measures.specs.MeasureLaws.{slot-asks}
+use Rattle.measures.proofs.LineLaws.{labels-block, labels-if, labels-loop, labels-switch}
+use Rattle.measures.specs.ShapeLaws.{lined, by-line, optional}
+-- ]]
+use borrow.Author.Needs.{needs}
+use Rattle.measures.proofs.statements.statement_labels.Statement.{statement}
+use Rattle.measures.proofs.statements.statement_labels.Tie as tie
+use Rattle.measures.proofs.statements.statement_labels.Reads as reads
+use Rattle.measures.proofs.statements.statement_labels.Lts as lts
+use Rattle.measures.proofs.lines.line_at.Reads as line-at-reads
+use Rattle.measures.proofs.table.limited.Reads as limited-reads
+use Rattle.measures.proofs.table.measure_at.Reads as measure-at-reads
+
+line-at-requires : tie.Need-line-at-requires
+line-at-requires c κs = search needs
+
+enum-told : tie.Need-enum-told
+enum-told c = search needs
+
+enum-told-2 : tie.Need-enum-told-2
+enum-told-2 c = search needs
+
+enum-known-line : tie.Need-enum-known-line
+enum-known-line c = search needs
+
+measure-at-requires : tie.Need-measure-at-requires
+measure-at-requires c κs = slot-asks (c .before .before .before .before .before .pre .0) (lined (c .before .before .before .line-at .ensures) (c .before .line .given .1) .onward) 8 (omega arith)
+
+enum-known-line-2 : tie.Need-enum-known-line-2
+enum-known-line-2 c = search needs
+
+measure-at-requires-2 : tie.Need-measure-at-requires-2
+measure-at-requires-2 c κs = slot-asks (c .before .before .before .before .before .pre .0) (optional (lined (c .before .before .before .line-at .ensures) (c .before .line2 .given .1) .onward .1)) 5 (omega arith)
+
+measure-at-requires-3 : tie.Need-measure-at-requires-3
+measure-at-requires-3 c κs = slot-asks (c .before .before .before .before .before .before .pre .0) (lined (c .before .before .before .before .line-at .ensures) (c .before .before .line2 .given .1) .onward .2) 5 (omega arith)
+
+add-limited : tie.Need-add-limited
+add-limited c = omega arith
+
+limited-requires : tie.Need-limited-requires
+limited-requires c κs = search needs
+
+enum-known-line-3 : tie.Need-enum-known-line-3
+enum-known-line-3 c = search needs
+
+measure-at-requires-4 : tie.Need-measure-at-requires-4
+measure-at-requires-4 c κs = slot-asks (c .before .before .before .before .before .pre .0) (optional (lined (c .before .before .before .line-at .ensures) (c .before .line3 .given .1) .onward .1)) 5 (omega arith)
+
+add-limited-2 : tie.Need-add-limited-2
+add-limited-2 c = omega arith
+
+limited-requires-2 : tie.Need-limited-requires-2
+limited-requires-2 c κs = search needs
+
+enum-known-line-4 : tie.Need-enum-known-line-4
+enum-known-line-4 c = search needs
+
+measure-at-requires-5 : tie.Need-measure-at-requires-5
+measure-at-requires-5 c κs = slot-asks (c .before .before .before .before .before .pre .0) (optional (lined (c .before .before .before .line-at .ensures) (c .before .line4 .given .1) .onward .0)) 5 (omega arith)
+
+add-limited-3 : tie.Need-add-limited-3
+add-limited-3 c = omega arith
+
+limited-requires-3 : tie.Need-limited-requires-3
+limited-requires-3 c κs = search needs
+
+enum-known-line-5 : tie.Need-enum-known-line-5
+enum-known-line-5 c = search needs
+
+measure-at-requires-6 : tie.Need-measure-at-requires-6
+measure-at-requires-6 c κs = slot-asks (c .before .before .before .before .before .pre .0) (optional (lined (c .before .before .before .line-at .ensures) (c .before .line5 .given .1) .onward .3)) 5 (omega arith)
+
+add-limited-4 : tie.Need-add-limited-4
+add-limited-4 c = omega arith
+
+limited-requires-4 : tie.Need-limited-requires-4
+limited-requires-4 c κs = search needs
+
+enum-known-line-6 : tie.Need-enum-known-line-6
+enum-known-line-6 c = search needs
+
+measure-at-requires-7 : tie.Need-measure-at-requires-7
+measure-at-requires-7 c κs = slot-asks (c .before .before .before .before .before .pre .0) (lined (c .before .before .before .line-at .ensures) (c .before .line6 .given .1) .onward .1) 8 (omega arith)
+
+add-limited-5 : tie.Need-add-limited-5
+add-limited-5 c = omega arith
+
+limited-requires-5 : tie.Need-limited-requires-5
+limited-requires-5 c κs = search needs
+
+enum-told-3 : tie.Need-enum-told-3
+enum-told-3 c = search needs
+
+enum-told-4 : tie.Need-enum-told-4
+enum-told-4 c = search needs
+
+enum-told-5 : tie.Need-enum-told-5
+enum-told-5 c = search needs
+
+returns : tie.Need-returns
+unfolding labels limited
+returns c = by-line (λ s. limited (labels s)) (lined (c .before .before .line-at .ensures) (c .enum-told .given .1)) refl
+
+returns-2 : tie.Need-returns-2
+unfolding labels limited
+returns-2 c = by-line (λ s. limited (labels s)) (lined (c .before .before .line-at .ensures) (c .enum-told2 .given .1)) refl
+
+returns-3 : tie.Need-returns-3
+returns-3 c = by-line (λ s. limited (labels s)) (lined (c .before .before .before .before .line-at .ensures) (c .before .before .line .given .1)) (labels-block (c .before .before .before .before .before .before .pre .0) (lined (c .before .before .before .before .line-at .ensures) (c .before .before .line .given .1) .onward) (c .measure-at .ensures .is))
+
+returns-4 : tie.Need-returns-4
+returns-4 c = c .limited .ensures ∙ by-line (λ s. limited (labels s)) (lined (c .before .before .before .before .before .before .line-at .ensures) (c .before .before .before .before .line2 .given .1)) (labels-if (c .before .before .before .before .before .before .before .before .pre .0) (lined (c .before .before .before .before .before .before .line-at .ensures) (c .before .before .before .before .line2 .given .1) .onward) (c .before .before .measure-at2 .ensures .is) (c .before .measure-at3 .ensures .is))
+
+returns-5 : tie.Need-returns-5
+unfolding labels
+returns-5 c = c .limited2 .ensures ∙ by-line (λ s. limited (labels s)) (lined (c .before .before .before .before .before .line-at .ensures) (c .before .before .before .line3 .given .1)) (labels-loop (c .before .before .before .before .before .before .before .pre .0) (lined (c .before .before .before .before .before .line-at .ensures) (c .before .before .before .line3 .given .1) .onward .1) (c .before .measure-at4 .ensures .is))
+
+returns-6 : tie.Need-returns-6
+unfolding labels
+returns-6 c = c .limited3 .ensures ∙ by-line (λ s. limited (labels s)) (lined (c .before .before .before .before .before .line-at .ensures) (c .before .before .before .line4 .given .1)) (labels-loop (c .before .before .before .before .before .before .before .pre .0) (lined (c .before .before .before .before .before .line-at .ensures) (c .before .before .before .line4 .given .1) .onward .0) (c .before .measure-at5 .ensures .is))
+
+returns-7 : tie.Need-returns-7
+unfolding labels
+returns-7 c = c .limited4 .ensures ∙ by-line (λ s. limited (labels s)) (lined (c .before .before .before .before .before .line-at .ensures) (c .before .before .before .line5 .given .1)) (labels-loop (c .before .before .before .before .before .before .before .pre .0) (lined (c .before .before .before .before .before .line-at .ensures) (c .before .before .before .line5 .given .1) .onward .3) (c .before .measure-at6 .ensures .is))
+
+returns-8 : tie.Need-returns-8
+returns-8 c = c .limited5 .ensures ∙ by-line (λ s. limited (labels s)) (lined (c .before .before .before .before .before .line-at .ensures) (c .before .before .before .line6 .given .1)) (labels-switch (c .before .before .before .before .before .before .before .pre .0) (lined (c .before .before .before .before .before .line-at .ensures) (c .before .before .before .line6 .given .1) .onward) (c .before .measure-at7 .ensures .is))
+
+returns-9 : tie.Need-returns-9
+unfolding labels limited
+returns-9 c = by-line (λ s. limited (labels s)) (lined (c .before .before .line-at .ensures) (c .enum-told3 .given .1)) refl
+
+returns-10 : tie.Need-returns-10
+unfolding labels limited
+returns-10 c = by-line (λ s. limited (labels s)) (lined (c .before .before .line-at .ensures) (c .enum-told4 .given .1)) refl
+
+returns-11 : tie.Need-returns-11
+unfolding labels limited
+returns-11 c = by-line (λ s. limited (labels s)) (lined (c .before .before .line-at .ensures) (c .enum-told5 .given .1)) refl
+
+pub statement-labels-spec : {M : Type 1} → statement M
+statement-labels-spec =
+    tie.close
+    (tie.spec
+    line-at-requires
+    enum-told
+    enum-told-2
+    enum-known-line
+    measure-at-requires
+    enum-known-line-2
+    measure-at-requires-2
+    measure-at-requires-3
+    add-limited
+    limited-requires
+    enum-known-line-3
+    measure-at-requires-4
+    add-limited-2
+    limited-requires-2
+    enum-known-line-4
+    measure-at-requires-5
+    add-limited-3
+    limited-requires-3
+    enum-known-line-5
+    measure-at-requires-6
+    add-limited-4
+    limited-requires-4
+    enum-known-line-6
+    measure-at-requires-7
+    add-limited-5
+    limited-requires-5
+    enum-told-3
+    enum-told-4
+    enum-told-5
+    returns
+    returns-2
+    returns-3
+    returns-4
+    returns-5
+    returns-6
+    returns-7
+    returns-8
+    returns-9
+    returns-10
+    returns-11)

@@ -1,0 +1,233 @@
+-- Laws of the measures: sums that are cut off, the words of the table, and an expression's measures from those of its operands.
+use mathlib.Core.Path.{_≡_, refl, sym, ap, ap₂, subst, _∙_}
+use mathlib.Core.Bool.{Bool, true, false}
+use mathlib.Core.List.{List}
+use Prim.Native.Nat.{ℕ, zero, suc, _+_, _*_, _-_, _≤_, _<_, min, max}
+use native.Mathlib.Omega.{arith}
+use lib.IntN.{ℤ}
+use lib.ListN.{length, getD}
+use Rattle.words.specs.Table.{rowCount}
+use Rattle.language.specs.Trees.{Expression, constant, read, minus, not, binary, and, or, comma, conditional, assign, compound, prefix, postfix, Place, variable, element, Part, absent, present, Statement, empty, express, block, ifThen, ifElse, while, doWhile, for, switch, break, continue, goto, Items, none, _then_, _here_, Mark, case, default, label}
+use Rattle.language.specs.Decode.{expressionAt, ifOf, statementAt, itemsAt}
+use Rattle.language.specs.DecodeLaws.{listAt, partAt}
+use Rattle.translation.specs.Translate.{Atom, number, top, atomOf, taken, labels, itemsLabels, expressionLevels, indexLevels, updateLevels, partLevels, statementLevels, itemsLevels}
+use Rattle.translation.specs.TranslateSize.{indexRows, copyRows, ownRows, expressionSize, indexSize, partSize, testSize, statementSize, itemsSize, cases}
+use Rattle.measures.specs.Source.{Source, Onward, OptionalOnward}
+use Rattle.measures.specs.Operands.{indexOf, firstOperand, secondOperand, thirdOperand, fourthOperand, aboveFirst, updateOwn, ownLevels, plainAtom}
+use Rattle.measures.specs.Measures.{limited, pastLabels, defaultPlace, slot, slotAt, LinkMeasured, MeasuredRow, MeasuredFrom, Measured, ExpressionMeasured, StatementMeasured, ListMeasured}
+
+-- ---- sums that are cut off
+
+pub limited-is : (n : ℕ) → limited n ≡ min n 65536
+unfolding limited
+limited-is n = refl
+
+pub limited-most : (n : ℕ) → limited n ≤ 65536
+unfolding limited
+limited-most n = omega arith
+
+pub limited-small : (n : ℕ) → n ≤ 65536 → limited n ≡ n
+unfolding limited
+limited-small n h = omega arith
+
+-- ---- the words of the table
+
+pub at-none : (table : List ℕ) (link k : ℕ) → link ≡ 0 → 0 ≡ slotAt table link k
+at-none table zero k h = refl
+at-none table (suc link) k h = absurd (omega arith)
+
+pub at-some : (table : List ℕ) (link k : ℕ) → 0 < link → slotAt table link k ≡ slot table link k
+at-some table zero k h = absurd (omega arith)
+at-some table (suc link) k h = refl
+
+module _ (rows : List ℤ) (table : List ℕ) where
+  -- a link of this row that leads on leads to a measured row
+  pub link-measured : {row : ℕ} (link : ℕ) → MeasuredFrom rows table (row + 1) → Onward rows row link → MeasuredRow rows table link
+  link-measured link m o = m .row-measured link (omega (arith, o .later)) (o .inside)
+
+  pub link-held : {row : ℕ} (link : ℕ) → MeasuredFrom rows table (row + 1) → OptionalOnward rows row link → 0 < link → 11 * link + 11 ≤ length table
+  link-held link m o p = omega (arith, m .room, o p .inside)
+
+  module _ {row : ℕ} (m : MeasuredFrom rows table (row + 1)) where
+    -- the measures of an expression at a link
+    pub part-rows : (link : ℕ) → OptionalOnward rows row link → slotAt table link 0 ≡ limited (partSize (partAt rows link))
+    unfolding limited
+    part-rows zero o = refl
+    part-rows (suc link) o = link-measured (suc link) m (o (omega arith)) .expression .rows-are
+
+    pub part-levels : (link : ℕ) → OptionalOnward rows row link → slotAt table link 1 ≡ limited (partLevels (partAt rows link))
+    unfolding limited
+    part-levels zero o = refl
+    part-levels (suc link) o = link-measured (suc link) m (o (omega arith)) .expression .levels-are
+
+    -- those of a list
+    pub list-rows : (link : ℕ) → OptionalOnward rows row link → slotAt table link 6 ≡ limited (itemsSize (listAt rows link))
+    unfolding limited itemsSize
+    list-rows zero o = refl
+    list-rows (suc link) o = link-measured (suc link) m (o (omega arith)) .list .rows-are
+
+    pub list-levels : (link : ℕ) → OptionalOnward rows row link → slotAt table link 7 ≡ limited (itemsLevels (listAt rows link))
+    unfolding limited itemsLevels
+    list-levels zero o = refl
+    list-levels (suc link) o = link-measured (suc link) m (o (omega arith)) .list .levels-are
+
+    pub list-labels : (link : ℕ) → OptionalOnward rows row link → slotAt table link 8 ≡ limited (itemsLabels (listAt rows link))
+    unfolding limited itemsLabels
+    list-labels zero o = refl
+    list-labels (suc link) o = link-measured (suc link) m (o (omega arith)) .list .labels-are
+
+    pub list-cases : (link : ℕ) → OptionalOnward rows row link → slotAt table link 9 ≡ limited (cases (listAt rows link))
+    unfolding limited
+    list-cases zero o = refl
+    list-cases (suc link) o = link-measured (suc link) m (o (omega arith)) .list .cases-are
+
+    pub list-default : (link : ℕ) → OptionalOnward rows row link → slotAt table link 10 ≡ limited (defaultPlace (listAt rows link))
+    unfolding limited defaultPlace
+    list-default zero o = refl
+    list-default (suc link) o = link-measured (suc link) m (o (omega arith)) .list .default-is
+
+    -- those of a statement
+    pub body-rows : (link : ℕ) → Onward rows row link → slotAt table link 3 ≡ limited (statementSize (statementAt rows link))
+    body-rows link o = at-some table link 3 (omega (arith, o .later)) ∙ link-measured link m o .statement .rows-are
+
+    pub body-levels : (link : ℕ) → Onward rows row link → slotAt table link 4 ≡ limited (statementLevels (statementAt rows link))
+    body-levels link o = at-some table link 4 (omega (arith, o .later)) ∙ link-measured link m o .statement .levels-are
+
+    pub body-labels : (link : ℕ) → Onward rows row link → slotAt table link 5 ≡ limited (labels (statementAt rows link))
+    body-labels link o = at-some table link 5 (omega (arith, o .later)) ∙ link-measured link m o .statement .labels-are
+
+-- an expression that is there
+pub part-some : (rows : List ℤ) (link : ℕ) → 0 < link → partAt rows link ≡ present (expressionAt rows link)
+part-some rows zero h = absurd (omega arith)
+part-some rows (suc link) h = refl
+
+-- ---- an expression's measures, from those of its operands
+
+pub size-parts : (e : Expression) → expressionSize e ≡ partSize (firstOperand e) + partSize (secondOperand e) + partSize (thirdOperand e) + partSize (fourthOperand e) + ownRows e
+unfolding expressionSize
+size-parts (constant v) = refl
+size-parts (read (variable i)) = refl
+size-parts (read (element array e)) = omega arith
+size-parts (minus e) = omega arith
+size-parts (not e) = omega arith
+size-parts (binary operator a b) = omega arith
+size-parts (and a b) = omega arith
+size-parts (or a b) = omega arith
+size-parts (comma a b) = omega arith
+size-parts (conditional c a b) = omega arith
+size-parts (assign (variable i) e) = omega arith
+size-parts (assign (element array i) e) = omega arith
+size-parts (compound operator (variable i) e) = omega arith
+size-parts (compound operator (element array i) e) = omega arith
+size-parts (prefix operator (variable i)) = refl
+size-parts (prefix operator (element array i)) = omega arith
+size-parts (postfix operator (variable i)) = refl
+size-parts (postfix operator (element array i)) = omega arith
+
+pub levels-parts : (e : Expression)
+    → expressionLevels e
+    ≡ max (ownLevels e) (max (max (partLevels (firstOperand e)) (aboveFirst e + partLevels (secondOperand e))) (max (partLevels (thirdOperand e)) (partLevels (fourthOperand e))))
+unfolding expressionLevels
+levels-parts (constant v) = refl
+levels-parts (read (variable i)) = refl
+levels-parts (read (element array e)) = omega arith
+levels-parts (minus e) = omega arith
+levels-parts (not e) = omega arith
+levels-parts (binary operator a b) = omega arith
+levels-parts (and a b) = omega arith
+levels-parts (or a b) = omega arith
+levels-parts (comma a b) = omega arith
+levels-parts (conditional c a b) = omega arith
+levels-parts (assign (variable i) e) = omega arith
+levels-parts (assign (element array i) e) = omega arith
+levels-parts (compound operator (variable i) e) = omega arith
+levels-parts (compound operator (element array i) e) = omega arith
+levels-parts (prefix operator (variable i)) = refl
+levels-parts (prefix operator (element array i)) = omega arith
+levels-parts (postfix operator (variable i)) = refl
+levels-parts (postfix operator (element array i)) = omega arith
+
+-- ---- what calls ask
+
+pub limited-as : {x : ℕ} (n : ℕ) → x ≡ limited n → x ≤ 65536
+limited-as {x} n e = omega (arith, limited-most n)
+
+measured-small : {rows : List ℤ} {table : List ℕ} {row : ℕ} → Source rows → MeasuredRow rows table row → (k : ℕ) → k < 11 → slot table row k ≤ 65536
+measured-small s m zero h = limited-as _ (m .expression .rows-are)
+measured-small s m (suc zero) h = limited-as _ (m .expression .levels-are)
+measured-small s m (suc (suc zero)) h = omega (arith, m .expression .value-inside, s .few-rows)
+measured-small s m (suc (suc (suc zero))) h = limited-as _ (m .statement .rows-are)
+measured-small s m (suc (suc (suc (suc zero)))) h = limited-as _ (m .statement .levels-are)
+measured-small s m (suc (suc (suc (suc (suc zero))))) h = limited-as _ (m .statement .labels-are)
+measured-small s m (suc (suc (suc (suc (suc (suc zero)))))) h = limited-as _ (m .list .rows-are)
+measured-small s m (suc (suc (suc (suc (suc (suc (suc zero))))))) h = limited-as _ (m .list .levels-are)
+measured-small s m (suc (suc (suc (suc (suc (suc (suc (suc zero)))))))) h = limited-as _ (m .list .labels-are)
+measured-small s m (suc (suc (suc (suc (suc (suc (suc (suc (suc zero))))))))) h = limited-as _ (m .list .cases-are)
+measured-small s m (suc (suc (suc (suc (suc (suc (suc (suc (suc (suc zero)))))))))) h = limited-as _ (m .list .default-is)
+measured-small s m (suc (suc (suc (suc (suc (suc (suc (suc (suc (suc (suc k))))))))))) h = absurd (omega arith)
+
+pub measured-less : {rows : List ℤ} {table : List ℕ} {k : ℕ} (j : ℕ) → MeasuredFrom rows table k → k ≤ j → MeasuredFrom rows table j
+measured-less j m h = record { source = m .source; room = m .room; row-measured = λ row l. m .row-measured row (omega arith) }
+
+module _ {rows : List ℤ} {table : List ℕ} {row : ℕ} (m : MeasuredFrom rows table (row + 1)) where
+  -- a row that a link leads to
+  pub link-asks : {link : ℕ} → Onward rows row link → Source rows × (link < rowCount rows) × (11 * rowCount rows ≤ length table) × MeasuredRow rows table link
+  link-asks {link} o = (m .source, o .inside, m .room, link-measured rows table link m o)
+
+  pub slot-asks : {link : ℕ} → OptionalOnward rows row link → LinkMeasured table link
+  slot-asks {link} o k h = record { held = λ p. omega (arith, link-held rows table link m o p); small = slot-small link k h o }
+    where
+      slot-small : (link k : ℕ) → k < 11 → OptionalOnward rows row link → slotAt table link k ≤ 65536
+      slot-small zero k h o = omega arith
+      slot-small (suc link) k h o = measured-small (m .source) (link-measured rows table (suc link) m (o (omega arith))) k h
+
+-- ---- the pass
+
+pub measured-none : {rows : List ℤ} {table : List ℕ} → Source rows → 11 * rowCount rows ≤ length table → MeasuredFrom rows table (rowCount rows)
+measured-none s h = record { source = s; room = h; row-measured = λ row l b. absurd (omega arith) }
+
+pub measured-back : {rows : List ℤ} {table : List ℕ} (row : ℕ) → 1 ≤ row → MeasuredFrom rows table row → MeasuredFrom rows table (row - 1 + 1)
+measured-back row h m = measured-less _ m (omega arith)
+
+pub measured-zero : {rows : List ℤ} {table : List ℕ} (row : ℕ) → row ≡ 0 → MeasuredFrom rows table row → MeasuredFrom rows table 0
+measured-zero row h m = measured-less _ m (omega arith)
+
+-- ---- the whole table
+
+module _ {rows : List ℤ} {table : List ℕ} (m : Measured rows table) where
+  pub whole-row : {row : ℕ} → row < rowCount rows → MeasuredRow rows table row
+  whole-row {row} h = m .row-measured row (omega arith) h
+
+  pub whole-asks : {row : ℕ} → row < rowCount rows → Source rows × (row < rowCount rows) × (11 * rowCount rows ≤ length table) × MeasuredRow rows table row
+  whole-asks {row} h = (m .source, h, m .room, whole-row h)
+
+  -- the rows behind a row
+  pub whole-behind : (row : ℕ) → MeasuredFrom rows table (row + 1)
+  whole-behind row = measured-less (row + 1) m (omega arith)
+
+  pub whole-slot : (link : ℕ) → link < rowCount rows → LinkMeasured table link
+  whole-slot link h k l = record { held = λ p. omega (arith, m .room); small = by link h }
+    where
+      by : (link : ℕ) → link < rowCount rows → slotAt table link k ≤ 65536
+      by zero h = omega arith
+      by (suc link) h = measured-small (m .source) (whole-row h) k l
+
+  pub whole-part : (link : ℕ) → link < rowCount rows → slotAt table link 0 ≡ limited (partSize (partAt rows link))
+  unfolding limited
+  whole-part zero h = refl
+  whole-part (suc link) h = whole-row h .expression .rows-are
+
+  pub whole-list : (link : ℕ) → link < rowCount rows → slotAt table link 6 ≡ limited (itemsSize (listAt rows link))
+  unfolding limited itemsSize
+  whole-list zero h = refl
+  whole-list (suc link) h = whole-row h .list .rows-are
+
+  pub whole-cases : (link : ℕ) → link < rowCount rows → slotAt table link 9 ≡ limited (cases (listAt rows link))
+  unfolding limited
+  whole-cases zero h = refl
+  whole-cases (suc link) h = whole-row h .list .cases-are
+
+  pub whole-default : (link : ℕ) → link < rowCount rows → slotAt table link 10 ≡ limited (defaultPlace (listAt rows link))
+  unfolding limited defaultPlace
+  whole-default zero h = refl
+  whole-default (suc link) h = whole-row h .list .default-is

@@ -1,0 +1,72 @@
+// The measures of a list, from those of its first item and of the list behind it.
+use super::Item;
+use super::ListMeasures;
+use super::StatementMeasures;
+use super::lines::item_at;
+use super::table::larger;
+use super::table::limited;
+use super::table::measure_at;
+use words::table::number_at;
+ghost use mathlib.Core.Path.{_≡_};
+ghost use Prim.Native.Nat.{_+_, _≤_, _<_};
+ghost use Rattle.words.specs.Table.{rowCount};
+ghost use Rattle.language.specs.Decode.{statementAt, itemsAt};
+ghost use Rattle.measures.specs.Measures.{limited as limitedTo, pastLabels, MarkAsks, markMeasures, StatementAsks, statementMeasures, MeasuredFrom, StatementMeasured, ListMeasured};
+
+// The place of a default that stands behind `more` labels; 0 stays 0.
+fn past_labels(more: usize, place: usize) -> usize
+    requires { ⌜ (more ≤ 65536) × (place ≤ 65536) ⌝ }
+    ensures { λ r. ⌜ r ≡ limitedTo (pastLabels more place) ⌝ }
+{
+    if place == 0 {
+        return 0;
+    }
+    limited(place + more)
+}
+
+// A list that begins with a mark.
+fn behind_mark(table: &[usize], next: usize, cases: usize, default: usize) -> ListMeasures
+    requires { ⌜ MarkAsks (now table) next cases default ⌝ }
+    ensures { λ r. ⌜ r ≡ markMeasures (now (table .entry)) next cases default ⌝ }
+{
+    ListMeasures {
+        rows: limited(1 + measure_at(table, next, 6)),
+        levels: measure_at(table, next, 7),
+        labels: limited(1 + measure_at(table, next, 8)),
+        cases: limited(cases + measure_at(table, next, 9)),
+        default,
+    }
+}
+
+// A list that begins with a statement.
+fn behind_statement(table: &[usize], next: usize, s: StatementMeasures) -> ListMeasures
+    requires { ⌜ StatementAsks (now table) next s ⌝ }
+    ensures { λ r. ⌜ r ≡ statementMeasures (now (table .entry)) next s ⌝ }
+{
+    ListMeasures {
+        rows: limited(s.rows + measure_at(table, next, 6)),
+        levels: larger(s.levels, measure_at(table, next, 7)),
+        labels: limited(s.labels + measure_at(table, next, 8)),
+        cases: measure_at(table, next, 9),
+        default: past_labels(s.labels, measure_at(table, next, 10)),
+    }
+}
+
+pub fn measured_list(
+    rows: &[i32],
+    table: &[usize],
+    row: usize,
+    statement: StatementMeasures,
+) -> ListMeasures
+    requires { ⌜ MeasuredFrom (now rows) (now table) (row + 1) × (row < rowCount (now rows)) × StatementMeasured (statementAt (now rows) row) statement ⌝ }
+    ensures { λ r. ⌜ ListMeasured (itemsAt (now (rows .entry)) row) r ⌝ }
+{
+    let next = number_at(rows, row, 5);
+    let item = item_at(rows, row);
+    match item {
+        Item::Statement => behind_statement(table, next, statement),
+        Item::Case(_) => behind_mark(table, next, 1, past_labels(1, measure_at(table, next, 10))),
+        Item::Default => behind_mark(table, next, 0, 1),
+        Item::Label(_) => behind_mark(table, next, 0, past_labels(1, measure_at(table, next, 10))),
+    }
+}

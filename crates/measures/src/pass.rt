@@ -1,0 +1,32 @@
+// The pass over the rows, from the last to the first: every link leads to a row that is measured already.
+use super::expressions::measured_expression;
+use super::lists::measured_list;
+use super::statements::measured_statement;
+use super::table::set_measures;
+ghost use Prim.Native.Nat.{_+_, _*_, _≤_, _<_};
+ghost use lib.ListN.{length};
+ghost use Rattle.words.specs.Table.{rowCount};
+ghost use Rattle.measures.specs.Source.{Source};
+ghost use Rattle.measures.specs.Measures.{MeasuredFrom, Measured};
+
+fn measure_row(rows: &[i32], table: &mut [usize], row: usize)
+    requires { ⌜ MeasuredFrom (now rows) (now table) (row + 1) × (row < rowCount (now rows)) ⌝ }
+    ensures { λ _. ⌜ MeasuredFrom (now (rows .entry)) (now (table .exit)) row ⌝ }
+{
+    let expression = measured_expression(rows, table, row);
+    let statement = measured_statement(rows, table, row);
+    let list = measured_list(rows, table, row, statement);
+    set_measures(table, row, expression, statement, list);
+}
+
+// Fills the table of measures.
+pub fn measure(rows: &[i32], table: &mut [usize])
+    requires { ⌜ Source (now rows) × (11 * rowCount (now rows) ≤ length (now table)) ⌝ }
+    ensures { λ _. ⌜ Measured (now (rows .entry)) (now (table .exit)) ⌝ }
+{
+    let mut row = rows.len() / 6;
+    while row > 0 {
+        row -= 1;
+        measure_row(rows, table, row);
+    }
+}

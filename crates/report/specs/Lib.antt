@@ -1,0 +1,3 @@
+-- Output lines, as bytes. A line of comment for each file.
+-- Lines: the lines that the trial program prints.
+pub mod Lines

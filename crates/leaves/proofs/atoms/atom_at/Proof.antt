@@ -1,4 +1,3 @@
--- [[
 -- The atom of an expression, by the shape of the row that its value comes from.
 use mathlib.Core.Path.{refl, ap}
 use native.Mathlib.Omega.{arith}
@@ -8,13 +7,9 @@ use Rattle.measures.specs.ShapeLaws.{found}
 use Rattle.measures.specs.MeasureLaws.{whole-row}
 use Rattle.leaves.specs.declared.Atom.the-variants.{Constant}
 use Rattle.leaves.specs.AtomLaws.{atom-found}
--- ]]
 use borrow.Author.Needs.{needs}
 use Rattle.leaves.proofs.atoms.atom_at.Statement.{statement}
 use Rattle.leaves.proofs.atoms.atom_at.Tie as tie
-use Rattle.leaves.proofs.atoms.atom_at.Reads as reads
-use Rattle.leaves.proofs.atoms.atom_at.Lts as lts
-use Rattle.measures.proofs.shapes.shape_at.Reads as shape-at-reads
 
 add-shape-at : tie.Need-add-shape-at
 add-shape-at c = search needs

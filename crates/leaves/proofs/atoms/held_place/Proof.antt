@@ -1,13 +1,8 @@
--- [[
 -- A place whose index is held at a level.
 use Rattle.leaves.specs.AtomLaws.{place-index, held-variable, held-element}
--- ]]
 use borrow.Author.Needs.{needs}
 use Rattle.leaves.proofs.atoms.held_place.Statement.{statement}
 use Rattle.leaves.proofs.atoms.held_place.Tie as tie
-use Rattle.leaves.proofs.atoms.held_place.Reads as reads
-use Rattle.leaves.proofs.atoms.held_place.Lts as lts
-use Rattle.leaves.proofs.atoms.atom_at.Reads as atom-at-reads
 
 enum-known-place : tie.Need-enum-known-place
 enum-known-place c = search needs

@@ -1,14 +1,8 @@
--- [[
 -- The place at a row.
 use Rattle.leaves.specs.AtomLaws.{place-inside, place-found}
--- ]]
 use borrow.Author.Needs.{needs}
 use Rattle.leaves.proofs.atoms.kernel_place.Statement.{statement}
 use Rattle.leaves.proofs.atoms.kernel_place.Tie as tie
-use Rattle.leaves.proofs.atoms.kernel_place.Reads as reads
-use Rattle.leaves.proofs.atoms.kernel_place.Lts as lts
-use Rattle.leaves.proofs.atoms.held_place.Reads as held-place-reads
-use Rattle.measures.proofs.shapes.place_at.Reads as place-at-reads
 
 place-at-requires : tie.Need-place-at-requires
 place-at-requires c κs = search needs

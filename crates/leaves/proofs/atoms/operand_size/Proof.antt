@@ -1,14 +1,9 @@
--- [[
 -- The rows of an expression, from the table.
 use mathlib.Core.Path.{_∙_}
 use native.Mathlib.Omega.{arith}
 use Rattle.measures.specs.MeasureLaws.{limited-small, whole-slot, whole-part}
--- ]]
 use Rattle.leaves.proofs.atoms.operand_size.Statement.{statement}
 use Rattle.leaves.proofs.atoms.operand_size.Tie as tie
-use Rattle.leaves.proofs.atoms.operand_size.Reads as reads
-use Rattle.leaves.proofs.atoms.operand_size.Lts as lts
-use Rattle.measures.proofs.table.measure_at.Reads as measure-at-reads
 
 measure-at-requires : tie.Need-measure-at-requires
 measure-at-requires c κs = whole-slot (c .before .pre .0) _ (c .before .pre .1) 0 (omega arith)

@@ -1,17 +1,11 @@
--- [[
 -- The temporaries of an index, by the place.
 use mathlib.Core.Path.{sym, ap, _∙_}
 use Rattle.translation.specs.Translate.{placeTaken}
 use Rattle.measures.specs.ShapeLaws.{placed}
 use Rattle.measures.specs.MeasureLaws.{whole-asks}
--- ]]
 use borrow.Author.Needs.{needs}
 use Rattle.leaves.proofs.atoms.place_taken.Statement.{statement}
 use Rattle.leaves.proofs.atoms.place_taken.Tie as tie
-use Rattle.leaves.proofs.atoms.place_taken.Reads as reads
-use Rattle.leaves.proofs.atoms.place_taken.Lts as lts
-use Rattle.measures.proofs.expressions.taken_at.Reads as taken-at-reads
-use Rattle.measures.proofs.shapes.place_at.Reads as place-at-reads
 
 place-at-requires : tie.Need-place-at-requires
 place-at-requires c κs = search needs

@@ -1,13 +1,9 @@
--- [[
 -- The kind of an atom's row.
 use mathlib.Core.Path.{sym, ap}
 use Rattle.leaves.specs.Atoms.{atomKind}
--- ]]
 use borrow.Author.Needs.{needs}
 use Rattle.leaves.proofs.rows.atom_kind.Statement.{statement}
 use Rattle.leaves.proofs.rows.atom_kind.Tie as tie
-use Rattle.leaves.proofs.rows.atom_kind.Reads as reads
-use Rattle.leaves.proofs.rows.atom_kind.Lts as lts
 
 enum-told : tie.Need-enum-told
 enum-told c = search needs

@@ -1,4 +1,3 @@
--- [[
 -- The value of an atom's row.
 use mathlib.Core.Path.{sym, ap, subst, _∙_}
 use native.Mathlib.Omega.{arith}
@@ -6,12 +5,9 @@ use mir.Syntax.{w32}
 use mir.Facts.{toZ-ofZ, toZ-pos}
 use Rattle.leaves.specs.Atoms.{atomValue, AtomFits}
 use Rattle.leaves.proofs.Words.{atom-low}
--- ]]
 use borrow.Author.Needs.{needs}
 use Rattle.leaves.proofs.rows.atom_value.Statement.{statement}
 use Rattle.leaves.proofs.rows.atom_value.Tie as tie
-use Rattle.leaves.proofs.rows.atom_value.Reads as reads
-use Rattle.leaves.proofs.rows.atom_value.Lts as lts
 
 enum-known-x : tie.Need-enum-known-x
 enum-known-x c = search needs

@@ -1,14 +1,10 @@
--- [[
 -- Whether anything stands behind.
 use mathlib.Core.Path.{sym}
 use native.Mathlib.Omega.{arith}
 use Rattle.leaves.specs.Chain.{more-some}
--- ]]
 use borrow.Author.Needs.{needs}
 use Rattle.leaves.proofs.rows.more.Statement.{statement}
 use Rattle.leaves.proofs.rows.more.Tie as tie
-use Rattle.leaves.proofs.rows.more.Reads as reads
-use Rattle.leaves.proofs.rows.more.Lts as lts
 
 returns : tie.Need-returns
 returns c = search needs

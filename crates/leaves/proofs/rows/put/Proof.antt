@@ -1,4 +1,3 @@
--- [[
 -- Words copied one by one: what is written so far is a part of them.
 use mathlib.Core.Path.{_≡_, refl, ap, _∙_}
 use Prim.Native.Nat.{_≤_, _-_}
@@ -7,11 +6,8 @@ use borrow.Author.Needs.{needs}
 use lib.ListN.{length}
 use lib.Seq.{paste, paste-zero}
 use Rattle.leaves.proofs.Copies.{put-kept, put-back, put-all}
--- ]]
 use Rattle.leaves.proofs.rows.put.Statement.{statement}
 use Rattle.leaves.proofs.rows.put.Tie as tie
-use Rattle.leaves.proofs.rows.put.Reads as reads
-use Rattle.leaves.proofs.rows.put.Lts as lts
 
 abbrev Inv-loop : tie.InvT-loop
 Inv-loop ws out₀ i₀ i-end out i = (i ≤ i-end) × (i-end ≡ length ws) × (out ≡ paste out₀ 0 ws i)

@@ -1,4 +1,3 @@
--- [[
 -- The words of a row.
 use mathlib.Core.Path.{refl, ap, _∙_}
 use Prim.Native.Nat.{_+_}
@@ -8,13 +7,9 @@ use lib.IntN.{pos}
 use mir.Syntax.{w32}
 use mir.Facts.{toZ-ofZ, toZ-pos}
 use Rattle.leaves.proofs.Words.{worded}
--- ]]
 use borrow.Author.Needs.{needs}
 use Rattle.leaves.proofs.rows.put_block.Statement.{statement}
 use Rattle.leaves.proofs.rows.put_block.Tie as tie
-use Rattle.leaves.proofs.rows.put_block.Reads as reads
-use Rattle.leaves.proofs.rows.put_block.Lts as lts
-use Rattle.leaves.proofs.rows.put.Reads as put-reads
 
 cast-a : tie.Need-cast-a
 cast-a c = search needs

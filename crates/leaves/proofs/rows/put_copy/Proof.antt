@@ -1,4 +1,3 @@
--- [[
 -- variable := atom: the words of four rows.
 use mathlib.Core.Path.{refl, ap, _∙_}
 use Prim.Native.Nat.{_+_}
@@ -8,16 +7,9 @@ use lib.IntN.{pos}
 use mir.Syntax.{w32}
 use mir.Facts.{toZ-ofZ, toZ-pos}
 use Rattle.leaves.proofs.Words.{worded, pick-most, copy-words}
--- ]]
 use borrow.Author.Needs.{needs}
 use Rattle.leaves.proofs.rows.put_copy.Statement.{statement}
 use Rattle.leaves.proofs.rows.put_copy.Tie as tie
-use Rattle.leaves.proofs.rows.put_copy.Reads as reads
-use Rattle.leaves.proofs.rows.put_copy.Lts as lts
-use Rattle.leaves.proofs.rows.atom_kind.Reads as atom-kind-reads
-use Rattle.leaves.proofs.rows.atom_value.Reads as atom-value-reads
-use Rattle.leaves.proofs.rows.behind.Reads as behind-reads
-use Rattle.leaves.proofs.rows.put.Reads as put-reads
 
 add-behind : tie.Need-add-behind
 add-behind c = search needs

@@ -1,4 +1,3 @@
--- [[
 -- An empty statement: the words of a row.
 use mathlib.Core.Path.{refl, ap, _∙_}
 use Prim.Native.Nat.{_+_}
@@ -8,14 +7,9 @@ use lib.IntN.{pos}
 use mir.Syntax.{w32}
 use mir.Facts.{toZ-ofZ, toZ-pos}
 use Rattle.leaves.proofs.Words.{worded, pick-most, empty-words}
--- ]]
 use borrow.Author.Needs.{needs}
 use Rattle.leaves.proofs.rows.put_empty.Statement.{statement}
 use Rattle.leaves.proofs.rows.put_empty.Tie as tie
-use Rattle.leaves.proofs.rows.put_empty.Reads as reads
-use Rattle.leaves.proofs.rows.put_empty.Lts as lts
-use Rattle.leaves.proofs.rows.behind.Reads as behind-reads
-use Rattle.leaves.proofs.rows.put.Reads as put-reads
 
 add-behind : tie.Need-add-behind
 add-behind c = search needs

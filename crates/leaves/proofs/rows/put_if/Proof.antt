@@ -1,4 +1,3 @@
--- [[
 -- The words of two rows.
 use mathlib.Core.Path.{refl, ap, _∙_}
 use Prim.Native.Nat.{_+_}
@@ -8,15 +7,9 @@ use lib.IntN.{pos}
 use mir.Syntax.{w32}
 use mir.Facts.{toZ-ofZ, toZ-pos}
 use Rattle.leaves.proofs.Words.{worded, atom-words}
--- ]]
 use borrow.Author.Needs.{needs}
 use Rattle.leaves.proofs.rows.put_if.Statement.{statement}
 use Rattle.leaves.proofs.rows.put_if.Tie as tie
-use Rattle.leaves.proofs.rows.put_if.Reads as reads
-use Rattle.leaves.proofs.rows.put_if.Lts as lts
-use Rattle.leaves.proofs.rows.atom_kind.Reads as atom-kind-reads
-use Rattle.leaves.proofs.rows.atom_value.Reads as atom-value-reads
-use Rattle.leaves.proofs.rows.put.Reads as put-reads
 
 add-b1 : tie.Need-add-b1
 add-b1 c = search needs

@@ -1,4 +1,3 @@
--- [[
 -- The jump of a case: the words of five rows.
 use mathlib.Core.Path.{refl, ap, _∙_}
 use Prim.Native.Nat.{_+_}
@@ -8,13 +7,9 @@ use lib.IntN.{pos}
 use mir.Syntax.{w32}
 use mir.Facts.{toZ-ofZ, toZ-pos}
 use Rattle.leaves.proofs.Words.{worded, jump-words}
--- ]]
 use borrow.Author.Needs.{needs}
 use Rattle.leaves.proofs.rows.put_jump.Statement.{statement}
 use Rattle.leaves.proofs.rows.put_jump.Tie as tie
-use Rattle.leaves.proofs.rows.put_jump.Reads as reads
-use Rattle.leaves.proofs.rows.put_jump.Lts as lts
-use Rattle.leaves.proofs.rows.put.Reads as put-reads
 
 add-next : tie.Need-add-next
 add-next c = search needs

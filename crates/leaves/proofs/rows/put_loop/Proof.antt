@@ -1,4 +1,3 @@
--- [[
 -- The words of three rows.
 use mathlib.Core.Path.{refl, ap, _∙_}
 use Prim.Native.Nat.{_+_}
@@ -8,13 +7,9 @@ use lib.IntN.{pos}
 use mir.Syntax.{w32}
 use mir.Facts.{toZ-ofZ, toZ-pos}
 use Rattle.leaves.proofs.Words.{worded}
--- ]]
 use borrow.Author.Needs.{needs}
 use Rattle.leaves.proofs.rows.put_loop.Statement.{statement}
 use Rattle.leaves.proofs.rows.put_loop.Tie as tie
-use Rattle.leaves.proofs.rows.put_loop.Reads as reads
-use Rattle.leaves.proofs.rows.put_loop.Lts as lts
-use Rattle.leaves.proofs.rows.put.Reads as put-reads
 
 add-b1 : tie.Need-add-b1
 add-b1 c = search needs

@@ -1,4 +1,3 @@
--- [[
 -- array[atom] := atom: the words of five rows.
 use mathlib.Core.Path.{refl, ap, _∙_}
 use Prim.Native.Nat.{_+_}
@@ -8,16 +7,9 @@ use lib.IntN.{pos}
 use mir.Syntax.{w32}
 use mir.Facts.{toZ-ofZ, toZ-pos}
 use Rattle.leaves.proofs.Words.{worded, pick-most, store-words}
--- ]]
 use borrow.Author.Needs.{needs}
 use Rattle.leaves.proofs.rows.put_store.Statement.{statement}
 use Rattle.leaves.proofs.rows.put_store.Tie as tie
-use Rattle.leaves.proofs.rows.put_store.Reads as reads
-use Rattle.leaves.proofs.rows.put_store.Lts as lts
-use Rattle.leaves.proofs.rows.atom_kind.Reads as atom-kind-reads
-use Rattle.leaves.proofs.rows.atom_value.Reads as atom-value-reads
-use Rattle.leaves.proofs.rows.behind.Reads as behind-reads
-use Rattle.leaves.proofs.rows.put.Reads as put-reads
 
 add-behind : tie.Need-add-behind
 add-behind c = search needs

@@ -1,4 +1,3 @@
--- [[
 -- place := atom, by the place.
 use mathlib.Core.Path.{sym, ap, subst}
 use native.Mathlib.Omega.{arith}
@@ -7,14 +6,9 @@ use Rattle.leaves.specs.Atoms.{atomTree, placeTree, PlaceFits, indexRows
 use Rattle.leaves.specs.Chain.{room-less}
 use Rattle.leaves.specs.LeafLaws.{recoded}
 use Rattle.leaves.specs.declared.KernelPlace.{KernelPlace}
--- ]]
 use borrow.Author.Needs.{needs}
 use Rattle.leaves.proofs.straight.put_assign.Statement.{statement}
 use Rattle.leaves.proofs.straight.put_assign.Tie as tie
-use Rattle.leaves.proofs.straight.put_assign.Reads as reads
-use Rattle.leaves.proofs.straight.put_assign.Lts as lts
-use Rattle.leaves.proofs.rows.put_copy.Reads as put-copy-reads
-use Rattle.leaves.proofs.rows.put_store.Reads as put-store-reads
 
 enum-known-place : tie.Need-enum-known-place
 enum-known-place c = search needs

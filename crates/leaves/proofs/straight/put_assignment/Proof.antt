@@ -1,4 +1,3 @@
--- [[
 -- The value into the place: its atom, and the place with its index above.
 use mathlib.Core.Path.{_≡_, ap, ap₂, _∙_}
 use Prim.Native.Nat.{ℕ, _+_}
@@ -11,16 +10,9 @@ use Rattle.measures.specs.MeasureLaws.{whole-asks}
 use Rattle.leaves.specs.Over.{Room}
 use Rattle.leaves.specs.Chain.{room-less}
 use Rattle.leaves.specs.LeafLaws.{recoded}
--- ]]
 use borrow.Author.Needs.{needs}
 use Rattle.leaves.proofs.straight.put_assignment.Statement.{statement}
 use Rattle.leaves.proofs.straight.put_assignment.Tie as tie
-use Rattle.leaves.proofs.straight.put_assignment.Reads as reads
-use Rattle.leaves.proofs.straight.put_assignment.Lts as lts
-use Rattle.leaves.proofs.atoms.atom_at.Reads as atom-at-reads
-use Rattle.leaves.proofs.atoms.kernel_place.Reads as kernel-place-reads
-use Rattle.leaves.proofs.straight.put_assign.Reads as put-assign-reads
-use Rattle.measures.proofs.expressions.taken_at.Reads as taken-at-reads
 
 atom-at-requires : tie.Need-atom-at-requires
 atom-at-requires c κs = (c .before .pre .writing, c .before .pre .value-inside, omega (arith, c .before .pre .level-low))

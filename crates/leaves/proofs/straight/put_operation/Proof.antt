@@ -1,4 +1,3 @@
--- [[
 -- The place, its index held above the result, and what is done with it.
 use mathlib.Core.Path.{_≡_, ap, ap₂, _∙_}
 use Prim.Native.Nat.{ℕ, _+_}
@@ -9,15 +8,9 @@ use Rattle.translation.specs.Translate.{updateCode, postfixCode}
 use Rattle.leaves.specs.Atoms.{atomTree}
 use Rattle.leaves.specs.Chain.{room-less}
 use Rattle.leaves.specs.LeafLaws.{recoded, place-taken-most}
--- ]]
 use borrow.Author.Needs.{needs}
 use Rattle.leaves.proofs.straight.put_operation.Statement.{statement}
 use Rattle.leaves.proofs.straight.put_operation.Tie as tie
-use Rattle.leaves.proofs.straight.put_operation.Reads as reads
-use Rattle.leaves.proofs.straight.put_operation.Lts as lts
-use Rattle.leaves.proofs.atoms.kernel_place.Reads as kernel-place-reads
-use Rattle.leaves.proofs.atoms.place_taken.Reads as place-taken-reads
-use Rattle.leaves.proofs.straight.put_update.Reads as put-update-reads
 
 add-kernel-place : tie.Need-add-kernel-place
 add-kernel-place c = search needs

@@ -1,4 +1,3 @@
--- [[
 -- The operation of a binary operator: the right operand's atom, and the left one's above it.
 use mathlib.Core.Path.{_≡_, ap, ap₂, _∙_}
 use Prim.Native.Nat.{ℕ, _+_}
@@ -9,15 +8,9 @@ use Rattle.translation.specs.Translate.{atomOf, atom}
 use Rattle.measures.specs.ShapeLaws.{taken-most}
 use Rattle.measures.specs.MeasureLaws.{whole-asks}
 use Rattle.leaves.specs.LeafLaws.{recoded}
--- ]]
 use borrow.Author.Needs.{needs}
 use Rattle.leaves.proofs.straight.put_operator.Statement.{statement}
 use Rattle.leaves.proofs.straight.put_operator.Tie as tie
-use Rattle.leaves.proofs.straight.put_operator.Reads as reads
-use Rattle.leaves.proofs.straight.put_operator.Lts as lts
-use Rattle.leaves.proofs.atoms.atom_at.Reads as atom-at-reads
-use Rattle.leaves.proofs.rows.put_binary.Reads as put-binary-reads
-use Rattle.measures.proofs.expressions.taken_at.Reads as taken-at-reads
 
 atom-at-requires : tie.Need-atom-at-requires
 atom-at-requires c κs = (c .before .pre .writing, c .before .pre .right-inside, omega (arith, c .before .pre .level-low))

@@ -1,4 +1,3 @@
--- [[
 -- A postfix operation, by the place: what two or three assignments in a row write.
 use mathlib.Core.Path.{_≡_, refl, sym, ap, subst, _∙_}
 use mathlib.Core.Bool.{true}
@@ -12,16 +11,9 @@ use Rattle.leaves.specs.Chain.{wrote-put, wrote-next, put-reach, put-roo
 use Rattle.leaves.specs.LeafLaws.{recoded, copy-wrote, binary-wrote, fetch-wrote, store-wrote}
 use Rattle.leaves.specs.declared.Atom.the-variants.{Constant, Variable}
 use Rattle.leaves.specs.declared.KernelPlace.{KernelPlace}
--- ]]
 use borrow.Author.Needs.{needs}
 use Rattle.leaves.proofs.straight.put_postfix.Statement.{statement}
 use Rattle.leaves.proofs.straight.put_postfix.Tie as tie
-use Rattle.leaves.proofs.straight.put_postfix.Reads as reads
-use Rattle.leaves.proofs.straight.put_postfix.Lts as lts
-use Rattle.leaves.proofs.rows.put_binary.Reads as put-binary-reads
-use Rattle.leaves.proofs.rows.put_copy.Reads as put-copy-reads
-use Rattle.leaves.proofs.rows.put_fetch.Reads as put-fetch-reads
-use Rattle.leaves.proofs.rows.put_store.Reads as put-store-reads
 
 add-old : tie.Need-add-old
 add-old c = search needs

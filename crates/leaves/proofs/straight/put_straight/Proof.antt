@@ -1,4 +1,3 @@
--- [[
 -- What an expression does with its operands' values, by the shape.
 use mathlib.Core.Path.{_≡_, sym, ap, _∙_}
 use Prim.Native.Nat.{_+_}
@@ -13,22 +12,9 @@ use Rattle.leaves.specs.Straight.{straightCode}
 use Rattle.leaves.specs.Chain.{room-less}
 use Rattle.leaves.specs.AtomLaws.{onward-inside, room-by-shape}
 use Rattle.leaves.specs.LeafLaws.{recoded, nothing-wrote}
--- ]]
 use borrow.Author.Needs.{needs}
 use Rattle.leaves.proofs.straight.put_straight.Statement.{statement}
 use Rattle.leaves.proofs.straight.put_straight.Tie as tie
-use Rattle.leaves.proofs.straight.put_straight.Reads as reads
-use Rattle.leaves.proofs.straight.put_straight.Lts as lts
-use Rattle.leaves.proofs.atoms.atom_at.Reads as atom-at-reads
-use Rattle.leaves.proofs.atoms.held_place.Reads as held-place-reads
-use Rattle.leaves.proofs.rows.put_binary.Reads as put-binary-reads
-use Rattle.leaves.proofs.rows.put_minus.Reads as put-minus-reads
-use Rattle.leaves.proofs.straight.put_assignment.Reads as put-assignment-reads
-use Rattle.leaves.proofs.straight.put_operation.Reads as put-operation-reads
-use Rattle.leaves.proofs.straight.put_operator.Reads as put-operator-reads
-use Rattle.leaves.proofs.straight.put_read.Reads as put-read-reads
-use Rattle.leaves.proofs.straight.put_step.Reads as put-step-reads
-use Rattle.measures.proofs.shapes.shape_at.Reads as shape-at-reads
 
 add-number : tie.Need-add-number
 add-number c = search needs

@@ -1,17 +1,11 @@
--- [[
 -- The level of the second operand, by the shape.
 use mathlib.Core.Path.{sym, ap, _∙_}
 use Rattle.measures.specs.Operands.{aboveFirst}
 use Rattle.measures.specs.MeasureLaws.{link-asks}
 use Rattle.measures.specs.ShapeLaws.{found}
--- ]]
 use borrow.Author.Needs.{needs}
 use Rattle.measures.proofs.expressions.above_at.Statement.{statement}
 use Rattle.measures.proofs.expressions.above_at.Tie as tie
-use Rattle.measures.proofs.expressions.above_at.Reads as reads
-use Rattle.measures.proofs.expressions.above_at.Lts as lts
-use Rattle.measures.proofs.expressions.taken_at.Reads as taken-at-reads
-use Rattle.measures.proofs.shapes.shape_at.Reads as shape-at-reads
 
 shape-at-requires : tie.Need-shape-at-requires
 shape-at-requires c κs = search needs

@@ -1,4 +1,3 @@
--- [[
 -- The levels of an expression: those of its operands and its own.
 use mathlib.Core.Path.{refl, ap, ap₂, _∙_}
 use Prim.Native.Nat.{ℕ, _+_, max}
@@ -7,17 +6,9 @@ use Rattle.language.specs.Decode.{expressionAt}
 use Rattle.measures.specs.Measures.{limited}
 use Rattle.measures.specs.MeasureLaws.{slot-asks}
 use Rattle.measures.proofs.Parts.{levels-of, above-most}
--- ]]
 use borrow.Author.Needs.{needs}
 use Rattle.measures.proofs.expressions.expression_levels.Statement.{statement}
 use Rattle.measures.proofs.expressions.expression_levels.Tie as tie
-use Rattle.measures.proofs.expressions.expression_levels.Reads as reads
-use Rattle.measures.proofs.expressions.expression_levels.Lts as lts
-use Rattle.measures.proofs.expressions.above_at.Reads as above-at-reads
-use Rattle.measures.proofs.expressions.own_levels_at.Reads as own-levels-at-reads
-use Rattle.measures.proofs.table.larger.Reads as larger-reads
-use Rattle.measures.proofs.table.limited.Reads as limited-reads
-use Rattle.measures.proofs.table.measure_at.Reads as measure-at-reads
 
 measure-at-requires : tie.Need-measure-at-requires
 measure-at-requires c κs = slot-asks (c .before .pre .0) (c .before .pre .2 .first-onward) 1 (omega arith)

@@ -1,19 +1,12 @@
--- [[
 -- The rows of an expression: those of its operands and its own.
 use mathlib.Core.Path.{_∙_}
 use native.Mathlib.Omega.{arith}
 use Rattle.language.specs.Decode.{expressionAt}
 use Rattle.measures.specs.MeasureLaws.{slot-asks}
 use Rattle.measures.proofs.Parts.{rows-of, own-most}
--- ]]
 use borrow.Author.Needs.{needs}
 use Rattle.measures.proofs.expressions.expression_rows.Statement.{statement}
 use Rattle.measures.proofs.expressions.expression_rows.Tie as tie
-use Rattle.measures.proofs.expressions.expression_rows.Reads as reads
-use Rattle.measures.proofs.expressions.expression_rows.Lts as lts
-use Rattle.measures.proofs.expressions.own_rows_at.Reads as own-rows-at-reads
-use Rattle.measures.proofs.table.limited.Reads as limited-reads
-use Rattle.measures.proofs.table.measure_at.Reads as measure-at-reads
 
 measure-at-requires : tie.Need-measure-at-requires
 measure-at-requires c κs = slot-asks (c .before .pre .0) (c .before .pre .2 .first-onward) 0 (omega arith)

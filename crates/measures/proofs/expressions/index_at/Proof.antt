@@ -1,14 +1,9 @@
--- [[
 -- The row of an index, by the place.
 use Rattle.measures.proofs.Parts.{index-of}
 use Rattle.measures.specs.ShapeLaws.{placed}
--- ]]
 use borrow.Author.Needs.{needs}
 use Rattle.measures.proofs.expressions.index_at.Statement.{statement}
 use Rattle.measures.proofs.expressions.index_at.Tie as tie
-use Rattle.measures.proofs.expressions.index_at.Reads as reads
-use Rattle.measures.proofs.expressions.index_at.Lts as lts
-use Rattle.measures.proofs.shapes.place_at.Reads as place-at-reads
 
 place-at-requires : tie.Need-place-at-requires
 place-at-requires c κs = search needs

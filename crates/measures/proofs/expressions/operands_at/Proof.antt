@@ -1,18 +1,11 @@
--- [[
 -- The operands of a row, by its shape.
 use mathlib.Core.Path.{ap}
 use Rattle.measures.specs.declared.Shape.the-variants.{Read}
 use Rattle.measures.proofs.Parts.{operands-found}
 use Rattle.measures.specs.ShapeLaws.{found}
--- ]]
 use borrow.Author.Needs.{needs}
 use Rattle.measures.proofs.expressions.operands_at.Statement.{statement}
 use Rattle.measures.proofs.expressions.operands_at.Tie as tie
-use Rattle.measures.proofs.expressions.operands_at.Reads as reads
-use Rattle.measures.proofs.expressions.operands_at.Lts as lts
-use Rattle.measures.proofs.expressions.index_at.Reads as index-at-reads
-use Rattle.measures.proofs.expressions.operands.Reads as operands-reads
-use Rattle.measures.proofs.shapes.shape_at.Reads as shape-at-reads
 
 shape-at-requires : tie.Need-shape-at-requires
 shape-at-requires c κs = search needs

@@ -1,18 +1,12 @@
--- [[
 -- The levels that an expression's own code names, by the shape.
 use mathlib.Core.Path.{sym, ap, _∙_}
 use native.Mathlib.Omega.{arith}
 use Rattle.measures.specs.Operands.{ownLevels}
 use Rattle.measures.specs.MeasureLaws.{measured-less}
 use Rattle.measures.specs.ShapeLaws.{found}
--- ]]
 use borrow.Author.Needs.{needs}
 use Rattle.measures.proofs.expressions.own_levels_at.Statement.{statement}
 use Rattle.measures.proofs.expressions.own_levels_at.Tie as tie
-use Rattle.measures.proofs.expressions.own_levels_at.Reads as reads
-use Rattle.measures.proofs.expressions.own_levels_at.Lts as lts
-use Rattle.measures.proofs.expressions.update_levels.Reads as update-levels-reads
-use Rattle.measures.proofs.shapes.shape_at.Reads as shape-at-reads
 
 shape-at-requires : tie.Need-shape-at-requires
 shape-at-requires c κs = search needs

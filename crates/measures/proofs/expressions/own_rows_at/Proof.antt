@@ -1,4 +1,3 @@
--- [[
 -- The rows that an expression's own row brings, by the shape.
 use mathlib.Core.Path.{sym, ap, _∙_}
 use native.Mathlib.Omega.{arith}
@@ -8,16 +7,9 @@ use Rattle.translation.specs.TranslateSize.{indexRows, ownRows}
 use Rattle.measures.specs.MeasureLaws.{link-asks}
 use Rattle.measures.proofs.Parts.{place-rows, copy-taken}
 use Rattle.measures.specs.ShapeLaws.{found, taken-most}
--- ]]
 use borrow.Author.Needs.{needs}
 use Rattle.measures.proofs.expressions.own_rows_at.Statement.{statement}
 use Rattle.measures.proofs.expressions.own_rows_at.Tie as tie
-use Rattle.measures.proofs.expressions.own_rows_at.Reads as reads
-use Rattle.measures.proofs.expressions.own_rows_at.Lts as lts
-use Rattle.measures.proofs.expressions.rows_of.Reads as rows-of-reads
-use Rattle.measures.proofs.expressions.taken_at.Reads as taken-at-reads
-use Rattle.measures.proofs.shapes.place_at.Reads as place-at-reads
-use Rattle.measures.proofs.shapes.shape_at.Reads as shape-at-reads
 
 shape-at-requires : tie.Need-shape-at-requires
 shape-at-requires c κs = search needs

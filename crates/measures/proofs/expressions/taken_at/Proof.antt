@@ -1,14 +1,9 @@
--- [[
 -- Whether a value takes a temporary: by the shape of the row that it comes from.
 use Rattle.measures.proofs.Parts.{taken-of}
 use Rattle.measures.specs.ShapeLaws.{found}
--- ]]
 use borrow.Author.Needs.{needs}
 use Rattle.measures.proofs.expressions.taken_at.Statement.{statement}
 use Rattle.measures.proofs.expressions.taken_at.Tie as tie
-use Rattle.measures.proofs.expressions.taken_at.Reads as reads
-use Rattle.measures.proofs.expressions.taken_at.Lts as lts
-use Rattle.measures.proofs.shapes.shape_at.Reads as shape-at-reads
 
 mul-shape-at : tie.Need-mul-shape-at
 mul-shape-at c = search needs

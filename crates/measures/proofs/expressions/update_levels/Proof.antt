@@ -1,4 +1,3 @@
--- [[
 -- The levels of an update, by the place.
 use mathlib.Core.Path.{sym, ap, _∙_}
 use native.Mathlib.Omega.{arith}
@@ -7,14 +6,9 @@ use Rattle.translation.specs.Translate.{atomOf}
 use Rattle.measures.specs.Operands.{updateOwn}
 use Rattle.measures.specs.MeasureLaws.{link-asks}
 use Rattle.measures.specs.ShapeLaws.{placed, taken-most}
--- ]]
 use borrow.Author.Needs.{needs}
 use Rattle.measures.proofs.expressions.update_levels.Statement.{statement}
 use Rattle.measures.proofs.expressions.update_levels.Tie as tie
-use Rattle.measures.proofs.expressions.update_levels.Reads as reads
-use Rattle.measures.proofs.expressions.update_levels.Lts as lts
-use Rattle.measures.proofs.expressions.taken_at.Reads as taken-at-reads
-use Rattle.measures.proofs.shapes.place_at.Reads as place-at-reads
 
 place-at-requires : tie.Need-place-at-requires
 place-at-requires c κs = search needs

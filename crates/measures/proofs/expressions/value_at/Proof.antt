@@ -1,4 +1,3 @@
--- [[
 -- The row that a value comes from, by the shape: a comma and an assignment have their right operand's, the others their own.
 use mathlib.Core.Path.{sym, ap, _∙_}
 use native.Mathlib.Omega.{arith}
@@ -6,13 +5,9 @@ use Rattle.translation.specs.Translate.{atomOf}
 use Rattle.measures.specs.Operands.{plainAtom}
 use Rattle.measures.specs.MeasureLaws.{link-measured}
 use Rattle.measures.specs.ShapeLaws.{found}
--- ]]
 use borrow.Author.Needs.{needs}
 use Rattle.measures.proofs.expressions.value_at.Statement.{statement}
 use Rattle.measures.proofs.expressions.value_at.Tie as tie
-use Rattle.measures.proofs.expressions.value_at.Reads as reads
-use Rattle.measures.proofs.expressions.value_at.Lts as lts
-use Rattle.measures.proofs.shapes.shape_at.Reads as shape-at-reads
 
 shape-at-requires : tie.Need-shape-at-requires
 shape-at-requires c κs = search needs

@@ -1,18 +1,11 @@
--- [[
 -- What a row is as an item of a list: by its kind.
 use mathlib.Core.Path.{refl, _∙_}
 use borrow.Author.Needs.{sfits-of}
 use mir.Facts.{toZ-ofZ}
 use Rattle.measures.proofs.Found.{item-found}
--- ]]
 use borrow.Author.Needs.{needs}
 use Rattle.measures.proofs.lines.item_at.Statement.{statement}
 use Rattle.measures.proofs.lines.item_at.Tie as tie
-use Rattle.measures.proofs.lines.item_at.Reads as reads
-use Rattle.measures.proofs.lines.item_at.Lts as lts
-use Rattle.words.proofs.kinds.kind_at.Reads as kind-at-reads
-use Rattle.words.proofs.table.number_at.Reads as number-at-reads
-use Rattle.words.proofs.table.word_at.Reads as word-at-reads
 
 kind-at-requires : tie.Need-kind-at-requires
 kind-at-requires c κs = search needs

@@ -1,15 +1,9 @@
--- [[
 -- What a row is as a statement: by its kind.
 use mathlib.Core.Path.{refl}
 use Rattle.measures.proofs.Found.{line-found}
--- ]]
 use borrow.Author.Needs.{needs}
 use Rattle.measures.proofs.lines.line_at.Statement.{statement}
 use Rattle.measures.proofs.lines.line_at.Tie as tie
-use Rattle.measures.proofs.lines.line_at.Reads as reads
-use Rattle.measures.proofs.lines.line_at.Lts as lts
-use Rattle.words.proofs.kinds.kind_at.Reads as kind-at-reads
-use Rattle.words.proofs.table.number_at.Reads as number-at-reads
 
 number-at-requires : tie.Need-number-at-requires
 number-at-requires c κs = search needs

@@ -1,18 +1,12 @@
--- [[
 -- A list that begins with a mark: the words of the list behind it, and the mark's own.
 use mathlib.Core.Path.{refl, ap, _∙_}
 use Prim.Native.Nat.{ℕ, _+_}
 use native.Mathlib.Omega.{arith}
 use Rattle.measures.specs.Measures.{limited}
 use Rattle.measures.proofs.LineLaws.{same-measures}
--- ]]
 use borrow.Author.Needs.{needs}
 use Rattle.measures.proofs.lists.behind_mark.Statement.{statement}
 use Rattle.measures.proofs.lists.behind_mark.Tie as tie
-use Rattle.measures.proofs.lists.behind_mark.Reads as reads
-use Rattle.measures.proofs.lists.behind_mark.Lts as lts
-use Rattle.measures.proofs.table.limited.Reads as limited-reads
-use Rattle.measures.proofs.table.measure_at.Reads as measure-at-reads
 
 measure-at-requires : tie.Need-measure-at-requires
 measure-at-requires c κs = c .before .pre .0 6 (omega arith)

@@ -1,20 +1,12 @@
--- [[
 -- A list that begins with a statement: the words of the list behind it, and the statement's own.
 use mathlib.Core.Path.{refl, ap, _∙_}
 use Prim.Native.Nat.{ℕ, _+_, max}
 use native.Mathlib.Omega.{arith}
 use Rattle.measures.specs.Measures.{limited, pastLabels}
 use Rattle.measures.proofs.LineLaws.{same-measures}
--- ]]
 use borrow.Author.Needs.{needs}
 use Rattle.measures.proofs.lists.behind_statement.Statement.{statement}
 use Rattle.measures.proofs.lists.behind_statement.Tie as tie
-use Rattle.measures.proofs.lists.behind_statement.Reads as reads
-use Rattle.measures.proofs.lists.behind_statement.Lts as lts
-use Rattle.measures.proofs.lists.past_labels.Reads as past-labels-reads
-use Rattle.measures.proofs.table.larger.Reads as larger-reads
-use Rattle.measures.proofs.table.limited.Reads as limited-reads
-use Rattle.measures.proofs.table.measure_at.Reads as measure-at-reads
 
 measure-at-requires : tie.Need-measure-at-requires
 measure-at-requires c κs = c .before .pre .0 6 (omega arith)

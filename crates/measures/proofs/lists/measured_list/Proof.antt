@@ -1,4 +1,3 @@
--- [[
 -- A list by its first item.
 use mathlib.Core.Path.{_≡_, refl, ap, subst, _∙_}
 use Prim.Native.Nat.{ℕ}
@@ -7,18 +6,9 @@ use Rattle.measures.specs.Source.{OptionalOnward}
 use Rattle.measures.specs.MeasureLaws.{slot-asks, limited-as}
 use Rattle.measures.proofs.LineLaws.{case-list, label-list, default-list, statement-list}
 use Rattle.measures.specs.ShapeLaws.{itemed, at-next}
--- ]]
 use borrow.Author.Needs.{needs}
 use Rattle.measures.proofs.lists.measured_list.Statement.{statement}
 use Rattle.measures.proofs.lists.measured_list.Tie as tie
-use Rattle.measures.proofs.lists.measured_list.Reads as reads
-use Rattle.measures.proofs.lists.measured_list.Lts as lts
-use Rattle.measures.proofs.lines.item_at.Reads as item-at-reads
-use Rattle.measures.proofs.lists.behind_mark.Reads as behind-mark-reads
-use Rattle.measures.proofs.lists.behind_statement.Reads as behind-statement-reads
-use Rattle.measures.proofs.lists.past_labels.Reads as past-labels-reads
-use Rattle.measures.proofs.table.measure_at.Reads as measure-at-reads
-use Rattle.words.proofs.table.number_at.Reads as number-at-reads
 
 number-at-requires : tie.Need-number-at-requires
 number-at-requires c κs = search needs

@@ -1,15 +1,10 @@
--- [[
 -- The place of a default behind more labels.
 use mathlib.Core.Path.{_∙_}
 use native.Mathlib.Omega.{arith}
 use Rattle.measures.proofs.LineLaws.{past-none, past-some}
--- ]]
 use borrow.Author.Needs.{needs}
 use Rattle.measures.proofs.lists.past_labels.Statement.{statement}
 use Rattle.measures.proofs.lists.past_labels.Tie as tie
-use Rattle.measures.proofs.lists.past_labels.Reads as reads
-use Rattle.measures.proofs.lists.past_labels.Lts as lts
-use Rattle.measures.proofs.table.limited.Reads as limited-reads
 
 returns : tie.Need-returns
 returns c = past-none (c .before .args .more) (c .before .args .place) (omega arith)

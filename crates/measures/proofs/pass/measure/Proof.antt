@@ -1,4 +1,3 @@
--- [[
 -- The rows from the loop's row on are measured.
 use mathlib.Core.Path.{_≡_, refl, sym, subst, _∙_}
 use Prim.Native.Nat.{ℕ, _≤_, _+_, _-_}
@@ -7,12 +6,8 @@ use lib.ListN.{length}
 use Rattle.words.specs.Table.{rowCount}
 use Rattle.measures.specs.Measures.{MeasuredFrom}
 use Rattle.measures.specs.MeasureLaws.{measured-none, measured-back, measured-zero}
--- ]]
 use Rattle.measures.proofs.pass.measure.Statement.{statement}
 use Rattle.measures.proofs.pass.measure.Tie as tie
-use Rattle.measures.proofs.pass.measure.Reads as reads
-use Rattle.measures.proofs.pass.measure.Lts as lts
-use Rattle.measures.proofs.pass.measure_row.Reads as measure-row-reads
 
 abbrev Inv-loop : tie.InvT-loop
 Inv-loop rows table₀ row₀ table row = (row ≤ rowCount rows) × MeasuredFrom rows table row × (length table ≡ length table₀)

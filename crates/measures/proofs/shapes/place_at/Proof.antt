@@ -1,14 +1,9 @@
--- [[
 -- The place of a row, by its shape.
 use Rattle.measures.proofs.Parts.{place-of}
 use Rattle.measures.specs.ShapeLaws.{found}
--- ]]
 use borrow.Author.Needs.{needs}
 use Rattle.measures.proofs.shapes.place_at.Statement.{statement}
 use Rattle.measures.proofs.shapes.place_at.Tie as tie
-use Rattle.measures.proofs.shapes.place_at.Reads as reads
-use Rattle.measures.proofs.shapes.place_at.Lts as lts
-use Rattle.measures.proofs.shapes.shape_at.Reads as shape-at-reads
 
 shape-at-requires : tie.Need-shape-at-requires
 shape-at-requires c κs = search needs

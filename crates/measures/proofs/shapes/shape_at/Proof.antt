@@ -1,18 +1,11 @@
--- [[
 -- What a row is as an expression: by its kind.
 use mathlib.Core.Path.{_≡_, refl, _∙_}
 use borrow.Author.Needs.{sfits-of}
 use mir.Facts.{toZ-ofZ}
 use Rattle.measures.proofs.Found.{shape-found}
--- ]]
 use borrow.Author.Needs.{needs}
 use Rattle.measures.proofs.shapes.shape_at.Statement.{statement}
 use Rattle.measures.proofs.shapes.shape_at.Tie as tie
-use Rattle.measures.proofs.shapes.shape_at.Reads as reads
-use Rattle.measures.proofs.shapes.shape_at.Lts as lts
-use Rattle.words.proofs.kinds.kind_at.Reads as kind-at-reads
-use Rattle.words.proofs.table.number_at.Reads as number-at-reads
-use Rattle.words.proofs.table.word_at.Reads as word-at-reads
 
 number-at-requires : tie.Need-number-at-requires
 number-at-requires c κs = search needs

@@ -1,4 +1,3 @@
--- [[
 -- The labels of a statement, line by line.
 use mathlib.Core.Path.{refl, ap, _∙_}
 use native.Mathlib.Omega.{arith}
@@ -7,15 +6,9 @@ use Rattle.measures.specs.Measures.{limited}
 use Rattle.measures.specs.MeasureLaws.{slot-asks}
 use Rattle.measures.proofs.LineLaws.{labels-block, labels-if, labels-loop, labels-switch}
 use Rattle.measures.specs.ShapeLaws.{lined, by-line, optional}
--- ]]
 use borrow.Author.Needs.{needs}
 use Rattle.measures.proofs.statements.statement_labels.Statement.{statement}
 use Rattle.measures.proofs.statements.statement_labels.Tie as tie
-use Rattle.measures.proofs.statements.statement_labels.Reads as reads
-use Rattle.measures.proofs.statements.statement_labels.Lts as lts
-use Rattle.measures.proofs.lines.line_at.Reads as line-at-reads
-use Rattle.measures.proofs.table.limited.Reads as limited-reads
-use Rattle.measures.proofs.table.measure_at.Reads as measure-at-reads
 
 line-at-requires : tie.Need-line-at-requires
 line-at-requires c κs = search needs

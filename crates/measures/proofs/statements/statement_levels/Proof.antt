@@ -1,4 +1,3 @@
--- [[
 -- The levels of a statement, line by line.
 use mathlib.Core.Path.{refl, ap, ap₂, _∙_}
 use Prim.Native.Nat.{_+_, max}
@@ -9,16 +8,9 @@ use Rattle.measures.specs.Measures.{limited}
 use Rattle.measures.specs.MeasureLaws.{slot-asks, link-asks}
 use Rattle.measures.proofs.LineLaws.{levels-express, levels-block, levels-if, levels-while, levels-do, levels-for, levels-switch}
 use Rattle.measures.specs.ShapeLaws.{taken-most, lined, by-line, optional}
--- ]]
 use borrow.Author.Needs.{needs}
 use Rattle.measures.proofs.statements.statement_levels.Statement.{statement}
 use Rattle.measures.proofs.statements.statement_levels.Tie as tie
-use Rattle.measures.proofs.statements.statement_levels.Reads as reads
-use Rattle.measures.proofs.statements.statement_levels.Lts as lts
-use Rattle.measures.proofs.expressions.taken_at.Reads as taken-at-reads
-use Rattle.measures.proofs.lines.line_at.Reads as line-at-reads
-use Rattle.measures.proofs.table.larger.Reads as larger-reads
-use Rattle.measures.proofs.table.measure_at.Reads as measure-at-reads
 
 line-at-requires : tie.Need-line-at-requires
 line-at-requires c κs = search needs

@@ -1,4 +1,3 @@
--- [[
 -- The rows of a statement, line by line.
 use mathlib.Core.Path.{refl, ap, _∙_}
 use native.Mathlib.Omega.{arith}
@@ -7,17 +6,9 @@ use Rattle.measures.specs.Measures.{limited}
 use Rattle.measures.specs.MeasureLaws.{slot-asks}
 use Rattle.measures.proofs.LineLaws.{rows-express, rows-block, rows-if, rows-while, rows-do, rows-for, rows-switch}
 use Rattle.measures.specs.ShapeLaws.{lined, by-line, optional}
--- ]]
 use borrow.Author.Needs.{needs}
 use Rattle.measures.proofs.statements.statement_rows.Statement.{statement}
 use Rattle.measures.proofs.statements.statement_rows.Tie as tie
-use Rattle.measures.proofs.statements.statement_rows.Reads as reads
-use Rattle.measures.proofs.statements.statement_rows.Lts as lts
-use Rattle.measures.proofs.lines.line_at.Reads as line-at-reads
-use Rattle.measures.proofs.statements.test_rows.Reads as test-rows-reads
-use Rattle.measures.proofs.table.larger.Reads as larger-reads
-use Rattle.measures.proofs.table.limited.Reads as limited-reads
-use Rattle.measures.proofs.table.measure_at.Reads as measure-at-reads
 
 line-at-requires : tie.Need-line-at-requires
 line-at-requires c κs = search needs

@@ -1,14 +1,8 @@
--- [[
 -- The rows of a loop's test.
 use native.Mathlib.Omega.{arith}
 use Rattle.measures.proofs.LineLaws.{test-none, test-some}
--- ]]
-use borrow.Author.Needs.{needs}
 use Rattle.measures.proofs.statements.test_rows.Statement.{statement}
 use Rattle.measures.proofs.statements.test_rows.Tie as tie
-use Rattle.measures.proofs.statements.test_rows.Reads as reads
-use Rattle.measures.proofs.statements.test_rows.Lts as lts
-use Rattle.measures.proofs.table.measure_at.Reads as measure-at-reads
 
 returns : tie.Need-returns
 returns c = record { is = test-none _ (c .before .before .args .test) (omega arith); small = omega arith }

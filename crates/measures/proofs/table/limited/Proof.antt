@@ -1,12 +1,8 @@
--- [[
 -- A sum, cut off.
 use native.Mathlib.Omega.{arith}
 use Rattle.measures.specs.Measures.{limited}
--- ]]
 use Rattle.measures.proofs.table.limited.Statement.{statement}
 use Rattle.measures.proofs.table.limited.Tie as tie
-use Rattle.measures.proofs.table.limited.Reads as reads
-use Rattle.measures.proofs.table.limited.Lts as lts
 
 returns : tie.Need-returns
 unfolding limited

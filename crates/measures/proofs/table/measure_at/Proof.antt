@@ -1,14 +1,9 @@
--- [[
 -- A measure of the row that a link leads to.
 use mathlib.Core.Path.{sym, refl}
 use native.Mathlib.Omega.{arith}
 use Rattle.measures.specs.MeasureLaws.{at-none, at-some}
--- ]]
-use borrow.Author.Needs.{needs}
 use Rattle.measures.proofs.table.measure_at.Statement.{statement}
 use Rattle.measures.proofs.table.measure_at.Tie as tie
-use Rattle.measures.proofs.table.measure_at.Reads as reads
-use Rattle.measures.proofs.table.measure_at.Lts as lts
 
 returns : tie.Need-returns
 returns c = let e = at-none _ (c .before .args .link) (c .before .args .measure) (omega arith) in record { is = e; small = omega arith }

@@ -1,14 +1,10 @@
--- [[
 -- Eleven stores.
 use native.Mathlib.Omega.{arith}
 use lib.ListN.{length-set}
 use Rattle.measures.proofs.Stores.{eleven-stores}
--- ]]
 use borrow.Author.Needs.{needs}
 use Rattle.measures.proofs.table.set_measures.Statement.{statement}
 use Rattle.measures.proofs.table.set_measures.Tie as tie
-use Rattle.measures.proofs.table.set_measures.Reads as reads
-use Rattle.measures.proofs.table.set_measures.Lts as lts
 
 mul-at : tie.Need-mul-at
 mul-at c = search needs

@@ -1,0 +1,115 @@
+-- What an expression's code ends with, by its shape: a choice between two branches for and, or and a conditional.
+use mathlib.Core.Path.{_≡_, refl, sym, ap, ap₂, subst, _∙_}
+use mathlib.Core.Bool.{Bool, true, false}
+use mathlib.Core.List.{List}
+use Prim.Native.Nat.{ℕ, zero, suc, _+_, _*_, _≤_, _<_}
+use native.Mathlib.Omega.{arith}
+use lib.IntN.{ℤ, pos}
+use Rattle.words.specs.Table.{rowCount}
+use Rattle.words.specs.declared.Operator.the-variants.{NotEqual}
+use Rattle.language.specs.Trees.{Expression, constant, read, binary, and, or, conditional, Place, variable, present, ifElse, block, assign, express, Items, none, _then_, _⧺_}
+use Rattle.language.specs.Decode.{expressionAt}
+use Rattle.language.specs.DecodeLaws.{partAt}
+use Rattle.translation.specs.Translate.{Atom as Held, number, top, atomOf, atom, temporary, assigning, choosing, copyCode, expressionCode}
+use Rattle.translation.specs.TranslateSize.{copyRows, partSize, expressionSize}
+use Rattle.measures.specs.Source.{Source, Onward}
+use Rattle.measures.specs.Shapes.{shapeTree, ShapeAt}
+use Rattle.measures.specs.Operands.{isNumberAtom}
+use Rattle.measures.specs.MeasureLaws.{part-some}
+use Rattle.measures.specs.declared.Shape.{Shape}
+use Rattle.measures.specs.declared.Shape.the-variants.{And, Or, Conditional}
+use Rattle.leaves.specs.Atoms.{atomTree, AtomFits, isNumber}
+use Rattle.leaves.specs.Straight.{straightCode, lastSize}
+use Rattle.leaves.specs.Asks.{AtomAt}
+use Rattle.leaves.specs.declared.Atom.{Atom}
+use Rattle.leaves.specs.declared.Atom.the-variants.{Constant, Variable}
+use Rattle.expression_writers.specs.Code.{operandCode, lastCode, finishCode, branchCode, choiceCode, chosenCode}
+use Rattle.expression_writers.specs.Asks.{finishSize, branchSize, BranchFits, ChoiceFits, ChoiceAt, numberBranch}
+use Rattle.expression_writers.specs.declared.Branch.{Branch}
+use Rattle.expression_writers.specs.declared.Choice.{Choice}
+use Rattle.expression_writers.specs.declared.Choice.the-variants.{Choose, Straight}
+
+module _ (S : ℕ) (rows : List ℤ) (row level : ℕ) where
+  pub straight : {s : Shape} → ShapeAt rows row s → lastCode S (shapeTree rows s) level ≡ straightCode S (shapeTree rows s) level → ChoiceAt S rows row level Straight
+  straight {s} f h = record { is = ap (λ (e : Expression). lastCode S e level) (f .is) ∙ h ∙ sym (ap (λ (e : Expression). straightCode S e level) (f .is)); fits = tt }
+
+  abbrev branch : ℕ → Bool → Atom → Branch
+  branch link truth x = record { row = link; truth = truth; atom = x }
+
+  -- ---- the code of a branch
+
+  some-code : (link : ℕ) → 0 < link → operandCode S (partAt rows link) level ≡ expressionCode S (expressionAt rows link) level
+  some-code link h = ap (λ p. operandCode S p level) (part-some rows link h)
+
+  truth-code : (link : ℕ) (x : Atom) → 0 < link → AtomAt S rows link level x
+      → branchCode S rows (branch link true x) level ≡ expressionCode S (expressionAt rows link) level ⧺ assigning S (temporary S level) (binary NotEqual (atom S level (atomOf (expressionAt rows link))) (constant (pos 0))) none
+  truth-code link x h a = ap₂ (λ (is : Items) (y : Expression). is ⧺ assigning S (temporary S level) (binary NotEqual y (constant (pos 0))) none) (some-code link h) (a .is)
+
+  -- a number goes into the temporary; a value that is there already stays
+  finish-copy : (x : Atom) (held : Held) → atomTree x ≡ atom S level held → isNumber x ≡ isNumberAtom held → finishCode S false x level ≡ copyCode S level held
+  finish-copy (Constant v) (number w) e n = ap (λ (y : Expression). assigning S (temporary S level) y none) e
+  finish-copy (Constant v) top e n = absurd (let z : _≡_ {A = ℕ} 0 1 = cc in omega arith)
+  finish-copy (Variable k) (number w) e n = absurd (let z : _≡_ {A = ℕ} 0 1 = cc in omega arith)
+  finish-copy (Variable k) top e n = refl
+
+  finish-rows : (x : Atom) (held : Held) → isNumber x ≡ isNumberAtom held → finishSize false x ≡ copyRows held
+  finish-rows (Constant v) (number w) n = refl
+  finish-rows (Constant v) top n = absurd (let z : _≡_ {A = ℕ} 0 1 = cc in omega arith)
+  finish-rows (Variable k) (number w) n = absurd (let z : _≡_ {A = ℕ} 0 1 = cc in omega arith)
+  finish-rows (Variable k) top n = refl
+
+  value-code : (link : ℕ) (x : Atom) → 0 < link → AtomAt S rows link level x → branchCode S rows (branch link false x) level ≡ expressionCode S (expressionAt rows link) level ⧺ copyCode S level (atomOf (expressionAt rows link))
+  value-code link x h a = ap₂ _⧺_ (some-code link h) (finish-copy x (atomOf (expressionAt rows link)) (a .is) (a .number))
+
+  number-code : (v : ℤ) → branchCode S rows (numberBranch v) level ≡ assigning S (temporary S level) (constant v) none
+  unfolding _⧺_
+  number-code v = refl
+
+  -- ---- what a branch asks
+
+  module _ (few : rowCount rows ≤ 2048) (inside : row < rowCount rows) (low : level ≤ row) where
+    branch-fits : {link : ℕ} {truth : Bool} {x : Atom} → Onward rows row link → AtomFits x → BranchFits rows (branch link truth x) level
+    branch-fits o f = record { inside = o .inside; level-low = λ h. omega (arith, o .later); level-small = omega arith; atom-fits = f }
+
+    number-fits : (v : ℤ) → BranchFits rows (numberBranch v) level
+    number-fits v = record { inside = omega arith; level-low = λ h. absurd (omega arith); level-small = omega arith; atom-fits = tt }
+
+    some-size : {link : ℕ} → Onward rows row link → partSize (partAt rows link) ≡ expressionSize (expressionAt rows link)
+    some-size {link} o = ap partSize (part-some rows link (omega (arith, o .later)))
+
+    last-size : {s : Shape} → ShapeAt rows row s → lastSize (expressionAt rows row) ≡ lastSize (shapeTree rows s)
+    last-size f = ap lastSize (f .is)
+
+    as-last : {s : Shape} (is : Items) → ShapeAt rows row s → lastCode S (shapeTree rows s) level ≡ is → lastCode S (expressionAt rows row) level ≡ is
+    as-last is f h = ap (λ (e : Expression). lastCode S e level) (f .is) ∙ h
+
+    ap₃ : {A B C D : Type 0} (f : A → B → C → D) {x x′ : A} {y y′ : B} {z z′ : C} → x ≡ x′ → y ≡ y′ → z ≡ z′ → f x y z ≡ f x′ y′ z′
+    ap₃ f p q r = ap₂ (λ g w. g w) (ap₂ f p q) r
+
+    pub and-choice : {a b : ℕ} {test x : Atom} {no : Branch} → ShapeAt rows row (And a b) → AtomAt S rows a level test → AtomAt S rows b level x → no ≡ numberBranch (pos 0)
+        → ChoiceAt S rows row level (Choose test (branch b true x) no)
+    and-choice {a} {b} {test} {x} {no} f t y n = rw n (record {
+      is = as-last _ f (sym (ap₃ (λ (c : Expression) (p q : Items). choosing S c p q none) (t .is) (truth-code b x (omega (arith, f .onward .1 .later)) y) (number-code (pos 0))));
+      fits = (t .fits, branch-fits (f .onward .1) (y .fits), number-fits (pos 0), (λ h. f .onward .1 .later), (λ h. absurd (omega arith)), last-size f ∙ omega (arith, some-size (f .onward .1)));
+    })
+
+    pub or-choice : {a b : ℕ} {test x : Atom} {onTrue : Branch} → ShapeAt rows row (Or a b) → AtomAt S rows a level test → AtomAt S rows b level x → onTrue ≡ numberBranch (pos 1)
+        → ChoiceAt S rows row level (Choose test onTrue (branch b true x))
+    or-choice {a} {b} {test} {x} {onTrue} f t y n = rw n (record {
+      is = as-last _ f (sym (ap₃ (λ (c : Expression) (p q : Items). choosing S c p q none) (t .is) (number-code (pos 1)) (truth-code b x (omega (arith, f .onward .1 .later)) y)));
+      fits = (t .fits, number-fits (pos 1), branch-fits (f .onward .1) (y .fits), (λ h. absurd (omega arith)), (λ h. f .onward .1 .later), last-size f ∙ omega (arith, some-size (f .onward .1)));
+    })
+
+    pub conditional-choice : {c a b : ℕ} {test x y : Atom} → ShapeAt rows row (Conditional c a b) → AtomAt S rows c level test → AtomAt S rows a level x → AtomAt S rows b level y
+        → ChoiceAt S rows row level (Choose test (branch a false x) (branch b false y))
+    conditional-choice {c} {a} {b} {test} {x} {y} f t p q = record {
+      is = as-last _ f (sym (ap₃ (λ (c : Expression) (p q : Items). choosing S c p q none) (t .is) (value-code a x (omega (arith, f .onward .1 .later)) p) (value-code b y (omega (arith, f .onward .2 .later)) q)));
+      fits = (
+        t .fits,
+        branch-fits (f .onward .1) (p .fits),
+        branch-fits (f .onward .2) (q .fits),
+        (λ h. f .onward .1 .later),
+        (λ h. f .onward .2 .later),
+        last-size f ∙ omega (arith, some-size (f .onward .1), some-size (f .onward .2), finish-rows x (atomOf (expressionAt rows a)) (p .number), finish-rows y (atomOf (expressionAt rows b)) (q .number)),
+      );
+    }

@@ -1,0 +1,56 @@
+-- Asks: what the writers of expressions ask of their caller.
+use mathlib.Core.Path.{_≡_}
+use mathlib.Core.Bool.{Bool, true, false}
+use mathlib.Core.List.{List}
+use Prim.Native.Nat.{ℕ, _+_, _≤_, _<_}
+use lib.IntN.{ℤ}
+use Rattle.words.specs.Table.{rowCount}
+use Rattle.language.specs.Decode.{expressionAt}
+use Rattle.language.specs.DecodeLaws.{partAt}
+use Rattle.translation.specs.TranslateSize.{partSize}
+use Rattle.leaves.specs.Over.{Room}
+use Rattle.leaves.specs.Atoms.{AtomFits}
+use Rattle.leaves.specs.Straight.{lastSize}
+use Rattle.leaves.specs.declared.Atom.{Atom}
+use Rattle.leaves.specs.declared.Atom.the-variants.{Constant, Variable}
+use Rattle.expression_writers.specs.Code.{lastCode, chosenCode}
+use Rattle.expression_writers.specs.declared.Branch.{Branch}
+use Rattle.expression_writers.specs.declared.Choice.{Choice}
+use Rattle.expression_writers.specs.declared.Choice.the-variants.{Choose, Straight}
+
+-- An expression at a link, at a level. Links rise faster than levels, so no level passes its row.
+pub record OperandAsks (rows : List ℤ) (row level base words : ℕ) : Type 0 where
+  pub inside : row < rowCount rows
+  pub level-low : 0 < row → level ≤ row
+  pub room : Room (partSize (partAt rows row)) base words
+
+-- The rows of a branch: its block, its expression, its end.
+abbrev pub finishSize : Bool → Atom → ℕ
+finishSize true x = 6
+finishSize false (Constant v) = 4
+finishSize false (Variable n) = 0
+
+abbrev pub branchSize : List ℤ → Branch → ℕ
+branchSize rows branch = 1 + partSize (partAt rows (branch .row)) + finishSize (branch .truth) (branch .atom)
+
+pub record BranchFits (rows : List ℤ) (branch : Branch) (level : ℕ) : Type 0 where
+  pub inside : branch .row < rowCount rows
+  pub level-low : 0 < branch .row → level ≤ branch .row
+  pub level-small : level ≤ 2048
+  pub atom-fits : AtomFits (branch .atom)
+
+-- The choice of a row, at a level. A branch's row is absent or later.
+abbrev pub ChoiceFits : List ℤ → ℕ → ℕ → Choice → Type 0
+ChoiceFits rows row level (Choose test onTrue onFalse) =
+    AtomFits test × BranchFits rows onTrue level × BranchFits rows onFalse level
+    × (0 < onTrue .row → row < onTrue .row) × (0 < onFalse .row → row < onFalse .row)
+    × (lastSize (expressionAt rows row) ≡ 2 + branchSize rows onTrue + branchSize rows onFalse)
+ChoiceFits rows row level Straight = Unit {0}
+
+pub record ChoiceAt (S : ℕ) (rows : List ℤ) (row level : ℕ) (choice : Choice) : Type 0 where
+  pub is : lastCode S (expressionAt rows row) level ≡ chosenCode S rows choice (expressionAt rows row) level
+  pub fits : ChoiceFits rows row level choice
+
+-- A branch that puts a number into the result's temporary.
+abbrev pub numberBranch : ℤ → Branch
+numberBranch v = record { row = 0; truth = false; atom = Constant v }

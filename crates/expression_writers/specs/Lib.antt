@@ -1,0 +1,7 @@
+-- What the writers of expressions write. A line of comment for each file.
+-- Code: the parts of an expression's code that have a writer of their own.
+pub mod Code
+-- Asks: what the writers of expressions ask of their caller.
+pub mod Asks
+-- Laws of an expression's code: its parts, and their rows.
+pub mod CodeLaws

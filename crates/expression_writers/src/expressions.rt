@@ -1,0 +1,167 @@
+// The writers of expressions: the operands' code, and then what the expression does with their values.
+use super::Branch;
+use super::Choice;
+use super::branches::branch_size;
+use super::branches::choice_at;
+use super::branches::finish_size;
+use super::branches::put_finish;
+use leaves::Atom;
+use leaves::atoms::operand_size;
+use leaves::rows::behind;
+use leaves::rows::more;
+use leaves::rows::put_block;
+use leaves::rows::put_if;
+use leaves::straight::put_straight;
+use measures::expressions::above_at;
+use measures::expressions::operands_at;
+ghost use mathlib.Core.Path.{_≡_};
+ghost use mathlib.Core.Bool.{true, false};
+ghost use Prim.Native.Nat.{_+_, _*_, _≤_, _<_};
+ghost use lib.ListN.{length};
+ghost use Rattle.language.specs.Trees.{block};
+ghost use Rattle.language.specs.Decode.{expressionAt};
+ghost use Rattle.language.specs.DecodeLaws.{partAt};
+ghost use Rattle.emission.specs.Emission.{emitStatement, emitItems};
+ghost use Rattle.leaves.specs.Over.{over, Room};
+ghost use Rattle.leaves.specs.Atoms.{AtomFits};
+ghost use Rattle.expression_writers.specs.Code.{operandCode, lastCode, branchCode, choiceCode};
+ghost use Rattle.leaves.specs.Asks.{Writing, LastAsks};
+ghost use Rattle.expression_writers.specs.Asks.{OperandAsks, branchSize, BranchFits};
+
+// The code of the expression at a link, worked out at a level; an absent one has none.
+pub fn write_expression(
+    rows: &[i32],
+    table: &[usize],
+    store: usize,
+    row: usize,
+    level: usize,
+    base: usize,
+    follows: bool,
+    out: &mut [i32],
+)
+    requires { ⌜ Writing (now rows) (now table) store × OperandAsks (now rows) row level base (length (now out)) ⌝ }
+    ensures { λ _. ⌜ now (out .exit) ≡ over (emitItems follows (operandCode store (partAt (now (rows .entry)) row) level) base) (now (out .entry)) ⌝ }
+{
+    if row == 0 {
+        return;
+    }
+    let operands = operands_at(rows, row);
+    let first = operands.first;
+    let second = operands.second;
+    let above = level + above_at(rows, table, row);
+    let m = operand_size(rows, table, first);
+    let k = operand_size(rows, table, second);
+    let n = m + k;
+    let last = operand_size(rows, table, row) - n;
+    let then = more(follows, last);
+    write_expression(rows, table, store, first, level, base, more(then, k), out);
+    write_expression(
+        rows,
+        table,
+        store,
+        second,
+        above,
+        base + m,
+        then,
+        &mut out[6 * m..],
+    );
+    write_last(
+        rows,
+        table,
+        store,
+        row,
+        level,
+        base + n,
+        follows,
+        &mut out[6 * n..],
+    );
+}
+
+// What the expression at a row does behind its first two operands.
+fn write_last(
+    rows: &[i32],
+    table: &[usize],
+    store: usize,
+    row: usize,
+    level: usize,
+    base: usize,
+    follows: bool,
+    out: &mut [i32],
+)
+    requires { ⌜ Writing (now rows) (now table) store × LastAsks (now rows) row level base (length (now out)) ⌝ }
+    ensures { λ _. ⌜ now (out .exit) ≡ over (emitItems follows (lastCode store (expressionAt (now (rows .entry)) row) level) base) (now (out .entry)) ⌝ }
+{
+    let choice = choice_at(rows, table, store, row, level);
+    match choice {
+        Choice::Choose(test, yes, no) => write_choice(
+            rows,
+            table,
+            store,
+            test,
+            yes,
+            no,
+            level,
+            base,
+            follows,
+            out,
+        ),
+        Choice::Straight => put_straight(rows, table, store, row, level, base, follows, out),
+    }
+}
+
+// An if with the two branches.
+fn write_choice(
+    rows: &[i32],
+    table: &[usize],
+    store: usize,
+    test: Atom,
+    yes: Branch,
+    no: Branch,
+    level: usize,
+    base: usize,
+    follows: bool,
+    out: &mut [i32],
+)
+    requires { ⌜ Writing (now rows) (now table) store × AtomFits test × BranchFits (now rows) yes level × BranchFits (now rows) no level ⌝ }
+    requires { ⌜ Room (2 + branchSize (now rows) yes + branchSize (now rows) no) base (length (now out)) ⌝ }
+    ensures { λ _. ⌜ now (out .exit) ≡ over (emitItems follows (choiceCode store (now (rows .entry)) test yes no level) base) (now (out .entry)) ⌝ }
+{
+    let n = 2 + branch_size(rows, table, yes);
+    let m = n + branch_size(rows, table, no);
+    put_if(test, base, base + n, behind(follows, base + m), out);
+    write_branch(rows, table, store, yes, level, base + 2, &mut out[12..]);
+    write_branch(rows, table, store, no, level, base + n, &mut out[6 * n..]);
+}
+
+// A branch: its block, its expression, and its end.
+fn write_branch(
+    rows: &[i32],
+    table: &[usize],
+    store: usize,
+    branch: Branch,
+    level: usize,
+    base: usize,
+    out: &mut [i32],
+)
+    requires { ⌜ Writing (now rows) (now table) store × BranchFits (now rows) branch level × Room (branchSize (now rows) branch) base (length (now out)) ⌝ }
+    ensures { λ _. ⌜ now (out .exit) ≡ over (emitStatement (block (branchCode store (now (rows .entry)) branch level)) base 0) (now (out .entry)) ⌝ }
+{
+    let row = branch.row;
+    let truth = branch.truth;
+    let atom = branch.atom;
+    let k = operand_size(rows, table, row);
+    let end = finish_size(truth, atom);
+    let n = 1 + k;
+    put_block(behind(more(false, k + end), base + 1), 0, out);
+    write_expression(
+        rows,
+        table,
+        store,
+        row,
+        level,
+        base + 1,
+        more(false, end),
+        &mut out[6..],
+    );
+    put_finish(truth, atom, store, level, base + n, &mut out[6 * n..]);
+}

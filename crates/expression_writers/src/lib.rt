@@ -1,0 +1,19 @@
+// The writers of expressions.
+use leaves::Atom;
+
+pub mod branches; // branches.rt: what and, or and a conditional choose between
+pub mod expressions; // expressions.rt: the operands' code, and then what the expression does with their values
+
+// A branch that and, or and a conditional choose: an expression, or none where the row is 0; and then its atom goes into the
+// result's temporary, as a truth value or as it is.
+pub struct Branch {
+    pub row: usize,
+    pub truth: bool,
+    pub atom: Atom,
+}
+
+// What the code of an expression ends with.
+pub enum Choice {
+    Choose(Atom, Branch, Branch),
+    Straight,
+}

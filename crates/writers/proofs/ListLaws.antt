@@ -1,0 +1,252 @@
+-- Lists: the items of a list one behind another. A loop that writes something of each item keeps `Progress`: what is written is the
+-- code of the items passed, and the code of the list is that with the code of the items ahead.
+use mathlib.Core.Path.{_≡_, refl, sym, ap, subst, _∙_}
+use mathlib.Core.Bool.{Bool, true}
+use mathlib.Core.List.{List}
+use Prim.Native.Nat.{ℕ, zero, suc, _+_, _*_, _-_, _≤_, _<_}
+use native.Mathlib.Omega.{arith}
+use lib.IntN.{ℤ}
+use lib.ListN.{length}
+use Rattle.words.specs.Table.{rowCount, wordAt, numberAt}
+use Rattle.words.specs.Kinds.{kindAt}
+use Rattle.language.specs.Trees.{Expression, Mark, case, default, label, Statement, Items, none, _then_, _here_, _⧺_}
+use Rattle.language.specs.Sizes.{expressionRows, itemsRows}
+use Rattle.language.specs.Decode.{statementAt, itemsAt}
+use Rattle.language.specs.DecodeLaws.{listAt}
+use Rattle.translation.specs.Translate.{labels, itemsLabels, caseTests, Exits, itemsCode}
+use Rattle.translation.specs.TranslateSize.{itemsSize, cases}
+use Rattle.translation.specs.TranslateRows.{rows-statement, rows-items}
+use Rattle.emission.specs.Emission.{emitItems}
+use Rattle.emission.specs.EmissionLaws.{orMore}
+use Rattle.measures.specs.Source.{Source, OptionalOnward}
+use Rattle.measures.specs.Shapes.{itemTree, ItemAt}
+use Rattle.measures.specs.declared.Item.{Item}
+use Rattle.measures.specs.declared.Item.the-variants.{Statement as StatementItem, Case, Default, Label}
+use Rattle.measures.proofs.Found.{item-found}
+use Rattle.leaves.specs.Over.{over, Room, moreRows}
+use Rattle.writers.specs.Items.{itemSize, itemLabels, itemCases, itemTest, itemCode}
+use Rattle.leaves.specs.Chain.{part, back-in, Wrote, append-none, append-append}
+use Rattle.writers.proofs.Sequence.{back-length, wrote-behind, wrote-none, room-behind, more-rows, more-append, more-true}
+
+-- ---- the first item of a list, and the rest
+
+pub data First : Items → Items → Type 0 where
+  statement : {s : Statement} {rest : Items} → First (s then rest) rest
+  mark : {m : Mark} {rest : Items} → First (m here rest) rest
+
+tree-first : (rows : List ℤ) (item : Item) (s : Statement) (rest : Items) → First (itemTree rows item s rest) rest
+tree-first rows StatementItem s rest = statement
+tree-first rows (Case v) s rest = mark
+tree-first rows Default s rest = mark
+tree-first rows (Label l) s rest = mark
+
+pub some-list : (rows : List ℤ) (row : ℕ) → 0 < row → listAt rows row ≡ itemsAt rows row
+some-list rows zero h = absurd (omega arith)
+some-list rows (suc row) h = refl
+
+item-at : (rows : List ℤ) (row : ℕ) → Source rows → row < rowCount rows → (item : Item) × ItemAt rows row (numberAt rows row 5) item
+item-at rows row source inside = (_, item-found rows row source inside {kind = kindAt rows row} {k = kindAt rows row} (wordAt rows row 1) (numberAt rows row 1) refl refl refl refl)
+
+-- What an item that a match tells makes of the list.
+pub item-is : {rows : List ℤ} {row next : ℕ} {item told : Item} → ItemAt rows row next item → item ≡ told → itemsAt rows row ≡ itemTree rows told (statementAt rows row) (listAt rows next)
+item-is {rows} {row} {next} i e = i .is ∙ ap (λ (t : Item). itemTree rows t (statementAt rows row) (listAt rows next)) e
+
+pub first-of : (rows : List ℤ) (row : ℕ) → Source rows → row < rowCount rows → First (itemsAt rows row) (listAt rows (numberAt rows row 5))
+first-of rows row source inside =
+    let i = item-at rows row source inside in
+    subst (λ (is : Items). First is (listAt rows (numberAt rows row 5))) (sym (i .1 .is)) (tree-first rows (i .0) (statementAt rows row) (listAt rows (numberAt rows row 5)))
+
+pub next-onward : (rows : List ℤ) (row : ℕ) → Source rows → row < rowCount rows → OptionalOnward rows row (numberAt rows row 5)
+next-onward rows row source inside = item-at rows row source inside .1 .onward
+
+pub first-size : {is rest : Items} → First is rest → itemsSize is ≡ itemSize is + itemsSize rest
+unfolding itemsSize
+first-size statement = refl
+first-size mark = refl
+
+pub first-labels : {is rest : Items} → First is rest → itemsLabels is ≡ itemLabels is + itemsLabels rest
+unfolding itemsLabels
+first-labels statement = refl
+first-labels mark = refl
+
+mark-cases : (m : Mark) (rest : Items) → cases (m here rest) ≡ itemCases (m here rest) + cases rest
+mark-cases (case v) rest = refl
+mark-cases default rest = omega arith
+mark-cases (label l) rest = omega arith
+
+pub first-cases : {is rest : Items} → First is rest → cases is ≡ itemCases is + cases rest
+first-cases statement = omega arith
+first-cases {rest = rest} (mark {m = m}) = mark-cases m rest
+
+module _ (S : ℕ) where
+  pub first-code : {is rest : Items} → First is rest → (x : Exits) (l : ℕ) → itemsCode S is x l ≡ itemCode S is x l ⧺ itemsCode S rest x (l + itemLabels is)
+  unfolding itemsCode _⧺_
+  first-code statement x l = refl
+  first-code mark x l = refl
+
+  pub item-rows : {is rest : Items} → First is rest → (x : Exits) (l : ℕ) → itemsRows (itemCode S is x l) ≡ itemSize is
+  unfolding itemsRows
+  item-rows (statement {s = s}) x l = rows-statement S s x l
+  item-rows mark x l = refl
+
+  mark-tests : (x : Expression) (u : ℕ) (m : Mark) (rest : Items) (l : ℕ) → caseTests S x u (m here rest) l ≡ itemTest S x u (m here rest) l ⧺ caseTests S x u rest (l + 1)
+  unfolding caseTests _⧺_
+  mark-tests x u (case v) rest l = refl
+  mark-tests x u default rest l = refl
+  mark-tests x u (label k) rest l = refl
+
+  pub first-tests : {is rest : Items} → First is rest → (x : Expression) (u l : ℕ) → caseTests S x u is l ≡ itemTest S x u is l ⧺ caseTests S x u rest (l + itemLabels is)
+  unfolding caseTests _⧺_
+  first-tests statement x u l = refl
+  first-tests {rest = rest} (mark {m = m}) x u l = mark-tests x u m rest l
+
+  mark-test-rows : (x : Expression) → expressionRows x ≡ 1 → (u : ℕ) (m : Mark) (rest : Items) (l : ℕ) → itemsRows (itemTest S x u (m here rest) l) ≡ 11 * itemCases (m here rest)
+  unfolding itemsRows expressionRows
+  mark-test-rows x h u (case v) rest l = rw h
+  mark-test-rows x h u default rest l = refl
+  mark-test-rows x h u (label k) rest l = refl
+
+  pub test-rows : {is rest : Items} → First is rest → (x : Expression) → expressionRows x ≡ 1 → (u l : ℕ) → itemsRows (itemTest S x u is l) ≡ 11 * itemCases is
+  unfolding itemsRows
+  test-rows statement x h u l = refl
+  test-rows {rest = rest} (mark {m = m}) x h u l = mark-test-rows x h u m rest l
+
+-- ---- the rows from a link on
+
+-- How many rows there are from a link on; none from an absent one.
+abbrev pub above : List ℤ → ℕ → ℕ
+above rows zero = 0
+above rows (suc link) = rowCount rows - suc link
+
+pub above-some : (rows : List ℤ) (row : ℕ) → 0 < row → above rows row ≡ rowCount rows - row
+above-some rows zero h = absurd (omega arith)
+above-some rows (suc row) h = refl
+
+pub above-less : (rows : List ℤ) (row link : ℕ) → row < rowCount rows → OptionalOnward rows row link → above rows link < rowCount rows - row
+above-less rows row zero inside o = omega arith
+above-less rows row (suc link) inside o = omega (arith, o (omega arith) .later, o (omega arith) .inside)
+
+pub optional-inside : (rows : List ℤ) (row link : ℕ) → row < rowCount rows → OptionalOnward rows row link → link < rowCount rows
+optional-inside rows row zero inside o = omega arith
+optional-inside rows row (suc link) inside o = o (omega arith) .inside
+
+-- The row behind an item is above it, or absent.
+pub next-less : (rows : List ℤ) (row next : ℕ) → Source rows → row < rowCount rows → (row ≡ 0 → ⊥) → next ≡ numberAt rows row 5 → above rows next < above rows row
+next-less rows row next source inside some e =
+    let h : 0 < row = omega arith in
+    rw (e, above-some rows row h) (above-less rows row (numberAt rows row 5) inside (next-onward rows row source inside))
+
+pub next-inside : (rows : List ℤ) (row : ℕ) → Source rows → row < rowCount rows → numberAt rows row 5 < rowCount rows
+next-inside rows row source inside = optional-inside rows row (numberAt rows row 5) inside (next-onward rows row source inside)
+
+le-of-lt : {m n : ℕ} → m < n → m ≤ n
+le-of-lt h = omega arith
+
+-- What an item takes of its list, where `next` is the row behind it.
+module _ (rows : List ℤ) (item next : ℕ) (source : Source rows) (inside : item < rowCount rows) (some : item ≡ 0 → ⊥) (e : next ≡ numberAt rows item 5) where
+  pub behind-inside : next < rowCount rows
+  behind-inside = rw e (next-inside rows item source inside)
+
+  pub behind-size : itemsSize (listAt rows item) ≡ itemSize (itemsAt rows item) + itemsSize (listAt rows next)
+  behind-size = rw e (ap itemsSize (some-list rows item (omega arith)) ∙ first-size (first-of rows item source inside))
+
+  pub behind-labels : itemsLabels (listAt rows item) ≡ itemLabels (itemsAt rows item) + itemsLabels (listAt rows next)
+  behind-labels = rw e (ap itemsLabels (some-list rows item (omega arith)) ∙ first-labels (first-of rows item source inside))
+
+-- ---- a loop over the items
+
+-- `code` gives the code of a list whose labels begin at a number, `size` its rows.
+module _ (follows : Bool) (code : Items → ℕ → Items) (size : Items → ℕ) (rows : List ℤ) (list label base : ℕ) (out₀ : List ℤ) where
+  -- The items before `item` are passed; theirs are n rows and the labels before `from`.
+  pub record Progress (out : List ℤ) (item from n : ℕ) : Type 0 where
+    pub done : Items
+    pub is : code (listAt rows list) label ≡ done ⧺ code (listAt rows item) from
+    pub written : Wrote (orMore follows (code (listAt rows item) from)) done base n out₀ out
+    pub inside : item < rowCount rows
+    pub labels-are : label + itemsLabels (listAt rows list) ≡ from + itemsLabels (listAt rows item)
+    pub size-is : size (listAt rows list) ≡ n + size (listAt rows item)
+    pub kept : length out ≡ length out₀
+    pub onward : above rows item ≤ above rows list
+
+  pub start : list < rowCount rows → Progress out₀ list label 0
+  unfolding _⧺_
+  start inside = record { done = none; is = refl; written = wrote-none _ base out₀; inside = inside; labels-are = refl; size-is = omega arith; kept = refl; onward = omega arith }
+
+  pub step : {out : List ℤ} {item from n : ℕ} → Progress out item from n → (next k m : ℕ) (first : Items) (out2 : List ℤ)
+      → next < rowCount rows → above rows next ≤ above rows item
+      → code (listAt rows item) from ≡ first ⧺ code (listAt rows next) (from + k)
+      → itemsLabels (listAt rows item) ≡ k + itemsLabels (listAt rows next)
+      → size (listAt rows item) ≡ m + size (listAt rows next)
+      → Wrote (orMore follows (code (listAt rows next) (from + k))) first (base + n) m (part n out) out2
+      → length out2 ≡ length (part n out)
+      → Progress (back-in n out out2) next (from + k) (n + m)
+  step {out} {item} {from} {n} p next k m first out2 inside less e l s w h =
+      let more : orMore follows (code (listAt rows item) from) ≡ orMore (orMore follows (code (listAt rows next) (from + k))) first =
+      ap (orMore follows) e ∙ more-append follows first (code (listAt rows next) (from + k)) in
+      record {
+        done = p .done ⧺ first;
+        is = p .is ∙ ap (λ xs. p .done ⧺ xs) e ∙ sym (append-append (p .done) first (code (listAt rows next) (from + k)));
+        written = wrote-behind (n + m) refl more refl (p .written) w;
+        inside = inside;
+        labels-are = p .labels-are ∙ omega (arith, l);
+        size-is = p .size-is ∙ omega (arith, s);
+        kept = back-length n out out2 h ∙ p .kept;
+        onward = omega (arith, p .onward, less);
+      }
+
+  pub finish : {out : List ℤ} {item from n : ℕ} → Progress out item from n → item ≡ 0 → code none from ≡ none → out ≡ over (emitItems follows (code (listAt rows list) label) base) out₀
+  finish {out} {item} {from} {n} p z e =
+      let rest : code (listAt rows item) from ≡ none = ap (λ i. code (listAt rows i) from) z ∙ e in
+      let all : code (listAt rows list) label ≡ p .done = p .is ∙ ap (λ xs. p .done ⧺ xs) rest ∙ append-none (p .done) in
+      let more : orMore follows (code (listAt rows item) from) ≡ follows = ap (orMore follows) rest in
+      rw (all, ← more) (p .written .table)
+
+-- ---- the two loops: the tests of a switch, and the code of a list
+
+module _ (S : ℕ) (rows : List ℤ) (list label base : ℕ) (out₀ : List ℤ) {out : List ℤ} {item from n : ℕ} (source : Source rows) (some : item ≡ 0 → ⊥) where
+  pub tests-step : (x : Expression) (u : ℕ) → expressionRows x ≡ 1 → Progress true (caseTests S x u) (λ is. 11 * cases is) rows list label base out₀ out item from n
+      → (next k m : ℕ) (out2 : List ℤ) → next ≡ numberAt rows item 5 → k ≡ itemLabels (itemsAt rows item) → m ≡ 11 * itemCases (itemsAt rows item)
+      → out2 ≡ over (emitItems true (itemTest S x u (itemsAt rows item) from) (base + n)) (part n out) → length out2 ≡ length (part n out)
+      → Progress true (caseTests S x u) (λ is. 11 * cases is) rows list label base out₀ (back-in n out out2) next (from + k) (n + m)
+  tests-step x u one p next k m out2 e ek em t h =
+      let inside = p .inside in
+      let first = first-of rows item source inside in
+      let same : listAt rows item ≡ itemsAt rows item = some-list rows item (omega arith) in
+      rw (e, ek, em) (
+      step true (caseTests S x u) (λ is. 11 * cases is) rows list label base out₀ p (numberAt rows item 5) (itemLabels (itemsAt rows item)) (11 * itemCases (itemsAt rows item))
+      (itemTest S x u (itemsAt rows item) from) out2
+      (next-inside rows item source inside) (le-of-lt (next-less rows item (numberAt rows item 5) source inside some refl))
+      (ap (λ is. caseTests S x u is from) same ∙ first-tests S first x u from)
+      (ap itemsLabels same ∙ first-labels first)
+      (ap (λ is. 11 * cases is) same ∙ omega (arith, first-cases first))
+      (record { table = rw (more-true (caseTests S x u (listAt rows (numberAt rows item 5)) (from + itemLabels (itemsAt rows item)))) t; size = test-rows S first x one u from })
+      h
+      )
+
+  pub items-step : (follows : Bool) (x : Exits) → Progress follows (λ is. itemsCode S is x) itemsSize rows list label base out₀ out item from n
+      → (next k m : ℕ) (f : Bool) (out2 : List ℤ) → next ≡ numberAt rows item 5 → k ≡ itemLabels (itemsAt rows item) → m ≡ itemSize (itemsAt rows item)
+      → f ≡ moreRows follows (itemsSize (listAt rows next))
+      → out2 ≡ over (emitItems f (itemCode S (itemsAt rows item) x from) (base + n)) (part n out) → length out2 ≡ length (part n out)
+      → Progress follows (λ is. itemsCode S is x) itemsSize rows list label base out₀ (back-in n out out2) next (from + k) (n + m)
+  items-step follows x p next k m f out2 e ek em ef t h =
+      let inside = p .inside in
+      let first = first-of rows item source inside in
+      let same : listAt rows item ≡ itemsAt rows item = some-list rows item (omega arith) in
+      let rest = listAt rows (numberAt rows item 5) in
+      let more : f ≡ orMore follows (itemsCode S rest x (from + itemLabels (itemsAt rows item))) =
+      ef ∙ ap (λ i. moreRows follows (itemsSize (listAt rows i))) e ∙ more-rows follows (itemsCode S rest x (from + itemLabels (itemsAt rows item))) (itemsSize rest) (rows-items S rest x (from + itemLabels (itemsAt rows item))) in
+      rw (e, ek, em) (
+      step follows (λ is. itemsCode S is x) itemsSize rows list label base out₀ p (numberAt rows item 5) (itemLabels (itemsAt rows item)) (itemSize (itemsAt rows item))
+      (itemCode S (itemsAt rows item) x from) out2
+      (next-inside rows item source inside) (le-of-lt (next-less rows item (numberAt rows item 5) source inside some refl))
+      (ap (λ is. itemsCode S is x from) same ∙ first-code S first x from)
+      (ap itemsLabels same ∙ first-labels first)
+      (ap itemsSize same ∙ first-size first)
+      (record { table = rw (← more) t; size = item-rows S first x from })
+      h
+      )
+
+-- The part of the room that an item takes.
+pub room-item : (rows : List ℤ) (list item n : ℕ) {base words taken : ℕ} (size : Items → ℕ) (out : List ℤ) → Room (size (listAt rows list)) base words → length out ≡ words
+    → size (listAt rows list) ≡ n + size (listAt rows item) → taken ≤ size (listAt rows item) → Room taken (base + n) (length (part n out))
+room-item rows list item n {taken = taken} size out room kept e h = room-behind n taken out room kept (omega (arith, e))

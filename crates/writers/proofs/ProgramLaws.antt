@@ -1,0 +1,66 @@
+-- Programs: the block at row 0, and the labels of its code.
+use mathlib.Core.Path.{_≡_, sym, ap, subst, _∙_}
+use mathlib.Core.Bool.{false}
+use mathlib.Core.List.{List, append-nil}
+use Prim.Native.Nat.{ℕ, zero, suc, _≤_, _<_}
+use native.Mathlib.Omega.{arith}
+use lib.IntN.{ℤ}
+use Rattle.words.specs.Table.{rowCount, numberAt}
+use Rattle.words.specs.Kinds.{kindAt}
+use Rattle.words.specs.declared.Kind.{Kind}
+use Rattle.words.specs.declared.Kind.the-variants.{Block}
+use Rattle.language.specs.Trees.{Statement, empty, express, block, ifThen, ifElse, while, doWhile, for, switch, break, continue, goto, Items, none, _then_, _here_}
+use Rattle.language.specs.Decode.{decode}
+use Rattle.language.specs.DecodeLaws.{listAt, at-block}
+use Rattle.language.specs.Sound.{SoundRow, OptionalLink}
+use Rattle.translation.specs.Translate.{labels, itemsLabels, exits, itemsCode}
+use Rattle.translation.specs.TranslateSize.{statementSize, itemsSize}
+use Rattle.emission.specs.Emission.{emitStatement, emitItems, emit}
+use Rattle.measures.specs.Source.{Source}
+use Rattle.leaves.specs.Over.{over}
+use Rattle.writers.specs.Program.{kernelProgram}
+
+-- Every label has a row.
+mutual
+  unfolding labels statementSize
+
+  labels-small : (s : Statement) → labels s ≤ statementSize s
+  labels-small empty = omega arith
+  labels-small (express e) = omega arith
+  labels-small (block is) = omega (arith, list-labels-small is)
+  labels-small (ifThen e onTrue) = omega (arith, labels-small onTrue)
+  labels-small (ifElse e onTrue onFalse) = omega (arith, labels-small onTrue, labels-small onFalse)
+  labels-small (while e body) = omega (arith, labels-small body)
+  labels-small (doWhile body e) = omega (arith, labels-small body)
+  labels-small (for first test action body) = omega (arith, labels-small body)
+  labels-small (switch e is) = omega (arith, list-labels-small is)
+  labels-small break = omega arith
+  labels-small continue = omega arith
+  labels-small (goto l) = omega arith
+
+  pub list-labels-small : (is : Items) → itemsLabels is ≤ itemsSize is
+  list-labels-small none = omega arith
+  list-labels-small (s then is) = omega (arith, labels-small s, list-labels-small is)
+  list-labels-small (m here is) = omega (arith, list-labels-small is)
+
+module _ (rows : List ℤ) (source : Source rows) (is-block : kindAt rows 0 ≡ Block) where
+  pub program-is : {list : ℕ} → list ≡ numberAt rows 0 1 → decode rows ≡ block (listAt rows list)
+  unfolding decode
+  program-is e = at-block rows (source .sound .whole) 0 is-block (λ h. h) ∙ ap (λ (list : ℕ). block (listAt rows list)) (sym e)
+
+  link-inside : (list : ℕ) → list ≡ numberAt rows 0 1 → list < rowCount rows
+  link-inside zero e = source .sound .some-rows
+  link-inside (suc list) e =
+      let link : OptionalLink rows (source .layout) (source .words) 0 1 =
+      subst (λ (k : Kind). SoundRow rows (source .layout) (source .words) 0 k) is-block (source .sound .row-sound 0 (source .sound .some-rows)) in
+      rw e (link (rw (← e) (omega arith)) .inside)
+
+  pub program-inside : {list : ℕ} → list ≡ numberAt rows 0 1 → list < rowCount rows
+  program-inside {list} e = link-inside list e
+
+  pub program-done : (S : ℕ) (l : List ℤ) {list : ℕ} {m : List ℤ} → list ≡ numberAt rows 0 1
+      → m ≡ over (emitItems false (block (itemsCode S (listAt rows list) (exits 0 0) 1) then none) 0) l → m ≡ over (emit (kernelProgram S (decode rows))) l
+  unfolding emit emitItems
+  program-done S l {list} e t =
+      t ∙ ap (λ ws. over ws l) (append-nil (emitStatement (block (itemsCode S (listAt rows list) (exits 0 0) 1)) 0 0))
+      ∙ ap (λ (program : Statement). over (emitStatement (kernelProgram S program) 0 0) l) (sym (program-is e))

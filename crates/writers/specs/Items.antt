@@ -1,0 +1,43 @@
+-- Items: what the first item of a list brings to the code of the list.
+use mathlib.Core.Bool.{Bool}
+use Prim.Native.Nat.{ℕ}
+use lib.IntN.{ℤ}
+use Rattle.words.specs.declared.Operator.the-variants.{Equal}
+use Rattle.language.specs.Trees.{Expression, constant, read, binary, Mark, case, default, label, Statement, goto, Items, none, _then_, _here_}
+use Rattle.translation.specs.Translate.{assigning, choosing, temporary, labels, Exits, statementCode}
+use Rattle.translation.specs.TranslateSize.{statementSize}
+
+abbrev pub itemSize : Items → ℕ
+itemSize none = 0
+itemSize (s then is) = statementSize s
+itemSize (m here is) = 1
+
+abbrev pub itemLabels : Items → ℕ
+itemLabels none = 0
+itemLabels (s then is) = labels s
+itemLabels (m here is) = 1
+
+abbrev pub itemCases : Items → ℕ
+itemCases none = 0
+itemCases (s then is) = 0
+itemCases (case v here is) = 1
+itemCases (default here is) = 0
+itemCases (label l here is) = 0
+
+-- The test of a case, whose label is l.
+abbrev pub caseTest : ℕ → Expression → ℕ → ℤ → ℕ → Items
+caseTest S x u v l = assigning S (temporary S u) (binary Equal x (constant v)) (choosing S (read (temporary S u)) (goto l then none) none none)
+
+-- The test that the first item brings.
+abbrev pub itemTest : ℕ → Expression → ℕ → Items → ℕ → Items
+itemTest S x u none l = none
+itemTest S x u (s then is) l = none
+itemTest S x u (case v here is) l = caseTest S x u v l
+itemTest S x u (default here is) l = none
+itemTest S x u (label k here is) l = none
+
+-- The code of the first item.
+abbrev pub itemCode : ℕ → Items → Exits → ℕ → Items
+itemCode S none x l = none
+itemCode S (s then is) x l = statementCode S s x l
+itemCode S (m here is) x l = label l here none

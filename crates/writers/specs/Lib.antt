@@ -1,0 +1,11 @@
+-- What the writers of statements write. A line of comment for each file.
+-- Code: the parts of a statement's code that have a writer of their own.
+pub mod Code
+-- Items: what the first item of a list brings to the code of the list.
+pub mod Items
+-- Asks: what the writers of statements ask of their caller.
+pub mod Asks
+-- Program: what the writer of a program asks and writes.
+pub mod Program
+-- Laws of a whole program: what is written is its translation; its kernel rows and temporaries are measured at row 0.
+pub mod WholeProgram

@@ -2,3 +2,4 @@
 // 01's table of causes names, and a refusal leaves everything lent as it was.
 pub mod runs; // runs.rt: check, run, kernel check, kernel run
 pub mod texts; // texts.rt: reader and writer of both forms' texts
+pub mod translate; // translate.rt: the translation

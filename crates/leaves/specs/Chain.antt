@@ -31,11 +31,11 @@ part-is k l = take-all (length l - k) (drop k l) (rw length-drop (omega arith))
 rest-is : (k : ℕ) (l : List ℤ) → postOf k (length l - k) l ≡ []
 rest-is k l = drop-of-length-le (drop k l) {i = length l - k} (rw length-drop (omega arith))
 
--- words v written from word k on, after k words u were written from the start
-next : (u v l l1 l2 : List ℤ) (k : ℕ) → length u ≡ k → l1 ≡ over u l → l2 ≡ over v (midOf k (length l1 - k) l1)
+-- Words v written from word k on, after k words u were written from the start.
+pub over-next : (u v l l1 l2 : List ℤ) (k : ℕ) → length u ≡ k → l1 ≡ over u l → l2 ≡ over v (midOf k (length l1 - k) l1)
     → putMid k (length l1 - k) l1 l2 ≡ over (u ++ v) l
 unfolding over
-next u v l l1 l2 k h e1 e2 =
+over-next u v l l1 l2 k h e1 e2 =
     let d : drop k l1 ≡ drop k l = rw e1 (drop-at u _ k h ∙ ap (λ (n : ℕ). drop n l) h) in
     let t : take k l1 ≡ u = rw e1 (take-at u _ k h) in
     let e : l2 ≡ v ++ drop (length v) (drop k l) = e2 ∙ ap (λ (m : List ℤ). v ++ drop (length v) m) (part-is k l1 ∙ d) in
@@ -51,7 +51,7 @@ pub record Put (u : List ℤ) (n : ℕ) (l m : List ℤ) : Type 0 where
 -- Two parts, one behind the other.
 pub put-next : {u v : List ℤ} {n k : ℕ} {l l1 l2 : List ℤ} → Put u n l l1 → Put v k (part n l1) l2 → Put (u ++ v) (n + k) l (back-in n l1 l2)
 put-next {u} {v} {n} p q = record {
-  table = next u v _ _ _ (6 * n) (p .size) (p .table) (q .table);
+  table = over-next u v _ _ _ (6 * n) (p .size) (p .table) (q .table);
   size = rw (length-append u v) (omega (arith, p .size, q .size));
 }
 

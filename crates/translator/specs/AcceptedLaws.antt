@@ -1,0 +1,111 @@
+-- Laws of an accepted source program: what the measures and the writers ask of it, and that its kernel form is as large as row 0
+-- measures.
+use mathlib.Core.Path.{_≡_, sym, ap, _∙_}
+use mathlib.Core.Bool.{true}
+use mathlib.Core.List.{List}
+use Prim.Native.Nat.{ℕ, _+_, _*_, _≤_}
+use native.Mathlib.Omega.{arith}
+use lib.IntN.{ℤ}
+use lib.ListN.{length}
+use Rattle.words.specs.Table.{rowCount}
+use Rattle.words.specs.Kinds.{kindAt}
+use Rattle.words.specs.Layout.{headerFits, layoutOf, storeSize, storeWords}
+use Rattle.words.specs.Laws.{headerFits-facts, countFits-facts}
+use Rattle.words.specs.declared.Form.the-variants.{Source as SourceForm}
+use Rattle.words.specs.declared.Kind.the-variants.{Block}
+use Rattle.words.specs.declared.Verdict.the-variants.{Accepted}
+use Rattle.language.specs.Decode.{decode}
+use Rattle.translation.specs.Translate.{contentsOf, temporaries, translate, kernelHeader}
+use Rattle.translation.specs.TranslateSize.{itemsSize}
+use Rattle.translation.specs.TranslateRows.{translation-rows}
+use Rattle.translation.specs.TranslateBounds.{rows-bound, temporaries-bound}
+use Rattle.emission.specs.Emission.{emit}
+use Rattle.emission.specs.EmissionLaws.{length-emit}
+use Rattle.source_check.specs.Refusal.{refusal as sourceRefusal}
+use Rattle.source_check.specs.Legal.{Legal}
+use Rattle.source_check.specs.AcceptsLegal.{accepts-legal}
+use Rattle.accepted.specs.Source.{legal-sound, legal-rows}
+use Rattle.accepted.specs.Statements.{root-kind}
+use Rattle.measures.specs.Source.{Source}
+use Rattle.measures.specs.Measures.{slot, Measured}
+use Rattle.leaves.specs.Over.{Room}
+use Rattle.writers.specs.Program.{ProgramAsks, kernelProgram}
+use Rattle.writers.specs.WholeProgram.{is-translation, program-rows, program-levels}
+use Rattle.fate.specs.KernelForms.{kernelHeaderOf, kernelRowsOf}
+use Rattle.translator.specs.HeaderLaws.{kernel-header-length}
+
+module _ (header rows : List ℤ) (accepted : sourceRefusal header rows ≡ Accepted) where
+  legal : Legal header rows
+  legal = accepts-legal header rows .0 accepted
+
+  pub accepted-header : headerFits SourceForm header ≡ true
+  accepted-header = legal .structured .header-fits
+
+  few-rows : rowCount rows ≤ 2048
+  few-rows = omega (arith, countFits-facts SourceForm (length rows) (legal .structured .count-fits) .most)
+
+  -- What the measures ask.
+  pub accepted-source : Source rows
+  unfolding storeWords
+  accepted-source =
+      let h = headerFits-facts SourceForm header accepted-header in
+      record {
+        layout = layoutOf SourceForm header;
+        words = storeWords SourceForm header;
+        sound = legal-sound header rows legal;
+        few-rows = few-rows;
+        few-words = omega (arith, h .small-store);
+        few-arrays = h .few-arrays;
+      }
+
+  root : kindAt rows 0 ≡ Block
+  root = root-kind SourceForm header rows (legal .structured)
+
+  -- "At most 20×n+20 kernel rows and at most 4×n temporaries."
+  size-low : 1 + itemsSize (contentsOf (decode rows)) ≤ 40980
+  size-low =
+      let L = layoutOf SourceForm header in
+      omega (arith, rows-bound L (decode rows), translation-rows L (decode rows), legal-rows header rows legal, few-rows)
+
+  levels-low : temporaries (decode rows) ≤ 2048
+  levels-low = omega (arith, temporaries-bound (decode rows), legal-rows header rows legal, few-rows)
+
+  module _ {table : List ℕ} (m : Measured rows table) where
+    size-is : slot table 0 3 ≡ 1 + itemsSize (contentsOf (decode rows))
+    size-is = program-rows m root (omega (arith, size-low))
+
+    levels-is : slot table 0 4 ≡ temporaries (decode rows)
+    levels-is = program-levels m root (omega (arith, levels-low))
+
+    -- What the writer of the rows asks of a table that holds the kernel rows.
+    pub accepted-asks : (words : ℕ) → 6 * slot table 0 3 ≤ words → ProgramAsks rows table (storeSize (layoutOf SourceForm header)) words
+    accepted-asks words h = record {
+      writing = record { measured = m; small-store = headerFits-facts SourceForm header accepted-header .small-store };
+      is-block = root;
+      room = record { inside = omega (arith, size-is); low = omega (arith, size-low) };
+    }
+
+    pub temporaries-low : slot table 0 4 ≤ 8192
+    temporaries-low = omega (arith, levels-is, levels-low)
+
+    pub row-words-low : 6 * slot table 0 3 ≤ 245880
+    row-words-low = omega (arith, size-is, size-low)
+
+    -- The header and the rows that the writers write are those of the kernel form.
+    pub header-is : kernelHeader (layoutOf SourceForm header) (slot table 0 4) ≡ kernelHeaderOf header rows
+    unfolding kernelHeaderOf
+    header-is = ap (kernelHeader (layoutOf SourceForm header)) levels-is
+
+    pub row-words : 6 * slot table 0 3 ≡ length (kernelRowsOf header rows)
+    unfolding kernelRowsOf
+    row-words =
+        let L = layoutOf SourceForm header in
+        omega (arith, size-is, translation-rows L (decode rows), length-emit (translate L (decode rows)))
+
+  pub rows-are : (S : ℕ) → S ≡ storeSize (layoutOf SourceForm header) → emit (kernelProgram S (decode rows)) ≡ kernelRowsOf header rows
+  unfolding kernelRowsOf
+  rows-are S e = ap emit (ap (λ (n : ℕ). kernelProgram n (decode rows)) e ∙ is-translation (layoutOf SourceForm header) (decode rows))
+
+  pub header-words : length header + 1 ≡ length (kernelHeaderOf header rows)
+  unfolding kernelHeaderOf
+  header-words = sym (kernel-header-length header (temporaries (decode rows)) accepted-header)

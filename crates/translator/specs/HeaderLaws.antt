@@ -1,0 +1,56 @@
+-- Laws of the kernel header: V, T, and the source header's array lengths.
+use mathlib.Core.Path.{_≡_, refl, sym, ap, ap₂, _∙_}
+use mathlib.Core.Bool.{true}
+use mathlib.Core.List.{List, [], _∷_, _++_, map}
+use Prim.Native.Nat.{ℕ, zero, suc, _+_, _-_, _≤_, _<_}
+use native.Mathlib.Omega.{arith}
+use lib.IntN.{ℤ, pos}
+use lib.ListN.{length, getD, take, drop, length-map, length-append, length-drop}
+use lib.Seq.{take-all}
+use borrow.Rule.Slice.PartMut.{midOf, putMid}
+use Rattle.words.specs.Word.{natural}
+use Rattle.words.specs.Layout.{arrayLength, headerFits, layoutOf}
+use Rattle.words.specs.Laws.{natural-pos, headerFits-facts, number-of-arrays}
+use Rattle.words.specs.declared.Form.the-variants.{Source}
+use Rattle.translation.specs.Translate.{kernelHeader}
+use Rattle.leaves.specs.Over.{over}
+use Rattle.leaves.specs.Chain.{over-next}
+
+-- Words that name small numbers are those numbers.
+numbers-back : (ws : List ℤ) → ((i : ℕ) → i < length (map natural ws) → getD (map natural ws) i 0 ≤ 4096) → map pos (map natural ws) ≡ ws
+numbers-back [] small = refl
+numbers-back (w ∷ ws) small =
+    ap₂ _∷_ (sym (natural-pos w (natural w) refl (omega (arith, small 0 (omega arith))))) (numbers-back ws (λ i h. small (suc i) (omega arith)))
+
+lengths-back : (header : List ℤ) → headerFits Source header ≡ true → map pos (layoutOf Source header .lengths) ≡ drop 1 header
+unfolding layoutOf arrayLength
+lengths-back header fits = numbers-back (drop 1 header) (λ i h. headerFits-facts Source header fits .each-length i h .1)
+
+variables-back : (header : List ℤ) → headerFits Source header ≡ true → pos (layoutOf Source header .variables) ≡ getD header 0 (pos 0)
+unfolding layoutOf
+variables-back header fits =
+    sym (natural-pos (getD header 0 (pos 0)) (natural (getD header 0 (pos 0))) refl (omega (arith, headerFits-facts Source header fits .few-variables)))
+
+kernel-header-words : (header : List ℤ) (T : ℕ) → headerFits Source header ≡ true → (getD header 0 (pos 0) ∷ pos T ∷ []) ++ drop 1 header ≡ kernelHeader (layoutOf Source header) T
+unfolding kernelHeader
+kernel-header-words header T fits = ap₂ (λ (v : ℤ) (ls : List ℤ). v ∷ pos T ∷ ls) (sym (variables-back header fits)) (sym (lengths-back header fits))
+
+pub kernel-header-length : (header : List ℤ) (T : ℕ) → headerFits Source header ≡ true → length (kernelHeader (layoutOf Source header) T) ≡ length header + 1
+unfolding kernelHeader
+kernel-header-length header T fits =
+    let lengths = length-map (layoutOf Source header .lengths) pos in
+    omega (arith, lengths, number-of-arrays Source header, headerFits-facts Source header fits .least)
+
+-- What is written over a table that holds it keeps the table's length.
+pub over-length : (ws l : List ℤ) → length ws ≤ length l → length (over ws l) ≡ length l
+unfolding over
+over-length ws l h = simp (length-append, length-drop) (omega arith)
+
+-- V and T written first, then the array lengths behind them.
+pub header-over : (header : List ℤ) (T : ℕ) (out l1 l2 : List ℤ) (v t : ℤ) → headerFits Source header ≡ true → v ≡ getD header 0 (pos 0) → t ≡ pos T
+    → l1 ≡ over (v ∷ t ∷ []) out → l2 ≡ over (take (length header - 1) (drop 1 header)) (midOf 2 (length l1 - 2) l1)
+    → putMid 2 (length l1 - 2) l1 l2 ≡ over (kernelHeader (layoutOf Source header) T) out
+header-over header T out l1 l2 v t fits ve te e1 e2 =
+    let lengths = take-all (length header - 1) (drop 1 header) (rw length-drop (omega arith)) in
+    let words = ap₂ (λ (x y : ℤ). (x ∷ y ∷ []) ++ drop 1 header) ve te ∙ kernel-header-words header T fits in
+    over-next (v ∷ t ∷ []) (drop 1 header) out l1 l2 2 refl e1 (rw lengths at e2) ∙ ap (λ (ws : List ℤ). over ws out) words

@@ -1,0 +1,9 @@
+-- What the translation answers and writes. A line of comment for each file.
+-- Translation: the answer, and what stands in both tables after it.
+pub mod Translation
+-- Laws of `written`: which of its three answers it is.
+pub mod TranslationLaws
+-- Laws of the kernel header: V, T, and the source header's array lengths.
+pub mod HeaderLaws
+-- Laws of an accepted source program: what the measures and the writers ask of it, and how large its kernel form is.
+pub mod AcceptedLaws

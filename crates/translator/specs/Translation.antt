@@ -1,0 +1,41 @@
+-- Translation: the answer, and what stands in both tables after it.
+use mathlib.Core.Bool.{_&&_}
+use mathlib.Core.List.{List}
+use Prim.Native.Nat.{ℕ}
+use lib.Dec.{leb}
+use lib.IntN.{ℤ}
+use lib.ListN.{length}
+use Rattle.words.specs.Word.{pick}
+use Rattle.words.specs.declared.Verdict.{Verdict}
+use Rattle.words.specs.declared.Verdict.the-variants.{Accepted, Refused}
+use Rattle.source_check.specs.Refusal.{refusal as sourceRefusal}
+use Rattle.leaves.specs.Over.{over}
+use Rattle.fate.specs.KernelForms.{kernelHeaderOf, kernelRowsOf}
+use Rattle.translator.specs.declared.TranslateAnswer.{TranslateAnswer}
+use Rattle.translator.specs.declared.TranslateAnswer.the-variants.{Translated, Refused as TranslateRefused}
+
+-- What a translation gives: its answer, and the tables that it leaves.
+pub record TranslateResult : Type 0 where
+  pub answer : TranslateAnswer
+  pub header : List ℤ
+  pub rows : List ℤ
+
+-- An answer and the tables that it leaves.
+abbrev pub resultOf : TranslateAnswer → List ℤ → List ℤ → TranslateResult
+resultOf answer header rows = record { answer = answer; header = header; rows = rows }
+
+-- Where both tables have room, the kernel header and rows are written from their start: "Rows of an output table .. beyond the
+-- result keep their content." Else cause 10, "output table shorter than its result needs".
+abbrev pub written : (kernelHeader kernelRows header rows : List ℤ) → TranslateResult
+written kernelHeader kernelRows header rows =
+    pick (leb (length kernelHeader) (length header) && leb (length kernelRows) (length rows))
+    (resultOf (Translated (length kernelHeader) (length kernelRows)) (over kernelHeader header) (over kernelRows rows))
+    (resultOf (TranslateRefused (record { number = 10; place = 0 })) header rows)
+
+-- The check's causes first; then the kernel form of docs/REWRITING.md. `outHeader` and `outRows` are the tables lent for it.
+abbrev pub translateAfter : Verdict → (header rows outHeader outRows : List ℤ) → TranslateResult
+translateAfter (Refused refusal) header rows outHeader outRows = resultOf (TranslateRefused refusal) outHeader outRows
+translateAfter Accepted header rows outHeader outRows = written (kernelHeaderOf header rows) (kernelRowsOf header rows) outHeader outRows
+
+unfoldable pub translateResult : (header rows outHeader outRows : List ℤ) → TranslateResult
+translateResult header rows outHeader outRows = translateAfter (sourceRefusal header rows) header rows outHeader outRows

@@ -1,0 +1,86 @@
+// The translator: writes the kernel header and the kernel rows of a source program that the check accepts.
+use header::write_header;
+use measures::pass::measure;
+use words::Form;
+use words::Refusal;
+use words::Verdict;
+use words::layout::store_size;
+use writers::program::write_program;
+ghost use mathlib.Core.Path.{_≡_};
+ghost use lib.ListN.{length};
+ghost use Rattle.words.specs.declared.Verdict.the-variants.{Accepted};
+ghost use Rattle.source_check.specs.Refusal.{refusal as sourceRefusal};
+ghost use Rattle.measures.specs.Measures.{Measured};
+ghost use Rattle.fate.specs.KernelForms.{HasKernelForm};
+ghost use Rattle.translator.specs.Translation.{resultOf, translateAfter, translateResult};
+
+pub mod header; // header.rt: the kernel header
+
+// What the translation answers: how many words the kernel header and the kernel rows have.
+pub enum TranslateAnswer {
+    Translated(usize, usize),
+    Refused(Refusal),
+}
+
+// Writes both tables of an accepted program, which `table` measures: cause 10, before the first word is written.
+fn write_measured(
+    header: &[i32],
+    rows: &[i32],
+    table: &[usize],
+    kernel_header: &mut [i32],
+    kernel_rows: &mut [i32],
+) -> TranslateAnswer
+    requires { ⌜ (sourceRefusal (now header) (now rows) ≡ Accepted) × Measured (now rows) (now table) ⌝ }
+    ensures { λ r. ⌜ resultOf r (now («kernel_header» .exit)) (now («kernel_rows» .exit)) ≡ translateAfter Accepted (now (header .entry)) (now (rows .entry)) (now («kernel_header» .entry)) (now («kernel_rows» .entry)) ⌝ }
+{
+    let header_words = header.len() + 1;
+    if header_words > kernel_header.len() {
+        return TranslateAnswer::Refused(Refusal {
+            number: 10,
+            place: 0,
+        });
+    }
+    let row_words = 6 * table[3];
+    if row_words > kernel_rows.len() {
+        return TranslateAnswer::Refused(Refusal {
+            number: 10,
+            place: 0,
+        });
+    }
+    write_header(header, table[4], kernel_header);
+    write_program(rows, table, store_size(Form::Source, header), kernel_rows);
+    TranslateAnswer::Translated(header_words, row_words)
+}
+
+// An accepted program: measured, then written.
+fn translate_accepted(
+    header: &[i32],
+    rows: &[i32],
+    kernel_header: &mut [i32],
+    kernel_rows: &mut [i32],
+) -> TranslateAnswer
+    requires { ⌜ sourceRefusal (now header) (now rows) ≡ Accepted ⌝ }
+    ensures { λ r. ⌜ resultOf r (now («kernel_header» .exit)) (now («kernel_rows» .exit)) ≡ translateAfter Accepted (now (header .entry)) (now (rows .entry)) (now («kernel_header» .entry)) (now («kernel_rows» .entry)) ⌝ }
+{
+    let mut table = [0usize; 22528];
+    measure(rows, &mut table);
+    write_measured(header, rows, &table, kernel_header, kernel_rows)
+}
+
+// Translates a source program. The first promise says what is answered and what stands in both tables after it, refusals too; the
+// second is demands 2 and 3 about the tables that are written.
+pub fn translate(
+    header: &[i32],
+    rows: &[i32],
+    kernel_header: &mut [i32],
+    kernel_rows: &mut [i32],
+) -> TranslateAnswer
+    ensures { λ r. ⌜ resultOf r (now («kernel_header» .exit)) (now («kernel_rows» .exit)) ≡ translateResult (now (header .entry)) (now (rows .entry)) (now («kernel_header» .entry)) (now («kernel_rows» .entry)) ⌝ }
+    ensures { λ _. ⌜ HasKernelForm (now (header .entry)) (now (rows .entry)) ⌝ }
+{
+    let verdict = source_check::check(header, rows);
+    match verdict {
+        Verdict::Accepted => translate_accepted(header, rows, kernel_header, kernel_rows),
+        Verdict::Refused(refusal) => TranslateAnswer::Refused(refusal),
+    }
+}

@@ -4,7 +4,7 @@
 //! words), then exactly that many bytes of program text. No start words mean a
 //! store of zeros.
 
-use crate::machine::{run, Outcome};
+use crate::machine::{run, Ending, Outcome};
 use crate::table::{store_size, Refusal};
 use crate::text;
 use std::fmt::Write;
@@ -78,11 +78,32 @@ pub fn answer(case: &Case) -> String {
     }
 }
 
+/// The refusal, or the lines that document 01 has a program and its translation
+/// print: the source's, and, unless that run is spent, the kernel's. The kernel
+/// form is not made here: whatever it is, given steps enough its run has the
+/// same ending and the same S words.
+pub fn answer_lines(case: &Case) -> String {
+    let (outcome, store) = match evaluate(case) {
+        Ok(evaluated) => evaluated,
+        Err(refusal) => return format!("{refusal}\n"),
+    };
+    let source = answer_line(outcome, &store);
+    match outcome.ending {
+        Ending::Spent => format!("source {source}\n"),
+        ending => format!("source {source}\nkernel {}{}\n", ending.name(), spaced(&store)),
+    }
+}
+
 /// Ending, count and store words, parted by single blanks.
 pub fn answer_line(outcome: Outcome, store: &[i32]) -> String {
-    let mut line = format!("{} {}", outcome.ending.name(), outcome.count);
-    for word in store {
-        let _ = write!(line, " {word}");
+    format!("{} {}{}", outcome.ending.name(), outcome.count, spaced(store))
+}
+
+/// The words, each with a blank before it.
+fn spaced(words: &[i32]) -> String {
+    let mut text = String::new();
+    for word in words {
+        let _ = write!(text, " {word}");
     }
-    line
+    text
 }

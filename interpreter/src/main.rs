@@ -19,12 +19,17 @@ Texts and case files are read from standard input.
                              its refusal. The kernel's line is not printed:
                              there is no kernel form here, and whether its run
                              stays within the budget is not known.
-  generate SEED COUNT        generated cases
-  generate SEED COUNT large  the same, of 300 to 2,048 rows
-  damage SEED COUNT          damaged cases
+  generate SEED COUNT        generated cases, numbers 0 to COUNT - 1
+  generate SEED COUNT FIRST  the same, from number FIRST on
+  generate SEED COUNT large  of 300 to 2,048 rows
+  damage SEED COUNT [FIRST]  damaged cases
   rules                      the rules on the shelf and more, as cases
   rules names                their names and expected answers, one a line
-  answers                    reads cases; the answer of each, one a line
+  answers                    reads cases; of each its refusal, or the line of
+                             the source's run and, unless that is spent, of the
+                             kernel's, given steps enough
+  different FILE             reads cases; the first that FILE, which another
+                             program printed, answers otherwise
   tally                      reads cases; counts of answers, kinds and sizes
 
 With --tally, generate, damage and rules print the counts instead of the cases.
@@ -54,12 +59,11 @@ fn act(arguments: &[&str], tally: bool) -> Result<Vec<u8>, String> {
         ["check"] => Ok(check_text(&input()?)),
         ["run", budget, words @ ..] => run_text(&input()?, budget, words),
         ["trial"] => Ok(line(trial::trial(&input()?))),
-        ["generate", seed, count] => generated(seed, count, Size::Mixed, tally),
-        ["generate", seed, count, "large"] => generated(seed, count, Size::Large, tally),
-        ["damage", seed, count] => {
-            let seed = number(seed)?;
-            Ok(output((0..number(count)?).map(|i| damage::case(seed, i)), tally))
-        }
+        ["generate", seed, count] => generated(seed, count, "0", Size::Mixed, tally),
+        ["generate", seed, count, "large"] => generated(seed, count, "0", Size::Large, tally),
+        ["generate", seed, count, first] => generated(seed, count, first, Size::Mixed, tally),
+        ["damage", seed, count] => damaged(seed, count, "0", tally),
+        ["damage", seed, count, first] => damaged(seed, count, first, tally),
         ["rules"] => Ok(output(rules::rules().into_iter().map(|rule| rule.case), tally)),
         ["rules", "names"] => Ok(rules::rules()
             .iter()
@@ -67,16 +71,53 @@ fn act(arguments: &[&str], tally: bool) -> Result<Vec<u8>, String> {
             .collect()),
         ["answers"] => {
             let cases = cases::read_all(&input()?)?;
-            Ok(cases.iter().flat_map(|case| line(cases::answer(case))).collect())
+            Ok(cases.iter().flat_map(|case| cases::answer_lines(case).into_bytes()).collect())
         }
+        ["different", printed] => different(printed),
         ["tally"] => Ok(output(cases::read_all(&input()?)?.into_iter(), true)),
         _ => Err(format!("not understood: {}; see --help", arguments.join(" "))),
     }
 }
 
-fn generated(seed: &str, count: &str, size: Size, tally: bool) -> Result<Vec<u8>, String> {
+fn generated(
+    seed: &str,
+    count: &str,
+    first: &str,
+    size: Size,
+    tally: bool,
+) -> Result<Vec<u8>, String> {
     let seed = number(seed)?;
-    Ok(output((0..number(count)?).map(|i| generate::case(seed, i, size)), tally))
+    Ok(output(numbers(count, first)?.map(|i| generate::case(seed, i, size)), tally))
+}
+
+fn damaged(seed: &str, count: &str, first: &str, tally: bool) -> Result<Vec<u8>, String> {
+    let seed = number(seed)?;
+    Ok(output(numbers(count, first)?.map(|i| damage::case(seed, i)), tally))
+}
+
+/// So many numbers of cases, from the first on.
+fn numbers(count: &str, first: &str) -> Result<std::ops::Range<u64>, String> {
+    let first: u64 = number(first)?;
+    let count: u64 = number(count)?;
+    Ok(first..first.saturating_add(count))
+}
+
+/// The first case that another program answered otherwise, given what it printed.
+fn different(printed: &str) -> Result<Vec<u8>, String> {
+    let printed = std::fs::read(printed).map_err(|error| format!("{printed}: {error}"))?;
+    let cases = cases::read_all(&input()?)?;
+    let mut rest = &printed[..];
+    let mut bytes = Vec::new();
+    for case in &cases {
+        match rest.strip_prefix(cases::answer_lines(case).as_bytes()) {
+            Some(after) => rest = after,
+            None => {
+                cases::write(case, &mut bytes);
+                break;
+            }
+        }
+    }
+    Ok(bytes)
 }
 
 /// The cases in their format, or the counts.

@@ -1,6 +1,6 @@
 //! The rules on the shelf and more, against answers worked out by hand.
 
-use interpreter::cases::{answer, read_all, write};
+use interpreter::cases::{answer, answer_lines, read_all, write, Case};
 use interpreter::rules::{rules, EXAMPLE};
 use interpreter::trial::trial;
 
@@ -25,4 +25,16 @@ fn rules_survive_the_case_format() {
 #[test]
 fn the_worked_example_as_a_trial() {
     assert_eq!(trial(EXAMPLE.as_bytes()), "source ended 13 2 0 0 2");
+}
+
+/// A spent run and a refusal have one line.
+#[test]
+fn lines_of_an_answer() {
+    let lines = |budget, words: &[i32]| {
+        let text = EXAMPLE.as_bytes().to_vec();
+        answer_lines(&Case { budget, words: words.to_vec(), text })
+    };
+    assert_eq!(lines(13, &[]), "source ended 13 2 0 0 2\nkernel ended 2 0 0 2\n");
+    assert_eq!(lines(12, &[]), "source spent 12 3 0 0 0\n");
+    assert_eq!(lines(12, &[0]), "refused 11 0\n");
 }

@@ -1,0 +1,39 @@
+-- `run_translation`: an accepted kernel program has at most 16,384 words of store and 40,980 rows.
+use mathlib.Core.Path.{sym}
+use native.Mathlib.Omega.{arith}
+use lib.Seq.{length-take-le}
+use Rattle.words.specs.declared.Form.the-variants.{Kernel}
+use Rattle.clight.specs.AcceptedLaws.{accepted-header, accepted-rows}
+use Rattle.programs.proofs.Sizes.{kernel-words}
+use borrow.Author.Needs.{needs}
+use Rattle.programs.proofs.kernel.run_translation.Statement.{statement}
+use Rattle.programs.proofs.kernel.run_translation.Tie as tie
+
+store-words-requires : tie.Need-store-words-requires
+store-words-requires c κs = accepted-header Kernel (c .args .header .now) (c .args .rows .now) (c .pre .0)
+
+array-borrow-prefix-store : tie.Need-array-borrow-prefix-store
+array-borrow-prefix-store c = omega (arith, c .store-words .ensures, kernel-words (c .before .args .header .now) (c .before .args .rows .now) (c .before .pre .0))
+
+slice-aggregate-run-from : tie.Need-slice-aggregate-run-from
+slice-aggregate-run-from c = sym (length-take-le _ _ (array-borrow-prefix-store (c .before)))
+
+enough-requires : tie.Need-enough-requires
+enough-requires c κs = accepted-rows Kernel (c .before .before .args .header .now) (c .before .before .args .rows .now) (c .before .before .pre .0)
+
+run-from-requires : tie.Need-run-from-requires
+run-from-requires c κs = search needs
+
+returns : tie.Need-returns
+returns c = search needs
+
+pub run-translation-spec : {M : Type 1} → statement M
+run-translation-spec =
+    tie.close
+    (tie.spec
+    store-words-requires
+    array-borrow-prefix-store
+    slice-aggregate-run-from
+    enough-requires
+    run-from-requires
+    returns)

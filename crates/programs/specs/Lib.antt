@@ -1,0 +1,3 @@
+-- What the program's functions hand to each other. A line of comment for each file.
+-- Cases: where a case stands in the input.
+pub mod Cases

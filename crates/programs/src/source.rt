@@ -1,0 +1,160 @@
+// A case's program: read, checked and run. What it gives is printed, then its translation is tried.
+use super::kernel::answer_translation;
+use clight::runs::check;
+use clight::runs::run;
+use clight::texts::read_source;
+use libc::STDOUT_FILENO;
+use report::line::refused_line;
+use report::line::source_line;
+use text_form::ReadAnswer;
+use text_form::line::Count;
+use text_form::line::count_numbers;
+use text_form::line::store_numbers;
+use words::Form;
+use words::Refusal;
+use words::RunAnswer;
+use words::RunVerdict;
+use words::Verdict;
+use words::layout::store_words;
+ghost use mathlib.Core.Path.{_≡_};
+ghost use Prim.Native.Nat.{_≤_};
+ghost use lib.ListN.{length};
+ghost use Rattle.words.specs.declared.Form.the-variants.{Source};
+ghost use Rattle.words.specs.declared.Verdict.the-variants.{Accepted};
+ghost use Rattle.clight.specs.Runs.{refusalOf};
+
+fn print_refusal(refusal: Refusal) {
+    let mut line = [0u8; 64];
+    let n = refused_line(refusal, &mut line);
+    io::write_all(STDOUT_FILENO, &line[..n]);
+}
+
+fn print_run(answer: RunAnswer, store: &[i32])
+    requires { ⌜ length (now store) ≤ 8192 ⌝ }
+{
+    let mut line = [0u8; 98344];
+    let ending = answer.ending;
+    let n = source_line(ending, answer.count, store, &mut line);
+    io::write_all(STDOUT_FILENO, &line[..n]);
+}
+
+// Puts the start words of a case, each behind a tab, into the store, and answers how many they are; without words the store has
+// `size` zeros. Malformed words, or more than there is room for, leave a store of no words.
+fn start_words(words: &[u8], size: usize, store: &mut [i32]) -> usize
+    requires { ⌜ size ≤ length (now store) ⌝ }
+    ensures { λ r. ⌜ r ≤ length (now (store .entry)) ⌝ }
+{
+    if words.len() == 0 {
+        return size;
+    }
+    let count = count_numbers(&words[1..]);
+    let Count::Numbers(n) = count else {
+        return 0;
+    };
+    if n > store.len() {
+        return 0;
+    }
+    store_numbers(&words[1..], store);
+    n
+}
+
+// Runs a program on the store, which holds the start words, then its translation from the start words.
+fn answer_run(
+    header: &[i32],
+    rows: &[i32],
+    budget: u32,
+    start: &[i32],
+    store: &mut [i32],
+    kernel_rows: &mut [i32],
+    text: &mut [u8],
+    read_rows: &mut [i32],
+)
+    requires { ⌜ (length (now start) ≤ 8192) × (length (now store) ≤ 8192) ⌝ }
+{
+    let verdict = run(header, rows, store, budget);
+    match verdict {
+        RunVerdict::Refused(refusal) => print_refusal(refusal),
+        RunVerdict::Ran(answer) => {
+            print_run(answer, store);
+            answer_translation(header, rows, start, answer, kernel_rows, text, read_rows);
+        }
+    }
+}
+
+// An accepted program: its run from the start words, or from zeros.
+fn answer_accepted(
+    header: &[i32],
+    rows: &[i32],
+    budget: u32,
+    words: &[u8],
+    kernel_rows: &mut [i32],
+    text: &mut [u8],
+    read_rows: &mut [i32],
+)
+    requires { ⌜ refusalOf Source (now header) (now rows) ≡ Accepted ⌝ }
+{
+    let mut start = [0i32; 8192];
+    let n = start_words(words, store_words(Form::Source, header), &mut start);
+    let mut store = start;
+    answer_run(
+        header,
+        rows,
+        budget,
+        &start[..n],
+        &mut store[..n],
+        kernel_rows,
+        text,
+        read_rows,
+    );
+}
+
+fn answer_program(
+    header: &[i32],
+    rows: &[i32],
+    budget: u32,
+    words: &[u8],
+    kernel_rows: &mut [i32],
+    text: &mut [u8],
+    read_rows: &mut [i32],
+) {
+    let verdict = check(header, rows);
+    match verdict {
+        Verdict::Refused(refusal) => print_refusal(refusal),
+        Verdict::Accepted => answer_accepted(
+            header,
+            rows,
+            budget,
+            words,
+            kernel_rows,
+            text,
+            read_rows,
+        ),
+    }
+}
+
+// Answers a case, given its budget, its start words and its program's text. The tables and the buffer lent are room for the kernel
+// rows, their text, and the rows read back from it.
+pub fn answer_text(
+    budget: u32,
+    words: &[u8],
+    source: &[u8],
+    kernel_rows: &mut [i32],
+    text: &mut [u8],
+    read_rows: &mut [i32],
+) {
+    let mut header = [0i32; 33];
+    let mut rows = [0i32; 12288];
+    let answer = read_source(source, &mut header, &mut rows);
+    match answer {
+        ReadAnswer::Refused(refusal) => print_refusal(refusal),
+        ReadAnswer::Read(header_words, row_words) => answer_program(
+            &header[..header_words],
+            &rows[..row_words],
+            budget,
+            words,
+            kernel_rows,
+            text,
+            read_rows,
+        ),
+    }
+}

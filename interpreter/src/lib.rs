@@ -9,6 +9,8 @@ pub mod check;
 pub mod damage;
 mod expressions;
 pub mod generate;
+pub mod generate_kernel;
+pub mod kernel;
 pub mod machine;
 pub mod random;
 pub mod rules;

@@ -52,24 +52,23 @@ pub fn run(
 
 /// Runs a program that the check accepts, on a store of S words.
 pub fn run_checked(header: &[i32], rows: &[i32], store: &mut [i32], budget: u32) -> Outcome {
-    let mut arrays = Vec::with_capacity(MAX_ARRAYS);
-    let mut start = header[0] as usize;
-    for &length in &header[1..] {
-        arrays.push(Array { start, length });
-        start += length as usize;
-    }
+    let arrays = Array::all(header[0], &header[1..]);
     let mut machine = Machine { rows: rows_of(rows), arrays: &arrays, store, budget, count: 0 };
-    let ending = match machine.statement(0) {
-        Ok(_) => Ending::Ended,
+    let ending = ending_of(machine.statement(0).map(|_| ()));
+    Outcome { ending, count: machine.count }
+}
+
+pub(crate) fn ending_of(result: Result<(), Stop>) -> Ending {
+    match result {
+        Ok(()) => Ending::Ended,
         Err(Stop::Spent) => Ending::Spent,
         Err(Stop::Fault(fault)) => Ending::Fault(fault),
-    };
-    Outcome { ending, count: machine.count }
+    }
 }
 
 /// Why a run stops before its end.
 #[derive(Clone, Copy)]
-enum Stop {
+pub(crate) enum Stop {
     Spent,
     Fault(Fault),
 }
@@ -82,22 +81,35 @@ enum Flow {
     Continue,
 }
 
-struct Array {
+pub(crate) struct Array {
     start: usize,
     length: i32,
 }
 
-struct Machine<'a> {
-    rows: &'a [Row],
-    arrays: &'a [Array],
-    store: &'a mut [i32],
-    budget: u32,
-    count: u32,
+impl Array {
+    /// The arrays lie behind the variables, in order.
+    pub(crate) fn all(variables: i32, lengths: &[i32]) -> Vec<Array> {
+        let mut arrays = Vec::with_capacity(MAX_ARRAYS);
+        let mut start = variables as usize;
+        for &length in lengths {
+            arrays.push(Array { start, length });
+            start += length as usize;
+        }
+        arrays
+    }
+}
+
+pub(crate) struct Machine<'a> {
+    pub(crate) rows: &'a [Row],
+    pub(crate) arrays: &'a [Array],
+    pub(crate) store: &'a mut [i32],
+    pub(crate) budget: u32,
+    pub(crate) count: u32,
 }
 
 impl Machine<'_> {
     /// One step: a row is entered.
-    fn enter(&mut self) -> Result<(), Stop> {
+    pub(crate) fn enter(&mut self) -> Result<(), Stop> {
         if self.count == self.budget {
             return Err(Stop::Spent);
         }
@@ -105,7 +117,7 @@ impl Machine<'_> {
         Ok(())
     }
 
-    fn expression(&mut self, at: i32) -> Result<i32, Stop> {
+    pub(crate) fn expression(&mut self, at: i32) -> Result<i32, Stop> {
         let [kind, a, b, c, ..] = self.rows[at as usize];
         if kind == VARIABLE || kind == ELEMENT {
             let place = self.place(at)?;

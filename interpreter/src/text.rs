@@ -16,6 +16,11 @@ pub fn read(bytes: &[u8]) -> Result<Program, Refusal> {
 
 /// Reads the words of a text, testing its form (14) alone.
 pub fn read_form(bytes: &[u8]) -> Result<Program, Refusal> {
+    read_lines(bytes, 1, 1 + MAX_ARRAYS)
+}
+
+/// Reads the words of a text whose line 1 has so many numbers, at least and at most.
+pub(crate) fn read_lines(bytes: &[u8], least: usize, most: usize) -> Result<Program, Refusal> {
     let mut header = Vec::new();
     let mut rows = Vec::new();
     let mut rest = bytes;
@@ -29,7 +34,7 @@ pub fn read_form(bytes: &[u8]) -> Result<Program, Refusal> {
             words.push(number(field).ok_or(malformed)?);
         }
         let count = words.len() - before;
-        let well = if line == 1 { count <= 1 + MAX_ARRAYS } else { count == WORDS };
+        let well = if line == 1 { (least..=most).contains(&count) } else { count == WORDS };
         if !well {
             return Err(malformed);
         }

@@ -2,13 +2,13 @@
 use mathlib.Core.Path.{_≡_}
 use mathlib.Core.Bool.{true}
 use mathlib.Core.List.{List}
-use Prim.Native.Nat.{ℕ, _≤_}
+use Prim.Native.Nat.{_≤_}
 use native.Mathlib.Omega.{arith}
 use lib.IntN.{ℤ}
 use lib.ListN.{length}
 use Rattle.words.specs.Table.{rowCount}
 use Rattle.words.specs.Layout.{headerFits, layoutOf, storeWords}
-use Rattle.words.specs.Laws.{countFits-facts, rowLimit-most}
+use Rattle.words.specs.Laws.{headerFits-facts, countFits-facts, rowLimit-most}
 use Rattle.words.specs.declared.Form.{Form}
 use Rattle.words.specs.declared.Form.the-variants.{Source, Kernel}
 use Rattle.words.specs.declared.Verdict.the-variants.{Accepted}
@@ -32,3 +32,13 @@ module _ (form : Form) (header rows : List ℤ) (accepted : refusalOf form heade
 
   pub accepted-rows : rowCount rows ≤ 40980
   accepted-rows = omega (arith, countFits-facts form (length rows) (accepted-structured form header rows accepted .count-fits) .most, rowLimit-most form)
+
+pub source-words : (header rows : List ℤ) → refusalOf Source header rows ≡ Accepted → storeWords Source header ≤ 8192
+unfolding storeWords
+source-words header rows e = omega (arith, headerFits-facts Source header (accepted-header Source header rows e) .small-store)
+
+pub kernel-words : (header rows : List ℤ) → refusalOf Kernel header rows ≡ Accepted → storeWords Kernel header ≤ 16384
+unfolding storeWords
+kernel-words header rows e =
+    let facts = headerFits-facts Kernel header (accepted-header Kernel header rows e) in
+    omega (arith, facts .small-store, facts .few-temporaries)

@@ -5,7 +5,6 @@ use words::RunVerdict;
 use words::Verdict;
 use words::layout::store_words;
 ghost use mathlib.Core.Path.{_≡_};
-ghost use mathlib.Core.Bool.{true};
 ghost use Rattle.words.specs.declared.Form.the-variants.{Source, Kernel};
 ghost use Rattle.words.specs.declared.Verdict.the-variants.{Accepted};
 ghost use Rattle.clight.specs.Runs.{refusalOf, runResult, runAfter, resultOf};

@@ -5,7 +5,7 @@ use mathlib.Core.Path.{_≡_, sym, _∙_, ap}
 use Prim.Native.Nat.{ℕ, suc, _+_, _≤_}
 use native.Mathlib.Omega.{arith}
 use Rattle.computation.specs.Computation.{Computation}
-use Rattle.computation.specs.Run.{State, steps, rounds, run, final, Settled}
+use Rattle.computation.specs.Run.{State, steps, run, final, Settled}
 use Rattle.computation.specs.RunLaws.{count-never-passes, run-wider, wider-budget, budget-rounds, rounds-budget}
 
 module _ {A : Type 0} (m : Computation A) (σ : State) where

@@ -1,14 +1,13 @@
 -- Bounds: where an array lies, read off the list of bounds; by induction on the lengths.
-use mathlib.Core.Path.{_≡_, refl, sym, ap, _∙_}
+use mathlib.Core.Path.{_≡_, refl, ap, _∙_}
 use mathlib.Core.List.{List, [], _∷_}
 use Prim.Native.Nat.{ℕ, zero, suc, _+_, _-_, _≤_, _<_}
 use native.Mathlib.Omega.{arith}
 use native.Mathlib.Numerals.{add-one}
 use lib.IntN.{ℤ}
 use lib.ListN.{length, getD, take}
-use Rattle.words.specs.Layout.{Layout, sum, storeSize, arrayLength, arrayBase}
+use Rattle.words.specs.Layout.{Layout, sum, arrayLength, arrayBase}
 use Rattle.words.specs.Laws.{arrayBase-next, array-in-store}
-use Rattle.language.specs.Sound.{Sound}
 use Rattle.evaluator.specs.Bounds.{boundsFrom, boundsOf, layoutFrom}
 use Rattle.evaluator.specs.Ready.{Bounded, Setting}
 

@@ -2,34 +2,31 @@
 use mathlib.Core.Path.{_≡_, refl, sym, ap, ap₂, _∙_}
 use mathlib.Core.Bool.{Bool, true, false}
 use mathlib.Core.List.{List}
-use Prim.Native.Nat.{ℕ, zero, suc, _+_, _^_, _≤_, _<_}
+use Prim.Native.Nat.{ℕ, _+_, _^_, _≤_, _<_}
 use native.Mathlib.Omega.{arith}
-use lib.Dec.{T, ltb, eqb}
+use lib.Dec.{T}
 use lib.IntN.{ℤ, pos, negsuc, natAbs}
 use lib.Signed.{mag, ltZ, nonNeg}
 use mir.Syntax.{w32, w64}
 use mir.Val.{SFits, Fits, toZ, ofZ}
-use mir.Facts.{toZ-ofZ, sfits-widen, fits-natAbs}
+use mir.Facts.{toZ-ofZ}
 use borrow.Author.Tests.{ltb-true, ltb-false, lt-ltb, le-ltb}
 use Rattle.words.specs.Word.{isWord, natural, pick}
 use lib.ListN.{getD, set}
-use Rattle.words.specs.Arithmetic.{Outcome, value, fault as faulty, apply, element}
+use Rattle.words.specs.Arithmetic.{Outcome, apply, element}
 use Rattle.words.specs.declared.Operator.{Operator}
 use Rattle.language.specs.Meaning.{update, oldValue, newValue}
 use Rattle.words.specs.Answers.{computed, located}
-use Rattle.words.specs.Laws.{back, natural-pos, element-inside}
+use Rattle.words.specs.Laws.{back, element-inside}
 use Rattle.words.specs.declared.FaultSort.{FaultSort}
 use Rattle.words.specs.declared.FaultSort.the-variants.{Overflow, ZeroDivisor, Index}
 use Rattle.words.specs.declared.Computed.{Computed}
 use Rattle.words.specs.declared.Computed.the-variants.{Value as Computes, Fails}
 use Rattle.computation.specs.Computation.{settle}
 use Rattle.computation.specs.Run.{Stop, spent, fault}
-use Rattle.computation.specs.Remaining.{Rest, gives, halts, spend, onward}
-use Rattle.evaluator.specs.Answers.{stopNumber, stopOf, operandOf, operandRest, answered, positionOf, positionRest, placed, Settles, Places}
-use Rattle.evaluator.specs.declared.Operand.{Operand}
+use Rattle.computation.specs.Remaining.{gives, halts, spend, onward}
+use Rattle.evaluator.specs.Answers.{stopNumber, stopOf, operandOf, answered, placed, Settles, Places}
 use Rattle.evaluator.specs.declared.Operand.the-variants.{Value, Halted}
-use Rattle.evaluator.specs.declared.Position.{Position}
-use Rattle.evaluator.specs.declared.Position.the-variants.{At as Lies, Nowhere}
 use Rattle.words.specs.declared.Located.{Located}
 use Rattle.words.specs.declared.Located.the-variants.{At, Outside}
 

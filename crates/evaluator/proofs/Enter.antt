@@ -1,6 +1,6 @@
 -- What entering a row of each kind does, told by the steps left: the laws that the proofs of the evaluation chain. All by
 -- computing `spend` of the meaning.
-use mathlib.Core.Path.{_≡_, refl, sym, ap, _∙_}
+use mathlib.Core.Path.{_≡_, refl, ap}
 use mathlib.Core.Bool.{Bool, true, false}
 use mathlib.Core.List.{List}
 use Prim.Native.Nat.{ℕ, zero, suc, _-_}
@@ -9,11 +9,11 @@ use lib.IntN.{ℤ, pos}
 use lib.ListN.{getD, set}
 use Rattle.words.specs.Word.{pick}
 use Rattle.words.specs.Layout.{Layout, arrayBase, arrayLength}
-use Rattle.words.specs.Arithmetic.{isTrue, truth, bit, logicalNot, apply, minus as minusWord, element as elementWord}
+use Rattle.words.specs.Arithmetic.{isTrue, truth, logicalNot, apply, minus as minusWord, element as elementWord}
 use Rattle.words.specs.declared.Operator.{Operator}
 use Rattle.computation.specs.Computation.{Computation, ret, _>>=_, settle}
 use Rattle.computation.specs.Run.{spent}
-use Rattle.computation.specs.Remaining.{Rest, gives, halts, onward, pay, spend}
+use Rattle.computation.specs.Remaining.{Rest, gives, halts, onward, spend}
 use Rattle.language.specs.Trees.{Expression, constant, read, minus, not, binary, and, or, comma, conditional, assign, compound, prefix, postfix, Place, variable, element}
 use Rattle.language.specs.Meaning.{enter, update, oldValue, newValue, evaluate, locate, value}
 

@@ -3,24 +3,22 @@
 use mathlib.Core.Path.{_≡_, refl, sym, ap, _∙_}
 use mathlib.Core.Bool.{Bool, true, false, not}
 use mathlib.Core.List.{List}
-use Prim.Native.Nat.{ℕ, _+_, _*_, _-_, _^_, _<_, _≤_}
+use Prim.Native.Nat.{ℕ, _+_, _*_, _-_, _^_, _<_}
 use native.Mathlib.Omega.{arith}
 use lib.IntN.{ℤ, pos}
 use lib.ListN.{length}
 use lib.Signed.{mag}
-use mir.Syntax.{w32, w64}
+use mir.Syntax.{w32}
 use mir.Val.{toZ, ofZ}
-use Rattle.words.specs.Word.{natural, pick}
+use Rattle.words.specs.Word.{pick}
 use Rattle.words.specs.Table.{rowCount, numberAt}
-use Rattle.words.specs.Kinds.{kindAt}
 use Rattle.words.specs.Arithmetic.{Outcome, isTrue, bit, truth, element}
 use Rattle.words.specs.Answers.{computed}
 use Rattle.words.specs.Laws.{back}
 use Rattle.words.specs.declared.Computed.{Computed}
-use Rattle.words.specs.declared.Kind.{Kind}
 use Rattle.computation.specs.Computation.{settle}
 use Rattle.computation.specs.Remaining.{Rest, gives, halts, onward, spend}
-use Rattle.language.specs.Sound.{Link, PlaceLink, isPlace, Sound}
+use Rattle.language.specs.Sound.{Link, PlaceLink}
 use Rattle.evaluator.specs.Answers.{stopOf, operandOf, answered, positionOf, placed, Settles}
 use Rattle.evaluator.specs.Bounds.{layoutFrom}
 use Rattle.evaluator.specs.Ready.{Setting, Ready, ReadyPlace, Entered}

@@ -1,12 +1,11 @@
 -- Positions that a place's answer gives lie in the store, since the table is sound.
 use mathlib.Core.Path.{_≡_, refl, sym, ap, _∙_}
 use mathlib.Core.List.{List}
-use Prim.Native.Nat.{ℕ, zero, suc, _+_, _-_, _^_, _<_, _≤_}
+use Prim.Native.Nat.{ℕ, zero, suc, _-_, _^_, _<_}
 use native.Mathlib.Omega.{arith}
 use lib.IntN.{ℤ}
-use lib.ListN.{length}
 use lib.Signed.{mag}
-use Rattle.words.specs.Table.{rowCount, numberAt}
+use Rattle.words.specs.Table.{numberAt}
 use Rattle.words.specs.Kinds.{kindAt}
 use Rattle.words.specs.Layout.{arrayBase, arrayLength}
 use Rattle.words.specs.Arithmetic.{Outcome, value, fault, element}
@@ -14,13 +13,12 @@ use Rattle.words.specs.Laws.{element-inside, array-in-store}
 use Rattle.words.specs.declared.Kind.the-variants.{Variable, Element}
 use Rattle.computation.specs.Computation.{settle}
 use Rattle.computation.specs.Remaining.{Rest, gives, halts, onward, spend}
-use Rattle.language.specs.Sound.{isPlace}
 use Rattle.evaluator.specs.Answers.{operandOf, positionOf, placed}
 use Rattle.evaluator.specs.Bounds.{layoutFrom}
-use Rattle.evaluator.specs.Ready.{Ready, ReadyPlace, Entered}
+use Rattle.evaluator.specs.Ready.{ReadyPlace, Entered}
 use Rattle.evaluator.specs.Rows.{valueAt, locateAt, placeAt}
 use Rattle.evaluator.specs.declared.Position.{Position}
-use Rattle.evaluator.specs.declared.Position.the-variants.{At, Nowhere}
+use Rattle.evaluator.specs.declared.Position.the-variants.{At}
 use Rattle.evaluator.proofs.Decoding.{handed, handed-is}
 use Rattle.evaluator.proofs.Enter.{entered, not-entered}
 use Rattle.evaluator.proofs.Rows.{sound-row, place-variable-row, locate-row}

@@ -3,27 +3,27 @@
 use mathlib.Core.Path.{_≡_, refl, sym, ap, ap₂, _∙_}
 use mathlib.Core.Bool.{Bool, true, false}
 use mathlib.Core.List.{List}
-use Prim.Native.Nat.{ℕ, _+_, _*_, _-_, _<_, _≤_}
+use Prim.Native.Nat.{ℕ, _+_, _*_, _-_, _<_}
 use native.Mathlib.Omega.{arith}
 use lib.IntN.{ℤ, pos}
 use lib.ListN.{length, getD, set}
 use Rattle.words.specs.Word.{pick}
 use Rattle.words.specs.Table.{rowCount, wordAt, numberAt}
 use Rattle.words.specs.Kinds.{kindAt}
-use Rattle.words.specs.Layout.{Layout, arrayBase, arrayLength}
-use Rattle.words.specs.Arithmetic.{isTrue, truth, bit, logicalNot, apply, minus as minusWord, element as elementWord}
+use Rattle.words.specs.Layout.{arrayBase, arrayLength}
+use Rattle.words.specs.Arithmetic.{isTrue, truth, logicalNot, apply, minus as minusWord, element as elementWord}
 use Rattle.words.specs.declared.Operator.{Operator}
 use Rattle.words.specs.declared.Kind.{Kind}
-use Rattle.words.specs.declared.Kind.the-variants.{Constant, Variable, Element, Minus, Not, Binary, And, Or, Conditional, Comma, Assign, Compound, Prefix, Postfix, Empty, Express, Block, If, While, Do, For, Switch, Case, Default, Break, Continue, Goto, Label, Other}
+use Rattle.words.specs.declared.Kind.the-variants.{Constant, Variable, Element, Minus, Not, Binary, And, Or, Conditional, Comma, Assign, Compound, Prefix, Postfix}
 use Rattle.computation.specs.Computation.{settle}
-use Rattle.computation.specs.Remaining.{Rest, gives, onward, spend}
-use Rattle.language.specs.Trees.{Expression, constant, read, minus, not, binary, and, or, comma, conditional, assign, compound, prefix, postfix, Place, variable, element}
+use Rattle.computation.specs.Remaining.{gives, onward, spend}
+use Rattle.language.specs.Trees.{Expression, read, minus, not, binary, and, or, comma, conditional, assign, compound, prefix, postfix, variable, element}
 use Rattle.language.specs.Decode.{placeOf, expressionAt}
 use Rattle.language.specs.DecodeLaws.{at-constant, at-variable, at-element, at-minus, at-not, at-binary, at-and, at-or, at-conditional, at-comma, at-assign, at-compound, at-prefix, at-postfix}
-use Rattle.language.specs.Meaning.{evaluate, locate, value, update, oldValue, newValue}
-use Rattle.language.specs.Sound.{Link, PlaceLink, SoundRow, Sound}
+use Rattle.language.specs.Meaning.{evaluate, locate, update, oldValue, newValue}
+use Rattle.language.specs.Sound.{Link, PlaceLink, SoundRow}
 use Rattle.evaluator.specs.Bounds.{layoutFrom}
-use Rattle.evaluator.specs.Ready.{Setting, Ready, ReadyPlace, Entered}
+use Rattle.evaluator.specs.Ready.{Ready, Entered}
 use Rattle.evaluator.specs.Rows.{valueAt, evaluateAt, locateAt, placeAt}
 use types.Run.{OneOf}
 use Rattle.evaluator.proofs.Tags.{others, tag, at-other}

@@ -12,12 +12,12 @@ use lib.IntN.{ℤ, pos}
 use borrow.Author.Tests.{eq-eqb, eqb-true}
 use Rattle.words.proofs.Kind as declared
 use Rattle.words.specs.Word.{pick}
-use Rattle.words.specs.Table.{rowCount, wordAt, numberAt}
+use Rattle.words.specs.Table.{wordAt, numberAt}
 use Rattle.words.specs.Kinds.{kinds, kindIn, kindOf, kindAt}
 use Rattle.words.specs.declared.Kind.{Kind}
 use Rattle.words.specs.declared.Kind.the-variants.{Constant, Variable, Element, Minus, Not, Binary, And, Or, Conditional, Comma, Assign, Compound, Prefix, Postfix, Empty, Express, Block, If, While, Do, For, Switch, Case, Default, Break, Continue, Goto, Label, Other}
 use Rattle.language.specs.Trees.{Expression, constant}
-use Rattle.language.specs.Decode.{expressionOf, expressionAt, later}
+use Rattle.language.specs.Decode.{expressionOf, expressionAt}
 use Rattle.language.specs.DecodeLaws.{Whole, expression-at}
 use Rattle.language.specs.Sound.{isPlace}
 

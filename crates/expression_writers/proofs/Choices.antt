@@ -1,18 +1,18 @@
 -- What an expression's code ends with, by its shape: a choice between two branches for and, or and a conditional.
-use mathlib.Core.Path.{_≡_, refl, sym, ap, ap₂, subst, _∙_}
+use mathlib.Core.Path.{_≡_, refl, sym, ap, ap₂, _∙_}
 use mathlib.Core.Bool.{Bool, true, false}
 use mathlib.Core.List.{List}
-use Prim.Native.Nat.{ℕ, zero, suc, _+_, _*_, _≤_, _<_}
+use Prim.Native.Nat.{ℕ, _≤_, _<_}
 use native.Mathlib.Omega.{arith}
 use lib.IntN.{ℤ, pos}
 use Rattle.words.specs.Table.{rowCount}
 use Rattle.words.specs.declared.Operator.the-variants.{NotEqual}
-use Rattle.language.specs.Trees.{Expression, constant, read, binary, and, or, conditional, Place, variable, present, ifElse, block, assign, express, Items, none, _then_, _⧺_}
+use Rattle.language.specs.Trees.{Expression, constant, binary, Items, none, _⧺_}
 use Rattle.language.specs.Decode.{expressionAt}
 use Rattle.language.specs.DecodeLaws.{partAt}
 use Rattle.translation.specs.Translate.{Atom as Held, number, top, atomOf, atom, temporary, assigning, choosing, copyCode, expressionCode}
 use Rattle.translation.specs.TranslateSize.{copyRows, partSize, expressionSize}
-use Rattle.measures.specs.Source.{Source, Onward}
+use Rattle.measures.specs.Source.{Onward}
 use Rattle.measures.specs.Shapes.{shapeTree, ShapeAt}
 use Rattle.measures.specs.Operands.{isNumberAtom}
 use Rattle.measures.specs.MeasureLaws.{part-some}
@@ -23,10 +23,9 @@ use Rattle.leaves.specs.Straight.{straightCode, lastSize}
 use Rattle.leaves.specs.Asks.{AtomAt}
 use Rattle.leaves.specs.declared.Atom.{Atom}
 use Rattle.leaves.specs.declared.Atom.the-variants.{Constant, Variable}
-use Rattle.expression_writers.specs.Code.{operandCode, lastCode, finishCode, branchCode, choiceCode, chosenCode}
-use Rattle.expression_writers.specs.Asks.{finishSize, branchSize, BranchFits, ChoiceFits, ChoiceAt, numberBranch}
+use Rattle.expression_writers.specs.Code.{operandCode, lastCode, finishCode, branchCode}
+use Rattle.expression_writers.specs.Asks.{finishSize, BranchFits, ChoiceAt, numberBranch}
 use Rattle.expression_writers.specs.declared.Branch.{Branch}
-use Rattle.expression_writers.specs.declared.Choice.{Choice}
 use Rattle.expression_writers.specs.declared.Choice.the-variants.{Choose, Straight}
 
 module _ (S : ℕ) (rows : List ℤ) (row level : ℕ) where

@@ -1,33 +1,32 @@
 -- What each writer of expressions asks of the next and leaves behind, over the values alone.
-use mathlib.Core.Path.{_≡_, refl, sym, ap, ap₂, subst, _∙_}
-use mathlib.Core.Bool.{Bool, true, false}
+use mathlib.Core.Path.{_≡_, refl, sym, ap, _∙_}
+use mathlib.Core.Bool.{Bool, false}
 use mathlib.Core.List.{List, _++_}
 use Prim.Native.Nat.{ℕ, zero, suc, _+_, _*_, _-_, _≤_, _<_, max}
 use native.Mathlib.Omega.{arith}
 use lib.IntN.{ℤ, pos}
-use lib.ListN.{length, length-append}
+use lib.ListN.{length}
 use Rattle.words.specs.Word.{pick}
 use Rattle.words.specs.Table.{rowCount}
-use Rattle.language.specs.Trees.{Expression, Part, absent, present, block, ifElse, Items, none, _then_, _⧺_}
-use Rattle.language.specs.Sizes.{expressionRows, statementRows, itemsRows}
+use Rattle.language.specs.Trees.{block, _⧺_}
 use Rattle.language.specs.Decode.{expressionAt}
 use Rattle.language.specs.DecodeLaws.{partAt}
-use Rattle.translation.specs.TranslateSize.{expressionSize, partSize}
+use Rattle.translation.specs.TranslateSize.{partSize}
 use Rattle.emission.specs.Emission.{rowOf, emitExpression, emitStatement, emitItems}
 use Rattle.emission.specs.EmissionLaws.{length-expression, length-statement}
-use Rattle.measures.specs.Source.{Source, Onward, OptionalOnward}
-use Rattle.measures.specs.Operands.{firstOperand, secondOperand, thirdOperand, fourthOperand, aboveFirst}
+use Rattle.measures.specs.Source.{Source, OptionalOnward}
+use Rattle.measures.specs.Operands.{aboveFirst}
 use Rattle.measures.specs.Parts.{OperandsAt}
 use Rattle.measures.specs.MeasureLaws.{part-some, size-parts}
 use Rattle.measures.specs.declared.Operands.{Operands}
 use Rattle.measures.proofs.Parts.{above-most}
-use Rattle.leaves.specs.Over.{over, Room, moreRows}
-use Rattle.leaves.specs.Atoms.{atomTree, AtomFits}
+use Rattle.words.specs.Over.{over}
+use Rattle.leaves.specs.Room.{Room, moreRows}
+use Rattle.leaves.specs.Atoms.{atomTree}
 use Rattle.leaves.specs.Straight.{lastSize}
 use Rattle.leaves.specs.Asks.{Writing, LastAsks}
 use Rattle.leaves.specs.AtomLaws.{atom-rows}
-use Rattle.leaves.specs.Chain.{part, back-in, Put, put-next, reworded, Reach, put-length, put-reach, put-room, room-less, Wrote, wrote-put, wrote-next, choice-words}
-use Rattle.leaves.specs.LeafLaws.{recoded}
+use Rattle.leaves.specs.Chain.{part, back-in, Put, put-next, reworded, Reach, put-length, put-reach, put-room, room-less, Wrote, wrote-put, choice-words}
 use Rattle.leaves.specs.declared.Atom.{Atom}
 use Rattle.expression_writers.specs.Code.{operandCode, lastCode, finishCode, branchCode, choiceCode}
 use Rattle.expression_writers.specs.Asks.{OperandAsks, finishSize, branchSize, BranchFits}

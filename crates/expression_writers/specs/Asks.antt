@@ -8,7 +8,7 @@ use Rattle.words.specs.Table.{rowCount}
 use Rattle.language.specs.Decode.{expressionAt}
 use Rattle.language.specs.DecodeLaws.{partAt}
 use Rattle.translation.specs.TranslateSize.{partSize}
-use Rattle.leaves.specs.Over.{Room}
+use Rattle.leaves.specs.Room.{Room}
 use Rattle.leaves.specs.Atoms.{AtomFits}
 use Rattle.leaves.specs.Straight.{lastSize}
 use Rattle.leaves.specs.declared.Atom.{Atom}

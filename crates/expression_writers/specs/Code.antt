@@ -1,10 +1,10 @@
 -- Code: the parts of an expression's code that have a writer of their own. Each is a part of a clause of expressionCode.
 use mathlib.Core.Bool.{Bool, true, false}
 use mathlib.Core.List.{List}
-use Prim.Native.Nat.{ℕ, zero, suc, _+_}
+use Prim.Native.Nat.{ℕ}
 use lib.IntN.{ℤ, pos}
 use Rattle.words.specs.declared.Operator.the-variants.{NotEqual}
-use Rattle.language.specs.Trees.{Expression, constant, read, minus, not, binary, and, or, comma, conditional, assign, compound, prefix, postfix, Place, variable, element, Part, absent, present, Mark, case, default, label, Statement, empty, express, block, ifElse, while, goto, Items, none, _then_, _here_, _⧺_}
+use Rattle.language.specs.Trees.{Expression, constant, read, minus, not, binary, and, or, comma, conditional, assign, compound, prefix, postfix, Part, absent, present, Items, none, _here_, _⧺_}
 use Rattle.language.specs.DecodeLaws.{partAt}
 use Rattle.translation.specs.Translate.{atomOf, atom, temporary, assigning, choosing, copyCode, expressionCode}
 use Rattle.leaves.specs.Atoms.{atomTree}

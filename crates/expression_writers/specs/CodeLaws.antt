@@ -1,27 +1,25 @@
 -- Laws of an expression's code: its parts, and their rows.
-use mathlib.Core.Path.{_≡_, refl, sym, ap, ap₂, subst, _∙_}
+use mathlib.Core.Path.{_≡_, refl, sym, ap, ap₂, _∙_}
 use mathlib.Core.Bool.{Bool, true, false}
 use mathlib.Core.List.{List, _++_, append-assoc}
-use Prim.Native.Nat.{ℕ, zero, suc, _+_, _*_, _≤_, _<_}
+use Prim.Native.Nat.{ℕ, _+_}
 use native.Mathlib.Omega.{arith}
 use lib.IntN.{ℤ, pos}
 use Rattle.words.specs.Word.{pick}
-use Rattle.words.specs.Table.{rowCount}
-use Rattle.language.specs.Trees.{Expression, constant, read, minus, not, binary, and, or, comma, conditional, assign, compound, prefix, postfix, Place, variable, element, Part, absent, present, Statement, block, Items, none, _then_, _here_, _⧺_}
+use Rattle.language.specs.Trees.{Expression, constant, read, minus, not, binary, and, or, comma, conditional, assign, compound, prefix, postfix, variable, element, Part, absent, present, block, Items, _here_, _⧺_}
 use Rattle.language.specs.Sizes.{expressionRows, statementRows, itemsRows}
-use Rattle.language.specs.Decode.{expressionAt}
 use Rattle.language.specs.DecodeLaws.{partAt}
 use Rattle.translation.specs.Translate.{expressionCode}
 use Rattle.translation.specs.TranslateSize.{expressionSize, partSize}
 use Rattle.translation.specs.TranslateRows.{rows-append, rows-expression}
 use Rattle.emission.specs.Emission.{rowOf, emitStatement, emitItems}
 use Rattle.emission.specs.EmissionLaws.{emit-append}
-use Rattle.measures.specs.Operands.{firstOperand, secondOperand, thirdOperand, fourthOperand, aboveFirst}
+use Rattle.measures.specs.Operands.{firstOperand, secondOperand, aboveFirst}
 use Rattle.measures.specs.MeasureLaws.{size-parts}
-use Rattle.leaves.specs.Over.{over, moreRows}
+use Rattle.words.specs.Over.{over}
+use Rattle.leaves.specs.Room.{moreRows}
 use Rattle.leaves.specs.Straight.{lastSize}
 use Rattle.leaves.specs.Chain.{Wrote, more-is, block-words, append-none, append-append}
-use Rattle.leaves.specs.AtomLaws.{atom-rows}
 use Rattle.leaves.specs.declared.Atom.{Atom}
 use Rattle.leaves.specs.declared.Atom.the-variants.{Constant, Variable}
 use Rattle.expression_writers.specs.Code.{operandCode, lastCode, finishCode, branchCode}

@@ -8,7 +8,6 @@ use lib.ListN.{length, take}
 use Rattle.words.specs.Table.{rowCount}
 use Rattle.words.specs.Layout.{layoutOf, storeSize, temporariesOf}
 use Rattle.words.specs.declared.Form.the-variants.{Source, Kernel}
-use Rattle.words.specs.declared.Ending.{Ending}
 use Rattle.words.specs.declared.Ending.the-variants.{Spent}
 use Rattle.language.specs.Program.{Finished, runProgram}
 

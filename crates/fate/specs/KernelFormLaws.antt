@@ -1,8 +1,8 @@
 -- The theorem: every accepted program has a kernel form that is legal and shares its fate. From the theorems about trees
 -- (`translation-preserves`, `translated-legal`), since decode reads both tables.
-use mathlib.Core.Path.{_≡_, refl, sym, ap, _∙_}
+use mathlib.Core.Path.{_≡_, refl}
 use mathlib.Core.List.{List, _++_}
-use Prim.Native.Nat.{ℕ, _+_, _*_, _/_, _≤_}
+use Prim.Native.Nat.{ℕ, _+_, _≤_}
 use native.Mathlib.Omega.{arith}
 use lib.IntN.{ℤ}
 use lib.ListN.{length, take}
@@ -12,29 +12,26 @@ use Rattle.words.specs.Layout.{Layout, layoutOf, storeSize, temporariesOf}
 use Rattle.words.specs.Laws.{countFits-facts}
 use Rattle.words.specs.declared.Form.the-variants.{Source, Kernel}
 use Rattle.words.specs.declared.Ending.the-variants.{Spent}
-use Rattle.words.specs.declared.Verdict.the-variants.{Accepted}
 use Rattle.computation.specs.Run.{Result, ok, stopped, spent, fault, steps, run, start, final, endingOf, Settled}
 use Rattle.computation.specs.RunLaws.{store-keeps-length}
 use Rattle.computation.specs.Unlimited.{Ends}
 use Rattle.language.specs.Trees.{Statement}
 use Rattle.language.specs.Decode.{decode}
 use Rattle.language.specs.Meaning.{Signal, exec}
-use Rattle.language.specs.Program.{Finished, finished, programOf, runUnder, runProgram}
+use Rattle.language.specs.Program.{finished, programOf, runUnder, runProgram}
 use Rattle.language.specs.Sizes.{statementRows, statementDepth}
 use Rattle.language.specs.WellFormed.{SourceTree}
-use Rattle.translation.specs.Translate.{translate, temporaries, kernelHeader}
+use Rattle.translation.specs.Translate.{translate, temporaries}
 use Rattle.translation.specs.TranslatePreserves.{SameWords, SharedFate as TreesShareFate, translation-preserves}
 use Rattle.translation.specs.TranslateBounds.{rows-bound, temporaries-bound}
 use Rattle.translation.specs.TranslateKernel.{header-layout, header-temporaries}
-use Rattle.emission.specs.Emission.{emit}
 use Rattle.emission.specs.EmissionLaws.{length-emit}
 use Rattle.emission_legal.specs.EmittedLegal.{translated-legal, translated-decodes}
-use Rattle.structure.specs.Structured.{Structured}
 use Rattle.source_check.specs.Legal.{Legal}
 use Rattle.source_check.specs.AcceptsLegal.{accepts-legal as source-accepts}
 use Rattle.kernel_check.specs.Accepts.{accepts-legal as kernel-accepts}
 use Rattle.accepted.specs.Source.{legal-tree, legal-rows, legal-depth}
-use Rattle.fate.specs.Fate.{SourceEnds, KernelEnds, SharedFate, ShareFate}
+use Rattle.fate.specs.Fate.{SourceEnds, KernelEnds, SharedFate}
 use Rattle.fate.specs.KernelForms.{kernelHeaderOf, kernelRowsOf, KernelFormOf, HasKernelForm}
 
 -- ---- ended is settled

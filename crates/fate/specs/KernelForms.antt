@@ -1,7 +1,7 @@
 -- Kernel forms: the kernel header and rows of a source program, and what holds of them.
 use mathlib.Core.Path.{_≡_}
 use mathlib.Core.List.{List}
-use Prim.Native.Nat.{ℕ, _+_, _*_, _≤_}
+use Prim.Native.Nat.{_+_, _*_, _≤_}
 use lib.IntN.{ℤ}
 use Rattle.words.specs.Table.{rowCount}
 use Rattle.words.specs.Layout.{layoutOf, temporariesOf}

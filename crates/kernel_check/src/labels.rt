@@ -8,8 +8,7 @@ use super::statements::number_or_zero;
 use structure::Found;
 use words::table::number_at;
 ghost use mathlib.Core.Path.{_≡_};
-ghost use mathlib.Core.Bool.{Bool};
-ghost use Prim.Native.Nat.{ℕ, _+_, _*_, _/_, _<_};
+ghost use Prim.Native.Nat.{_+_, _*_, _/_, _<_};
 ghost use lib.ListN.{length};
 ghost use Rattle.structure.specs.Grammar.{link};
 ghost use Rattle.structure.specs.Search.{some, lowestRow};
@@ -17,7 +16,7 @@ ghost use Rattle.structure.specs.Passes.{Notes};
 ghost use Rattle.structure.specs.Structured.{Tree};
 ghost use Rattle.kernel_check.specs.Labels.{isLabel, labelBehind, labelAhead, labelFault};
 ghost use Rattle.kernel_check.specs.Passes.{noteAt, Noted, Jump, NextJump, LabelNumbers, Heads, Chain, Marks, Marked, LowestAmong, NumberBelow, lower};
-ghost use Rattle.kernel_check.specs.declared.Note.the-variants.{First, Owner};
+ghost use Rattle.kernel_check.specs.declared.Note.the-variants.{First};
 
 // A label with this number.
 fn is_label(rows: &[i32], number: usize, row: usize) -> bool

@@ -1,5 +1,5 @@
 -- A copy of words from the start of a table.
-use mathlib.Core.Path.{_≡_, refl, sym, ap, _∙_}
+use mathlib.Core.Path.{_≡_, sym, ap, _∙_}
 use mathlib.Core.List.{List}
 use Prim.Native.Nat.{ℕ, _+_, _≤_, _<_}
 use native.Mathlib.Nat.{zero-add}
@@ -11,7 +11,7 @@ use lib.Seq.{paste, paste-suc, length-paste, take-length}
 use mir.Syntax.{w32}
 use mir.Val.{SFits, toZ, ofZ}
 use mir.Facts.{toZ-ofZ}
-use Rattle.leaves.specs.Over.{over}
+use Rattle.words.specs.Over.{over}
 
 put-more : (d s : List ℤ) (o : List ℤ) (i : ℕ) (v : ℤ) → i < length s → length s ≤ length d → o ≡ paste d 0 s i → v ≡ getD s i (pos 0) → set o i v ≡ paste d 0 s (i + 1)
 put-more d s o i v h l e f =

@@ -1,17 +1,17 @@
 -- The words of kernel statements, as the leaves put them together, are those of emission.
-use mathlib.Core.Path.{_≡_, refl, sym, ap, subst, _∙_}
+use mathlib.Core.Path.{_≡_, subst}
 use mathlib.Core.Bool.{Bool, true, false}
 use mathlib.Core.List.{List, [], _∷_}
-use Prim.Native.Nat.{ℕ, _+_, _*_, _^_, _≤_, _<_}
+use Prim.Native.Nat.{ℕ, _+_, _≤_, _<_}
 use native.Mathlib.Omega.{arith}
 use lib.IntN.{ℤ, pos}
 use Rattle.words.specs.Word.{pick}
 use Rattle.words.specs.declared.Operator.{Operator}
 use Rattle.words.specs.declared.Operator.the-variants.{Add, Subtract, Multiply, Divide, Remainder, Less, Greater, LessOrEqual, GreaterOrEqual, Equal, NotEqual}
-use Rattle.language.specs.Trees.{constant, read, minus, binary, assign, variable, element, empty, express, block, ifElse, goto, label, none, _then_, _here_}
+use Rattle.language.specs.Trees.{read, minus, binary, assign, variable, element, empty, express, block, ifElse, goto, label, none, _then_, _here_}
 use Rattle.language.specs.Sizes.{expressionRows, statementRows}
-use Rattle.emission.specs.Emission.{operatorNumber, emitExpression, emitStatement, emitItems}
-use Rattle.leaves.specs.Over.{over}
+use Rattle.emission.specs.Emission.{operatorNumber, emitExpression, emitItems}
+use Rattle.words.specs.Over.{over}
 use Rattle.leaves.specs.Atoms.{atomTree, atomKind, atomValue, AtomFits}
 use Rattle.leaves.specs.declared.Atom.{Atom}
 use Rattle.leaves.specs.declared.Atom.the-variants.{Constant, Variable}

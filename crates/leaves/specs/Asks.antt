@@ -12,7 +12,7 @@ use Rattle.measures.specs.Shapes.{placeTree as placeShapeTree}
 use Rattle.measures.specs.Operands.{isNumberAtom}
 use Rattle.measures.specs.declared.PlaceShape.{PlaceShape}
 use Rattle.measures.specs.declared.PlaceShape.the-variants.{Variable as VariableShape, Element as ElementShape}
-use Rattle.leaves.specs.Over.{Room}
+use Rattle.leaves.specs.Room.{Room}
 use Rattle.leaves.specs.Atoms.{atomTree, placeTree, AtomFits, PlaceFits, indexRows, isNumber}
 use Rattle.leaves.specs.Straight.{lastSize}
 use Rattle.leaves.specs.declared.Atom.{Atom}

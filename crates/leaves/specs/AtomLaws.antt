@@ -1,26 +1,24 @@
 -- Laws of atoms and places: the kernel's atom of an expression at a row, and the kernel's place.
 use mathlib.Core.Path.{_≡_, refl, sym, ap, subst, _∙_}
-use mathlib.Core.Bool.{Bool, true, false}
 use mathlib.Core.List.{List}
-use Prim.Native.Nat.{ℕ, _+_, _≤_, _<_}
+use Prim.Native.Nat.{ℕ, _+_, _<_}
 use native.Mathlib.Omega.{arith}
 use lib.IntN.{ℤ}
 use Rattle.words.specs.Table.{rowCount}
-use Rattle.language.specs.Trees.{Expression, constant, read, Place, variable, element}
-use Rattle.language.specs.Sizes.{expressionRows, placeRows}
-use Rattle.language.specs.Decode.{placeOf, expressionAt}
-use Rattle.translation.specs.Translate.{Atom as Held, number, top, atomOf, taken, placeTaken, atom, kernelPlace}
+use Rattle.language.specs.Trees.{Expression, Place, element}
+use Rattle.language.specs.Sizes.{expressionRows}
+use Rattle.language.specs.Decode.{expressionAt}
+use Rattle.translation.specs.Translate.{Atom as Held, number, atomOf, atom, kernelPlace}
 use Rattle.translation.specs.TranslateSize.{indexRows as indexRowsOf}
-use Rattle.measures.specs.Source.{Source, Onward}
-use Rattle.measures.specs.Shapes.{placeTree as placeShapeTree, shapeTree, PlaceOnward, ShapeAt, PlaceAt as ShapePlaceAt}
+use Rattle.measures.specs.Shapes.{shapeTree, PlaceOnward, ShapeAt, PlaceAt as ShapePlaceAt}
 use Rattle.measures.specs.Operands.{plainAtom, isNumberAtom}
 use Rattle.measures.specs.declared.PlaceShape.{PlaceShape}
 use Rattle.measures.specs.declared.PlaceShape.the-variants.{Variable as VariableShape, Element as ElementShape}
 use Rattle.measures.specs.declared.Shape.{Shape}
 use Rattle.measures.specs.declared.Shape.the-variants.{Number, Read, Minus, Not, Binary, And, Or, Comma, Conditional, Assign, Compound, Prefix, Postfix}
-use Rattle.leaves.specs.Over.{Room}
+use Rattle.leaves.specs.Room.{Room}
 use Rattle.leaves.specs.Straight.{lastSize}
-use Rattle.leaves.specs.Atoms.{atomTree, placeTree, AtomFits, PlaceFits, indexRows, isNumber}
+use Rattle.leaves.specs.Atoms.{atomTree, AtomFits, isNumber}
 use Rattle.leaves.specs.Asks.{AtomAt, PlaceInside, HeldPlace, PlaceAt}
 use Rattle.leaves.specs.declared.Atom.{Atom}
 use Rattle.leaves.specs.declared.Atom.the-variants.{Constant, Variable}

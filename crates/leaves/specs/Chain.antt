@@ -1,20 +1,21 @@
 -- Chains: parts of a table written one behind the other. What two writers in a row write is what one writes for both.
-use mathlib.Core.Path.{_≡_, refl, sym, ap, ap₂, subst, _∙_}
+use mathlib.Core.Path.{_≡_, refl, sym, ap, ap₂, _∙_}
 use mathlib.Core.Bool.{Bool, true, false}
-use mathlib.Core.List.{List, [], _∷_, _++_, append-assoc, append-nil}
+use mathlib.Core.List.{List, _++_, append-assoc, append-nil}
 use Prim.Native.Nat.{ℕ, zero, suc, _+_, _*_, _-_, _≤_, _<_}
 use native.Mathlib.Omega.{arith}
 use lib.IntN.{ℤ, pos}
-use lib.ListN.{length, take, drop, length-append, length-drop, drop-of-length-le}
-use lib.Seq.{take-at, drop-at, drop-drop, take-all}
-use borrow.Rule.Slice.PartMut.{midOf, postOf, putMid}
+use lib.ListN.{length, length-append, length-drop}
+use borrow.Rule.Slice.PartMut.{midOf, putMid}
 use Rattle.words.specs.Word.{pick}
-use Rattle.language.specs.Trees.{Expression, Statement, empty, express, block, ifThen, ifElse, while, doWhile, for, switch, break, continue, goto, Mark, Items, none, _then_, _here_, _⧺_}
+use Rattle.language.specs.Trees.{Expression, Statement, empty, express, block, ifThen, ifElse, while, doWhile, for, switch, break, continue, goto, Items, none, _then_, _here_, _⧺_}
 use Rattle.language.specs.Sizes.{expressionRows, statementRows, itemsRows}
 use Rattle.translation.specs.TranslateRows.{rows-append}
 use Rattle.emission.specs.Emission.{rowOf, listLink, emitExpression, emitStatement, emitItems}
-use Rattle.emission.specs.EmissionLaws.{orMore, emit-append, length-expression, length-statement, length-items}
-use Rattle.leaves.specs.Over.{over, Room, moreRows}
+use Rattle.emission.specs.EmissionLaws.{orMore, emit-append, length-items}
+use Rattle.words.specs.Over.{over}
+use Rattle.words.specs.OverLaws.{part-is, length-over, over-next}
+use Rattle.leaves.specs.Room.{Room, moreRows}
 
 -- ---- a part of a table
 
@@ -24,22 +25,6 @@ part n l = midOf (6 * n) (length l - 6 * n) l
 
 abbrev pub back-in : ℕ → List ℤ → List ℤ → List ℤ
 back-in n l m = putMid (6 * n) (length l - 6 * n) l m
-
-part-is : (k : ℕ) (l : List ℤ) → midOf k (length l - k) l ≡ drop k l
-part-is k l = take-all (length l - k) (drop k l) (rw length-drop (omega arith))
-
-rest-is : (k : ℕ) (l : List ℤ) → postOf k (length l - k) l ≡ []
-rest-is k l = drop-of-length-le (drop k l) {i = length l - k} (rw length-drop (omega arith))
-
--- Words v written from word k on, after k words u were written from the start.
-pub over-next : (u v l l1 l2 : List ℤ) (k : ℕ) → length u ≡ k → l1 ≡ over u l → l2 ≡ over v (midOf k (length l1 - k) l1)
-    → putMid k (length l1 - k) l1 l2 ≡ over (u ++ v) l
-unfolding over
-over-next u v l l1 l2 k h e1 e2 =
-    let d : drop k l1 ≡ drop k l = rw e1 (drop-at u _ k h ∙ ap (λ (n : ℕ). drop n l) h) in
-    let t : take k l1 ≡ u = rw e1 (take-at u _ k h) in
-    let e : l2 ≡ v ++ drop (length v) (drop k l) = e2 ∙ ap (λ (m : List ℤ). v ++ drop (length v) m) (part-is k l1 ∙ d) in
-    rw (rest-is k l1) (simp (append-nil, t, e, drop-drop, length-append, append-assoc, h))
 
 -- ---- words
 
@@ -51,7 +36,7 @@ pub record Put (u : List ℤ) (n : ℕ) (l m : List ℤ) : Type 0 where
 -- Two parts, one behind the other.
 pub put-next : {u v : List ℤ} {n k : ℕ} {l l1 l2 : List ℤ} → Put u n l l1 → Put v k (part n l1) l2 → Put (u ++ v) (n + k) l (back-in n l1 l2)
 put-next {u} {v} {n} p q = record {
-  table = over-next u v _ _ _ (6 * n) (p .size) (p .table) (q .table);
+  table = over-next u v _ _ _ (6 * n) (sym (p .size)) (p .table) (q .table);
   size = rw (length-append u v) (omega (arith, p .size, q .size));
 }
 
@@ -60,8 +45,7 @@ pub reworded : {u : List ℤ} {n : ℕ} {l m : List ℤ} (w : List ℤ) → Put 
 reworded {u} {n} {l} {m} w p h = rw h at (p .table)
 
 pub put-length : {u : List ℤ} {n : ℕ} {l m : List ℤ} → Put u n l m → 6 * n ≤ length l → length m ≡ length l
-unfolding over
-put-length {u} {n} {l} {m} p h = rw (p .table) (simp (length-append, length-drop) (omega (arith, p .size)))
+put-length {u} {n} {l} {m} p h = length-over u l m (p .table) (omega (arith, p .size))
 
 -- Where the next part begins.
 pub record Reach (n base : ℕ) (l : List ℤ) : Type 0 where

@@ -1,27 +1,21 @@
 -- Laws of the leaves: what they wrote, as lists of kernel items with their rows.
-use mathlib.Core.Path.{_≡_, refl, sym, ap, ap₂, subst, _∙_}
-use mathlib.Core.Bool.{Bool, true, false}
-use mathlib.Core.List.{List, _++_}
-use Prim.Native.Nat.{ℕ, _+_, _*_, _≤_, _<_}
+use mathlib.Core.Path.{_≡_, refl}
+use mathlib.Core.Bool.{Bool}
+use mathlib.Core.List.{List}
+use Prim.Native.Nat.{ℕ, _≤_}
 use native.Mathlib.Omega.{arith}
-use lib.IntN.{ℤ, pos}
-use lib.ListN.{length, length-append}
+use lib.IntN.{ℤ}
 use Rattle.words.specs.declared.Operator.{Operator}
-use Rattle.language.specs.Trees.{Expression, constant, read, minus, binary, assign, Place, variable, element, empty, express, block, ifElse, goto, label, Items, none, _then_, _here_, _⧺_}
-use Rattle.language.specs.Sizes.{expressionRows, statementRows, itemsRows}
-use Rattle.translation.specs.Translate.{placeTaken, taken, atomOf, updateCode, postfixCode}
-use Rattle.emission.specs.Emission.{rowOf, emitExpression, emitItems}
-use Rattle.emission.specs.EmissionLaws.{length-expression}
+use Rattle.language.specs.Trees.{read, binary, assign, Place, variable, element, express, block, ifElse, goto, label, Items, none, _then_, _here_}
+use Rattle.language.specs.Sizes.{expressionRows, itemsRows}
+use Rattle.translation.specs.Translate.{placeTaken, atomOf}
+use Rattle.emission.specs.Emission.{emitItems}
 use Rattle.measures.specs.ShapeLaws.{taken-most}
-use Rattle.leaves.specs.Over.{over, Room}
-use Rattle.leaves.specs.Atoms.{atomTree, placeTree, AtomFits, PlaceFits, indexRows}
-use Rattle.leaves.specs.Straight.{loopHead}
-use Rattle.leaves.specs.Chain.{Put, Wrote, wrote-next, part, back-in}
-use Rattle.leaves.specs.AtomLaws.{atom-rows}
+use Rattle.words.specs.Over.{over}
+use Rattle.leaves.specs.Atoms.{atomTree}
+use Rattle.leaves.specs.Chain.{Wrote}
 use Rattle.leaves.specs.declared.Atom.{Atom}
 use Rattle.leaves.specs.declared.Atom.the-variants.{Constant, Variable}
-use Rattle.leaves.specs.declared.KernelPlace.{KernelPlace}
-use Rattle.leaves.specs.declared.KernelPlace.the-variants.{Variable as VariablePlace, Element}
 
 -- the same items, said otherwise
 pub recoded : (follows : Bool) (is is′ : Items) (base : ℕ) (l m : List ℤ) → m ≡ over (emitItems follows is base) l → is ≡ is′ → m ≡ over (emitItems follows is′ base) l

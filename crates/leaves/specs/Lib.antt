@@ -1,6 +1,6 @@
 -- What the leaves write. A line of comment for each file.
--- Over: what stands in a table after words were written from its start.
-pub mod Over
+-- Room: the part of a table that is free for rows, and whether anything stands behind them.
+pub mod Room
 -- Atoms: the kernel's atoms and places, as the code holds them.
 pub mod Atoms
 -- Straight: what an expression does with the values of its first two operands.

@@ -3,7 +3,7 @@ use mathlib.Core.List.{List, _++_}
 use Prim.Native.Nat.{ℕ, _+_}
 use lib.IntN.{ℤ, pos}
 use Rattle.words.specs.declared.Operator.the-variants.{Equal}
-use Rattle.language.specs.Trees.{Expression, constant, read, minus, not, binary, and, or, comma, conditional, assign, compound, prefix, postfix, Place, variable, element, Part, absent, present, Mark, case, default, label, Statement, empty, express, block, ifElse, while, goto, Items, none, _then_, _here_, _⧺_}
+use Rattle.language.specs.Trees.{Expression, constant, read, minus, not, binary, and, or, comma, conditional, assign, compound, prefix, postfix, Items, none, _here_}
 use Rattle.translation.specs.Translate.{atomOf, taken, placeTaken, atom, temporary, assigning, kernelPlace, updateCode, postfixCode}
 use Rattle.translation.specs.TranslateSize.{partSize, ownRows}
 use Rattle.emission.specs.Emission.{rowOf}

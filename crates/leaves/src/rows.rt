@@ -2,16 +2,16 @@
 use super::Atom;
 use words::Operator;
 ghost use mathlib.Core.Path.{_≡_};
-ghost use mathlib.Core.Bool.{Bool, true, false};
-ghost use mathlib.Core.List.{[], _∷_, _++_};
-ghost use Prim.Native.Nat.{_+_, _*_, _^_, _≤_, _<_};
+ghost use mathlib.Core.Bool.{true};
+ghost use mathlib.Core.List.{_++_};
+ghost use Prim.Native.Nat.{_+_, _^_, _≤_, _<_};
 ghost use lib.IntN.{pos};
 ghost use lib.ListN.{length};
 ghost use Rattle.words.specs.Word.{pick};
-ghost use Rattle.words.specs.declared.Operator.the-variants.{Equal};
-ghost use Rattle.language.specs.Trees.{constant, read, minus, binary, assign, variable, element, empty, express, block, ifElse, goto, label, none, _then_, _here_};
+ghost use Rattle.language.specs.Trees.{read, minus, binary, assign, variable, element, empty, express, block, ifElse, goto, label, none, _then_, _here_};
 ghost use Rattle.emission.specs.Emission.{rowOf, operatorNumber, emitExpression, emitItems};
-ghost use Rattle.leaves.specs.Over.{over, Room, moreRows};
+ghost use Rattle.words.specs.Over.{over};
+ghost use Rattle.leaves.specs.Room.{Room, moreRows};
 ghost use Rattle.leaves.specs.Atoms.{atomTree, atomKind, atomValue, AtomFits};
 ghost use Rattle.leaves.specs.Straight.{loopHead};
 

@@ -9,7 +9,7 @@ use lib.IntN.{ℤ, pos}
 use Rattle.words.specs.Word.{pick}
 use Rattle.words.specs.Layout.{Layout}
 use Rattle.words.specs.Arithmetic.{isTrue}
-use Rattle.computation.specs.Computation.{Turn, again, leave, Computation, ret, _>>=_, _>>_, loop}
+use Rattle.computation.specs.Computation.{Turn, again, leave, Computation, ret, _>>=_, loop, _>>_}
 use Rattle.computation.specs.RunLaws.{turnOf}
 use Rattle.computation.specs.Remaining.{gives, onward, pay, onTurn, spend, spend-unroll}
 use Rattle.language.specs.Trees.{Expression, Part, absent, present, Mark, case, default, label, Statement, empty, express, block, ifThen, ifElse, while, doWhile, for, switch, break, continue, goto, Items, none, _then_, _here_, sameMark, has}

@@ -3,7 +3,7 @@ use mathlib.Core.List.{List}
 use Prim.Native.Nat.{ℕ}
 use lib.IntN.{ℤ}
 use Rattle.words.specs.Layout.{Layout}
-use Rattle.computation.specs.Computation.{Turn, again, Computation, ret, _>>=_, _>>_, loop}
+use Rattle.computation.specs.Computation.{Turn, again, Computation, ret, _>>=_, loop, _>>_}
 use Rattle.language.specs.Trees.{Expression, Part, absent, present}
 use Rattle.language.specs.Decode.{expressionAt, statementAt}
 use Rattle.language.specs.DecodeLaws.{listAt, partAt}

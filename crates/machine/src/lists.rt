@@ -8,11 +8,8 @@ use words::kinds::kind_at;
 use words::table::number_at;
 use words::table::word_at;
 ghost use mathlib.Core.Path.{_≡_};
-ghost use Prim.Native.Nat.{ℕ};
-ghost use lib.Dec.{ltb};
-ghost use Rattle.language.specs.Trees.{case as caseOf, default as defaultOf, label as labelOf, has};
+ghost use Rattle.language.specs.Trees.{case as caseOf, default as defaultOf, label as labelOf};
 ghost use Rattle.language.specs.Decode.{itemsAt};
-ghost use Rattle.language.specs.DecodeLaws.{listAt};
 ghost use Rattle.machine.specs.Lists.{markOf, marks, InTable, Finds, Starts, Resumes};
 
 // Whether the item at a row is this mark.

@@ -1,22 +1,21 @@
 -- What a row is, by its kind: an expression's shape, a statement's line, an item of a list. By the laws of decode, kind by kind.
 use mathlib.Core.Path.{_≡_, refl, sym, ap, subst, _∙_}
 use mathlib.Core.List.{List}
-use Prim.Native.Nat.{ℕ, zero, suc, _+_, _*_, _≤_, _<_}
+use Prim.Native.Nat.{ℕ, zero, suc, _<_}
 use native.Mathlib.Omega.{arith}
 use lib.IntN.{ℤ, pos}
-use lib.ListN.{length}
 use borrow.Author.Tests.{lt-ltb, le-ltb}
 use Rattle.words.specs.Table.{rowCount, wordAt, numberAt}
 use Rattle.words.specs.Kinds.{kindAt}
 use Rattle.words.specs.Layout.{Layout}
 use Rattle.words.specs.declared.Kind.{Kind}
 use Rattle.words.specs.declared.Kind.the-variants.{Constant, Variable, Element, Minus, Not, Binary, And, Or, Conditional, Comma, Assign, Compound, Prefix, Postfix, Empty, Express, Block, If, While, Do, For, Switch, Case, Default, Break, Continue, Goto, Label, Other}
-use Rattle.language.specs.Trees.{Expression, constant, read, minus, not, binary, and, or, comma, conditional, assign, compound, prefix, postfix, variable, element, case, default, label, Statement, empty, express, block, ifThen, ifElse, while, doWhile, for, switch, break, continue, goto, Items, none, _then_, _here_}
-use Rattle.language.specs.Decode.{placeOf, expressionOf, expressionAt, ifOf, statementOf, statementAt, itemsOf, itemsAt, later}
-use Rattle.language.specs.DecodeLaws.{Whole, Forward, listAt, partAt, expression-at, statement-at, items-at, at-constant, at-variable, at-element, at-minus, at-not, at-binary, at-and, at-or, at-comma, at-conditional, at-assign, at-compound, at-prefix, at-postfix, at-empty, at-express, at-block, at-ifThen, at-ifElse, at-while, at-doWhile, at-for, at-switch, at-break, at-continue, at-goto, at-item, at-case, at-default, at-label}
-use Rattle.language.specs.Sound.{Sound, SoundRow, Link, OptionalLink}
+use Rattle.language.specs.Trees.{constant, Statement, empty, none, _here_}
+use Rattle.language.specs.Decode.{expressionOf, expressionAt, statementOf, statementAt, itemsOf, itemsAt, later}
+use Rattle.language.specs.DecodeLaws.{Whole, Forward, listAt, expression-at, statement-at, items-at, at-constant, at-variable, at-element, at-minus, at-not, at-binary, at-and, at-or, at-comma, at-conditional, at-assign, at-compound, at-prefix, at-postfix, at-express, at-block, at-ifThen, at-ifElse, at-while, at-doWhile, at-for, at-switch, at-break, at-continue, at-goto}
+use Rattle.language.specs.Sound.{SoundRow, Link, OptionalLink}
 use Rattle.measures.specs.Source.{Source, Onward, OptionalOnward}
-use Rattle.measures.specs.Shapes.{shapeTree, lineTree, itemTree, ShapeAt, LineAt, ItemAt}
+use Rattle.measures.specs.Shapes.{itemTree, ShapeAt, LineAt, ItemAt}
 use Rattle.measures.specs.declared.PlaceShape.the-variants.{Variable as VariableShape, Element as ElementShape}
 use Rattle.measures.specs.declared.Shape.{Shape}
 use Rattle.measures.specs.declared.Shape.the-variants as shape

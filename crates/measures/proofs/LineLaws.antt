@@ -1,28 +1,24 @@
 -- A statement's and a list's measures, from those of the rows that their links lead to: line by line.
-use mathlib.Core.Path.{_≡_, refl, sym, ap, ap₂, subst, _∙_}
+use mathlib.Core.Path.{_≡_, refl, sym, ap, ap₂, _∙_}
 use mathlib.Core.List.{List}
-use Prim.Native.Nat.{ℕ, zero, suc, _+_, _*_, _≤_, _<_, min, max}
+use Prim.Native.Nat.{ℕ, zero, suc, _+_, _*_, _≤_, _<_, max}
 use native.Mathlib.Omega.{arith}
 use lib.IntN.{ℤ}
-use lib.ListN.{length}
-use Rattle.words.specs.Table.{rowCount}
-use Rattle.language.specs.Trees.{Expression, Part, absent, present, Statement, empty, express, block, ifThen, ifElse, while, doWhile, for, switch, Items, none, _then_, _here_, Mark, case, default, label}
-use Rattle.language.specs.Decode.{expressionAt, ifOf, statementAt, itemsAt}
+use Rattle.language.specs.Trees.{Statement, Items, none, _here_, Mark, case, default, label}
+use Rattle.language.specs.Decode.{expressionAt, statementAt, itemsAt}
 use Rattle.language.specs.DecodeLaws.{listAt, partAt}
 use Rattle.translation.specs.Translate.{atomOf, taken, labels, itemsLabels, expressionLevels, partLevels, statementLevels, itemsLevels}
 use Rattle.translation.specs.TranslateSize.{expressionSize, partSize, testSize, statementSize, itemsSize, cases}
-use Rattle.measures.specs.Source.{Source, Onward, OptionalOnward}
-use Rattle.measures.specs.Shapes.{lineTree, itemTree, LineAt, ItemAt}
-use Rattle.measures.specs.Measures.{limited, pastLabels, defaultPlace, slot, slotAt, testSlots, MeasuredRow, MeasuredFrom, StatementMeasured, ListMeasured, markMeasures, statementMeasures}
-use Rattle.measures.specs.declared.Line.{Line}
-use Rattle.measures.specs.declared.Line.the-variants.{Empty, Express, Block, If, While, Do, For, Switch, Break, Continue, Goto}
-use Rattle.measures.specs.declared.Item.{Item}
+use Rattle.measures.specs.Source.{Onward, OptionalOnward}
+use Rattle.measures.specs.Shapes.{lineTree, ItemAt}
+use Rattle.measures.specs.Measures.{limited, pastLabels, defaultPlace, slotAt, testSlots, MeasuredFrom, StatementMeasured, ListMeasured, markMeasures, statementMeasures}
+use Rattle.measures.specs.declared.Line.the-variants.{Express, Block, If, While, Do, For, Switch}
 use Rattle.measures.specs.declared.Item.the-variants as item
 use Rattle.measures.specs.declared.StatementMeasures.{StatementMeasures}
 use Rattle.measures.specs.declared.ListMeasures.{ListMeasures}
 use Rattle.measures.specs.ShapeLaws.{optional}
-use Rattle.measures.specs.MeasureLaws.{link-measured, part-some, part-rows, part-levels, list-rows, list-levels, list-labels, list-cases, list-default, body-rows, body-levels, body-labels}
-use Rattle.measures.proofs.Parts.{limited-max, limited-twice, limited-more}
+use Rattle.measures.specs.MeasureLaws.{part-some, part-rows, part-levels, list-rows, list-levels, list-labels, list-cases, list-default, body-rows, body-levels, body-labels}
+use Rattle.measures.proofs.Parts.{limited-max, limited-twice}
 
 small : (n : ℕ) → n ≤ 2 → n ≡ limited n
 unfolding limited

@@ -1,28 +1,26 @@
 -- What the functions that measure an expression find at a row, by its shape.
-use mathlib.Core.Path.{_≡_, refl, sym, ap, ap₂, subst, _∙_}
+use mathlib.Core.Path.{_≡_, refl, sym, ap, subst, _∙_}
 use mathlib.Core.List.{List}
-use Prim.Native.Nat.{ℕ, zero, suc, _+_, _*_, _-_, _≤_, _<_, max, min}
+use Prim.Native.Nat.{ℕ, _+_, _*_, _-_, _≤_, max}
 use native.Mathlib.Omega.{arith}
 use lib.IntN.{ℤ}
-use lib.ListN.{length}
-use Rattle.words.specs.Table.{rowCount}
 use Rattle.language.specs.Trees.{Expression, constant, read, minus, not, binary, and, or, comma, conditional, assign, compound, prefix, postfix, Place, variable, element, Part, absent, present}
 use Rattle.language.specs.Decode.{placeOf, expressionAt}
 use Rattle.language.specs.DecodeLaws.{partAt}
 use Rattle.translation.specs.Translate.{Atom, number, top, atomOf, taken, expressionLevels, partLevels}
 use Rattle.translation.specs.TranslateSize.{indexRows, copyRows, ownRows, expressionSize, partSize}
-use Rattle.measures.specs.Source.{Source, Onward, OptionalOnward}
+use Rattle.measures.specs.Source.{Onward, OptionalOnward}
 use Rattle.measures.specs.Shapes.{placeTree, shapeTree, ShapeAt, PlaceAt}
-use Rattle.measures.specs.Operands.{indexOf, firstOperand, secondOperand, thirdOperand, fourthOperand, aboveFirst, ownLevels, updateOwn, plainAtom}
-use Rattle.measures.specs.Measures.{limited, slot, slotAt, MeasuredRow, MeasuredFrom}
-use Rattle.measures.specs.Parts.{byPlace, IndexAt, OperandsAt, ValueAt}
+use Rattle.measures.specs.Operands.{indexOf, firstOperand, secondOperand, thirdOperand, fourthOperand, aboveFirst, ownLevels, plainAtom}
+use Rattle.measures.specs.Measures.{limited, slotAt, MeasuredFrom}
+use Rattle.measures.specs.Parts.{byPlace, IndexAt, OperandsAt}
 use Rattle.measures.specs.declared.PlaceShape.{PlaceShape}
 use Rattle.measures.specs.declared.PlaceShape.the-variants.{Variable, Element}
 use Rattle.measures.specs.declared.Shape.{Shape}
 use Rattle.measures.specs.declared.Shape.the-variants.{Number, Read, Minus, Not, Binary, And, Or, Comma, Conditional, Assign, Compound, Prefix, Postfix}
 use Rattle.measures.specs.declared.Operands.{Operands}
 use Rattle.measures.specs.ShapeLaws.{taken-most}
-use Rattle.measures.specs.MeasureLaws.{link-measured, part-some, part-rows, part-levels, size-parts, levels-parts}
+use Rattle.measures.specs.MeasureLaws.{part-some, part-rows, part-levels, size-parts, levels-parts}
 
 -- ---- places
 

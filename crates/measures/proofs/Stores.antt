@@ -6,12 +6,12 @@ use native.Mathlib.Nat.{suc-add}
 use native.Mathlib.Decide.{ℕ-discrete}
 use native.Mathlib.Omega.{arith}
 use lib.Arith.{lt-of-le-ne}
-use lib.ListN.{length, take, drop, set, getD, length-append, length-take, length-drop, List·getD-append}
-use lib.Seq.{getD-append-add, getD-take, getD-drop, length-take-le}
+use lib.ListN.{length, take, drop, set, getD, length-append, length-drop, List·getD-append}
+use lib.Seq.{getD-append-add, getD-drop, length-take-le}
 use lib.IntN.{ℤ}
 use Rattle.words.specs.Table.{rowCount}
 use Rattle.language.specs.Decode.{expressionAt, statementAt, itemsAt}
-use Rattle.measures.specs.Measures.{slot, rowWords, ExpressionMeasured, StatementMeasured, ListMeasured, MeasuredRow, MeasuredFrom, expressionSlots, statementSlots, listSlots}
+use Rattle.measures.specs.Measures.{slot, rowWords, ExpressionMeasured, StatementMeasured, ListMeasured, MeasuredRow, MeasuredFrom}
 use Rattle.measures.specs.declared.ExpressionMeasures.{ExpressionMeasures}
 use Rattle.measures.specs.declared.StatementMeasures.{StatementMeasures}
 use Rattle.measures.specs.declared.ListMeasures.{ListMeasures}

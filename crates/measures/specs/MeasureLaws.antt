@@ -1,20 +1,19 @@
 -- Laws of the measures: sums that are cut off, the words of the table, and an expression's measures from those of its operands.
-use mathlib.Core.Path.{_≡_, refl, sym, ap, ap₂, subst, _∙_}
-use mathlib.Core.Bool.{Bool, true, false}
+use mathlib.Core.Path.{_≡_, refl, _∙_}
 use mathlib.Core.List.{List}
 use Prim.Native.Nat.{ℕ, zero, suc, _+_, _*_, _-_, _≤_, _<_, min, max}
 use native.Mathlib.Omega.{arith}
 use lib.IntN.{ℤ}
-use lib.ListN.{length, getD}
+use lib.ListN.{length}
 use Rattle.words.specs.Table.{rowCount}
-use Rattle.language.specs.Trees.{Expression, constant, read, minus, not, binary, and, or, comma, conditional, assign, compound, prefix, postfix, Place, variable, element, Part, absent, present, Statement, empty, express, block, ifThen, ifElse, while, doWhile, for, switch, break, continue, goto, Items, none, _then_, _here_, Mark, case, default, label}
-use Rattle.language.specs.Decode.{expressionAt, ifOf, statementAt, itemsAt}
+use Rattle.language.specs.Trees.{Expression, constant, read, minus, not, binary, and, or, comma, conditional, assign, compound, prefix, postfix, variable, element, present, _here_}
+use Rattle.language.specs.Decode.{expressionAt, statementAt}
 use Rattle.language.specs.DecodeLaws.{listAt, partAt}
-use Rattle.translation.specs.Translate.{Atom, number, top, atomOf, taken, labels, itemsLabels, expressionLevels, indexLevels, updateLevels, partLevels, statementLevels, itemsLevels}
-use Rattle.translation.specs.TranslateSize.{indexRows, copyRows, ownRows, expressionSize, indexSize, partSize, testSize, statementSize, itemsSize, cases}
+use Rattle.translation.specs.Translate.{labels, itemsLabels, expressionLevels, partLevels, statementLevels, itemsLevels}
+use Rattle.translation.specs.TranslateSize.{ownRows, expressionSize, partSize, statementSize, itemsSize, cases}
 use Rattle.measures.specs.Source.{Source, Onward, OptionalOnward}
-use Rattle.measures.specs.Operands.{indexOf, firstOperand, secondOperand, thirdOperand, fourthOperand, aboveFirst, updateOwn, ownLevels, plainAtom}
-use Rattle.measures.specs.Measures.{limited, pastLabels, defaultPlace, slot, slotAt, LinkMeasured, MeasuredRow, MeasuredFrom, Measured, ExpressionMeasured, StatementMeasured, ListMeasured}
+use Rattle.measures.specs.Operands.{firstOperand, secondOperand, thirdOperand, fourthOperand, aboveFirst, ownLevels}
+use Rattle.measures.specs.Measures.{limited, defaultPlace, slot, slotAt, LinkMeasured, MeasuredRow, MeasuredFrom, Measured}
 
 -- ---- sums that are cut off
 

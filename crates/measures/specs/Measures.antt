@@ -6,7 +6,7 @@ use Prim.Native.Nat.{ℕ, zero, suc, _+_, _*_, _≤_, _<_, min, max}
 use lib.IntN.{ℤ}
 use lib.ListN.{length, getD}
 use Rattle.words.specs.Table.{rowCount}
-use Rattle.language.specs.Trees.{Expression, Statement, Items, none, _then_, _here_, Mark, case, default, label}
+use Rattle.language.specs.Trees.{Expression, Statement, Items, none, _then_, _here_, case, default, label}
 use Rattle.language.specs.Decode.{expressionAt, statementAt, itemsAt}
 use Rattle.translation.specs.Translate.{atomOf, labels, itemsLabels, expressionLevels, statementLevels, itemsLevels}
 use Rattle.translation.specs.TranslateSize.{expressionSize, statementSize, itemsSize, cases}

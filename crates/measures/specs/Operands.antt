@@ -1,12 +1,10 @@
 -- Operands: the parts of an expression's code. Two operands may be worked out first, the second above the first; two more stand in
 -- branches. What is added up over the code of an expression is added up over these parts.
-use mathlib.Core.Path.{_≡_, refl}
 use mathlib.Core.Bool.{Bool, true, false}
-use Prim.Native.Nat.{ℕ, _+_, max}
+use Prim.Native.Nat.{ℕ, _+_}
 use native.Mathlib.Omega.{arith}
 use Rattle.language.specs.Trees.{Expression, constant, read, minus, not, binary, and, or, comma, conditional, assign, compound, prefix, postfix, Place, variable, element, Part, absent, present}
-use Rattle.translation.specs.Translate.{Atom, number, top, atomOf, taken, expressionLevels, indexLevels, updateLevels, partLevels}
-use Rattle.translation.specs.TranslateSize.{ownRows, expressionSize, indexSize, partSize}
+use Rattle.translation.specs.Translate.{Atom, number, top, atomOf, taken}
 
 abbrev pub indexOf : Place → Part
 indexOf (variable i) = absent

@@ -3,7 +3,7 @@ use mathlib.Core.Path.{_≡_}
 use mathlib.Core.List.{List}
 use Prim.Native.Nat.{ℕ, _<_}
 use lib.IntN.{ℤ}
-use Rattle.language.specs.Trees.{Expression, constant, read, minus, not, binary, and, or, comma, conditional, assign, compound, prefix, postfix, Place, variable, element, Mark, case, default, label, Statement, empty, express, block, while, doWhile, for, switch, break, continue, goto, Items, _then_, _here_}
+use Rattle.language.specs.Trees.{Expression, constant, read, minus, not, binary, and, or, comma, conditional, assign, compound, prefix, postfix, Place, variable, element, case, default, label, Statement, empty, express, block, while, doWhile, for, switch, break, continue, goto, Items, _then_, _here_}
 use Rattle.language.specs.Decode.{placeOf, expressionAt, ifOf, statementAt, itemsAt}
 use Rattle.language.specs.DecodeLaws.{listAt, partAt}
 use Rattle.measures.specs.Source.{Onward, OptionalOnward}

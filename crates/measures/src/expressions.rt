@@ -13,12 +13,10 @@ ghost use Prim.Native.Nat.{_+_, _*_, _≤_, _<_};
 ghost use lib.ListN.{length};
 ghost use Rattle.words.specs.Table.{rowCount};
 ghost use Rattle.language.specs.Decode.{placeOf, expressionAt};
-ghost use Rattle.language.specs.DecodeLaws.{partAt};
 ghost use Rattle.translation.specs.Translate.{atomOf, taken as takenOf, expressionLevels};
 ghost use Rattle.translation.specs.TranslateSize.{ownRows, expressionSize};
-ghost use Rattle.measures.specs.Source.{Source, Onward, OptionalOnward};
-ghost use Rattle.measures.specs.Shapes.{ShapeAt};
-ghost use Rattle.measures.specs.Operands.{indexOf, aboveFirst, ownLevels, updateOwn};
+ghost use Rattle.measures.specs.Source.{Source};
+ghost use Rattle.measures.specs.Operands.{aboveFirst, ownLevels, updateOwn};
 ghost use Rattle.measures.specs.Measures.{limited as limitedTo, MeasuredFrom, MeasuredRow, ExpressionMeasured};
 ghost use Rattle.measures.specs.Parts.{byPlace, IndexAt, OperandsAt, ValueAt};
 

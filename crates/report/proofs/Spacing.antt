@@ -18,7 +18,7 @@ use Rattle.words.specs.declared.FaultSort.the-variants.{Overflow, ZeroDivisor, 
 use Rattle.text_form.specs.Number.{digits, numberBytes}
 use Rattle.text_form.specs.Line.{newline}
 use Rattle.text_form.specs.Writer.{Put}
-use Rattle.text_form.specs.BufferLaws.{part, back-in, part-is}
+use Rattle.words.specs.OverLaws.{part, back-in, part-is}
 use Rattle.text_form.specs.PutLaws.{put-none, put-as, put-length, put-fits, put-next, put-space, put-inside, digits-within, number-eleven}
 use Rattle.report.specs.Lines.{blank, spaced, lineOf, sourceName, kernelName, refusedName, refusedLine, sourceLine, kernelLine}
 

@@ -17,6 +17,8 @@ pub mod Passes
 pub mod SearchLaws
 -- Laws of the grammar: what holds of every kind is tested over the table.
 pub mod GrammarLaws
+-- Packed: the table of kinds as the code holds it, a row a number, a hexadecimal digit a field.
+pub mod Packed
 -- Laws of links: in a tree of rows each row but row 0 has one owner, and `linker` finds it.
 pub mod LinkLaws
 -- Laws of notes: in a tree of rows a note is what the owner hands on; and what a pass over the words has written.

@@ -5,6 +5,7 @@ ghost use mathlib.Core.Path.{_≡_};
 ghost use Prim.Native.Nat.{_+_, _*_, _<_};
 ghost use lib.ListN.{length};
 ghost use Rattle.words.specs.declared.Form.the-variants.{Source, Kernel};
+ghost use Rattle.structure.specs.Packed.{packedRow, digitAt};
 ghost use Rattle.structure.specs.Grammar.{sortOf, sortAt, between as betweenOf, inLanguage, isExpression, isPlace, isStatement, isLink, isRequired, link as linkOf};
 
 // Fields without a link. "Values, variable, array and label numbers may be 0."
@@ -38,74 +39,80 @@ pub const STATEMENT_ROW: u8 = 13;
 
 pub const NO_KIND: u8 = 0;
 
-// For each kind number from 0 on: what the row is, then a, b, c, d and next, by the numbers above.
-const GRAMMAR: [[u8; 6]; 54] = [
-    [0, 0, 0, 0, 0, 0], // 0
-    [11, 1, 0, 0, 0, 0], // 1 constant
-    [12, 2, 0, 0, 0, 0], // 2 variable
-    [12, 3, 5, 0, 0, 0], // 3 element
-    [11, 5, 0, 0, 0, 0], // 4 minus
-    [11, 5, 0, 0, 0, 0], // 5 not
-    [11, 5, 5, 0, 0, 0], // 6 +
-    [11, 5, 5, 0, 0, 0], // 7 −
-    [11, 5, 5, 0, 0, 0], // 8 ×
-    [11, 5, 5, 0, 0, 0], // 9 /
-    [11, 5, 5, 0, 0, 0], // 10 %
-    [11, 5, 5, 0, 0, 0], // 11 <
-    [11, 5, 5, 0, 0, 0], // 12 >
-    [11, 5, 5, 0, 0, 0], // 13 <=
-    [11, 5, 5, 0, 0, 0], // 14 >=
-    [11, 5, 5, 0, 0, 0], // 15 ==
-    [11, 5, 5, 0, 0, 0], // 16 !=
-    [11, 5, 5, 0, 0, 0], // 17 and
-    [11, 5, 5, 0, 0, 0], // 18 or
-    [11, 5, 5, 5, 0, 0], // 19 conditional
-    [11, 5, 5, 0, 0, 0], // 20 comma
-    [11, 7, 5, 0, 0, 0], // 21 assign
-    [11, 7, 5, 0, 0, 0], // 22 +=
-    [11, 7, 5, 0, 0, 0], // 23 −=
-    [11, 7, 5, 0, 0, 0], // 24 ×=
-    [11, 7, 5, 0, 0, 0], // 25 /=
-    [11, 7, 5, 0, 0, 0], // 26 %=
-    [11, 7, 0, 0, 0, 0], // 27 ++e
-    [11, 7, 0, 0, 0, 0], // 28 −−e
-    [11, 7, 0, 0, 0, 0], // 29 e++
-    [11, 7, 0, 0, 0, 0], // 30 e−−
-    [0, 0, 0, 0, 0, 0], // 31
-    [0, 0, 0, 0, 0, 0], // 32
-    [0, 0, 0, 0, 0, 0], // 33
-    [0, 0, 0, 0, 0, 0], // 34
-    [0, 0, 0, 0, 0, 0], // 35
-    [0, 0, 0, 0, 0, 0], // 36
-    [0, 0, 0, 0, 0, 0], // 37
-    [0, 0, 0, 0, 0, 0], // 38
-    [0, 0, 0, 0, 0, 0], // 39
-    [13, 0, 0, 0, 0, 10], // 40 empty
-    [13, 5, 0, 0, 0, 10], // 41 expression statement
-    [13, 10, 0, 0, 0, 10], // 42 block
-    [13, 5, 8, 9, 0, 10], // 43 if
-    [13, 5, 8, 0, 0, 10], // 44 while
-    [13, 8, 5, 0, 0, 10], // 45 do
-    [13, 6, 6, 6, 8, 10], // 46 for
-    [13, 5, 10, 0, 0, 10], // 47 switch
-    [13, 1, 0, 0, 0, 10], // 48 case
-    [13, 0, 0, 0, 0, 10], // 49 default
-    [13, 0, 0, 0, 0, 10], // 50 break
-    [13, 0, 0, 0, 0, 10], // 51 continue
-    [13, 4, 0, 0, 0, 10], // 52 goto
-    [13, 4, 0, 0, 0, 10], // 53 label
-];
+// The table's row of a kind: a hexadecimal digit each for what the row is, then a, b, c, d and next, by the numbers above. A `match`,
+// since the compiler keeps it as a table of the program; a constant array is copied to the stack at each look.
+fn row_of(kind: usize) -> u32
+    ensures { λ r. ⌜ r ≡ packedRow kind ⌝ }
+{
+    match kind {
+        1 => 0xB10000, // constant
+        2 => 0xC20000, // variable
+        3 => 0xC35000, // element
+        4 => 0xB50000, // minus
+        5 => 0xB50000, // not
+        6 => 0xB55000, // +
+        7 => 0xB55000, // −
+        8 => 0xB55000, // ×
+        9 => 0xB55000, // /
+        10 => 0xB55000, // %
+        11 => 0xB55000, // <
+        12 => 0xB55000, // >
+        13 => 0xB55000, // <=
+        14 => 0xB55000, // >=
+        15 => 0xB55000, // ==
+        16 => 0xB55000, // !=
+        17 => 0xB55000, // and
+        18 => 0xB55000, // or
+        19 => 0xB55500, // conditional
+        20 => 0xB55000, // comma
+        21 => 0xB75000, // assign
+        22 => 0xB75000, // +=
+        23 => 0xB75000, // −=
+        24 => 0xB75000, // ×=
+        25 => 0xB75000, // /=
+        26 => 0xB75000, // %=
+        27 => 0xB70000, // ++e
+        28 => 0xB70000, // −−e
+        29 => 0xB70000, // e++
+        30 => 0xB70000, // e−−
+        40 => 0xD0000A, // empty
+        41 => 0xD5000A, // expression statement
+        42 => 0xDA000A, // block
+        43 => 0xD5890A, // if
+        44 => 0xD5800A, // while
+        45 => 0xD8500A, // do
+        46 => 0xD6668A, // for
+        47 => 0xD5A00A, // switch
+        48 => 0xD1000A, // case
+        49 => 0xD0000A, // default
+        50 => 0xD0000A, // break
+        51 => 0xD0000A, // continue
+        52 => 0xD4000A, // goto
+        53 => 0xD4000A, // label
+        _ => 0,
+    }
+}
+
+// A digit of a row, from the left.
+fn digit(row: u32, field: usize) -> u32
+    ensures { λ r. ⌜ r ≡ digitAt row field ⌝ }
+{
+    match field {
+        0 => row / 0x100000 % 16,
+        1 => row / 0x10000 % 16,
+        2 => row / 0x1000 % 16,
+        3 => row / 0x100 % 16,
+        4 => row / 0x10 % 16,
+        _ => row % 16,
+    }
+}
 
 // What a field of a kind holds; for field 0, what a row of the kind is.
 pub fn sort_of(kind: usize, field: usize) -> u8
     requires { ⌜ field < 6 ⌝ }
     ensures { λ r. ⌜ r ≡ sortOf kind field ⌝ }
 {
-    if kind < 54 {
-        let row = GRAMMAR[kind];
-        return row[field];
-    }
-    UNUSED
+    digit(row_of(kind), field) as u8
 }
 
 pub fn sort_at(rows: &[i32], row: usize, field: usize) -> u8

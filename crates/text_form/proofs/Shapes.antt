@@ -15,12 +15,13 @@ use Rattle.words.specs.declared.Form.{Form}
 use Rattle.text_form.specs.declared.ReadAnswer.the-variants.{Read, Refused}
 use Rattle.text_form.specs.Line.{ended, unended, linesOf, fieldsOf, numbersOf, lineNumbers}
 use Rattle.text_form.specs.Text.{keep, headerSized, headerLine, Parsed, parsed, malformed, rowsFrom, withHeader, programOf, parse}
-use Rattle.text_form.specs.Answers.{over, unless, causeOf, readRefused, readProgram, tablesHold, readParsed, readResult, Reads}
+use Rattle.words.specs.Over.{over}
+use Rattle.text_form.specs.Answers.{unless, causeOf, readRefused, readProgram, tablesHold, readParsed, readResult, Reads}
 use Rattle.text_form.specs.NumberLaws.{by-cases, not-some}
 use Rattle.text_form.specs.LineLaws.{lines-none}
 use Rattle.text_form.specs.TextLaws.{not-parsed, Kept, keep-reads, program-first}
 use Rattle.text_form.specs.Reader.{wordsOf, HasLines}
-use Rattle.text_form.specs.BufferLaws.{rest-of}
+use Rattle.words.specs.OverLaws.{rest-of}
 use Rattle.text_form.specs.ReaderLaws.{first-part}
 use Rattle.text_form.proofs.Pieces.{Piece}
 use Rattle.text_form.proofs.Rows.{Sized, lines-step, lines-last}

@@ -1,13 +1,14 @@
 -- Answers: what reader and writer return and leave, refusals included.
 use mathlib.Core.Path.{_≡_}
 use mathlib.Core.Bool.{Bool, _&&_}
-use mathlib.Core.List.{List, [], _∷_, _++_}
+use mathlib.Core.List.{List, [], _∷_}
 use mathlib.Core.Option.{Option, none, some}
 use Prim.Native.Nat.{ℕ}
 use lib.Dec.{leb}
 use lib.IntN.{ℤ}
-use lib.ListN.{length, drop}
+use lib.ListN.{length}
 use Rattle.words.specs.Word.{pick}
+use Rattle.words.specs.Over.{over}
 use Rattle.words.specs.Layout.{headerFits, countFits}
 use Rattle.words.specs.declared.Form.{Form}
 use Rattle.text_form.specs.Text.{textBytes, Parsed, parsed, malformed, Program, parse}
@@ -30,11 +31,6 @@ readOutcome (Refused refusal) = refused (refusal .number) (refusal .place)
 abbrev pub writeOutcome : WriteAnswer → Outcome
 writeOutcome (write-cases.Written bytes) = finished (bytes ∷ [])
 writeOutcome (write-cases.Refused refusal) = refused (refusal .number) (refusal .place)
-
--- "Bytes of a text buffer, beyond the result keep their content", and so do the words of a table: the buffer with the
--- values written from its start.
-unfoldable pub over : {A : Type 0} → List A → List A → List A
-over values buffer = values ++ drop (length values) buffer
 
 unfoldable pub unless : Bool → ℕ → Option ℕ → Option ℕ
 unless holds number others = pick holds others (some number)

@@ -19,13 +19,13 @@ pub mod NumberLaws
 pub mod LineLaws
 -- TextLaws: a text is read as the header and rows that it is written for.
 pub mod TextLaws
--- BufferLaws: values written from the start of a buffer, and parts that are lent.
-pub mod BufferLaws
 -- PutLaws: bytes put one after the other at the start of a buffer.
 pub mod PutLaws
 -- ReaderLaws: the lines of a well-formed text, as the functions that store their numbers are lent them.
 pub mod ReaderLaws
 -- AnswerLaws: what is known where a text was accepted, or a header and rows written.
 pub mod AnswerLaws
+-- SizeLaws: what reader and writer answer fits the tables and the buffer that they were lent.
+pub mod SizeLaws
 -- RoundTrip: text written again gives the same bytes, rows read again the same rows.
 pub mod RoundTrip

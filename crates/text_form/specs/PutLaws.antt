@@ -11,10 +11,10 @@ use lib.ListN.{length, set, length-append, length-drop}
 use borrow.Rule.Slice.PartMut.{same-len-mid}
 use borrow.Author.Tests.{ltb-true, ltb-false}
 use Rattle.text_form.specs.Number.{digits, numberBytes}
-use Rattle.text_form.specs.Answers.{over}
+use Rattle.words.specs.Over.{over}
 use Rattle.text_form.specs.NumberLaws.{by-cases, digits-one, length-one, length-more}
 use Rattle.text_form.specs.Writer.{Put}
-use Rattle.text_form.specs.BufferLaws.{part, back-in, part-is, length-over, over-fits, over-none, over-set, over-next}
+use Rattle.words.specs.OverLaws.{part, back-in, part-is, length-over, over-fits, over-none, over-set, over-next}
 
 pub put-none : (buffer : List ℕ) → Put [] buffer 0 buffer
 put-none buffer = record { size = refl; written = over-none buffer }

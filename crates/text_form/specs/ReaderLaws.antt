@@ -11,9 +11,10 @@ use lib.Seq.{take-at}
 use Rattle.words.specs.declared.Form.{Form}
 use Rattle.text_form.specs.Line.{linesOf, fieldsOf, numbersOf}
 use Rattle.text_form.specs.Text.{parsed, rowsFrom}
-use Rattle.text_form.specs.Answers.{over, causeOf}
+use Rattle.words.specs.Over.{over}
+use Rattle.text_form.specs.Answers.{causeOf}
 use Rattle.text_form.specs.Reader.{numbersIn, Holds, HoldsExactly, wordsIn, HoldsRows, HasLines}
-use Rattle.text_form.specs.BufferLaws.{rest-of}
+use Rattle.words.specs.OverLaws.{rest-of}
 
 pub first-part : (end : ℕ) (text : List ℕ) → take (end - 0) text ≡ take end text
 first-part end text = let e : end - 0 ≡ end = omega arith in rw e

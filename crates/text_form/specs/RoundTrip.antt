@@ -12,7 +12,8 @@ use Rattle.words.specs.Layout.{headerFits}
 use Rattle.words.specs.Laws.{headerFits-facts, countFits-facts}
 use Rattle.words.specs.declared.Form.{Form}
 use Rattle.text_form.specs.Text.{textBytes, headerSized}
-use Rattle.text_form.specs.Answers.{finished, over, readResult, writeBytes, writeResult}
+use Rattle.words.specs.Over.{over}
+use Rattle.text_form.specs.Answers.{finished, readResult, writeBytes, writeResult}
 use Rattle.text_form.specs.LineLaws.{Words}
 use Rattle.text_form.specs.TextLaws.{text-shows}
 use Rattle.text_form.specs.AnswerLaws.{Passes, passes-cause, read-passing, accepted, written}

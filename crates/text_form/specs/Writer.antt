@@ -7,7 +7,7 @@ use lib.ListN.{length}
 use Rattle.words.specs.Table.{rowCount}
 use Rattle.text_form.specs.Number.{numberBytes}
 use Rattle.text_form.specs.Text.{textBytes}
-use Rattle.text_form.specs.Answers.{over}
+use Rattle.words.specs.Over.{over}
 
 -- Bytes, so many of them, were written at the start of a buffer.
 pub record Put (bytes buffer : List ℕ) (count : ℕ) (left : List ℕ) : Type 0 where

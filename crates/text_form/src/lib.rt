@@ -15,7 +15,6 @@ use self::writer::put_text;
 use self::writer::size_of;
 use words::Form;
 use words::Refusal;
-ghost use mathlib.Core.Path.{_≡_};
 ghost use Rattle.text_form.specs.Answers.{readResult, Reads, writeResult, Writes};
 
 // What the reader answers: how many header words and row words it read, or why it read nothing.

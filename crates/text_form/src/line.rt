@@ -5,7 +5,7 @@ ghost use mathlib.Core.Path.{_≡_};
 ghost use Prim.Native.Nat.{_+_, _≤_};
 ghost use lib.ListN.{length, drop};
 ghost use Rattle.text_form.specs.Line.{fieldsOf, numbersOf};
-ghost use Rattle.text_form.specs.Answers.{over};
+ghost use Rattle.words.specs.Over.{over};
 ghost use Rattle.text_form.specs.Reader.{pieceEnd, sizeOf, countSays, Holds, numbersIn};
 
 // How many numbers a line has, where it is well formed.

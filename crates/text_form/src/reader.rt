@@ -11,11 +11,11 @@ use words::Refusal;
 use words::layout::leading;
 ghost use mathlib.Core.Path.{_≡_};
 ghost use mathlib.Core.Bool.{true};
-ghost use Prim.Native.Nat.{ℕ, _+_, _≤_};
-ghost use lib.ListN.{length, take, drop};
+ghost use Prim.Native.Nat.{_+_};
 ghost use Rattle.text_form.specs.Line.{ended, linesOf, fieldsOf, numbersOf};
 ghost use Rattle.text_form.specs.Text.{headerLine, rowLine, rowsFrom};
-ghost use Rattle.text_form.specs.Answers.{over, causeOf, readResult, Reads};
+ghost use Rattle.words.specs.Over.{over};
+ghost use Rattle.text_form.specs.Answers.{causeOf, readResult, Reads};
 ghost use Rattle.text_form.specs.Reader.{isFound, sizeOf, countSays, causeSays, numbersIn, HoldsExactly, rowsSay, wordsOf, wordsIn, HoldsRows, HasLines, Shaped};
 
 // How many words the rows of a text have, or its first malformed line.

@@ -4,7 +4,6 @@ use super::digits::put_number;
 ghost use mathlib.Core.Path.{_≡_};
 ghost use Prim.Native.Nat.{_*_, _<_, _≤_};
 ghost use lib.ListN.{length};
-ghost use Rattle.words.specs.Table.{rowCount};
 ghost use Rattle.text_form.specs.Line.{lineBytes};
 ghost use Rattle.text_form.specs.Text.{rowsBytes, textBytes};
 ghost use Rattle.text_form.specs.Writer.{Measured, Put, Fills};

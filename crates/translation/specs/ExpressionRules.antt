@@ -11,7 +11,7 @@ use Rattle.words.specs.Layout.{arrayBase, arrayLength}
 use Rattle.words.specs.Arithmetic.{Outcome, value, isTrue, truth, bit, logicalNot, apply, minus as minusWord, element as elementWord}
 use Rattle.words.specs.declared.Operator.{Operator}
 use Rattle.words.specs.declared.Operator.the-variants.{Equal, NotEqual}
-use Rattle.computation.specs.Computation.{Computation, ret, _>>=_, _>>_, load, save, settle}
+use Rattle.computation.specs.Computation.{Computation, ret, _>>=_, load, save, settle, _>>_}
 use Rattle.computation.specs.Run.{State, Result}
 use Rattle.language.specs.Trees.{constant, read, minus, binary, Place, variable, element, Items, none, _⧺_}
 use Rattle.language.specs.Meaning.{Signal, next, enter, ifTrue, update, oldValue, newValue, evaluate, perform, items}

@@ -8,7 +8,7 @@ use lib.IntN.{ℤ, pos}
 use borrow.Author.Tests.{eq-eqb, ne-eqb}
 use Rattle.words.specs.Word.{sameWord}
 use Rattle.words.specs.Arithmetic.{isTrue, bit, apply}
-use Rattle.computation.specs.Computation.{Computation, Turn, again, leave, ret, _>>=_, _>>_, loop}
+use Rattle.computation.specs.Computation.{Computation, Turn, again, leave, ret, _>>=_, loop, _>>_}
 use Rattle.computation.specs.Run.{State, Result}
 use Rattle.language.specs.Trees.{Mark, case, default, label, sameMark, has, Statement, empty, block, goto, Items, none, _then_, _here_, _⧺_}
 use Rattle.language.specs.Meaning.{Signal, next, breaking, continuing, seeking, enter, ifTrue, target, afterSwitch, afterBody, afterTest, evaluate, perform, items}

@@ -28,7 +28,6 @@ use Rattle.accepted.specs.Source.{legal-sound, legal-rows}
 use Rattle.accepted.specs.Statements.{root-kind}
 use Rattle.measures.specs.Source.{Source}
 use Rattle.measures.specs.Measures.{slot, Measured}
-use Rattle.leaves.specs.Over.{Room}
 use Rattle.writers.specs.Program.{ProgramAsks, kernelProgram}
 use Rattle.writers.specs.WholeProgram.{is-translation, program-rows, program-levels}
 use Rattle.fate.specs.KernelForms.{kernelHeaderOf, kernelRowsOf}

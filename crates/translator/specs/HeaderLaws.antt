@@ -2,19 +2,18 @@
 use mathlib.Core.Path.{_≡_, refl, sym, ap, ap₂, _∙_}
 use mathlib.Core.Bool.{true}
 use mathlib.Core.List.{List, [], _∷_, _++_, map}
-use Prim.Native.Nat.{ℕ, zero, suc, _+_, _-_, _≤_, _<_}
+use Prim.Native.Nat.{ℕ, suc, _+_, _-_, _≤_, _<_}
 use native.Mathlib.Omega.{arith}
 use lib.IntN.{ℤ, pos}
-use lib.ListN.{length, getD, take, drop, length-map, length-append, length-drop}
-use lib.Seq.{take-all}
+use lib.ListN.{length, getD, take, drop, length-map}
 use borrow.Rule.Slice.PartMut.{midOf, putMid}
 use Rattle.words.specs.Word.{natural}
 use Rattle.words.specs.Layout.{arrayLength, headerFits, layoutOf}
 use Rattle.words.specs.Laws.{natural-pos, headerFits-facts, number-of-arrays}
 use Rattle.words.specs.declared.Form.the-variants.{Source}
 use Rattle.translation.specs.Translate.{kernelHeader}
-use Rattle.leaves.specs.Over.{over}
-use Rattle.leaves.specs.Chain.{over-next}
+use Rattle.words.specs.Over.{over}
+use Rattle.words.specs.OverLaws.{rest-of, over-next}
 
 -- Words that name small numbers are those numbers.
 numbers-back : (ws : List ℤ) → ((i : ℕ) → i < length (map natural ws) → getD (map natural ws) i 0 ≤ 4096) → map pos (map natural ws) ≡ ws
@@ -41,16 +40,10 @@ kernel-header-length header T fits =
     let lengths = length-map (layoutOf Source header .lengths) pos in
     omega (arith, lengths, number-of-arrays Source header, headerFits-facts Source header fits .least)
 
--- What is written over a table that holds it keeps the table's length.
-pub over-length : (ws l : List ℤ) → length ws ≤ length l → length (over ws l) ≡ length l
-unfolding over
-over-length ws l h = simp (length-append, length-drop) (omega arith)
-
 -- V and T written first, then the array lengths behind them.
 pub header-over : (header : List ℤ) (T : ℕ) (out l1 l2 : List ℤ) (v t : ℤ) → headerFits Source header ≡ true → v ≡ getD header 0 (pos 0) → t ≡ pos T
     → l1 ≡ over (v ∷ t ∷ []) out → l2 ≡ over (take (length header - 1) (drop 1 header)) (midOf 2 (length l1 - 2) l1)
     → putMid 2 (length l1 - 2) l1 l2 ≡ over (kernelHeader (layoutOf Source header) T) out
 header-over header T out l1 l2 v t fits ve te e1 e2 =
-    let lengths = take-all (length header - 1) (drop 1 header) (rw length-drop (omega arith)) in
     let words = ap₂ (λ (x y : ℤ). (x ∷ y ∷ []) ++ drop 1 header) ve te ∙ kernel-header-words header T fits in
-    over-next (v ∷ t ∷ []) (drop 1 header) out l1 l2 2 refl e1 (rw lengths at e2) ∙ ap (λ (ws : List ℤ). over ws out) words
+    over-next (v ∷ t ∷ []) (drop 1 header) out l1 l2 2 refl e1 (rw (rest-of header 1) at e2) ∙ ap (λ (ws : List ℤ). over ws out) words

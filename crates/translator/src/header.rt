@@ -7,7 +7,7 @@ ghost use lib.ListN.{length};
 ghost use Rattle.words.specs.Layout.{headerFits, layoutOf};
 ghost use Rattle.words.specs.declared.Form.the-variants.{Source};
 ghost use Rattle.translation.specs.Translate.{kernelHeader};
-ghost use Rattle.leaves.specs.Over.{over};
+ghost use Rattle.words.specs.Over.{over};
 
 // Writes V, T and the array lengths.
 pub fn write_header(header: &[i32], temporaries: usize, out: &mut [i32])

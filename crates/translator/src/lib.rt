@@ -7,7 +7,6 @@ use words::Verdict;
 use words::layout::store_size;
 use writers::program::write_program;
 ghost use mathlib.Core.Path.{_≡_};
-ghost use lib.ListN.{length};
 ghost use Rattle.words.specs.declared.Verdict.the-variants.{Accepted};
 ghost use Rattle.source_check.specs.Refusal.{refusal as sourceRefusal};
 ghost use Rattle.measures.specs.Measures.{Measured};

@@ -1,12 +1,10 @@
 -- Runs that start from zeros, of both forms: what an answer says of the program and of the run.
 use mathlib.Core.Path.{_≡_, refl, sym, ap, _∙_}
-use mathlib.Core.Bool.{true}
 use mathlib.Core.List.{List, _∷_, _++_}
 use Prim.Native.Nat.{ℕ, zero, suc, _+_, _-_, _≤_}
 use native.Mathlib.Omega.{arith}
-use lib.Dec.{eqb}
 use lib.IntN.{ℤ, pos}
-use lib.ListN.{length, take, replicate, length-replicate}
+use lib.ListN.{length, take, length-replicate}
 use borrow.Author.Tests.{eq-eqb}
 use Rattle.words.specs.Layout.{layoutOf, storeSize, storeWords}
 use Rattle.words.specs.declared.Form.{Form}
@@ -18,7 +16,7 @@ use Rattle.words.specs.declared.Verdict.{Verdict}
 use Rattle.words.specs.declared.Verdict.the-variants.{Accepted, Refused}
 use Rattle.language.specs.Program.{Finished, runProgram}
 use Rattle.text_form.specs.Writer.{Put}
-use Rattle.text_form.specs.BufferLaws.{part}
+use Rattle.words.specs.OverLaws.{part}
 use Rattle.report.specs.Lines.{lineRoom, refusedLine, sourceLine, kernelLine}
 use Rattle.report.proofs.Spacing.{SoFar, far-space}
 use Rattle.fate.specs.KernelForms.{kernelHeaderOf, kernelRowsOf}

@@ -1,12 +1,11 @@
 -- The kernel form of a program within the limits: 34 and 15,480 words hold its tables, 1,536 its store. So neither 10 nor 11 comes.
 use mathlib.Core.Path.{_≡_, sym, ap, _∙_}
 use mathlib.Core.List.{List}
-use Prim.Native.Nat.{ℕ, _+_, _-_, _*_, _/_, _≤_}
+use Prim.Native.Nat.{ℕ, _+_, _-_, _≤_}
 use native.Mathlib.Omega.{arith}
 use lib.IntN.{ℤ}
 use lib.ListN.{length, take}
 use borrow.Author.Tests.{le-leb}
-use Rattle.words.specs.Table.{rowCount}
 use Rattle.words.specs.Layout.{layoutOf, storeSize, storeWords, temporariesOf}
 use Rattle.words.specs.Laws.{headerFits-facts, countFits-facts}
 use Rattle.words.specs.declared.Form.the-variants.{Source, Kernel}
@@ -16,7 +15,7 @@ use Rattle.structure.specs.Structured.{Structured}
 use Rattle.kernel_check.specs.Accepts.{accepts-legal}
 use Rattle.translation.specs.Translate.{temporaries}
 use Rattle.translation.specs.TranslateKernel.{header-layout}
-use Rattle.leaves.specs.Over.{over}
+use Rattle.words.specs.Over.{over}
 use Rattle.fate.specs.KernelForms.{kernelHeaderOf, kernelRowsOf, KernelFormOf, HasKernelForm}
 use Rattle.translator.specs.declared.TranslateAnswer.the-variants.{Translated, Refused}
 use Rattle.translator.specs.Translation.{resultOf, translateResult}

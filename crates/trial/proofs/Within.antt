@@ -15,7 +15,8 @@ use Rattle.words.specs.declared.Form.the-variants.{Source}
 use Rattle.words.specs.declared.Refusal.{Refusal}
 use Rattle.text_form.specs.Line.{fieldsOf, numbersOf}
 use Rattle.text_form.specs.Text.{malformed, parse}
-use Rattle.text_form.specs.Answers.{finished, over, unless, readResult, Reads}
+use Rattle.words.specs.Over.{over}
+use Rattle.text_form.specs.Answers.{finished, unless, readResult, Reads}
 use Rattle.text_form.specs.declared.ReadAnswer.the-variants.{Read, Refused}
 use Rattle.text_form.specs.NumberLaws.{by-cases, not-some}
 use Rattle.text_form.specs.AnswerLaws.{Passes, read-passing, refused-finished, take-over}

@@ -1,5 +1,5 @@
 -- Output: the bytes that the trial program prints for a text. Document 01, the end of "Text".
-use mathlib.Core.Bool.{Bool, _&&_}
+use mathlib.Core.Bool.{_&&_}
 use mathlib.Core.List.{List, _++_}
 use mathlib.Core.Option.{Option, none, some}
 use Prim.Native.Nat.{ℕ, _*_}

@@ -9,6 +9,10 @@ pub mod Layout
 pub mod Kinds
 -- Arithmetic: the operations on words, with their faults.
 pub mod Arithmetic
+-- Over: what stands in a table or a buffer after values were written from its start.
+pub mod Over
+-- Laws of `over`: values written one after the other, and parts that are lent and given back.
+pub mod OverLaws
 -- Answers: document 01's numbers and words for each case of an enum.
 pub mod Answers
 -- Laws: what follows from these definitions.

@@ -6,7 +6,7 @@ ghost use mathlib.Core.Bool.{true, _&&_};
 ghost use mathlib.Core.List.{map};
 ghost use Prim.Native.Nat.{_+_, _*_, _<_, _≤_};
 ghost use lib.Dec.{leb};
-ghost use lib.ListN.{length, getD};
+ghost use lib.ListN.{length};
 ghost use Rattle.words.specs.Word.{natural as naturalOf};
 ghost use Rattle.words.specs.Layout.{leading as leadingOf, rowLimit, temporariesOf, layoutOf, sum, storeSize, storeWords, allWithin, headerFits, countFits};
 

@@ -13,7 +13,7 @@ use Rattle.language.specs.Trees.{Expression, Mark, case, default, label, Statem
 use Rattle.language.specs.Sizes.{expressionRows, itemsRows}
 use Rattle.language.specs.Decode.{statementAt, itemsAt}
 use Rattle.language.specs.DecodeLaws.{listAt}
-use Rattle.translation.specs.Translate.{labels, itemsLabels, caseTests, Exits, itemsCode}
+use Rattle.translation.specs.Translate.{itemsLabels, caseTests, Exits, itemsCode}
 use Rattle.translation.specs.TranslateSize.{itemsSize, cases}
 use Rattle.translation.specs.TranslateRows.{rows-statement, rows-items}
 use Rattle.emission.specs.Emission.{emitItems}
@@ -23,7 +23,8 @@ use Rattle.measures.specs.Shapes.{itemTree, ItemAt}
 use Rattle.measures.specs.declared.Item.{Item}
 use Rattle.measures.specs.declared.Item.the-variants.{Statement as StatementItem, Case, Default, Label}
 use Rattle.measures.proofs.Found.{item-found}
-use Rattle.leaves.specs.Over.{over, Room, moreRows}
+use Rattle.words.specs.Over.{over}
+use Rattle.leaves.specs.Room.{Room, moreRows}
 use Rattle.writers.specs.Items.{itemSize, itemLabels, itemCases, itemTest, itemCode}
 use Rattle.leaves.specs.Chain.{part, back-in, Wrote, append-none, append-append}
 use Rattle.writers.proofs.Sequence.{back-length, wrote-behind, wrote-none, room-behind, more-rows, more-append, more-true}

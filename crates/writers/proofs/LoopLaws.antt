@@ -15,7 +15,8 @@ use Rattle.translation.specs.TranslateSize.{partSize, testSize, statementSize}
 use Rattle.translation.specs.TranslateRows.{rows-append, rows-expression, rows-test, rows-statement}
 use Rattle.emission.specs.Emission.{rowOf, listLink, emitExpression, emitStatement, emitItems}
 use Rattle.emission.specs.EmissionLaws.{orMore, emit-append}
-use Rattle.leaves.specs.Over.{over, moreRows}
+use Rattle.words.specs.Over.{over}
+use Rattle.leaves.specs.Room.{moreRows}
 use Rattle.leaves.specs.Atoms.{atomTree}
 use Rattle.leaves.specs.Asks.{AtomAt}
 use Rattle.writers.specs.Asks.{roundSize}

@@ -17,7 +17,7 @@ use Rattle.translation.specs.Translate.{labels, itemsLabels, exits, itemsCode}
 use Rattle.translation.specs.TranslateSize.{statementSize, itemsSize}
 use Rattle.emission.specs.Emission.{emitStatement, emitItems, emit}
 use Rattle.measures.specs.Source.{Source}
-use Rattle.leaves.specs.Over.{over}
+use Rattle.words.specs.Over.{over}
 use Rattle.writers.specs.Program.{kernelProgram}
 
 -- Every label has a row.

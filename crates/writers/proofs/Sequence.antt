@@ -13,7 +13,8 @@ use Rattle.language.specs.Trees.{Items, none, _then_, _here_, _⧺_}
 use Rattle.language.specs.Sizes.{expressionRows, itemsRows}
 use Rattle.emission.specs.Emission.{emitItems}
 use Rattle.emission.specs.EmissionLaws.{orMore}
-use Rattle.leaves.specs.Over.{over, Room, moreRows}
+use Rattle.words.specs.Over.{over}
+use Rattle.leaves.specs.Room.{Room, moreRows}
 use Rattle.leaves.specs.Atoms.{atomTree}
 use Rattle.leaves.specs.Chain.{part, back-in, Put, put-next, Wrote, wrote-next, more-is}
 use Rattle.leaves.specs.declared.Atom.{Atom}

@@ -16,7 +16,8 @@ use Rattle.translation.specs.TranslateRows.{rows-expression, rows-cases, rows-s
 use Rattle.emission.specs.Emission.{rowOf, listLink, emitExpression, emitStatement, emitItems}
 use Rattle.emission.specs.EmissionLaws.{emit-append, length-expression, length-statement}
 use Rattle.emission.specs.ReadBack.{statement-some}
-use Rattle.leaves.specs.Over.{over, moreRows}
+use Rattle.words.specs.Over.{over}
+use Rattle.leaves.specs.Room.{moreRows}
 use Rattle.leaves.specs.Atoms.{atomTree}
 use Rattle.measures.specs.Shapes.{lineTree, LineAt}
 use Rattle.measures.specs.declared.Line.{Line}

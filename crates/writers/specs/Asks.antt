@@ -1,5 +1,4 @@
 -- Asks: what the writers of statements ask of their caller.
-use mathlib.Core.Path.{_≡_}
 use mathlib.Core.List.{List}
 use Prim.Native.Nat.{ℕ, zero, suc, _+_, _*_, _≤_, _<_, max}
 use lib.IntN.{ℤ}
@@ -9,7 +8,7 @@ use Rattle.language.specs.DecodeLaws.{listAt, partAt}
 use Rattle.translation.specs.Translate.{labels, itemsLabels}
 use Rattle.translation.specs.TranslateSize.{expressionSize, partSize, testSize, statementSize, itemsSize, cases}
 use Rattle.measures.specs.Source.{Source}
-use Rattle.leaves.specs.Over.{Room}
+use Rattle.leaves.specs.Room.{Room}
 use Rattle.leaves.specs.Atoms.{AtomFits}
 use Rattle.leaves.specs.declared.Atom.{Atom}
 use Rattle.writers.specs.Items.{itemSize, itemLabels, itemCases}

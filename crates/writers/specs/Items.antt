@@ -1,9 +1,8 @@
 -- Items: what the first item of a list brings to the code of the list.
-use mathlib.Core.Bool.{Bool}
 use Prim.Native.Nat.{ℕ}
 use lib.IntN.{ℤ}
 use Rattle.words.specs.declared.Operator.the-variants.{Equal}
-use Rattle.language.specs.Trees.{Expression, constant, read, binary, Mark, case, default, label, Statement, goto, Items, none, _then_, _here_}
+use Rattle.language.specs.Trees.{Expression, constant, read, binary, case, default, label, goto, Items, none, _then_, _here_}
 use Rattle.translation.specs.Translate.{assigning, choosing, temporary, labels, Exits, statementCode}
 use Rattle.translation.specs.TranslateSize.{statementSize}
 

@@ -9,7 +9,7 @@ use Rattle.language.specs.Trees.{Statement, block}
 use Rattle.language.specs.Decode.{decode}
 use Rattle.translation.specs.Translate.{contentsOf, itemsCode, exits}
 use Rattle.translation.specs.TranslateSize.{itemsSize}
-use Rattle.leaves.specs.Over.{Room}
+use Rattle.leaves.specs.Room.{Room}
 use Rattle.leaves.specs.Asks.{Writing}
 
 -- The translation, where the store has S words: `translate` of a layout of that size.

@@ -12,7 +12,7 @@ ghost use mathlib.Core.Bool.{true};
 ghost use Prim.Native.Nat.{_+_, _*_, _≤_, _<_};
 ghost use lib.ListN.{length};
 ghost use Rattle.words.specs.Table.{rowCount};
-ghost use Rattle.language.specs.Trees.{default, none};
+ghost use Rattle.language.specs.Trees.{default};
 ghost use Rattle.language.specs.Decode.{statementAt, itemsAt};
 ghost use Rattle.language.specs.DecodeLaws.{listAt};
 ghost use Rattle.translation.specs.Translate.{labels, labelOf, caseTests};
@@ -20,7 +20,8 @@ ghost use Rattle.translation.specs.TranslateSize.{statementSize, itemsSize, cas
 ghost use Rattle.emission.specs.Emission.{emitItems};
 ghost use Rattle.measures.specs.Source.{Source};
 ghost use Rattle.measures.specs.Measures.{Measured};
-ghost use Rattle.leaves.specs.Over.{over, Room};
+ghost use Rattle.words.specs.Over.{over};
+ghost use Rattle.leaves.specs.Room.{Room};
 ghost use Rattle.leaves.specs.Atoms.{atomTree, AtomFits};
 ghost use Rattle.writers.specs.Asks.{ListInside, CaseAsks, CasesAsk};
 ghost use Rattle.writers.specs.Items.{itemSize, itemLabels, itemCases, caseTest, itemTest};

@@ -16,7 +16,7 @@ ghost use Rattle.translation.specs.Translate.{testCode};
 ghost use Rattle.translation.specs.TranslateSize.{testSize as testSizeOf};
 ghost use Rattle.emission.specs.Emission.{emitItems};
 ghost use Rattle.measures.specs.Measures.{Measured};
-ghost use Rattle.leaves.specs.Over.{over, Room};
+ghost use Rattle.words.specs.Over.{over};
 ghost use Rattle.writers.specs.Code.{roundEnd};
 ghost use Rattle.leaves.specs.Asks.{Writing};
 ghost use Rattle.writers.specs.Asks.{TestAsks, RoundEndAsks};

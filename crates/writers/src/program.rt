@@ -3,11 +3,10 @@ use super::Exits;
 use super::statements::write_block;
 use words::table::number_at;
 ghost use mathlib.Core.Path.{_≡_};
-ghost use Prim.Native.Nat.{_+_, _≤_};
 ghost use lib.ListN.{length};
 ghost use Rattle.language.specs.Decode.{decode};
 ghost use Rattle.emission.specs.Emission.{emit};
-ghost use Rattle.leaves.specs.Over.{over};
+ghost use Rattle.words.specs.Over.{over};
 ghost use Rattle.writers.specs.Program.{ProgramAsks, kernelProgram};
 
 // Writes the translation of a program, its temporaries from the store word `store` on.

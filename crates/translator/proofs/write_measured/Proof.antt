@@ -1,21 +1,14 @@
 -- `write_measured` tests the room that row 0's measures ask for, and writes both tables: they are the kernel form's.
-use mathlib.Core.Path.{_≡_, sym, ap, ap₂, subst, _∙_}
+use mathlib.Core.Path.{sym, ap, subst, _∙_}
 use mathlib.Core.List.{List}
-use Prim.Native.Nat.{ℕ, _+_, _*_, _≤_, _<_}
+use Prim.Native.Nat.{ℕ}
 use native.Mathlib.Omega.{arith}
 use lib.IntN.{ℤ}
-use lib.ListN.{length, getD}
+use lib.ListN.{length}
 use borrow.Author.Needs.{needs}
-use Rattle.words.specs.Layout.{layoutOf, storeSize}
-use Rattle.words.specs.declared.Form.the-variants.{Source}
-use Rattle.language.specs.Decode.{decode}
-use Rattle.translation.specs.Translate.{kernelHeader}
-use Rattle.emission.specs.Emission.{emit}
-use Rattle.leaves.specs.Over.{over}
-use Rattle.writers.specs.Program.{ProgramAsks, kernelProgram}
+use Rattle.words.specs.Over.{over}
+use Rattle.writers.specs.Program.{ProgramAsks}
 use Rattle.fate.specs.KernelForms.{kernelHeaderOf, kernelRowsOf}
-use Rattle.translator.specs.Translation.{resultOf, written}
-use Rattle.translator.specs.declared.TranslateAnswer.the-variants.{Translated}
 use Rattle.translator.specs.TranslationLaws.{header-short, rows-short, both-written}
 use Rattle.translator.specs.AcceptedLaws.{accepted-header, accepted-asks, temporaries-low, header-words, row-words, row-words-low, header-is, rows-are}
 use Rattle.translator.proofs.write_measured.Statement.{statement}

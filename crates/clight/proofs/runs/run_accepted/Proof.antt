@@ -3,8 +3,7 @@ use mathlib.Core.Path.{_≡_, sym, ap, _∙_}
 use borrow.Author.Needs.{needs}
 use borrow.Author.Tests.{eq-eqb, ne-eqb}
 use lib.ListN.{length}
-use Rattle.words.specs.Layout.{storeWords, layoutOf}
-use Rattle.language.specs.Sound.{Sound}
+use Rattle.words.specs.Layout.{storeWords}
 use Rattle.clight.specs.Runs.{ran}
 use Rattle.clight.specs.AcceptedLaws.{accepted-header, accepted-sound, accepted-rows}
 use Rattle.clight.proofs.runs.run_accepted.Statement.{statement}

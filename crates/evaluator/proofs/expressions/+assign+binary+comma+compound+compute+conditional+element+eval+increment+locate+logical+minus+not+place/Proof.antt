@@ -1,6 +1,5 @@
 -- The evaluation of expressions meets its contracts: each member's answer is what `spend` of the meaning of the tree at its row gives.
 -- Each need is a chain of the laws of a row of its kind, and of what the calls answered. A file for each member.
-use Prim.Native.Nat.{ℕ}
 use Rattle.evaluator.proofs.expressions.+assign+binary+comma+compound+compute+conditional+element+eval+increment+locate+logical+minus+not+place.{statement}
 use Rattle.evaluator.proofs.expressions.+assign+binary+comma+compound+compute+conditional+element+eval+increment+locate+logical+minus+not+place.Tie.{close}
 use Rattle.evaluator.proofs.expressions.assign.Reads as assign-reads

@@ -2,7 +2,6 @@
 use borrow.Author.Needs.{needs}
 use mathlib.Core.Path.{sym, ap, _∙_}
 use mathlib.Core.Bool.{Bool, not}
-use lib.IntN.{ℤ}
 use Rattle.words.specs.Word.{pick}
 use Rattle.words.specs.Arithmetic.{isTrue}
 use Rattle.words.specs.Laws.{back}

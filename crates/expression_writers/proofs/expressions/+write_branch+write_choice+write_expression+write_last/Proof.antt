@@ -1,22 +1,21 @@
 -- The writers of expressions meet their contracts. Rows remaining above the row fall.
-use mathlib.Core.Path.{_≡_, refl, sym, ap, subst, _∙_}
-use mathlib.Core.Bool.{Bool, false}
+use mathlib.Core.Path.{refl, sym, ap, subst, _∙_}
+use mathlib.Core.Bool.{Bool}
 use borrow.Author.Needs.{needs}
 use Prim.Native.Nat.{_+_, _*_, _-_, max}
 use native.Mathlib.Omega.{arith}
 use Rattle.language.specs.DecodeLaws.{partAt}
-use Rattle.language.specs.Decode.{expressionAt}
 use Rattle.measures.specs.MeasureLaws.{whole-behind}
 use Rattle.words.specs.Word.{pick}
 use Rattle.words.specs.Table.{rowCount}
-use Rattle.leaves.specs.Over.{moreRows}
+use Rattle.leaves.specs.Room.{moreRows}
 use Rattle.leaves.specs.Chain.{put-length, wrote-put, wrote-next, room-less}
 use Rattle.leaves.specs.LeafLaws.{recoded, nothing-wrote}
 use Rattle.leaves.proofs.Words.{pick-most}
-use Rattle.expression_writers.specs.Code.{operandCode, lastCode}
+use Rattle.expression_writers.specs.Code.{operandCode}
 use Rattle.expression_writers.specs.Asks.{ChoiceAt}
 use Rattle.expression_writers.specs.declared.Choice.{Choice}
-use Rattle.expression_writers.proofs.Situations.{rank, rank-some, rank-falls, choice-falls, operand-wrote, expressing, first-size, second-size, own-size, above-low, row-low, first-falls, second-falls, first-asks, last-is, within, first-reach, second-asks, second-reach, last-asks, expression-code, last-wrote, choosing, choice-low, if-reach, true-room, true-reach, false-room, choice-length, choice-wrote, branching, branch-low, block-reach, inner-asks, inner-reach, finish-room, branch-length, branch-wrote}
+use Rattle.expression_writers.proofs.Situations.{rank, rank-some, choice-falls, operand-wrote, expressing, first-size, second-size, own-size, above-low, row-low, first-falls, second-falls, first-asks, last-is, within, first-reach, second-asks, second-reach, last-asks, expression-code, last-wrote, choosing, choice-low, if-reach, true-room, true-reach, false-room, choice-length, choice-wrote, branching, branch-low, block-reach, inner-asks, inner-reach, finish-room, branch-length, branch-wrote}
 use Prim.Native.Nat.{ℕ, _<_}
 use borrow.Fn.Kinds.{In}
 use borrow.Fn.PlainCycle.{Measures, is, falls, and}

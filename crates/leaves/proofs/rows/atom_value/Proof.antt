@@ -1,9 +1,9 @@
 -- The value of an atom's row.
-use mathlib.Core.Path.{sym, ap, subst, _∙_}
+use mathlib.Core.Path.{sym, ap, _∙_}
 use native.Mathlib.Omega.{arith}
 use mir.Syntax.{w32}
 use mir.Facts.{toZ-ofZ, toZ-pos}
-use Rattle.leaves.specs.Atoms.{atomValue, AtomFits}
+use Rattle.leaves.specs.Atoms.{atomValue}
 use Rattle.leaves.proofs.Words.{atom-low}
 use borrow.Author.Needs.{needs}
 use Rattle.leaves.proofs.rows.atom_value.Statement.{statement}

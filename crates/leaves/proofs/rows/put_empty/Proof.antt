@@ -1,11 +1,10 @@
 -- An empty statement: the words of a row.
-use mathlib.Core.Path.{refl, ap, _∙_}
+use mathlib.Core.Path.{ap, _∙_}
 use Prim.Native.Nat.{_+_}
 use native.Mathlib.Omega.{arith}
-use borrow.Author.Needs.{sfits-of}
 use lib.IntN.{pos}
 use mir.Syntax.{w32}
-use mir.Facts.{toZ-ofZ, toZ-pos}
+use mir.Facts.{toZ-pos}
 use Rattle.leaves.proofs.Words.{worded, pick-most, empty-words}
 use borrow.Author.Needs.{needs}
 use Rattle.leaves.proofs.rows.put_empty.Statement.{statement}

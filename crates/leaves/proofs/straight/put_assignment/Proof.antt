@@ -1,5 +1,5 @@
 -- The value into the place: its atom, and the place with its index above.
-use mathlib.Core.Path.{_≡_, ap, ap₂, _∙_}
+use mathlib.Core.Path.{ap, ap₂, _∙_}
 use Prim.Native.Nat.{ℕ, _+_}
 use native.Mathlib.Omega.{arith}
 use Rattle.language.specs.Trees.{Expression, Place, assign, express, none, _then_}
@@ -7,7 +7,6 @@ use Rattle.language.specs.Decode.{placeOf, expressionAt}
 use Rattle.translation.specs.Translate.{atomOf, kernelPlace}
 use Rattle.measures.specs.ShapeLaws.{taken-most}
 use Rattle.measures.specs.MeasureLaws.{whole-asks}
-use Rattle.leaves.specs.Over.{Room}
 use Rattle.leaves.specs.Chain.{room-less}
 use Rattle.leaves.specs.LeafLaws.{recoded}
 use borrow.Author.Needs.{needs}

@@ -1,10 +1,10 @@
 -- The place, its index held above the result, and what is done with it.
-use mathlib.Core.Path.{_≡_, ap, ap₂, _∙_}
+use mathlib.Core.Path.{ap, ap₂}
 use Prim.Native.Nat.{ℕ, _+_}
 use native.Mathlib.Omega.{arith}
 use Rattle.language.specs.Trees.{Place}
 use Rattle.language.specs.Decode.{placeOf, expressionAt}
-use Rattle.translation.specs.Translate.{updateCode, postfixCode}
+use Rattle.translation.specs.Translate.{updateCode}
 use Rattle.leaves.specs.Atoms.{atomTree}
 use Rattle.leaves.specs.Chain.{room-less}
 use Rattle.leaves.specs.LeafLaws.{recoded, place-taken-most}

@@ -1,5 +1,5 @@
 -- The operation of a binary operator: the right operand's atom, and the left one's above it.
-use mathlib.Core.Path.{_≡_, ap, ap₂, _∙_}
+use mathlib.Core.Path.{ap, ap₂, _∙_}
 use Prim.Native.Nat.{ℕ, _+_}
 use native.Mathlib.Omega.{arith}
 use Rattle.language.specs.Trees.{Expression, binary, assign, variable, express, none, _then_}

@@ -1,12 +1,11 @@
 -- A postfix operation, by the place: what two or three assignments in a row write.
-use mathlib.Core.Path.{_≡_, refl, sym, ap, subst, _∙_}
-use mathlib.Core.Bool.{true}
+use mathlib.Core.Path.{sym, ap, subst}
 use Prim.Native.Nat.{_+_}
 use native.Mathlib.Omega.{arith}
 use lib.IntN.{pos}
 use Rattle.language.specs.Trees.{_⧺_}
 use Rattle.translation.specs.Translate.{postfixCode}
-use Rattle.leaves.specs.Atoms.{atomTree, placeTree, PlaceFits, indexRows}
+use Rattle.leaves.specs.Atoms.{placeTree, PlaceFits, indexRows}
 use Rattle.leaves.specs.Chain.{wrote-put, wrote-next, put-reach, put-room, room-less}
 use Rattle.leaves.specs.LeafLaws.{recoded, copy-wrote, binary-wrote, fetch-wrote, store-wrote}
 use Rattle.leaves.specs.declared.Atom.the-variants.{Constant, Variable}

@@ -1,6 +1,6 @@
 -- The levels of an expression: those of its operands and its own.
-use mathlib.Core.Path.{refl, ap, ap₂, _∙_}
-use Prim.Native.Nat.{ℕ, _+_, max}
+use mathlib.Core.Path.{ap, ap₂, _∙_}
+use Prim.Native.Nat.{max}
 use native.Mathlib.Omega.{arith}
 use Rattle.language.specs.Decode.{expressionAt}
 use Rattle.measures.specs.Measures.{limited}

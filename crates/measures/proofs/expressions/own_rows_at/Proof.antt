@@ -1,5 +1,5 @@
 -- The rows that an expression's own row brings, by the shape.
-use mathlib.Core.Path.{sym, ap, _∙_}
+use mathlib.Core.Path.{sym, ap}
 use native.Mathlib.Omega.{arith}
 use Rattle.language.specs.Decode.{expressionAt}
 use Rattle.translation.specs.Translate.{atomOf}

@@ -1,5 +1,5 @@
 -- The levels of an update, by the place.
-use mathlib.Core.Path.{sym, ap, _∙_}
+use mathlib.Core.Path.{sym, ap}
 use native.Mathlib.Omega.{arith}
 use Rattle.language.specs.Decode.{expressionAt}
 use Rattle.translation.specs.Translate.{atomOf}

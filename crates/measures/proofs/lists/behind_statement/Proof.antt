@@ -1,5 +1,5 @@
 -- A list that begins with a statement: the words of the list behind it, and the statement's own.
-use mathlib.Core.Path.{refl, ap, _∙_}
+use mathlib.Core.Path.{ap, _∙_}
 use Prim.Native.Nat.{ℕ, _+_, max}
 use native.Mathlib.Omega.{arith}
 use Rattle.measures.specs.Measures.{limited, pastLabels}

@@ -1,8 +1,5 @@
 -- A list by its first item.
-use mathlib.Core.Path.{_≡_, refl, ap, subst, _∙_}
-use Prim.Native.Nat.{ℕ}
 use native.Mathlib.Omega.{arith}
-use Rattle.measures.specs.Source.{OptionalOnward}
 use Rattle.measures.specs.MeasureLaws.{slot-asks, limited-as}
 use Rattle.measures.proofs.LineLaws.{case-list, label-list, default-list, statement-list}
 use Rattle.measures.specs.ShapeLaws.{itemed, at-next}

@@ -1,5 +1,5 @@
 -- What a row is as an expression: by its kind.
-use mathlib.Core.Path.{_≡_, refl, _∙_}
+use mathlib.Core.Path.{refl, _∙_}
 use borrow.Author.Needs.{sfits-of}
 use mir.Facts.{toZ-ofZ}
 use Rattle.measures.proofs.Found.{shape-found}

@@ -1,5 +1,5 @@
 -- The labels of a statement, line by line.
-use mathlib.Core.Path.{refl, ap, _∙_}
+use mathlib.Core.Path.{refl, _∙_}
 use native.Mathlib.Omega.{arith}
 use Rattle.translation.specs.Translate.{labels}
 use Rattle.measures.specs.Measures.{limited}

@@ -1,5 +1,5 @@
 -- The rows of a statement, line by line.
-use mathlib.Core.Path.{refl, ap, _∙_}
+use mathlib.Core.Path.{refl, _∙_}
 use native.Mathlib.Omega.{arith}
 use Rattle.translation.specs.TranslateSize.{statementSize}
 use Rattle.measures.specs.Measures.{limited}

@@ -1,5 +1,5 @@
 -- A measure of the row that a link leads to.
-use mathlib.Core.Path.{sym, refl}
+use mathlib.Core.Path.{sym}
 use native.Mathlib.Omega.{arith}
 use Rattle.measures.specs.MeasureLaws.{at-none, at-some}
 use Rattle.measures.proofs.table.measure_at.Statement.{statement}

@@ -2,7 +2,7 @@
 use mathlib.Core.Path.{sym}
 use native.Mathlib.Omega.{arith}
 use lib.Seq.{length-take-le}
-use Rattle.programs.proofs.Sizes.{translation-fits}
+use Rattle.translator.specs.TranslationLaws.{translation-fits}
 use borrow.Author.Needs.{needs}
 use Rattle.programs.proofs.kernel.answer_translation.Statement.{statement}
 use Rattle.programs.proofs.kernel.answer_translation.Tie as tie

@@ -4,7 +4,7 @@ use native.Mathlib.Omega.{arith}
 use lib.Seq.{length-take-le}
 use Rattle.words.specs.declared.Form.the-variants.{Kernel}
 use Rattle.clight.specs.AcceptedLaws.{accepted-header, accepted-rows}
-use Rattle.programs.proofs.Sizes.{kernel-words}
+use Rattle.clight.specs.AcceptedLaws.{kernel-words}
 use borrow.Author.Needs.{needs}
 use Rattle.programs.proofs.kernel.run_translation.Statement.{statement}
 use Rattle.programs.proofs.kernel.run_translation.Tie as tie

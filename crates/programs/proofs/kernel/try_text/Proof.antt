@@ -2,7 +2,7 @@
 use mathlib.Core.Path.{sym}
 use native.Mathlib.Omega.{arith}
 use lib.Seq.{length-take-le}
-use Rattle.programs.proofs.Sizes.{write-fits}
+use Rattle.text_form.specs.SizeLaws.{write-fits}
 use borrow.Author.Needs.{needs}
 use Rattle.programs.proofs.kernel.try_text.Statement.{statement}
 use Rattle.programs.proofs.kernel.try_text.Tie as tie

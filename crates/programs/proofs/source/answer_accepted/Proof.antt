@@ -4,7 +4,7 @@ use native.Mathlib.Omega.{arith}
 use lib.Seq.{length-take-le}
 use Rattle.words.specs.declared.Form.the-variants.{Source}
 use Rattle.clight.specs.AcceptedLaws.{accepted-header}
-use Rattle.programs.proofs.Sizes.{source-words}
+use Rattle.clight.specs.AcceptedLaws.{source-words}
 use borrow.Author.Needs.{needs}
 use Rattle.programs.proofs.source.answer_accepted.Statement.{statement}
 use Rattle.programs.proofs.source.answer_accepted.Tie as tie

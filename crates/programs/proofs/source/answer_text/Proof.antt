@@ -2,7 +2,7 @@
 use mathlib.Core.Path.{sym}
 use native.Mathlib.Omega.{arith}
 use lib.Seq.{length-take-le}
-use Rattle.programs.proofs.Sizes.{read-fits}
+use Rattle.text_form.specs.SizeLaws.{read-fits}
 use borrow.Author.Needs.{needs}
 use Rattle.programs.proofs.source.answer_text.Statement.{statement}
 use Rattle.programs.proofs.source.answer_text.Tie as tie

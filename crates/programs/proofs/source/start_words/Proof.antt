@@ -1,6 +1,6 @@
 -- `start_words`: the numbers counted fit the store.
 use native.Mathlib.Omega.{arith}
-use Rattle.programs.proofs.Sizes.{counted-fits}
+use Rattle.text_form.specs.SizeLaws.{counted-fits}
 use borrow.Author.Needs.{needs}
 use Rattle.programs.proofs.source.start_words.Statement.{statement}
 use Rattle.programs.proofs.source.start_words.Tie as tie

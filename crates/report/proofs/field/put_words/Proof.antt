@@ -2,7 +2,7 @@
 use Prim.Native.Nat.{_+_, _-_}
 use native.Mathlib.Omega.{arith}
 use lib.ListN.{length}
-use Rattle.text_form.specs.BufferLaws.{back-in}
+use Rattle.words.specs.OverLaws.{back-in}
 use Rattle.report.proofs.Spacing.{Worded, worded-start, worded-length, worded-inside, worded-end, worded-space, worded-next}
 use borrow.Author.Needs.{needs}
 use Rattle.report.proofs.field.put_words.Statement.{statement}

@@ -3,7 +3,7 @@ use native.Mathlib.Omega.{arith}
 use mathlib.Core.List.{_∷_, _++_}
 use Prim.Native.Nat.{_+_}
 use Rattle.text_form.specs.Number.{digits}
-use Rattle.text_form.specs.BufferLaws.{back-in}
+use Rattle.words.specs.OverLaws.{back-in}
 use lib.ListN.{length-set}
 use Rattle.text_form.specs.PutLaws.{put-as, put-byte}
 use Rattle.report.specs.Lines.{blank, refusedName}

@@ -3,7 +3,7 @@ use mathlib.Core.Path.{sym, ap, _∙_}
 use mathlib.Core.List.{List}
 use Prim.Native.Nat.{ℕ}
 use Rattle.text_form.specs.Number.{natural, positive, negative}
-use Rattle.text_form.specs.BufferLaws.{rest-of}
+use Rattle.words.specs.OverLaws.{rest-of}
 use Rattle.text_form.proofs.Decimal.{number-none, number-minus, number-plain, positive-within, negative-within}
 use borrow.Author.Needs.{needs}
 use Rattle.text_form.proofs.number.number.Statement.{statement}

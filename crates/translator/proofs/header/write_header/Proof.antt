@@ -1,18 +1,13 @@
 -- `write_header` writes V and T, then the array lengths behind them.
-use mathlib.Core.Path.{_≡_, refl, sym, ap, _∙_}
-use mathlib.Core.List.{List, [], _∷_, _++_}
-use Prim.Native.Nat.{ℕ, _+_, _-_, _≤_}
+use Prim.Native.Nat.{_-_}
 use native.Mathlib.Omega.{arith}
-use lib.IntN.{ℤ, pos}
-use lib.ListN.{length, getD, drop}
 use borrow.Author.Needs.{needs}
 use mir.Syntax.{w32}
 use mir.Facts.{toZ-pos}
 use Rattle.words.specs.Laws.{headerFits-facts, back}
 use Rattle.words.specs.declared.Form.the-variants.{Source}
-use Rattle.leaves.specs.Over.{over}
-use Rattle.leaves.specs.Chain.{over-next}
-use Rattle.translator.specs.HeaderLaws.{over-length, header-over}
+use Rattle.words.specs.OverLaws.{length-over}
+use Rattle.translator.specs.HeaderLaws.{header-over}
 use Rattle.translator.proofs.header.write_header.Statement.{statement}
 use Rattle.translator.proofs.header.write_header.Tie as tie
 
@@ -46,13 +41,13 @@ part-put-end c = search needs
 sub-put-2 : tie.Need-sub-put-2
 sub-put-2 c =
     let start = c .before .before .before .before .before .before in
-    let kept = ap length (c .before .before .put .ensures) ∙ over-length _ (start .args .out .now) (omega (arith, start .pre .2, headerFits-facts Source (start .args .header .now) (start .pre .0) .least)) in
+    let kept = length-over _ (start .args .out .now) _ (c .before .before .put .ensures) (omega (arith, start .pre .2, headerFits-facts Source (start .args .header .now) (start .pre .0) .least)) in
     omega (arith, kept, start .pre .2, headerFits-facts Source (start .args .header .now) (start .pre .0) .least)
 
 part-put-start-2 : tie.Need-part-put-start-2
 part-put-start-2 c =
     let start = c .before .before .before .before .before .before in
-    let kept = ap length (c .before .before .put .ensures) ∙ over-length _ (start .args .out .now) (omega (arith, start .pre .2, headerFits-facts Source (start .args .header .now) (start .pre .0) .least)) in
+    let kept = length-over _ (start .args .out .now) _ (c .before .before .put .ensures) (omega (arith, start .pre .2, headerFits-facts Source (start .args .header .now) (start .pre .0) .least)) in
     omega (arith, kept, start .pre .2, headerFits-facts Source (start .args .header .now) (start .pre .0) .least)
 
 part-put-end-2 : tie.Need-part-put-end-2

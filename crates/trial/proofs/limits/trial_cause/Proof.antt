@@ -1,5 +1,5 @@
 -- `trial_cause` tests the header, the size of the store, then the number of row words.
-use mathlib.Core.Path.{_≡_, sym, _∙_}
+use mathlib.Core.Path.{sym, _∙_}
 use native.Mathlib.Omega.{arith}
 use borrow.Author.Tests.{not-true, not-false, le-leb, lt-leb}
 use Rattle.words.specs.Layout.{layoutOf, storeSize}

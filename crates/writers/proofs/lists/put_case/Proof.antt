@@ -6,7 +6,7 @@ use mir.Facts.{toZ-ofZ}
 use Rattle.words.specs.declared.Operator.the-variants.{Equal}
 use Rattle.language.specs.Trees.{constant, binary, assign, variable, express, none, _then_, _⧺_}
 use Rattle.emission.specs.Emission.{emitItems}
-use Rattle.leaves.specs.Over.{over}
+use Rattle.words.specs.Over.{over}
 use Rattle.leaves.specs.Atoms.{atomTree}
 use mathlib.Core.Bool.{true}
 use native.Mathlib.Omega.{arith}

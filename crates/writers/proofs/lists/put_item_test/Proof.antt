@@ -5,7 +5,7 @@ use Rattle.writers.specs.Items.{caseTest, itemTest}
 use mathlib.Core.Path.{sym, ap, _∙_}
 use mathlib.Core.Bool.{true}
 use Rattle.emission.specs.Emission.{emitItems}
-use Rattle.leaves.specs.Over.{over}
+use Rattle.words.specs.Over.{over}
 use Rattle.leaves.specs.Atoms.{atomTree}
 use Rattle.writers.proofs.ListLaws.{item-is}
 use borrow.Author.Needs.{needs}

@@ -5,7 +5,7 @@ use Rattle.language.specs.Trees.{none}
 use Rattle.language.specs.DecodeLaws.{partAt}
 use Rattle.translation.specs.Translate.{testCode}
 use Rattle.emission.specs.Emission.{emitItems}
-use Rattle.leaves.specs.Over.{over}
+use Rattle.words.specs.Over.{over}
 use Rattle.leaves.specs.Chain.{room-less}
 use Rattle.writers.proofs.Sequence.{room-behind}
 use Rattle.writers.proofs.LoopLaws.{test-some, test-most, test-done}

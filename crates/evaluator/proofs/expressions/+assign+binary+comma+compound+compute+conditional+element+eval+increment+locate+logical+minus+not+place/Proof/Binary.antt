@@ -1,27 +1,12 @@
 -- The right operand, the left one, the operation.
 use borrow.Author.Needs.{needs}
-use mathlib.Core.Path.{_≡_, refl, sym, ap, ap₂, _∙_}
+use mathlib.Core.Path.{refl, sym, ap₂, _∙_}
 use Prim.Native.Nat.{ℕ, _-_}
 use native.Mathlib.Omega.{arith}
-use lib.IntN.{ℤ, pos}
-use lib.ListN.{length, getD, set, length-set}
-use mathlib.Core.Bool.{not}
-use Rattle.words.specs.Word.{natural, pick}
-use Rattle.words.specs.Table.{numberAt}
-use Rattle.words.specs.Arithmetic.{isTrue, bit, logicalNot, apply, minus as minusWord}
+use Rattle.words.specs.Arithmetic.{apply}
 use Rattle.words.specs.Laws.{back}
-use Rattle.words.specs.declared.Kind.the-variants.{Constant, Variable}
-use Rattle.computation.specs.Remaining.{gives, spend}
-use Rattle.language.specs.Meaning.{update, newValue}
-use Rattle.evaluator.specs.Ready.{Entered}
-use Rattle.evaluator.specs.Rows.{evaluateAt, locateAt}
-use Rattle.evaluator.proofs.Bounds.{lies}
-use Rattle.evaluator.proofs.Decoding.{wide-fits, answered-word, answered-wide, placed-wide, answered-spent, placed-spent}
-use Rattle.evaluator.proofs.Enter.{entered, not-entered}
-use Rattle.evaluator.proofs.Operands.{goes, hands-up, hands-placed, found, lost, handed-on, handed-on-placed, handed-value, element-handed, settled-is, link-asks, linked, nearer, linked-place, array-asks, array-is, chosen-true, chosen-false, decided-left, decided-right, decided-bit, truth-is}
-use Rattle.evaluator.proofs.Positions.{given-at, locate-inside, place-inside}
-use Rattle.evaluator.proofs.Rows.{sound-row, field-inside, constant-row, place-variable-row, element-row, locate-row, minus-row, not-row, binary-row, logical-row, logical-links, comma-row, conditional-row, assign-row, compound-row, increment-link, increment-row, other-row}
-use Rattle.evaluator.proofs.Tags.{number-constant, number-variable, number-element, place-variable-kind}
+use Rattle.evaluator.proofs.Operands.{goes, hands-up, settled-is, link-asks, linked, nearer}
+use Rattle.evaluator.proofs.Rows.{sound-row, binary-row}
 use Rattle.evaluator.proofs.expressions.binary.Reads as reads
 use Rattle.evaluator.proofs.expressions.+assign+binary+comma+compound+compute+conditional+element+eval+increment+locate+logical+minus+not+place.Lts-binary as lts
 use Rattle.evaluator.proofs.expressions.+assign+binary+comma+compound+compute+conditional+element+eval+increment+locate+logical+minus+not+place.Proof.Claims.{binary-claims, binary-at}

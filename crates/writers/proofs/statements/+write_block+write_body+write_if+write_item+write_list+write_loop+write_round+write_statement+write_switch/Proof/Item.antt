@@ -7,7 +7,7 @@ use lib.IntN.{ℤ}
 use Rattle.language.specs.Trees.{Items}
 use native.Mathlib.Omega.{arith}
 use Rattle.emission.specs.Emission.{emitItems}
-use Rattle.leaves.specs.Over.{over}
+use Rattle.words.specs.Over.{over}
 use Rattle.writers.specs.Items.{itemCode}
 use Rattle.writers.specs.Code.{exitsOf}
 use Rattle.writers.proofs.ListLaws.{item-is}

@@ -5,7 +5,7 @@ use Prim.Native.Nat.{ℕ}
 use native.Mathlib.Omega.{arith}
 use Rattle.translation.specs.Translate.{itemsCode}
 use Rattle.translation.specs.TranslateSize.{itemsSize}
-use Rattle.leaves.specs.Over.{moreRows}
+use Rattle.leaves.specs.Room.{moreRows}
 use Rattle.writers.specs.Code.{exitsOf}
 use Rattle.writers.proofs.ListLaws.{Progress, start as begin, finish, above, above-some, next-less, behind-inside, behind-size, behind-labels, room-item, items-step}
 use Rattle.writers.proofs.statements.write_list.Reads as reads

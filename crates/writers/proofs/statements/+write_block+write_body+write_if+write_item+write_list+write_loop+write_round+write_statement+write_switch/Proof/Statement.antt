@@ -10,7 +10,7 @@ use Rattle.language.specs.Decode.{expressionAt, statementAt}
 use Rattle.translation.specs.Translate.{labels, statementCode}
 use Rattle.translation.specs.TranslateSize.{statementSize}
 use Rattle.emission.specs.Emission.{emitItems}
-use Rattle.leaves.specs.Over.{over}
+use Rattle.words.specs.Over.{over}
 use Rattle.writers.specs.Code.{exitsOf}
 use Rattle.leaves.specs.Chain.{room-less}
 use Rattle.writers.proofs.ListLaws.{above-less, optional-inside}

@@ -1,13 +1,6 @@
--- Over: what stands in a table after words were written from its start. "Rows of an output table .. beyond the result keep their
--- content."
+-- Room: the part of a table that is free for rows, and whether anything stands behind them.
 use mathlib.Core.Bool.{Bool, true}
-use mathlib.Core.List.{List, _++_}
 use Prim.Native.Nat.{ℕ, zero, suc, _+_, _*_, _≤_}
-use lib.IntN.{ℤ}
-use lib.ListN.{length, drop}
-
-unfoldable pub over : List ℤ → List ℤ → List ℤ
-over ws l = ws ++ drop (length ws) l
 
 -- Rows have room in a table of so many words, from the row `base` on.
 pub record Room (rows base words : ℕ) : Type 0 where

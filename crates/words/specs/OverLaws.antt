@@ -1,4 +1,4 @@
--- BufferLaws: values written one after the other from the start of a buffer, and parts that are lent and given back.
+-- Laws of `over`: values written one after the other from the start of a table or buffer, and parts that are lent and given back.
 use mathlib.Core.Path.{_≡_, refl, sym, ap, _∙_}
 use mathlib.Core.List.{List, [], _∷_, _++_, append-assoc, append-nil}
 use Prim.Native.Nat.{ℕ, _+_, _-_, _≤_, _<_}
@@ -7,7 +7,7 @@ use native.Mathlib.Numerals.{add-one}
 use lib.ListN.{length, take, drop, set, length-append, length-drop, drop-of-length-le}
 use lib.Seq.{take-at, drop-at, drop-drop, take-all, drop-cons, set-append-seam}
 use borrow.Rule.Slice.PartMut.{midOf, postOf, putMid}
-use Rattle.text_form.specs.Answers.{over}
+use Rattle.words.specs.Over.{over}
 
 module _ {A : Type 0} where
   -- a shared part to the end

@@ -1,0 +1,222 @@
+//! The stack that each entry takes, on the deepest programs of every kind: a
+//! thread's stack is painted, the entry called, and the paint that is left
+//! looked for.
+
+use crate::programs::{n, v, Program};
+use interpreter::kernel;
+use interpreter::random::Random;
+use interpreter::table::*;
+use interpreter::tree::*;
+
+const STACK: usize = 8 << 20;
+/// Painted below the painter's own frame.
+const PAINTED: usize = 6 << 20;
+const PAINT: u64 = 0xC0FF_EE00_DEAD_BEEF;
+
+/// Bytes of stack below the caller's frame that the work used.
+#[inline(never)]
+fn painted(work: &mut dyn FnMut()) -> usize {
+    let here = 0u64;
+    let top = std::hint::black_box(&here) as *const u64 as usize & !63;
+    let bottom = top - PAINTED;
+    // Leaves room for this function's own frame, of which nothing is below `top` but its spills.
+    for at in (bottom..top - 1024).step_by(8) {
+        unsafe { std::ptr::write_volatile(at as *mut u64, PAINT) };
+    }
+    work();
+    let mut at = bottom;
+    while unsafe { std::ptr::read_volatile(at as *const u64) } == PAINT {
+        at += 8;
+    }
+    top - at
+}
+
+/// The same on a thread of its own, with a stack that is large enough.
+fn used(mut work: impl FnMut() + Send + 'static) -> usize {
+    let thread = std::thread::Builder::new().stack_size(STACK);
+    thread.spawn(move || painted(&mut work)).unwrap().join().unwrap()
+}
+
+/// Programs of depth 64, one for each way to nest.
+fn deep_sources() -> Vec<Program> {
+    let statements: [(&str, fn(Tree) -> Tree); 7] = [
+        ("blocks", |inner| block(vec![inner])),
+        ("ifs", |inner| choice(n(1), inner, None)),
+        ("whiles", |inner| while_loop(v(0), inner)),
+        ("dos", |inner| do_loop(inner, n(0))),
+        ("fors", |inner| for_loop(None, None, None, inner)),
+        ("switches", |inner| switch(n(1), vec![case(1), inner])),
+        ("elses", |inner| choice(n(0), plain(EMPTY), Some(inner))),
+    ];
+    let expressions: [(&str, fn(Tree) -> Tree); 13] = [
+        ("minuses", |inner| unary(MINUS, inner)),
+        ("nots", |inner| unary(NOT, inner)),
+        ("left operands", |inner| binary(ADD, inner, n(0))),
+        ("right operands", |inner| binary(SUBTRACT, n(0), inner)),
+        ("ands", |inner| binary(AND, inner, n(1))),
+        ("ors", |inner| binary(OR, n(0), inner)),
+        ("conditionals", |inner| conditional(n(1), inner, n(0))),
+        ("commas", |inner| binary(COMMA, inner, n(0))),
+        ("elements", |inner| element(0, inner)),
+        ("assignments", |inner| assign(v(0), inner)),
+        ("compounds", |inner| binary(ADD_ASSIGN, v(0), inner)),
+        ("element compounds", |inner| binary(ADD_ASSIGN, element(0, n(0)), inner)),
+        ("increments", |inner| unary(POST_INCREMENT, element(0, inner))),
+    ];
+    let mut programs = Vec::new();
+    for (name, nest) in statements {
+        // A loop's innermost body leaves it, so that every run ends.
+        let breaks = matches!(name, "whiles" | "fors" | "dos" | "switches");
+        programs.push(deepest(name, if breaks { plain(BREAK) } else { plain(EMPTY) }, nest));
+        programs.push(deepest(name, expression(assign(element(0, n(0)), v(0))), nest));
+    }
+    for (name, nest) in expressions {
+        programs.push(deepest(name, n(0), |inner| match inner.kind {
+            EXPRESSION.. => inner,
+            _ => nest(inner),
+        }));
+    }
+    programs
+}
+
+/// The deepest legal program that nests so around this core.
+fn deepest(name: &str, core: Tree, nest: impl Fn(Tree) -> Tree) -> Program {
+    let header = vec![1, 3];
+    let mut found = None;
+    let mut inner = core;
+    for _ in 0..66 {
+        let item = if inner.kind < EMPTY { expression(inner.clone()) } else { inner.clone() };
+        let rows = number(&block(vec![item]), Order::Pre, &mut Random::new(1, 1));
+        if interpreter::check(&header, &rows).is_ok() {
+            found = Some(rows);
+        }
+        inner = nest(inner);
+    }
+    Program { name: name.to_string(), header, rows: found.expect("some depth is legal") }
+}
+
+/// Kernel programs of depth 512.
+fn deep_kernels() -> Vec<Program> {
+    let atom = [CONSTANT, 1, 0, 0, 0, 0];
+    let mut programs = Vec::new();
+    for name in ["blocks", "ifs", "whiles"] {
+        let mut rows: Vec<Row> = vec![[BLOCK, 1, 0, 0, 0, 0]];
+        let mut depth = 1;
+        // An if or while goes two levels down with its block, the last assignment four.
+        let levels = if name == "blocks" { 1 } else { 2 };
+        while depth + levels + 4 <= 512 {
+            depth += levels;
+            let at = rows.len() as i32;
+            match name {
+                "blocks" => rows.push([BLOCK, at + 1, 0, 0, 0, 0]),
+                "ifs" => {
+                    rows.push([IF, at + 1, at + 3, at + 2, 0, 0]);
+                    rows.push(atom);
+                    rows.push([BLOCK, 0, 0, 0, 0, 0]);
+                    rows.push([BLOCK, at + 4, 0, 0, 0, 0]);
+                }
+                _ => {
+                    rows.push([WHILE, at + 1, at + 2, 0, 0, 0]);
+                    rows.push(atom);
+                    rows.push([BLOCK, at + 3, 0, 0, 0, 0]);
+                }
+            }
+        }
+        let at = rows.len() as i32;
+        rows.push([EXPRESSION, at + 1, 0, 0, 0, 0]);
+        rows.push([ASSIGN, at + 2, at + 4, 0, 0, 0]);
+        rows.push([ELEMENT, 0, at + 3, 0, 0, 0]);
+        rows.push([CONSTANT, 0, 0, 0, 0, 0]);
+        rows.push([VARIABLE, 0, 0, 0, 0, 0]);
+        let header = vec![1, 0, 3];
+        let rows = rows.concat();
+        assert_eq!(kernel::check(&header, &rows), Ok(()), "kernel {name}");
+        programs.push(Program { name: name.to_string(), header, rows });
+    }
+    programs
+}
+
+fn copy(program: &Program) -> Program {
+    Program {
+        name: program.name.clone(),
+        header: program.header.clone(),
+        rows: program.rows.clone(),
+    }
+}
+
+/// The largest stack that an entry takes on these programs, and the program's name.
+fn largest(programs: &[Program], entry: fn(&Program)) -> (usize, String) {
+    let each = programs.iter().map(|program| {
+        let own = copy(program);
+        (used(move || entry(&own)), program.name.clone())
+    });
+    each.max().unwrap()
+}
+
+fn run(program: &Program) {
+    let mut store = vec![1; store_size(&program.header) as usize];
+    clight::run(&program.header, &program.rows, &mut store, 10_000).unwrap();
+}
+
+fn translate(program: &Program) {
+    let mut header = vec![0; program.header.len() + 1];
+    let mut rows = vec![0; 6 * clight::kernel_rows(program.row_count())];
+    clight::translate(&program.header, &program.rows, &mut header, &mut rows).unwrap();
+}
+
+fn kernel_run(program: &Program) {
+    let words = kernel::store_size(&program.header) as usize + program.header[1] as usize;
+    clight::kernel_run(&program.header, &program.rows, &mut vec![1; words], 10_000).unwrap();
+}
+
+fn read_source(program: &Program) {
+    let text = interpreter::text::write(&program.header, &program.rows);
+    let (mut header, mut rows) = (program.header.clone(), program.rows.clone());
+    clight::read_source(&text, &mut header, &mut rows).unwrap();
+}
+
+fn read_kernel(program: &Program) {
+    let text = interpreter::text::write(&program.header, &program.rows);
+    let (mut header, mut rows) = (program.header.clone(), program.rows.clone());
+    clight::read_kernel(&text, &mut header, &mut rows).unwrap();
+}
+
+fn write_source(program: &Program) {
+    let mut text = interpreter::text::write(&program.header, &program.rows);
+    clight::write_source(&program.header, &program.rows, &mut text).unwrap();
+}
+
+fn write_kernel(program: &Program) {
+    let mut text = interpreter::text::write(&program.header, &program.rows);
+    clight::write_kernel(&program.header, &program.rows, &mut text).unwrap();
+}
+
+pub fn print_all() {
+    let mut sources = deep_sources();
+    let mut kernels = deep_kernels();
+    kernels.extend(sources.iter().map(crate::programs::translated));
+    kernels.push(crate::programs::kernel_sized(40_980));
+    sources.push(crate::programs::sized(2_048));
+    let nothing: fn(&Program) = |_| {};
+    let entries: [(&str, &[Program], fn(&Program)); 10] = [
+        ("nothing, for comparison", &sources, nothing),
+        ("check", &sources, |program| {
+            clight::check(&program.header, &program.rows).unwrap();
+        }),
+        ("run", &sources, run),
+        ("translate", &sources, translate),
+        ("kernel check", &kernels, |program| {
+            clight::kernel_check(&program.header, &program.rows).unwrap();
+        }),
+        ("kernel run", &kernels, kernel_run),
+        ("read source", &sources, read_source),
+        ("read kernel", &kernels, read_kernel),
+        ("write source", &sources, write_source),
+        ("write kernel", &kernels, write_kernel),
+    ];
+    for (name, programs, entry) in entries {
+        let (bytes, program) = largest(programs, entry);
+        assert!(bytes <= 1 << 20, "{name} takes more than 1 MiB of stack: {bytes}");
+        println!("  {name:24} {bytes:8} ({program})");
+    }
+}

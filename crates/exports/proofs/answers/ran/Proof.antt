@@ -1,0 +1,16 @@
+-- `ran` gives the number of the ending, and the count.
+use borrow.Author.Needs.{needs}
+use Rattle.exports.proofs.answers.ran.Statement.{statement}
+use Rattle.exports.proofs.answers.ran.Tie as tie
+
+ending-number-requires : tie.Need-ending-number-requires
+ending-number-requires c κs = search needs
+
+cast-t4 : tie.Need-cast-t4
+cast-t4 c = search needs
+
+returns : tie.Need-returns
+returns c = rw (c .before .ending-number .ensures)
+
+pub ran-spec : {M : Type 1} → statement M
+ran-spec = tie.close (tie.spec ending-number-requires cast-t4 returns)

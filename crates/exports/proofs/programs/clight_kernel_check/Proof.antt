@@ -1,0 +1,18 @@
+-- `clight_kernel_check` hands on the entry's verdict, as numbers.
+use mathlib.Core.Path.{ap, _∙_}
+use Rattle.exports.specs.Numbers.{verdictAnswer}
+use borrow.Author.Needs.{needs}
+use Rattle.exports.proofs.programs.clight_kernel_check.Statement.{statement}
+use Rattle.exports.proofs.programs.clight_kernel_check.Tie as tie
+
+kernel-check-requires : tie.Need-kernel-check-requires
+kernel-check-requires c κs = search needs
+
+of-verdict-requires : tie.Need-of-verdict-requires
+of-verdict-requires c κs = search needs
+
+returns : tie.Need-returns
+returns c = c .of-verdict .ensures ∙ ap verdictAnswer (c .before .kernel-check .ensures)
+
+pub clight-kernel-check-spec : {M : Type 1} → statement M
+clight-kernel-check-spec = tie.close (tie.spec kernel-check-requires of-verdict-requires returns)

@@ -1,0 +1,3 @@
+-- The library for C and Rust: what its answers say. A line of comment for each file.
+-- Numbers: the numbers of each answer.
+pub mod Numbers

@@ -1,0 +1,118 @@
+// The numbers of each answer.
+use super::Answer;
+use text_form::ReadAnswer;
+use text_form::WriteAnswer;
+use translator::TranslateAnswer;
+use words::Ending;
+use words::FaultSort;
+use words::Refusal;
+use words::RunAnswer;
+use words::RunVerdict;
+use words::Verdict;
+ghost use mathlib.Core.Path.{_≡_};
+ghost use Rattle.words.specs.declared.Ending.the-variants.{Fault};
+ghost use Rattle.words.specs.declared.RunVerdict.the-variants.{Ran};
+ghost use Rattle.text_form.specs.Answers.{readOutcome, writeOutcome};
+ghost use Rattle.exports.specs.Numbers.{refused as refusedOf, endingNumber, runAnswer, verdictAnswer, outcomeAnswer, translateAnswer};
+
+pub fn refused(refusal: Refusal) -> Answer
+    ensures { λ r. ⌜ r ≡ refusedOf (refusal .number) (refusal .place) ⌝ }
+{
+    Answer {
+        cause: refusal.number,
+        first: refusal.place,
+        second: 0,
+    }
+}
+
+pub fn of_verdict(verdict: Verdict) -> Answer
+    ensures { λ r. ⌜ r ≡ verdictAnswer verdict ⌝ }
+{
+    match verdict {
+        Verdict::Accepted => Answer {
+            cause: 0,
+            first: 0,
+            second: 0,
+        },
+        Verdict::Refused(refusal) => refused(refusal),
+    }
+}
+
+fn fault_number(sort: FaultSort) -> usize
+    ensures { λ r. ⌜ r ≡ endingNumber (Fault sort) ⌝ }
+{
+    match sort {
+        FaultSort::Overflow => 2,
+        FaultSort::ZeroDivisor => 3,
+        FaultSort::Index => 4,
+    }
+}
+
+fn ending_number(ending: Ending) -> usize
+    ensures { λ r. ⌜ r ≡ endingNumber ending ⌝ }
+{
+    match ending {
+        Ending::Plain => 0,
+        Ending::Spent => 1,
+        Ending::Fault(sort) => fault_number(sort),
+    }
+}
+
+fn ran(run: RunAnswer) -> Answer
+    ensures { λ r. ⌜ r ≡ runAnswer (Ran run) ⌝ }
+{
+    let ending = run.ending;
+    Answer {
+        cause: 0,
+        first: ending_number(ending),
+        second: run.count as usize,
+    }
+}
+
+pub fn of_run(verdict: RunVerdict) -> Answer
+    ensures { λ r. ⌜ r ≡ runAnswer verdict ⌝ }
+{
+    match verdict {
+        RunVerdict::Ran(run) => ran(run),
+        RunVerdict::Refused(refusal) => refused(refusal),
+    }
+}
+
+pub fn of_read(answer: ReadAnswer) -> Answer
+    ensures { λ r. ⌜ r ≡ outcomeAnswer (readOutcome answer) ⌝ }
+{
+    match answer {
+        ReadAnswer::Read(header_words, row_words) => Answer {
+            cause: 0,
+            first: header_words,
+            second: row_words,
+        },
+        ReadAnswer::Refused(refusal) => refused(refusal),
+    }
+}
+
+pub fn of_write(answer: WriteAnswer) -> Answer
+    ensures { λ r. ⌜ r ≡ outcomeAnswer (writeOutcome answer) ⌝ }
+{
+    match answer {
+        WriteAnswer::Written(bytes) => Answer {
+            cause: 0,
+            first: bytes,
+            second: 0,
+        },
+        WriteAnswer::Refused(refusal) => refused(refusal),
+    }
+}
+
+pub fn of_translation(answer: TranslateAnswer) -> Answer
+    ensures { λ r. ⌜ r ≡ translateAnswer answer ⌝ }
+{
+    match answer {
+        TranslateAnswer::Translated(header_words, row_words) => Answer {
+            cause: 0,
+            first: header_words,
+            second: row_words,
+        },
+        TranslateAnswer::Refused(refusal) => refused(refusal),
+    }
+}

@@ -1,0 +1,23 @@
+// The translation of source programs into kernel form.
+use super::Answer;
+use super::answers::of_translation;
+ghost use mathlib.Core.Path.{_≡_};
+ghost use Rattle.fate.specs.KernelForms.{HasKernelForm};
+ghost use Rattle.translator.specs.Translation.{translateResult};
+ghost use Rattle.exports.specs.Numbers.{translateAnswer};
+
+// Writes the kernel header and rows of a source program. The last promise is demands 2 and 3 about what is written.
+#[no_mangle]
+pub extern "C" fn clight_translate(
+    header: &[i32],
+    rows: &[i32],
+    kernel_header: &mut [i32],
+    kernel_rows: &mut [i32],
+) -> Answer
+    ensures { λ r. ⌜ r ≡ translateAnswer (translateResult (now (header .entry)) (now (rows .entry)) (now («kernel_header» .entry)) (now («kernel_rows» .entry)) .answer) ⌝ }
+    ensures { λ _. ⌜ now («kernel_header» .exit) ≡ translateResult (now (header .entry)) (now (rows .entry)) (now («kernel_header» .entry)) (now («kernel_rows» .entry)) .header ⌝ }
+    ensures { λ _. ⌜ now («kernel_rows» .exit) ≡ translateResult (now (header .entry)) (now (rows .entry)) (now («kernel_header» .entry)) (now («kernel_rows» .entry)) .rows ⌝ }
+    ensures { λ _. ⌜ HasKernelForm (now (header .entry)) (now (rows .entry)) ⌝ }
+{
+    of_translation(clight::translate::translate(header, rows, kernel_header, kernel_rows))
+}

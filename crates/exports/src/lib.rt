@@ -1,0 +1,14 @@
+// The library for C and Rust: the public entries as functions of C's calling convention. A slice is a pointer and a length in
+// elements; every answer is three numbers by value. No function has a `requires`.
+mod answers; // answers.rt: the numbers of each answer
+pub mod kernel_form; // kernel_form.rt: the translation
+pub mod programs; // programs.rt: check, run, kernel check, kernel run
+pub mod texts; // texts.rt: reader and writer of both forms' texts
+
+// What a caller gets: document 01's number of the cause, or 0 where there is none, and two values (specs/Numbers.antt).
+#[repr(C)]
+pub struct Answer {
+    pub cause: u32,
+    pub first: usize,
+    pub second: usize,
+}

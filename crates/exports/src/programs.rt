@@ -1,0 +1,47 @@
+// Check and run of both forms.
+use super::Answer;
+use super::answers::of_run;
+use super::answers::of_verdict;
+ghost use mathlib.Core.Path.{_≡_};
+ghost use Rattle.words.specs.declared.Form.the-variants.{Source, Kernel};
+ghost use Rattle.clight.specs.Runs.{refusalOf, runResult};
+ghost use Rattle.exports.specs.Numbers.{verdictAnswer, runAnswer};
+
+// The check of source programs.
+#[no_mangle]
+pub extern "C" fn clight_check(header: &[i32], rows: &[i32]) -> Answer
+    ensures { λ r. ⌜ r ≡ verdictAnswer (refusalOf Source (now (header .entry)) (now (rows .entry))) ⌝ }
+{
+    of_verdict(clight::runs::check(header, rows))
+}
+
+// The check of kernel programs.
+#[no_mangle]
+pub extern "C" fn clight_kernel_check(header: &[i32], rows: &[i32]) -> Answer
+    ensures { λ r. ⌜ r ≡ verdictAnswer (refusalOf Kernel (now (header .entry)) (now (rows .entry))) ⌝ }
+{
+    of_verdict(clight::runs::kernel_check(header, rows))
+}
+
+// Runs a source program on the store.
+#[no_mangle]
+pub extern "C" fn clight_run(header: &[i32], rows: &[i32], store: &mut [i32], budget: u32) -> Answer
+    ensures { λ r. ⌜ r ≡ runAnswer (runResult Source (now (header .entry)) (now (rows .entry)) budget (now (store .entry)) .answer) ⌝ }
+    ensures { λ _. ⌜ now (store .exit) ≡ runResult Source (now (header .entry)) (now (rows .entry)) budget (now (store .entry)) .store ⌝ }
+{
+    of_run(clight::runs::run(header, rows, store, budget))
+}
+
+// Runs a kernel program on the store.
+#[no_mangle]
+pub extern "C" fn clight_kernel_run(
+    header: &[i32],
+    rows: &[i32],
+    store: &mut [i32],
+    budget: u32,
+) -> Answer
+    ensures { λ r. ⌜ r ≡ runAnswer (runResult Kernel (now (header .entry)) (now (rows .entry)) budget (now (store .entry)) .answer) ⌝ }
+    ensures { λ _. ⌜ now (store .exit) ≡ runResult Kernel (now (header .entry)) (now (rows .entry)) budget (now (store .entry)) .store ⌝ }
+{
+    of_run(clight::runs::kernel_run(header, rows, store, budget))
+}

@@ -1,0 +1,191 @@
+// A rule's kernel form, and the runs of both forms from the same words.
+use super::columns::print_columns;
+use clight::runs::kernel_run;
+use clight::runs::run;
+use clight::texts::read_source;
+use clight::texts::write_kernel;
+use clight::translate::translate;
+use leaves::rows::put;
+use libc::STDOUT_FILENO;
+use report::line::kernel_line;
+use report::line::refused_line;
+use report::line::source_line;
+use text_form::ReadAnswer;
+use text_form::WriteAnswer;
+use text_form::line::Count;
+use text_form::line::count_numbers;
+use text_form::line::store_numbers;
+use translator::TranslateAnswer;
+use words::Ending;
+use words::Refusal;
+use words::RunVerdict;
+use words::table::natural;
+ghost use Prim.Native.Nat.{_≤_};
+ghost use lib.ListN.{length};
+
+// More steps than any of the rules takes.
+const BUDGET: u32 = 100000;
+
+fn print_refusal(refusal: Refusal) {
+    let mut line = [0u8; 64];
+    let n = refused_line(refusal, &mut line);
+    io::write_all(STDOUT_FILENO, &line[..n]);
+}
+
+fn print_source(ending: Ending, count: u32, store: &[i32])
+    requires { ⌜ length (now store) ≤ 64 ⌝ }
+{
+    let mut line = [0u8; 1024];
+    let n = source_line(ending, count, store, &mut line);
+    io::write_all(STDOUT_FILENO, &line[..n]);
+}
+
+fn print_kernel(ending: Ending, store: &[i32])
+    requires { ⌜ length (now store) ≤ 64 ⌝ }
+{
+    let mut line = [0u8; 1024];
+    let n = kernel_line(ending, store, &mut line);
+    io::write_all(STDOUT_FILENO, &line[..n]);
+}
+
+// Puts the start words into the store, and tells how many they are: none, where they are no words or too many. The run is then
+// refused.
+fn start_words(line: &[u8], store: &mut [i32]) -> usize
+    ensures { λ r. ⌜ r ≤ length (now (store .entry)) ⌝ }
+{
+    let count = count_numbers(line);
+    let Count::Numbers(n) = count else {
+        return 0;
+    };
+    if n > store.len() {
+        return 0;
+    }
+    store_numbers(line, store);
+    n
+}
+
+// How many temporaries a kernel header names: none, where they are more than the store here has room for. The run is then refused.
+fn temporaries_of(header: &[i32]) -> usize
+    ensures { λ r. ⌜ r ≤ 128 ⌝ }
+{
+    if header.len() < 2 {
+        return 0;
+    }
+    let temporaries = natural(header[1]);
+    if temporaries > 128 {
+        return 0;
+    }
+    temporaries
+}
+
+fn show_source_run(header: &[i32], rows: &[i32], store: &mut [i32])
+    requires { ⌜ length (now store) ≤ 64 ⌝ }
+{
+    let verdict = run(header, rows, store, BUDGET);
+    match verdict {
+        RunVerdict::Refused(refusal) => print_refusal(refusal),
+        RunVerdict::Ran(answer) => {
+            let ending = answer.ending;
+            print_source(ending, answer.count, store);
+        }
+    }
+}
+
+// Runs the kernel form, and prints the first `size` words: the temporaries are no part of the answer.
+fn show_kernel_run(header: &[i32], rows: &[i32], store: &mut [i32], size: usize)
+    requires { ⌜ (size ≤ 64) × (size ≤ length (now store)) ⌝ }
+{
+    let verdict = kernel_run(header, rows, store, BUDGET);
+    match verdict {
+        RunVerdict::Refused(refusal) => print_refusal(refusal),
+        RunVerdict::Ran(answer) => {
+            let ending = answer.ending;
+            print_kernel(ending, &store[..size]);
+        }
+    }
+}
+
+// The kernel's run: its store has the start words, then the temporaries.
+fn show_kernel(header: &[i32], rows: &[i32], start: &[i32])
+    requires { ⌜ length (now start) ≤ 64 ⌝ }
+{
+    let mut store = [1234567891i32; 192];
+    put(start, &mut store);
+    let size = start.len();
+    let words = size + temporaries_of(header);
+    show_kernel_run(header, rows, &mut store[..words], size);
+}
+
+// The source's run, then the kernel's, from the words of the line.
+fn show_runs(
+    line: &[u8],
+    header: &[i32],
+    rows: &[i32],
+    kernel_header: &[i32],
+    kernel_rows: &[i32],
+) {
+    let mut start = [0i32; 64];
+    let n = start_words(line, &mut start);
+    let mut store = start;
+    show_source_run(header, rows, &mut store[..n]);
+    show_kernel(kernel_header, kernel_rows, &start[..n]);
+}
+
+// Both tables beside each other.
+fn show_tables(text: &[u8], kernel_header: &[i32], kernel_rows: &[i32]) {
+    let mut kernel = [0u8; 65536];
+    let answer = write_kernel(kernel_header, kernel_rows, &mut kernel);
+    match answer {
+        WriteAnswer::Refused(refusal) => print_refusal(refusal),
+        WriteAnswer::Written(n) => {
+            print_columns(b"source", b"kernel");
+            print_columns(text, &kernel[..n]);
+        }
+    }
+}
+
+fn show_forms(
+    line: &[u8],
+    text: &[u8],
+    header: &[i32],
+    rows: &[i32],
+    kernel_header: &[i32],
+    kernel_rows: &[i32],
+) {
+    show_tables(text, kernel_header, kernel_rows);
+    show_runs(line, header, rows, kernel_header, kernel_rows);
+}
+
+// A program that was read: at most 128 rows, so that its translation has at most 20 × 128 + 20.
+fn show_program(line: &[u8], text: &[u8], header: &[i32], rows: &[i32]) {
+    let mut kernel_header = [0i32; 34];
+    let mut kernel_rows = [0i32; 15480];
+    let answer = translate(header, rows, &mut kernel_header, &mut kernel_rows);
+    match answer {
+        TranslateAnswer::Refused(refusal) => print_refusal(refusal),
+        TranslateAnswer::Translated(header_words, row_words) => show_forms(
+            line,
+            text,
+            header,
+            rows,
+            &kernel_header[..header_words],
+            &kernel_rows[..row_words],
+        ),
+    }
+}
+
+// A rule: the line of its start words, and its text.
+pub fn show_text(line: &[u8], text: &[u8]) {
+    let mut header = [0i32; 33];
+    let mut rows = [0i32; 768];
+    let answer = read_source(text, &mut header, &mut rows);
+    match answer {
+        ReadAnswer::Refused(refusal) => print_refusal(refusal),
+        ReadAnswer::Read(header_words, row_words) => show_program(
+            line,
+            text,
+            &header[..header_words],
+            &rows[..row_words],
+        ),
+    }
+}

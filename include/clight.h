@@ -1,0 +1,108 @@
+/* C-light loading rules and their kernel form: the proved library, for C.
+ *
+ * Link target/staticlib/libexports.a (made by `rt staticlib exports`). x86-64 Linux; the library uses no heap, no global data and no
+ * function of the C library but memset, and any number of threads may call it at once.
+ *
+ * A program is a header and rows of six words (kind, a, b, c, d, next), as document 01 lays them down. A slice is a pointer and a
+ * length in elements. For every content of what it is lent each function gives its result or the one refusal that document 01's
+ * table of causes names, and returns. What the caller owes, since nothing in C tests it:
+ *
+ *   - a pointer is aligned and leads to as many elements as its length says; it may be null where the length is 0;
+ *   - a slice that the function may write (no const) shares no element with another slice of the same call;
+ *   - 1 MiB of stack (docs/PERFORMANCE.md has the figures).
+ *
+ * Every answer has a cause. CLIGHT_DONE means that the function did its work; first and second say what it gave. Any other cause
+ * is a refusal: first is its place (a row, a line of the text from 1, or 0), second is 0, and nothing lent was changed. */
+#ifndef CLIGHT_H
+#define CLIGHT_H
+
+#include <stddef.h>
+#include <stdint.h>
+
+#ifdef __cplusplus
+extern "C" {
+#endif
+
+typedef struct clight_answer {
+    uint32_t cause;
+    size_t first;
+    size_t second;
+} clight_answer;
+
+/* Causes: document 01's numbers. */
+enum clight_cause {
+    CLIGHT_DONE = 0,
+    CLIGHT_HEADER = 1,            /* header outside its limits; place 0 */
+    CLIGHT_ROW_COUNT = 2,         /* no rows, too many, or words not a multiple of 6; place 0 */
+    CLIGHT_KIND = 3,              /* kind not in the language, or unused field not 0; the row */
+    CLIGHT_LINK = 4,              /* link not to a later row of the fitting sort, or a branch or body with next not 0; the row */
+    CLIGHT_LINKED_ONCE = 5,       /* row 0 not a lone block, or a row not linked exactly once; that row */
+    CLIGHT_NUMBER = 6,            /* variable, array or label number outside; the row */
+    CLIGHT_OUT_OF_PLACE = 7,      /* break, continue, case or default out of place; the row */
+    CLIGHT_REPEATED_MARK = 8,     /* second equal case, or second default, in one switch; the later row */
+    CLIGHT_DEPTH = 9,             /* depth over the limit; the row */
+    CLIGHT_OUTPUT_TOO_SHORT = 10, /* output table or text shorter than its result needs; place 0 */
+    CLIGHT_STORE = 11,            /* store not S (source) or S+T (kernel) words; place 0 */
+    CLIGHT_KERNEL_FORM = 12,      /* statement not of kernel form; the statement's row */
+    CLIGHT_LABEL = 13,            /* goto without its label ahead, or label repeated; the row of the goto or the later label */
+    CLIGHT_TEXT = 14              /* text malformed; the line, from 1 */
+};
+
+/* Endings of a run, in the first value of its answer. */
+enum clight_ending {
+    CLIGHT_ENDED = 0,
+    CLIGHT_SPENT = 1,
+    CLIGHT_OVERFLOW = 2,
+    CLIGHT_ZERO = 3,
+    CLIGHT_INDEX = 4
+};
+
+/* Limits. n source rows give at most CLIGHT_KERNEL_ROWS(n) kernel rows, and the kernel header has one word more. */
+enum clight_limit {
+    CLIGHT_ROW_WORDS = 6,
+    CLIGHT_SOURCE_HEADER_WORDS = 33,
+    CLIGHT_KERNEL_HEADER_WORDS = 34,
+    CLIGHT_SOURCE_ROWS_LIMIT = 2048,
+    CLIGHT_KERNEL_ROWS_LIMIT = 40980
+};
+#define CLIGHT_KERNEL_ROWS(source_rows) (20 * (source_rows) + 20)
+
+/* The check of source programs. Done: the program is legal; first and second are 0. Causes 1 to 9. */
+clight_answer clight_check(const int32_t *header, size_t header_words, const int32_t *rows, size_t row_words);
+
+/* Runs a source program on the store, which has S words: variables, then the arrays in order. Done: first is the ending, second the
+ * count of steps, at most budget, and the store is as the run left it. Causes 1 to 9, then 11. */
+clight_answer clight_run(const int32_t *header, size_t header_words, const int32_t *rows, size_t row_words, int32_t *store,
+                         size_t store_words, uint32_t budget);
+
+/* Writes the kernel form of a source program. Done: first is the words of the kernel header, second those of the kernel rows; words
+ * of both tables beyond these keep their content. Causes 1 to 9, then 10. */
+clight_answer clight_translate(const int32_t *header, size_t header_words, const int32_t *rows, size_t row_words,
+                               int32_t *kernel_header, size_t kernel_header_words, int32_t *kernel_rows, size_t kernel_row_words);
+
+/* The check of kernel programs. Done: the program is legal; first and second are 0. Causes 1 to 6, 9, 12, 13. */
+clight_answer clight_kernel_check(const int32_t *header, size_t header_words, const int32_t *rows, size_t row_words);
+
+/* Runs a kernel program on the store, which has S+T words: variables, the arrays in order, temporaries. Done: as clight_run.
+ * Causes 1 to 6, 9, 12, 13, then 11. */
+clight_answer clight_kernel_run(const int32_t *header, size_t header_words, const int32_t *rows, size_t row_words, int32_t *store,
+                                size_t store_words, uint32_t budget);
+
+/* Read a text into a header and rows. Done: first is the words of the header, second those of the rows; words of both tables
+ * beyond these keep their content. Causes 14, then 1, 2, 10. The program that was read is not checked further. */
+clight_answer clight_read_source(const uint8_t *text, size_t text_bytes, int32_t *header, size_t header_words, int32_t *rows,
+                                 size_t row_words);
+clight_answer clight_read_kernel(const uint8_t *text, size_t text_bytes, int32_t *header, size_t header_words, int32_t *rows,
+                                 size_t row_words);
+
+/* Write a header and rows as a text. Done: first is its bytes, second 0; bytes beyond these keep their content. Causes 1, 2, 10. */
+clight_answer clight_write_source(const int32_t *header, size_t header_words, const int32_t *rows, size_t row_words, uint8_t *text,
+                                  size_t text_bytes);
+clight_answer clight_write_kernel(const int32_t *header, size_t header_words, const int32_t *rows, size_t row_words, uint8_t *text,
+                                  size_t text_bytes);
+
+#ifdef __cplusplus
+}
+#endif
+
+#endif

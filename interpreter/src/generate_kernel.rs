@@ -1,0 +1,217 @@
+//! Generated kernel programs: every statement of the kernel form, gotos out of
+//! nests and past items, and damaged tables of them.
+
+use crate::kernel::{store_size, GOTO, LABEL};
+use crate::random::Random;
+use crate::table::*;
+
+/// A legal kernel program.
+pub struct Program {
+    pub header: Vec<i32>,
+    pub rows: Vec<Row>,
+}
+
+pub fn program(random: &mut Random) -> Program {
+    let arrays = random.below(3);
+    let mut header = vec![random.between(0, 4), random.between(0, 4)];
+    for _ in 0..arrays {
+        header.push(random.between(1, 5));
+    }
+    let numbers = variable_numbers(&header);
+    let size = random.pick(&[3, 10, 10, 40, 200]);
+    let mut writer = Writer { random, arrays, numbers, rows: Vec::new(), labels: 0, left: size };
+    writer.block(0, &mut Vec::new());
+    Program { rows: writer.rows, header }
+}
+
+/// The numbers that name a variable or a temporary.
+fn variable_numbers(header: &[i32]) -> Vec<i32> {
+    let size = store_size(header) as i32;
+    (0..header[0]).chain(size..size + header[1]).collect()
+}
+
+struct Writer<'a> {
+    random: &'a mut Random,
+    arrays: usize,
+    numbers: Vec<i32>,
+    rows: Vec<Row>,
+    labels: i32,
+    /// How many statements may still be begun.
+    left: usize,
+}
+
+impl Writer<'_> {
+    fn row(&mut self, kind: i32) -> usize {
+        self.rows.push([kind, 0, 0, 0, 0, 0]);
+        self.rows.len() - 1
+    }
+
+    /// The row that is written next, as a link.
+    fn free(&self) -> i32 {
+        self.rows.len() as i32
+    }
+
+    /// A block; `ahead` holds the labels that a goto in it may have.
+    fn block(&mut self, depth: usize, ahead: &mut Vec<i32>) {
+        let own = self.row(BLOCK);
+        let items = if depth == 0 { 6 } else { self.random.below(6) };
+        // Whether a label stands at each position; those labels are known from the start.
+        let places: Vec<Option<i32>> = (0..items).map(|_| self.maybe_label()).collect();
+        let outer = ahead.len();
+        ahead.extend(places.iter().rev().flatten());
+        let mut last = None;
+        for place in places {
+            if place.is_none() && self.left == 0 {
+                continue;
+            }
+            let at = self.free();
+            match last {
+                None => self.rows[own][1] = at,
+                Some(before) => self.rows[before as usize][NEXT] = at,
+            }
+            match place {
+                Some(label) => {
+                    let at = self.row(LABEL);
+                    self.rows[at][1] = label;
+                    ahead.pop();
+                }
+                None => self.statement(depth, ahead),
+            }
+            last = Some(at);
+        }
+        ahead.truncate(outer);
+    }
+
+    fn maybe_label(&mut self) -> Option<i32> {
+        if !self.random.chance(20) {
+            return None;
+        }
+        self.labels += self.random.between(1, 3);
+        Some(self.labels)
+    }
+
+    fn statement(&mut self, depth: usize, ahead: &mut Vec<i32>) {
+        self.left = self.left.saturating_sub(1);
+        match self.random.below(if depth > 8 { 7 } else { 12 }) {
+            0 => {
+                self.row(EMPTY);
+            }
+            1 if !ahead.is_empty() => {
+                let at = self.row(GOTO);
+                self.rows[at][1] = self.random.pick(ahead);
+            }
+            7 => self.block(depth + 1, ahead),
+            8 | 9 => {
+                let at = self.row(IF);
+                self.rows[at][1] = self.atom();
+                self.rows[at][2] = self.free();
+                self.block(depth + 1, ahead);
+                self.rows[at][3] = self.free();
+                self.block(depth + 1, ahead);
+            }
+            10 | 11 => {
+                let at = self.row(WHILE);
+                self.rows[at][1] = self.atom();
+                self.rows[at][2] = self.free();
+                self.block(depth + 1, ahead);
+            }
+            _ => self.assignment(),
+        }
+    }
+
+    fn assignment(&mut self) {
+        if self.numbers.is_empty() && self.arrays == 0 {
+            self.row(EMPTY);
+            return;
+        }
+        let at = self.row(EXPRESSION);
+        let assign = self.row(ASSIGN);
+        self.rows[at][1] = assign as i32;
+        self.rows[assign][1] = self.free();
+        if self.numbers.is_empty() || (self.arrays > 0 && self.random.chance(40)) {
+            self.element();
+            self.rows[assign][2] = self.atom();
+        } else {
+            self.variable();
+            self.rows[assign][2] = self.free();
+            self.value();
+        }
+    }
+
+    /// What may be assigned to a variable.
+    fn value(&mut self) {
+        match self.random.below(10) {
+            0 => {
+                let at = self.row(MINUS);
+                self.rows[at][1] = self.atom();
+            }
+            1..=5 => {
+                let kind = self.random.between(ADD, UNEQUAL);
+                let at = self.row(kind);
+                self.rows[at][1] = self.atom();
+                self.rows[at][2] = self.atom();
+            }
+            6 | 7 if self.arrays > 0 => self.element(),
+            _ => {
+                self.atom();
+            }
+        }
+    }
+
+    fn element(&mut self) {
+        let at = self.row(ELEMENT);
+        self.rows[at][1] = self.random.below(self.arrays) as i32;
+        self.rows[at][2] = self.atom();
+    }
+
+    fn variable(&mut self) {
+        let at = self.row(VARIABLE);
+        self.rows[at][1] = self.random.pick(&self.numbers);
+    }
+
+    /// Writes a constant or a variable and gives its row.
+    fn atom(&mut self) -> i32 {
+        let at = self.free();
+        if self.numbers.is_empty() || self.random.chance(40) {
+            let at = self.row(CONSTANT);
+            let end = self.random.pick(&[i32::MIN, i32::MAX]);
+            let small = self.random.between(-2, 4);
+            self.rows[at][1] = if self.random.chance(10) { end } else { small };
+        } else {
+            self.variable();
+        }
+        at
+    }
+}
+
+/// Changes some words of a table, or its length, or its header.
+pub fn damage(random: &mut Random, header: &mut Vec<i32>, rows: &mut Vec<i32>) {
+    for _ in 0..random.between(1, 2) {
+        match random.below(24) {
+            0 => {
+                let at = random.below(header.len());
+                header[at] = random.pick(&[-1, 0, 1, 257, 4097, 8193, i32::MIN]);
+            }
+            1 => header.truncate(random.below(header.len() + 1)),
+            2 => rows.truncate(random.below(rows.len() + 1)),
+            3 => rows.extend([EMPTY, 0, 0, 0, 0, 0]),
+            _ => change_word(random, rows),
+        }
+        if header.is_empty() || rows.is_empty() {
+            return;
+        }
+    }
+}
+
+/// Changes a word to one near it, to another row's word, or to a number of interest.
+fn change_word(random: &mut Random, rows: &mut [i32]) {
+    let at = random.below(rows.len());
+    rows[at] = match random.below(6) {
+        0 => rows[at].wrapping_add(random.between(-2, 2)),
+        1 => rows[random.below(rows.len())],
+        2 => random.between(0, rows.len() as i32 / WORDS as i32),
+        3 => random.pick(&[-1, 0, 40_979, 40_980, i32::MIN, i32::MAX]),
+        4 => random.pick(&[CONSTANT, VARIABLE, ELEMENT, NOT, ASSIGN, EMPTY, BLOCK, GOTO, LABEL]),
+        _ => 0,
+    };
+}

@@ -1,0 +1,115 @@
+//! The kernel check and the kernel run.
+
+use interpreter::generate_kernel::program;
+use interpreter::kernel::{check, run, store_size};
+use interpreter::random::Random;
+use interpreter::{Ending, Fault, Refusal};
+
+fn refused(header: &[i32], rows: &[[i32; 6]]) -> (u32, u32) {
+    match check(header, &rows.concat()) {
+        Ok(()) => (0, 0),
+        Err(Refusal { number, place }) => (number, place),
+    }
+}
+
+/// Row 0, a block of these items.
+fn block(first: i32) -> [i32; 6] {
+    [42, first, 0, 0, 0, 0]
+}
+
+#[test]
+fn generated_programs_are_legal() {
+    for i in 0..3_000 {
+        let program = program(&mut Random::new(7, i));
+        assert_eq!(check(&program.header, &program.rows.concat()), Ok(()), "program {i}");
+    }
+}
+
+#[test]
+fn labels() {
+    let label = |number, next| [53, number, 0, 0, 0, next];
+    let goto = |number, next| [52, number, 0, 0, 0, next];
+    assert_eq!(refused(&[0, 0], &[block(1), goto(3, 2), label(3, 0)]), (0, 0));
+    assert_eq!(refused(&[0, 0], &[block(1), label(3, 2), goto(3, 0)]), (13, 2));
+    assert_eq!(refused(&[0, 0], &[block(1), label(3, 2), label(3, 0)]), (13, 2));
+    assert_eq!(refused(&[0, 0], &[block(1), label(3, 2), goto(3, 3), label(3, 0)]), (13, 3));
+    assert_eq!(refused(&[0, 0], &[block(1), goto(40_980, 0)]), (6, 1));
+    // A label inside a later block is not ahead.
+    let inner = [block(1), goto(3, 2), [42, 3, 0, 0, 0, 0], label(3, 0)];
+    assert_eq!(refused(&[0, 0], &inner), (13, 1));
+    // One outside the block that holds the goto is.
+    let outer = [block(1), [42, 2, 0, 0, 0, 3], goto(3, 0), label(3, 0)];
+    assert_eq!(refused(&[0, 0], &outer), (0, 0));
+}
+
+#[test]
+fn forms() {
+    // An if without else, and a while with a body that is no block.
+    let test = [1, 1, 0, 0, 0, 0];
+    assert_eq!(refused(&[0, 0], &[block(1), [43, 2, 3, 0, 0, 0], test, block(0)]), (12, 1));
+    assert_eq!(
+        refused(&[0, 0], &[block(1), [44, 2, 3, 0, 0, 0], test, [40, 0, 0, 0, 0, 0]]),
+        (12, 1)
+    );
+    assert_eq!(refused(&[0, 0], &[block(1), [44, 2, 3, 0, 0, 0], test, block(0)]), (0, 0));
+    assert_eq!(refused(&[0, 0], &[block(1), [41, 2, 0, 0, 0, 0], test]), (12, 1));
+    assert_eq!(refused(&[0, 0], &[block(1), [5, 0, 0, 0, 0, 0]]), (3, 1));
+    // V to S-1 name nothing; S to S+T-1 are temporaries.
+    let set = |number| {
+        [block(1), [41, 2, 0, 0, 0, 0], [21, 3, 4, 0, 0, 0], [2, number, 0, 0, 0, 0], test]
+    };
+    let verdicts: Vec<(u32, u32)> =
+        (0..7).map(|number| refused(&[1, 2, 3], &set(number))).collect();
+    let outside = (6, 3);
+    assert_eq!(verdicts, [(0, 0), outside, outside, outside, (0, 0), (0, 0), outside]);
+}
+
+#[test]
+fn a_goto_goes_on_at_its_label() {
+    // { v0 = 1; { goto 5; v0 = 2 } v0 = 3; label 5; }
+    let rows = [
+        block(1),
+        [41, 2, 0, 0, 0, 5],
+        [21, 3, 4, 0, 0, 0],
+        [2, 0, 0, 0, 0, 0],
+        [1, 1, 0, 0, 0, 0],
+        [42, 6, 0, 0, 0, 11],
+        [52, 5, 0, 0, 0, 7],
+        [41, 8, 0, 0, 0, 0],
+        [21, 9, 10, 0, 0, 0],
+        [2, 0, 0, 0, 0, 0],
+        [1, 2, 0, 0, 0, 0],
+        [41, 12, 0, 0, 0, 15],
+        [21, 13, 14, 0, 0, 0],
+        [2, 0, 0, 0, 0, 0],
+        [1, 3, 0, 0, 0, 0],
+        [53, 5, 0, 0, 0, 0],
+    ]
+    .concat();
+    let mut store = [0];
+    let outcome = run(&[1, 0], &rows, &mut store, 100).unwrap();
+    // The block, four rows of the first item, the inner block, the goto, the label.
+    assert_eq!((outcome.ending, outcome.count, store), (Ending::Ended, 8, [1]));
+    let mut store = [0];
+    let outcome = run(&[1, 0], &rows, &mut store, 7).unwrap();
+    assert_eq!((outcome.ending, outcome.count, store), (Ending::Spent, 7, [1]));
+}
+
+#[test]
+fn generated_programs_end_in_every_way() {
+    let mut seen = [0; 5];
+    for i in 0..3_000 {
+        let program = program(&mut Random::new(8, i));
+        let words = store_size(&program.header) as usize + program.header[1] as usize;
+        let outcome =
+            run(&program.header, &program.rows.concat(), &mut vec![1; words], 5_000).unwrap();
+        seen[match outcome.ending {
+            Ending::Ended => 0,
+            Ending::Spent => 1,
+            Ending::Fault(Fault::Overflow) => 2,
+            Ending::Fault(Fault::Zero) => 3,
+            Ending::Fault(Fault::Index) => 4,
+        }] += 1;
+    }
+    assert!(seen.iter().all(|&count| count > 20), "{seen:?}");
+}

@@ -1,0 +1,94 @@
+//! The functions of the proved library, as include/clight.h declares them. A
+//! slice passes as its pointer and its length in elements.
+
+/// Document 01's number of the cause, or 0, and two values.
+#[repr(C)]
+#[derive(Clone, Copy, Debug, PartialEq, Eq)]
+pub struct Answer {
+    pub cause: u32,
+    pub first: usize,
+    pub second: usize,
+}
+
+extern "C" {
+    pub fn clight_check(
+        header: *const i32,
+        header_words: usize,
+        rows: *const i32,
+        row_words: usize,
+    ) -> Answer;
+
+    pub fn clight_run(
+        header: *const i32,
+        header_words: usize,
+        rows: *const i32,
+        row_words: usize,
+        store: *mut i32,
+        store_words: usize,
+        budget: u32,
+    ) -> Answer;
+
+    pub fn clight_translate(
+        header: *const i32,
+        header_words: usize,
+        rows: *const i32,
+        row_words: usize,
+        kernel_header: *mut i32,
+        kernel_header_words: usize,
+        kernel_rows: *mut i32,
+        kernel_row_words: usize,
+    ) -> Answer;
+
+    pub fn clight_kernel_check(
+        header: *const i32,
+        header_words: usize,
+        rows: *const i32,
+        row_words: usize,
+    ) -> Answer;
+
+    pub fn clight_kernel_run(
+        header: *const i32,
+        header_words: usize,
+        rows: *const i32,
+        row_words: usize,
+        store: *mut i32,
+        store_words: usize,
+        budget: u32,
+    ) -> Answer;
+
+    pub fn clight_read_source(
+        text: *const u8,
+        text_bytes: usize,
+        header: *mut i32,
+        header_words: usize,
+        rows: *mut i32,
+        row_words: usize,
+    ) -> Answer;
+
+    pub fn clight_read_kernel(
+        text: *const u8,
+        text_bytes: usize,
+        header: *mut i32,
+        header_words: usize,
+        rows: *mut i32,
+        row_words: usize,
+    ) -> Answer;
+
+    pub fn clight_write_source(
+        header: *const i32,
+        header_words: usize,
+        rows: *const i32,
+        row_words: usize,
+        text: *mut u8,
+        text_bytes: usize,
+    ) -> Answer;
+
+    pub fn clight_write_kernel(
+        header: *const i32,
+        header_words: usize,
+        rows: *const i32,
+        row_words: usize,
+        text: *mut u8,
+        text_bytes: usize,
+    ) -> Answer;
+}

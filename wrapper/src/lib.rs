@@ -1,0 +1,270 @@
+//! Safe functions over the proved library of C-light loading rules.
+//!
+//! A program is a header and rows of six words, as document 01 lays them
+//! down. Each function gives its result or the one refusal that the table of
+//! causes names; a refusal changes nothing that was lent.
+//!
+//! Each call of a foreign function hands over the pointers and lengths of
+//! slices. The borrows keep a slice that may be written apart from all else,
+//! and the library asks nothing more of its callers: its functions have no
+//! `requires`.
+
+#[doc(hidden)]
+pub mod foreign;
+
+use foreign::Answer;
+
+/// Words of a row: kind, a, b, c, d, next.
+pub const ROW_WORDS: usize = 6;
+/// V and up to 32 array lengths.
+pub const SOURCE_HEADER_WORDS: usize = 33;
+/// V, T and up to 32 array lengths.
+pub const KERNEL_HEADER_WORDS: usize = 34;
+pub const SOURCE_ROWS_LIMIT: usize = 2048;
+pub const KERNEL_ROWS_LIMIT: usize = 40_980;
+
+/// At most so many kernel rows come from n source rows.
+pub const fn kernel_rows(source_rows: usize) -> usize {
+    20 * source_rows + 20
+}
+
+/// Why an entry did nothing, with document 01's numbers.
+#[derive(Clone, Copy, Debug, PartialEq, Eq)]
+pub enum Cause {
+    Header = 1,
+    RowCount = 2,
+    Kind = 3,
+    Link = 4,
+    LinkedOnce = 5,
+    Number = 6,
+    OutOfPlace = 7,
+    RepeatedMark = 8,
+    Depth = 9,
+    OutputTooShort = 10,
+    Store = 11,
+    KernelForm = 12,
+    Label = 13,
+    Text = 14,
+}
+
+const CAUSES: [Cause; 14] = [
+    Cause::Header,
+    Cause::RowCount,
+    Cause::Kind,
+    Cause::Link,
+    Cause::LinkedOnce,
+    Cause::Number,
+    Cause::OutOfPlace,
+    Cause::RepeatedMark,
+    Cause::Depth,
+    Cause::OutputTooShort,
+    Cause::Store,
+    Cause::KernelForm,
+    Cause::Label,
+    Cause::Text,
+];
+
+/// A cause and its place: a row, a line of the text from 1, or 0.
+#[derive(Clone, Copy, Debug, PartialEq, Eq)]
+pub struct Refusal {
+    pub cause: Cause,
+    pub place: usize,
+}
+
+impl std::fmt::Display for Refusal {
+    fn fmt(&self, f: &mut std::fmt::Formatter) -> std::fmt::Result {
+        write!(f, "refused {} {}", self.cause as u32, self.place)
+    }
+}
+
+impl std::error::Error for Refusal {}
+
+/// How a run ended.
+#[derive(Clone, Copy, Debug, PartialEq, Eq)]
+pub enum Ending {
+    Ended,
+    Spent,
+    Overflow,
+    ZeroDivisor,
+    Index,
+}
+
+const ENDINGS: [Ending; 5] =
+    [Ending::Ended, Ending::Spent, Ending::Overflow, Ending::ZeroDivisor, Ending::Index];
+
+/// An ending, and the number of steps that the run made.
+#[derive(Clone, Copy, Debug, PartialEq, Eq)]
+pub struct Run {
+    pub ending: Ending,
+    pub count: u32,
+}
+
+/// How many words of the two lent tables are the result.
+#[derive(Clone, Copy, Debug, PartialEq, Eq)]
+pub struct Tables {
+    pub header_words: usize,
+    pub row_words: usize,
+}
+
+impl Answer {
+    /// The two values, or the refusal.
+    fn values(self) -> Result<(usize, usize), Refusal> {
+        match self.cause {
+            0 => Ok((self.first, self.second)),
+            number => Err(Refusal { cause: CAUSES[number as usize - 1], place: self.first }),
+        }
+    }
+
+    fn accepted(self) -> Result<(), Refusal> {
+        self.values().map(|_| ())
+    }
+
+    fn run(self) -> Result<Run, Refusal> {
+        let (ending, count) = self.values()?;
+        Ok(Run { ending: ENDINGS[ending], count: count as u32 })
+    }
+
+    fn tables(self) -> Result<Tables, Refusal> {
+        let (header_words, row_words) = self.values()?;
+        Ok(Tables { header_words, row_words })
+    }
+
+    fn bytes(self) -> Result<usize, Refusal> {
+        self.values().map(|(bytes, _)| bytes)
+    }
+}
+
+/// The check of source programs.
+pub fn check(header: &[i32], rows: &[i32]) -> Result<(), Refusal> {
+    unsafe { foreign::clight_check(header.as_ptr(), header.len(), rows.as_ptr(), rows.len()) }
+        .accepted()
+}
+
+/// Runs a source program on a store of S words.
+pub fn run(header: &[i32], rows: &[i32], store: &mut [i32], budget: u32) -> Result<Run, Refusal> {
+    unsafe {
+        foreign::clight_run(
+            header.as_ptr(),
+            header.len(),
+            rows.as_ptr(),
+            rows.len(),
+            store.as_mut_ptr(),
+            store.len(),
+            budget,
+        )
+    }
+    .run()
+}
+
+/// Writes the kernel form of a source program; words of both tables beyond the
+/// result keep their content. `kernel_rows(n)` rows are enough for n source
+/// rows, and the kernel header has one word more than the source's.
+pub fn translate(
+    header: &[i32],
+    rows: &[i32],
+    kernel_header: &mut [i32],
+    kernel_rows: &mut [i32],
+) -> Result<Tables, Refusal> {
+    unsafe {
+        foreign::clight_translate(
+            header.as_ptr(),
+            header.len(),
+            rows.as_ptr(),
+            rows.len(),
+            kernel_header.as_mut_ptr(),
+            kernel_header.len(),
+            kernel_rows.as_mut_ptr(),
+            kernel_rows.len(),
+        )
+    }
+    .tables()
+}
+
+/// The check of kernel programs.
+pub fn kernel_check(header: &[i32], rows: &[i32]) -> Result<(), Refusal> {
+    unsafe {
+        foreign::clight_kernel_check(header.as_ptr(), header.len(), rows.as_ptr(), rows.len())
+    }
+    .accepted()
+}
+
+/// Runs a kernel program on a store of S+T words.
+pub fn kernel_run(
+    header: &[i32],
+    rows: &[i32],
+    store: &mut [i32],
+    budget: u32,
+) -> Result<Run, Refusal> {
+    unsafe {
+        foreign::clight_kernel_run(
+            header.as_ptr(),
+            header.len(),
+            rows.as_ptr(),
+            rows.len(),
+            store.as_mut_ptr(),
+            store.len(),
+            budget,
+        )
+    }
+    .run()
+}
+
+/// Reads a source text; words of both tables beyond the result keep their content.
+pub fn read_source(text: &[u8], header: &mut [i32], rows: &mut [i32]) -> Result<Tables, Refusal> {
+    unsafe {
+        foreign::clight_read_source(
+            text.as_ptr(),
+            text.len(),
+            header.as_mut_ptr(),
+            header.len(),
+            rows.as_mut_ptr(),
+            rows.len(),
+        )
+    }
+    .tables()
+}
+
+/// Reads a kernel text; words of both tables beyond the result keep their content.
+pub fn read_kernel(text: &[u8], header: &mut [i32], rows: &mut [i32]) -> Result<Tables, Refusal> {
+    unsafe {
+        foreign::clight_read_kernel(
+            text.as_ptr(),
+            text.len(),
+            header.as_mut_ptr(),
+            header.len(),
+            rows.as_mut_ptr(),
+            rows.len(),
+        )
+    }
+    .tables()
+}
+
+/// Writes a source program as a text and gives its bytes; those beyond keep their content.
+pub fn write_source(header: &[i32], rows: &[i32], text: &mut [u8]) -> Result<usize, Refusal> {
+    unsafe {
+        foreign::clight_write_source(
+            header.as_ptr(),
+            header.len(),
+            rows.as_ptr(),
+            rows.len(),
+            text.as_mut_ptr(),
+            text.len(),
+        )
+    }
+    .bytes()
+}
+
+/// Writes a kernel program as a text and gives its bytes; those beyond keep their content.
+pub fn write_kernel(header: &[i32], rows: &[i32], text: &mut [u8]) -> Result<usize, Refusal> {
+    unsafe {
+        foreign::clight_write_kernel(
+            header.as_ptr(),
+            header.len(),
+            rows.as_ptr(),
+            rows.len(),
+            text.as_mut_ptr(),
+            text.len(),
+        )
+    }
+    .bytes()
+}

@@ -13,7 +13,7 @@ use mir.Facts.{toZ-ofZ}
 use borrow.Author.Tests.{ltb-true, ltb-false, lt-ltb, le-ltb}
 use Rattle.words.specs.Word.{isWord, natural, pick}
 use lib.ListN.{getD, set}
-use Rattle.words.specs.Arithmetic.{Outcome, apply, element}
+use Rattle.words.specs.Arithmetic.{Outcome, value, apply, element}
 use Rattle.words.specs.declared.Operator.{Operator}
 use Rattle.language.specs.Meaning.{update, oldValue, newValue}
 use Rattle.words.specs.Answers.{computed, located}
@@ -133,6 +133,11 @@ pub placed-wide : (z : ℤ) → mag z < 2 ^ 31 → (n : ℕ) (s : List ℤ) → 
 placed-wide z h n s = ap (λ (x : ℤ). placed x n s) (wide-is z h) ∙ placed-word z h n s
 
 -- ---- operations
+
+-- a word that went through a local, and was cast
+pub settles-word : (z : ℤ) (o : Outcome ℤ) → mag z < 2 ^ 31 → value (toZ w32 (ofZ w32 z)) ≡ o → Settles (wide z) o
+unfolding spend
+settles-word z o h e n s = answered-wide z h n s ∙ ap (λ (x : ℤ). gives x n s) (sym (back z h)) ∙ ap (λ (x : Outcome ℤ). spend (settle x) n s) e
 
 module _ (c : Computed) where
   pub settles-value : (v : ℤ) → c ≡ Computes v → mag v < 2 ^ 31 → Settles (wide v) (computed c)

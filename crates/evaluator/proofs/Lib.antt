@@ -7,6 +7,8 @@ pub mod Enter
 pub mod Bounds
 -- Rows: the laws of Enter for a row of a sound table, by its kind.
 pub mod Rows
+-- Among: a match on the numbers of some kinds alone.
+pub mod Among
 -- Tags: which number and which tags a kind has.
 pub mod Tags
 -- Operands: what a call's answer says of the run that asked for it, and what a call asks.

@@ -12,10 +12,11 @@ use mir.Syntax.{w32}
 use mir.Val.{toZ, ofZ}
 use Rattle.words.specs.Word.{pick}
 use Rattle.words.specs.Table.{rowCount, numberAt}
-use Rattle.words.specs.Arithmetic.{Outcome, isTrue, bit, truth, element}
+use Rattle.words.specs.Arithmetic.{Outcome, isTrue, bit, truth, apply, element}
 use Rattle.words.specs.Answers.{computed}
 use Rattle.words.specs.Laws.{back}
 use Rattle.words.specs.declared.Computed.{Computed}
+use Rattle.words.specs.declared.Operator.{Operator}
 use Rattle.computation.specs.Computation.{settle}
 use Rattle.computation.specs.Remaining.{Rest, gives, halts, onward, spend}
 use Rattle.language.specs.Sound.{Link, PlaceLink}
@@ -79,6 +80,11 @@ handed-on r n s fits = ap (λ (z : ℤ). answered z n s) (handed-is r fits)
 
 pub handed-on-placed : (r : ℤ) (n : ℕ) (s : List ℤ) → mag r < 2 ^ 63 → placed (handed r) n s ≡ placed r n s
 handed-on-placed r n s fits = ap (λ (z : ℤ). placed z n s) (handed-is r fits)
+
+-- an operation of words that were handed on
+pub operands-handed : (o : Operator) (left right : ℤ) → mag left < 2 ^ 31 → mag right < 2 ^ 31 → (n : ℕ) (s : List ℤ)
+    → spend (settle (apply o (toZ w32 (ofZ w32 left)) (toZ w32 (ofZ w32 right)))) n s ≡ spend (settle (apply o left right)) n s
+operands-handed o left right h g n s = rw (back left h, back right g)
 
 -- an operation's answer
 pub settled-is : (r : ℤ) (c : Computed) (o : Outcome ℤ) → mag r < 2 ^ 63 → Settles r (computed c) → computed c ≡ o → (n : ℕ) (s : List ℤ) → answered (handed r) n s ≡ spend (settle o) n s

@@ -26,6 +26,7 @@ use Rattle.evaluator.specs.Bounds.{layoutFrom}
 use Rattle.evaluator.specs.Ready.{Ready, Entered}
 use Rattle.evaluator.specs.Rows.{valueAt, evaluateAt, locateAt, placeAt}
 use types.Run.{OneOf}
+use Rattle.evaluator.specs.Kinds.{isExpression, kindAmong}
 use Rattle.evaluator.proofs.Tags.{others, tag, at-other}
 use Rattle.evaluator.proofs.Enter.{enter-constant, enter-variable, enter-read, place-variable, enter-element, enter-minus, enter-not, enter-binary, enter-and, enter-or, enter-comma, enter-conditional, enter-assign, enter-compound, enter-increment}
 
@@ -144,5 +145,5 @@ module _ {rows : List ℤ} {bounds : List ℕ} {words row : ℕ} where
   increment-row old o here p n s = known rows bounds row _ n s (increment-tree old o here p) ∙ enter-increment (layoutFrom bounds) n s old o _
 
   -- a row that is no expression
-  pub other-row : Ready rows bounds words row → (k : Kind) → k ≡ kindAt rows row → OneOf others (tag k) → (n : ℕ) (s : List ℤ) → spend (evaluateAt rows bounds row) n s ≡ gives (pos 0) n s
+  pub other-row : Ready rows bounds words row → (k : Kind) → k ≡ kindAmong isExpression (kindAt rows row) → OneOf others (tag k) → (n : ℕ) (s : List ℤ) → spend (evaluateAt rows bounds row) n s ≡ gives (pos 0) n s
   other-row here k e h n s = known rows bounds row _ n s (at-other rows (here .setting .sound .whole) row k e h) ∙ enter-constant (layoutFrom bounds) n s (pos 0)

@@ -20,8 +20,9 @@ use Rattle.language.specs.Trees.{Expression, constant}
 use Rattle.language.specs.Decode.{expressionOf, expressionAt}
 use Rattle.language.specs.DecodeLaws.{Whole, expression-at}
 use Rattle.language.specs.Sound.{isPlace}
+use Rattle.evaluator.specs.Kinds.{isExpression, kindAmong}
 
-clash : {A : Type 0} → false ≡ true → A
+pub clash : {A : Type 0} → false ≡ true → A
 clash e = absurd (let z : _≡_ {A = ℕ} 0 1 = cc in omega arith)
 
 -- ---- an arm that several variants share: the tag is one of theirs
@@ -49,8 +50,8 @@ tag k = tagOf declared.the-type k
 abbrev pub others : List ℕ
 others = 14 ∷ 15 ∷ 16 ∷ 17 ∷ 18 ∷ 19 ∷ 20 ∷ 21 ∷ 22 ∷ 23 ∷ 24 ∷ 25 ∷ 26 ∷ 27 ∷ 28 ∷ []
 
-other-constant : (k : Kind) (word : ℕ → ℤ) (tree : ℕ → Expression) → OneOf others (tag k) → expressionOf k word tree ≡ constant (pos 0)
-unfolding expressionOf
+other-constant : (k : Kind) (word : ℕ → ℤ) (tree : ℕ → Expression) → OneOf others (tag (kindAmong isExpression k)) → expressionOf k word tree ≡ constant (pos 0)
+unfolding expressionOf kindAmong
 other-constant Constant word tree h = absurd (excluded others 0 h refl)
 other-constant Variable word tree h = absurd (excluded others 1 h refl)
 other-constant Element word tree h = absurd (excluded others 2 h refl)
@@ -82,7 +83,7 @@ other-constant Label word tree h = refl
 other-constant Other word tree h = refl
 
 -- a row that is no expression decodes to the constant 0
-pub at-other : (rows : List ℤ) → Whole rows → (row : ℕ) (k : Kind) → k ≡ kindAt rows row → OneOf others (tag k) → expressionAt rows row ≡ constant (pos 0)
+pub at-other : (rows : List ℤ) → Whole rows → (row : ℕ) (k : Kind) → k ≡ kindAmong isExpression (kindAt rows row) → OneOf others (tag k) → expressionAt rows row ≡ constant (pos 0)
 at-other rows whole row k e h = expression-at rows whole row ∙ other-constant (kindAt rows row) (wordAt rows row) _ (rw e at h)
 
 -- ---- a kind that one number alone has
@@ -100,7 +101,7 @@ module _ (wanted m : ℕ) where
   forced true b e t = e
   forced false b e t = clash t
 
-  alone : (ks : List (ℕ × Kind)) (n : ℕ) → only ks ≡ true → eqb (tag Other) wanted ≡ false → eqb (tag (kindIn ks n)) wanted ≡ true → n ≡ m
+  pub alone : (ks : List (ℕ × Kind)) (n : ℕ) → only ks ≡ true → eqb (tag Other) wanted ≡ false → eqb (tag (kindIn ks n)) wanted ≡ true → n ≡ m
   unfolding kindIn
   alone [] n o d t = clash (sym d ∙ t)
   alone (k ∷ ks) n o d t = go (eqb n (k .0)) refl t (λ u. alone ks n (parts .1) d u)

@@ -5,18 +5,18 @@ use super::Position;
 use super::answers::operand;
 use super::answers::position;
 use super::answers::settled;
+use super::kinds::expression_kind_at;
 use super::operations::decides;
 use super::operations::link_at;
+use super::operations::operate;
 use super::operations::update;
 use super::operations::within;
 use words::Kind;
 use words::Operator;
-use words::arithmetic::apply;
 use words::arithmetic::bit;
 use words::arithmetic::is_true;
 use words::arithmetic::logical_not;
 use words::arithmetic::minus as minus_word;
-use words::kinds::kind_at;
 use words::table::number_at;
 use words::table::word_at;
 ghost use mathlib.Core.Path.{_≡_};
@@ -57,7 +57,7 @@ pub fn compute(rows: &[i32], bounds: &[usize], row: usize, store: &mut [i32], le
     requires { ⌜ Ready (now rows) (now bounds) (length (now store)) row ⌝ }
     ensures { λ r. ⌜ answered r (now (left .exit)) (now (store .exit)) ≡ spend (evaluateAt (now (rows .entry)) (now (bounds .entry)) row) (now (left .entry)) (now (store .entry)) ⌝ }
 {
-    let kind = kind_at(rows, row);
+    let kind = expression_kind_at(rows, row);
     match kind {
         Kind::Constant => constant(rows, row),
         Kind::Variable => variable(rows, bounds, row, store),
@@ -75,6 +75,26 @@ pub fn compute(rows: &[i32], bounds: &[usize], row: usize, store: &mut [i32], le
         Kind::Postfix(operator) => increment(rows, bounds, row, operator, true, store, left),
         _ => 0,
     }
+}
+
+// The value of the expression at a row, where it is seldom a constant or a variable: of an expression statement. `compute` has two
+// callers so that it stays a function of the compiled code, and the short `eval` is built into the functions that call it.
+pub fn eval_operation(
+    rows: &[i32],
+    bounds: &[usize],
+    row: usize,
+    store: &mut [i32],
+    left: &mut u32,
+) -> i64
+    requires { ⌜ Ready (now rows) (now bounds) (length (now store)) row ⌝ }
+    ensures { λ r. ⌜ answered r (now (left .exit)) (now (store .exit)) ≡ spend (valueAt (now (rows .entry)) (now (bounds .entry)) row) (now (left .entry)) (now (store .entry)) ⌝ }
+{
+    let n = *left;
+    if n == 0 {
+        return 2147483648;
+    }
+    *left = n - 1;
+    compute(rows, bounds, row, store, left)
 }
 
 // A constant's row, entered.
@@ -183,7 +203,7 @@ fn binary(
     let Operand::Value(value) = first else {
         return q;
     };
-    settled(apply(operator, value, right))
+    operate(operator, value, right)
 }
 
 // And, or: the left operand decides where it is false, or true.

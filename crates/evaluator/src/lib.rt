@@ -2,6 +2,7 @@
 // is the value, and 2147483648 and the three numbers behind it say why the run stops.
 pub mod answers; // answers.rt: what an answer says
 pub mod expressions; // expressions.rt: evaluation by recursion down links
+pub mod kinds; // kinds.rt: the kind of an expression's row
 pub mod operations; // operations.rt: what an evaluation does without entering a row
 
 // What an operand comes to: its value, or the run stops there.

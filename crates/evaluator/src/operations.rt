@@ -5,19 +5,25 @@ use words::Computed;
 use words::FaultSort;
 use words::Located;
 use words::Operator;
+use words::arithmetic::add;
 use words::arithmetic::apply;
+use words::arithmetic::bit;
+use words::arithmetic::divide;
 use words::arithmetic::element;
 use words::arithmetic::is_true;
+use words::arithmetic::multiply;
+use words::arithmetic::remainder;
+use words::arithmetic::subtract;
 ghost use mathlib.Core.Path.{_≡_};
 ghost use mathlib.Core.Bool.{not};
 ghost use Prim.Native.Nat.{ℕ, _+_, _*_, _-_, _<_};
 ghost use lib.ListN.{length, getD};
 ghost use Rattle.words.specs.Word.{pick};
 ghost use Rattle.words.specs.Table.{numberAt};
-ghost use Rattle.words.specs.Arithmetic.{isTrue, element as elementOf};
+ghost use Rattle.words.specs.Arithmetic.{isTrue, apply as applyOf, element as elementOf};
 ghost use Rattle.computation.specs.Remaining.{spend};
 ghost use Rattle.language.specs.Meaning.{update as updateOf, oldValue, newValue};
-ghost use Rattle.evaluator.specs.Answers.{answered, Places};
+ghost use Rattle.evaluator.specs.Answers.{answered, Settles, Places};
 ghost use Rattle.evaluator.specs.Ready.{Bounded};
 
 // A field that is no negative word, as the number it names.
@@ -49,6 +55,26 @@ pub fn within(bounds: &[usize], array: usize, index: i32) -> i64
     match located {
         Located::At(at) => at as i64,
         Located::Outside => fault(FaultSort::Index),
+    }
+}
+
+// The answer of an operation: kinds 6 to 16. This is for `binary` alone, so that the compiler builds it in: what `apply` gives would
+// come back through memory.
+pub fn operate(operator: Operator, left: i32, right: i32) -> i64
+    ensures { λ r. ⌜ Settles r (applyOf operator left right) ⌝ }
+{
+    match operator {
+        Operator::Add => settled(add(left, right)),
+        Operator::Subtract => settled(subtract(left, right)),
+        Operator::Multiply => settled(multiply(left, right)),
+        Operator::Divide => settled(divide(left, right)),
+        Operator::Remainder => settled(remainder(left, right)),
+        Operator::Less => bit(left < right) as i64,
+        Operator::Greater => bit(right < left) as i64,
+        Operator::LessOrEqual => bit(left <= right) as i64,
+        Operator::GreaterOrEqual => bit(right <= left) as i64,
+        Operator::Equal => bit(left == right) as i64,
+        Operator::NotEqual => bit(left != right) as i64,
     }
 }
 

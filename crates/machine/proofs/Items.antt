@@ -1,17 +1,17 @@
 -- Items: the items of a list by the rows that hold them: the item at a row, the list behind it, and the search for a mark.
 use mathlib.Core.Path.{_≡_, refl, sym, ap, _∙_}
-use mathlib.Core.Bool.{true, false, _||_}
-use mathlib.Core.List.{List, [], _∷_}
+use mathlib.Core.Bool.{Bool, true, false, _||_}
+use mathlib.Core.List.{List}
 use Prim.Native.Nat.{ℕ, zero, suc, _+_, _*_, _-_, _^_, _<_, _≤_}
 use native.Mathlib.Omega.{arith}
-use borrow.Author.Tests.{lt-ltb, le-ltb}
+use borrow.Author.Tests.{lt-ltb, le-ltb, eq-eqb, eqb-true}
+use lib.Dec.{eqb}
 use lib.IntN.{ℤ}
 use lib.Signed.{mag}
 use lib.ListN.{length}
-use types.Run.{OneOf}
 use Rattle.words.specs.Word.{natural, pick}
 use Rattle.words.specs.Table.{rowCount, wordAt, numberAt}
-use Rattle.words.specs.Kinds.{kindAt}
+use Rattle.words.specs.Kinds.{kinds, kindIn, kindOf, kindAt}
 use Rattle.words.specs.Layout.{Layout}
 use Rattle.words.specs.declared.Kind.{Kind}
 use Rattle.words.specs.declared.Kind.the-variants.{Constant, Variable, Element, Minus, Not, Binary, And, Or, Conditional, Comma, Assign, Compound, Prefix, Postfix, Empty, Express, Block, If, While, Do, For, Switch, Case, Default, Break, Continue, Goto, Label, Other}
@@ -21,7 +21,7 @@ use Rattle.language.specs.Decode.{later, statementOf, itemsOf, statementAt, ite
 use Rattle.language.specs.DecodeLaws.{Forward, listAt, statement-at, items-at}
 use Rattle.language.specs.Meaning.{Signal, next, seeking, items, exec}
 use Rattle.evaluator.proofs.Decoding.{handed}
-use Rattle.evaluator.proofs.Tags.{excluded, tag}
+use Rattle.evaluator.proofs.Tags.{clash, tag, alone}
 use Rattle.machine.specs.Flows.{flowOf, ran}
 use Rattle.machine.specs.Lists.{marks, from, startOf, InTable, Finds, Starts, Resumes, continued}
 use Rattle.machine.specs.declared.Flow.the-variants.{Next as FlowNext, Break as FlowBreak, Continue as FlowContinue, Goto as FlowGoto, Halted}
@@ -213,25 +213,40 @@ ahead-falls count zero r z h g = absurd (z refl)
 ahead-falls count (suc row) zero z h g = omega arith
 ahead-falls count (suc row) (suc r) z h g = let q = g (omega arith) in omega arith
 
--- ---- an arm that all kinds but one share
+-- ---- marks by their numbers
 
-abbrev but-case : List ℕ
-but-case = 0 ∷ 1 ∷ 2 ∷ 3 ∷ 4 ∷ 5 ∷ 6 ∷ 7 ∷ 8 ∷ 9 ∷ 10 ∷ 11 ∷ 12 ∷ 13 ∷ 14 ∷ 15 ∷ 16 ∷ 17 ∷ 18 ∷ 19 ∷ 20 ∷ 21 ∷ 23 ∷ 24 ∷ 25 ∷ 26 ∷ 27 ∷ 28 ∷ []
+pub case-number : (rows : List ℤ) (row : ℕ) → kindAt rows row ≡ Case → numberAt rows row 0 ≡ 48
+unfolding kindAt kindOf kinds
+case-number rows row e = alone 22 48 kinds (numberAt rows row 0) refl refl (ap (λ (k : Kind). eqb (tag k) 22) e)
 
-pub no-case : (k : Kind) → OneOf but-case (tag k) → k ≡ Case → ⊥
-no-case k h e = excluded but-case 22 (rw e at h) refl
+pub number-case : (rows : List ℤ) (row n : ℕ) → n ≡ numberAt rows row 0 → n ≡ 48 → kindAt rows row ≡ Case
+unfolding kindAt kindOf kindIn kinds
+number-case rows row n p e = rw (← p, e)
 
-abbrev but-default : List ℕ
-but-default = 0 ∷ 1 ∷ 2 ∷ 3 ∷ 4 ∷ 5 ∷ 6 ∷ 7 ∷ 8 ∷ 9 ∷ 10 ∷ 11 ∷ 12 ∷ 13 ∷ 14 ∷ 15 ∷ 16 ∷ 17 ∷ 18 ∷ 19 ∷ 20 ∷ 21 ∷ 22 ∷ 24 ∷ 25 ∷ 26 ∷ 27 ∷ 28 ∷ []
+pub default-number : (rows : List ℤ) (row : ℕ) → kindAt rows row ≡ Default → numberAt rows row 0 ≡ 49
+unfolding kindAt kindOf kinds
+default-number rows row e = alone 23 49 kinds (numberAt rows row 0) refl refl (ap (λ (k : Kind). eqb (tag k) 23) e)
 
-pub no-default : (k : Kind) → OneOf but-default (tag k) → k ≡ Default → ⊥
-no-default k h e = excluded but-default 23 (rw e at h) refl
+pub number-default : (rows : List ℤ) (row n : ℕ) → n ≡ numberAt rows row 0 → n ≡ 49 → kindAt rows row ≡ Default
+unfolding kindAt kindOf kindIn kinds
+number-default rows row n p e = rw (← p, e)
 
-abbrev but-label : List ℕ
-but-label = 0 ∷ 1 ∷ 2 ∷ 3 ∷ 4 ∷ 5 ∷ 6 ∷ 7 ∷ 8 ∷ 9 ∷ 10 ∷ 11 ∷ 12 ∷ 13 ∷ 14 ∷ 15 ∷ 16 ∷ 17 ∷ 18 ∷ 19 ∷ 20 ∷ 21 ∷ 22 ∷ 23 ∷ 24 ∷ 25 ∷ 26 ∷ 28 ∷ []
+pub label-number : (rows : List ℤ) (row : ℕ) → kindAt rows row ≡ Label → numberAt rows row 0 ≡ 53
+unfolding kindAt kindOf kinds
+label-number rows row e = alone 27 53 kinds (numberAt rows row 0) refl refl (ap (λ (k : Kind). eqb (tag k) 27) e)
 
-pub no-label : (k : Kind) → OneOf but-label (tag k) → k ≡ Label → ⊥
-no-label k h e = excluded but-label 27 (rw e at h) refl
+pub number-label : (rows : List ℤ) (row n : ℕ) → n ≡ numberAt rows row 0 → n ≡ 53 → kindAt rows row ≡ Label
+unfolding kindAt kindOf kindIn kinds
+number-label rows row n p e = rw (← p, e)
+
+-- the test for a default
+module _ {rows : List ℤ} {row : ℕ} (item : InTable rows row) {n : ℕ} (p : n ≡ numberAt rows row 0) where
+  pub default-test : eqb n 49 ≡ marks default (itemsAt rows row)
+  default-test = by (eqb n 49) refl
+    where
+      by : (b : Bool) → eqb n 49 ≡ b → b ≡ marks default (itemsAt rows row)
+      by true e = sym (default-is item (number-default rows row n p (eqb-true n 49 e)))
+      by false e = sym (default-not item (λ k. clash (sym e ∙ eq-eqb n 49 (p ∙ default-number rows row k))))
 
 -- ---- what the searches give
 

@@ -16,10 +16,11 @@ use Rattle.words.specs.declared.Kind.the-variants.{Constant, Variable, Element,
 use Rattle.computation.specs.Remaining.{Rest, gives, onward, spend}
 use Rattle.language.specs.Trees.{Expression, present, label, Statement, empty, express, block, ifThen, ifElse, while, doWhile, for, switch, Items}
 use Rattle.language.specs.Decode.{statementOf, expressionAt, statementAt}
-use Rattle.language.specs.DecodeLaws.{listAt, partAt, statement-at, at-express, at-block, at-ifThen, at-ifElse, at-while, at-doWhile, at-for, at-switch, at-break, at-continue, at-goto}
+use Rattle.language.specs.DecodeLaws.{listAt, partAt, isStatement, statement-at, at-express, at-block, at-ifThen, at-ifElse, at-while, at-doWhile, at-for, at-switch, at-break, at-continue, at-goto}
 use Rattle.language.specs.Meaning.{Signal, next, breaking, continuing, seeking, perform, items, afterSwitch}
 use Rattle.language.specs.Sound.{OptionalLink}
 use Rattle.evaluator.specs.Bounds.{layoutFrom}
+use Rattle.evaluator.specs.Kinds.{kindAmong}
 use Rattle.evaluator.specs.Ready.{Ready, Entered}
 use Rattle.evaluator.specs.Rows.{valueAt}
 use Rattle.evaluator.proofs.Enter.{onward-same}
@@ -62,8 +63,8 @@ abbrev pub idle : List ℕ
 idle = 0 ∷ 1 ∷ 2 ∷ 3 ∷ 4 ∷ 5 ∷ 6 ∷ 7 ∷ 8 ∷ 9 ∷ 10 ∷ 11 ∷ 12 ∷ 13 ∷ 14 ∷ 22 ∷ 23 ∷ 27 ∷ 28 ∷ []
 
 module _ (word : ℕ → ℤ) (e : ℕ → Expression) (st : ℕ → Statement) (it : ℕ → Items) where
-  idle-empty : (k : Kind) → OneOf idle (tag k) → statementOf k word e st it ≡ empty
-  unfolding statementOf
+  idle-empty : (k : Kind) → OneOf idle (tag (kindAmong isStatement k)) → statementOf k word e st it ≡ empty
+  unfolding statementOf kindAmong
   idle-empty Constant h = refl
   idle-empty Variable h = refl
   idle-empty Element h = refl
@@ -193,6 +194,6 @@ module _ {rows : List ℤ} {bounds : List ℕ} {words row : ℕ} where
   goto-row here n s = known rows bounds row _ n s (at-goto rows (whole here) row (here .kind-is)) ∙ enter-goto (layoutFrom bounds) n s _
 
   -- a row that does nothing
-  pub idle-row : Ready rows bounds words row → (k : Kind) → k ≡ kindAt rows row → OneOf idle (tag k) → (n : ℕ) (s : List ℤ) → spend (performAt rows bounds row) n s ≡ gives next n s
+  pub idle-row : Ready rows bounds words row → (k : Kind) → k ≡ kindAmong isStatement (kindAt rows row) → OneOf idle (tag k) → (n : ℕ) (s : List ℤ) → spend (performAt rows bounds row) n s ≡ gives next n s
   idle-row here k e h n s =
       known rows bounds row empty n s (statement-at rows (here .setting .sound .whole) row ∙ idle-empty _ _ _ _ (kindAt rows row) (rw e at h)) ∙ enter-empty (layoutFrom bounds) n s

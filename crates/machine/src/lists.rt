@@ -3,8 +3,6 @@ use super::Flow;
 use super::Mark;
 use super::flows::flow;
 use evaluator::operations::link_at;
-use words::Kind;
-use words::kinds::kind_at;
 use words::table::number_at;
 use words::table::word_at;
 ghost use mathlib.Core.Path.{_≡_};
@@ -12,7 +10,8 @@ ghost use Rattle.language.specs.Trees.{case as caseOf, default as defaultOf, la
 ghost use Rattle.language.specs.Decode.{itemsAt};
 ghost use Rattle.machine.specs.Lists.{markOf, marks, InTable, Finds, Starts, Resumes};
 
-// Whether the item at a row is this mark.
+// Whether the item at a row is this mark. A search passes many rows, so the tests go by the number of the kind: 48 a case, 49 a
+// default, 53 a label.
 fn is_mark(rows: &[i32], row: usize, mark: Mark) -> bool
     requires { ⌜ InTable (now rows) row ⌝ }
     ensures { λ r. ⌜ r ≡ marks (markOf mark) (itemsAt (now (rows .entry)) row) ⌝ }
@@ -28,33 +27,29 @@ fn is_case(rows: &[i32], row: usize, value: i32) -> bool
     requires { ⌜ InTable (now rows) row ⌝ }
     ensures { λ r. ⌜ r ≡ marks (caseOf value) (itemsAt (now (rows .entry)) row) ⌝ }
 {
-    let kind = kind_at(rows, row);
-    let Kind::Case = kind else {
-        return false;
-    };
-    value == word_at(rows, row, 1)
+    let number = number_at(rows, row, 0);
+    if number == 48 {
+        return value == word_at(rows, row, 1);
+    }
+    false
 }
 
 fn is_default(rows: &[i32], row: usize) -> bool
     requires { ⌜ InTable (now rows) row ⌝ }
     ensures { λ r. ⌜ r ≡ marks defaultOf (itemsAt (now (rows .entry)) row) ⌝ }
 {
-    let kind = kind_at(rows, row);
-    let Kind::Default = kind else {
-        return false;
-    };
-    true
+    number_at(rows, row, 0) == 49
 }
 
 fn is_label(rows: &[i32], row: usize, label: usize) -> bool
     requires { ⌜ InTable (now rows) row ⌝ }
     ensures { λ r. ⌜ r ≡ marks (labelOf label) (itemsAt (now (rows .entry)) row) ⌝ }
 {
-    let kind = kind_at(rows, row);
-    let Kind::Label = kind else {
-        return false;
-    };
-    label == number_at(rows, row, 1)
+    let number = number_at(rows, row, 0);
+    if number == 53 {
+        return label == number_at(rows, row, 1);
+    }
+    false
 }
 
 // The first item from `first` on that is the mark, or 0.

@@ -4,15 +4,16 @@ use super::flows::after_body;
 use super::flows::after_switch;
 use super::flows::flow;
 use super::flows::jump;
+use super::kinds::statement_kind_at;
 use super::lists::find_start;
 use super::lists::resume;
 use evaluator::Operand;
 use evaluator::answers::operand;
 use evaluator::expressions::eval;
+use evaluator::expressions::eval_operation;
 use evaluator::operations::link_at;
 use words::Kind;
 use words::arithmetic::is_true;
-use words::kinds::kind_at;
 use words::table::word_at;
 ghost use mathlib.Core.Path.{_≡_};
 ghost use lib.ListN.{length};
@@ -46,7 +47,7 @@ fn express(rows: &[i32], bounds: &[usize], row: usize, store: &mut [i32], left: 
     requires { ⌜ Entered (now rows) (now bounds) (length (now store)) row kinds.Kind.Express ⌝ }
     ensures { λ r. ⌜ ran r (now (left .exit)) (now (store .exit)) ≡ spend (performAt (now (rows .entry)) (now (bounds .entry)) row) (now (left .entry)) (now (store .entry)) ⌝ }
 {
-    let r = eval(rows, bounds, link_at(rows, row, 1), store, left);
+    let r = eval_operation(rows, bounds, link_at(rows, row, 1), store, left);
     let value = operand(r);
     let Operand::Value(_) = value else {
         return r;
@@ -78,7 +79,7 @@ fn perform(rows: &[i32], bounds: &[usize], row: usize, store: &mut [i32], left: 
     requires { ⌜ Ready (now rows) (now bounds) (length (now store)) row ⌝ }
     ensures { λ r. ⌜ ran r (now (left .exit)) (now (store .exit)) ≡ spend (performAt (now (rows .entry)) (now (bounds .entry)) row) (now (left .entry)) (now (store .entry)) ⌝ }
 {
-    let kind = kind_at(rows, row);
+    let kind = statement_kind_at(rows, row);
     match kind {
         Kind::Express => express(rows, bounds, row, store, left),
         Kind::Block => run_list(rows, bounds, link_at(rows, row, 1), store, left),

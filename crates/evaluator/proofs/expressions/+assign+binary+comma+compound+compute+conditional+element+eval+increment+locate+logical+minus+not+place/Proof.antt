@@ -65,10 +65,10 @@ pub +assign+binary+comma+compound+compute+conditional+element+eval+increment+loc
 +assign+binary+comma+compound+compute+conditional+element+eval+increment+locate+logical+minus+not+place-spec =
     close μ-assign μ-binary μ-comma μ-compound μ-compute μ-conditional μ-element μ-eval μ-increment μ-locate μ-logical μ-minus μ-not μ-place
     (λ t. assign-lts.spec (assign-claims t) (assign-at t) assign-reads.Post (assign.link-at-requires t) (assign.eval-requires t) (assign.operand-requires t) (assign.enum-known-second t) (assign.enum-told t) (assign.same-length t) (assign.returns t) (assign.link-at-requires-2 t) (assign.place-requires t) (assign.position-requires t) (assign.enum-known-first t) (assign.enum-told-2 t) (assign.same-length-2 t) (assign.returns-2 t) (assign.mul-value t) (assign.slice-set-from-value t) (assign.same-length-3 t) (assign.returns-3 t))
-    (λ t. binary-lts.spec (binary-claims t) (binary-at t) binary-reads.Post (binary.link-at-requires t) (binary.eval-requires t) (binary.operand-requires t) (binary.enum-known-second t) (binary.enum-told t) (binary.same-length t) (binary.returns t) (binary.link-at-requires-2 t) (binary.eval-requires-2 t) (binary.operand-requires-2 t) (binary.enum-known-first t) (binary.enum-told-2 t) (binary.same-length-2 t) (binary.returns-2 t) (binary.apply-requires t) (binary.settled-requires t) (binary.same-length-3 t) (binary.returns-3 t))
+    (λ t. binary-lts.spec (binary-claims t) (binary-at t) binary-reads.Post (binary.link-at-requires t) (binary.eval-requires t) (binary.operand-requires t) (binary.enum-known-second t) (binary.enum-told t) (binary.same-length t) (binary.returns t) (binary.link-at-requires-2 t) (binary.eval-requires-2 t) (binary.operand-requires-2 t) (binary.enum-known-first t) (binary.enum-told-2 t) (binary.same-length-2 t) (binary.returns-2 t) (binary.operate-requires t) (binary.same-length-3 t) (binary.returns-3 t))
     (λ t. comma-lts.spec (comma-claims t) (comma-at t) comma-reads.Post (comma.link-at-requires t) (comma.eval-requires t) (comma.operand-requires t) (comma.enum-told t) (comma.enum-told-2 t) (comma.same-length t) (comma.returns t) (comma.link-at-requires-2 t) (comma.eval-requires-2 t) (comma.same-length-2 t) (comma.returns-2 t))
     (λ t. compound-lts.spec (compound-claims t) (compound-at t) compound-reads.Post (compound.link-at-requires t) (compound.eval-requires t) (compound.operand-requires t) (compound.enum-known-second t) (compound.enum-told t) (compound.same-length t) (compound.returns t) (compound.link-at-requires-2 t) (compound.place-requires t) (compound.position-requires t) (compound.enum-known-first t) (compound.enum-told-2 t) (compound.same-length-2 t) (compound.returns-2 t) (compound.update-requires t) (compound.same-length-3 t) (compound.returns-3 t))
-    (λ t. compute-lts.spec (compute-claims t) (compute-at t) compute-reads.Post (compute.kind-at-requires t) (compute.enum-told t) (compute.constant-requires t) (compute.enum-told-2 t) (compute.variable-requires t) (compute.enum-told-3 t) (compute.element-requires t) (compute.enum-told-4 t) (compute.minus-requires t) (compute.enum-told-5 t) (compute.not-requires t) (compute.enum-known-kind t) (compute.binary-requires t) (compute.enum-told-6 t) (compute.logical-requires t) (compute.enum-told-7 t) (compute.logical-requires-2 t) (compute.enum-told-8 t) (compute.conditional-requires t) (compute.enum-told-9 t) (compute.comma-requires t) (compute.enum-told-10 t) (compute.assign-requires t) (compute.enum-known-kind-2 t) (compute.compound-requires t) (compute.enum-known-kind-3 t) (compute.increment-requires t) (compute.enum-known-kind-4 t) (compute.increment-requires-2 t) (compute.returns t) (compute.same-length t) (compute.returns-2 t) (compute.same-length-2 t) (compute.returns-3 t) (compute.same-length-3 t) (compute.returns-4 t) (compute.same-length-4 t) (compute.returns-5 t) (compute.same-length-5 t) (compute.returns-6 t) (compute.same-length-6 t) (compute.returns-7 t) (compute.same-length-7 t) (compute.returns-8 t) (compute.same-length-8 t) (compute.returns-9 t) (compute.same-length-9 t) (compute.returns-10 t) (compute.same-length-10 t) (compute.returns-11 t) (compute.same-length-11 t) (compute.returns-12 t) (compute.same-length-12 t) (compute.returns-13 t) (compute.same-length-13 t) (compute.returns-14 t) (compute.returns-15 t))
+    (λ t. compute-lts.spec (compute-claims t) (compute-at t) compute-reads.Post (compute.expression-kind-at-requires t) (compute.enum-told t) (compute.constant-requires t) (compute.enum-told-2 t) (compute.variable-requires t) (compute.enum-told-3 t) (compute.element-requires t) (compute.enum-told-4 t) (compute.minus-requires t) (compute.enum-told-5 t) (compute.not-requires t) (compute.enum-known-kind t) (compute.binary-requires t) (compute.enum-told-6 t) (compute.logical-requires t) (compute.enum-told-7 t) (compute.logical-requires-2 t) (compute.enum-told-8 t) (compute.conditional-requires t) (compute.enum-told-9 t) (compute.comma-requires t) (compute.enum-told-10 t) (compute.assign-requires t) (compute.enum-known-kind-2 t) (compute.compound-requires t) (compute.enum-known-kind-3 t) (compute.increment-requires t) (compute.enum-known-kind-4 t) (compute.increment-requires-2 t) (compute.returns t) (compute.same-length t) (compute.returns-2 t) (compute.same-length-2 t) (compute.returns-3 t) (compute.same-length-3 t) (compute.returns-4 t) (compute.same-length-4 t) (compute.returns-5 t) (compute.same-length-5 t) (compute.returns-6 t) (compute.same-length-6 t) (compute.returns-7 t) (compute.same-length-7 t) (compute.returns-8 t) (compute.same-length-8 t) (compute.returns-9 t) (compute.same-length-9 t) (compute.returns-10 t) (compute.same-length-10 t) (compute.returns-11 t) (compute.same-length-11 t) (compute.returns-12 t) (compute.same-length-12 t) (compute.returns-13 t) (compute.same-length-13 t) (compute.returns-14 t) (compute.returns-15 t))
     (λ t. conditional-lts.spec (conditional-claims t) (conditional-at t) conditional-reads.Post (conditional.link-at-requires t) (conditional.eval-requires t) (conditional.operand-requires t) (conditional.enum-known-test t) (conditional.enum-told t) (conditional.same-length t) (conditional.returns t) (conditional.is-true-requires t) (conditional.link-at-requires-2 t) (conditional.eval-requires-2 t) (conditional.same-length-2 t) (conditional.returns-2 t) (conditional.link-at-requires-3 t) (conditional.eval-requires-3 t) (conditional.same-length-3 t) (conditional.returns-3 t))
     (λ t. element-lts.spec (element-claims t) (element-at t) element-reads.Post (element.locate-requires t) (element.position-requires t) (element.enum-known-place t) (element.enum-told t) (element.same-length t) (element.returns t) (element.mul-result t) (element.slice-copy-out-result t) (element.cast-result t) (element.same-length-2 t) (element.returns-2 t))
     (λ t. eval-lts.spec (eval-claims t) (eval-at t) eval-reads.Post (eval.returns t) (eval.sub-left t) (eval.number-at-requires t) (eval.constant-requires t) (eval.returns-2 t) (eval.variable-requires t) (eval.same-length t) (eval.returns-3 t) (eval.compute-requires t) (eval.same-length-2 t) (eval.returns-4 t))

@@ -1,35 +1,31 @@
--- `is_case` tests the kind, and then the value by its bits.
+-- `is_case` tests the kind by its number, and then the value by its bits.
 use mathlib.Core.Path.{sym, ap, _∙_}
 use Rattle.words.specs.Word.{sameWord}
 use Rattle.words.specs.Laws.{sameWord-bits}
 use Rattle.language.specs.Trees.{sameMark}
-use Rattle.machine.proofs.Items.{case-is, case-not, no-case}
+use Rattle.machine.proofs.Items.{case-is, case-not, case-number, number-case}
 use borrow.Author.Needs.{needs}
 use Rattle.machine.proofs.lists.is_case.Statement.{statement}
 use Rattle.machine.proofs.lists.is_case.Tie as tie
 
-kind-at-requires : tie.Need-kind-at-requires
-kind-at-requires c κs = search needs
-
-enum-told : tie.Need-enum-told
-enum-told c = search needs
-
-returns : tie.Need-returns
-returns c =
-    let start = c .before .before in
-    let past-kind-at = c .before .kind-at in
-    sym (case-not (start .pre) (start .args .value) (λ e. no-case (past-kind-at .result) (c .match .keys2) (past-kind-at .ensures ∙ e)))
+number-at-requires : tie.Need-number-at-requires
+number-at-requires c κs = search needs
 
 word-at-requires : tie.Need-word-at-requires
 word-at-requires c κs = search needs
 
-returns-2 : tie.Need-returns-2
+returns : tie.Need-returns
 unfolding sameMark
-returns-2 c =
-    let start = c .before .before .before .before in
-    let past-kind-at = c .before .before .before .kind-at in
+returns c =
+    let start = c .before .before .before in
+    let past-number-at = c .before .before .number-at in
     sameWord-bits (start .args .value) (c .word-at .result) (start .fits .value .sfits) (c .word-at .ok) ∙ ap (sameWord (start .args .value)) (c .word-at .ensures)
-    ∙ sym (case-is (start .pre) (start .args .value) (sym (past-kind-at .ensures) ∙ c .before .enum-told .given .1))
+    ∙ sym (case-is (start .pre) (start .args .value) (number-case _ _ _ (past-number-at .ensures) (c .before .if1 .taken)))
+
+returns-2 : tie.Need-returns-2
+returns-2 c =
+    let start = c .before .before in
+    sym (case-not (start .pre) (start .args .value) (λ e. c .if1 .left (c .before .number-at .ensures ∙ case-number _ _ e)))
 
 pub is-case-spec : {M : Type 1} → statement M
-is-case-spec = tie.close (tie.spec kind-at-requires enum-told returns word-at-requires returns-2)
+is-case-spec = tie.close (tie.spec number-at-requires word-at-requires returns returns-2)

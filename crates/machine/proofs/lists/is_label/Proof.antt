@@ -1,34 +1,30 @@
--- `is_label` tests the kind, and then the number.
+-- `is_label` tests the kind by its number, and then the label's number.
 use mathlib.Core.Path.{sym, ap, _∙_}
 use lib.Dec.{eqb}
 use Rattle.language.specs.Trees.{sameMark}
-use Rattle.machine.proofs.Items.{label-is, label-not, no-label}
+use Rattle.machine.proofs.Items.{label-is, label-not, label-number, number-label}
 use borrow.Author.Needs.{needs}
 use Rattle.machine.proofs.lists.is_label.Statement.{statement}
 use Rattle.machine.proofs.lists.is_label.Tie as tie
 
-kind-at-requires : tie.Need-kind-at-requires
-kind-at-requires c κs = search needs
-
-enum-told : tie.Need-enum-told
-enum-told c = search needs
-
-returns : tie.Need-returns
-returns c =
-    let start = c .before .before in
-    let past-kind-at = c .before .kind-at in
-    sym (label-not (start .pre) (start .args .label) (λ e. no-label (past-kind-at .result) (c .match .keys2) (past-kind-at .ensures ∙ e)))
-
 number-at-requires : tie.Need-number-at-requires
 number-at-requires c κs = search needs
 
-returns-2 : tie.Need-returns-2
+number-at-requires-2 : tie.Need-number-at-requires-2
+number-at-requires-2 c κs = search needs
+
+returns : tie.Need-returns
 unfolding sameMark
+returns c =
+    let start = c .before .before .before in
+    let past-number-at = c .before .before .number-at in
+    ap (eqb (start .args .label)) (c .number-at2 .ensures) ∙ sym (label-is (start .pre) (start .args .label) (number-label _ _ _ (past-number-at .ensures) (c .before .if1 .taken)))
+
+returns-2 : tie.Need-returns-2
 returns-2 c =
-    let start = c .before .before .before .before in
-    let past-kind-at = c .before .before .before .kind-at in
-    ap (eqb (start .args .label)) (c .number-at .ensures) ∙ sym (label-is (start .pre) (start .args .label) (sym (past-kind-at .ensures) ∙ c .before .enum-told .given .1))
+    let start = c .before .before in
+    sym (label-not (start .pre) (start .args .label) (λ e. c .if1 .left (c .before .number-at .ensures ∙ label-number _ _ e)))
 
 pub is-label-spec : {M : Type 1} → statement M
 is-label-spec =
-    tie.close (tie.spec kind-at-requires enum-told returns number-at-requires returns-2)
+    tie.close (tie.spec number-at-requires number-at-requires-2 returns returns-2)

@@ -49,7 +49,7 @@ pub +do-round+perform+round+run-do+run-for+run-if+run-list+run-rounds+run-statem
 +do-round+perform+round+run-do+run-for+run-if+run-list+run-rounds+run-statement+run-switch-spec =
     close μ-do-round μ-perform μ-round μ-run-do μ-run-for μ-run-if μ-run-list μ-run-rounds μ-run-statement μ-run-switch
     (λ t. do-round-lts.spec (do-round-claims t) (do-round-at t) do-round-reads.Post (do-round.run-statement-requires t) (do-round.after-body-requires t) (do-round.flow-requires t) (do-round.enum-told t) (do-round.same-length t) (do-round.returns t) (do-round.eval-requires t) (do-round.operand-requires t) (do-round.enum-known-tested t) (do-round.enum-told-2 t) (do-round.same-length-2 t) (do-round.returns-2 t) (do-round.is-true-requires t) (do-round.same-length-3 t) (do-round.returns-3 t) (do-round.same-length-4 t) (do-round.returns-4 t))
-    (λ t. perform-lts.spec (perform-claims t) (perform-at t) perform-reads.Post (perform.kind-at-requires t) (perform.enum-told t) (perform.express-requires t) (perform.enum-told-2 t) (perform.link-at-requires t) (perform.run-list-requires t) (perform.enum-told-3 t) (perform.run-if-requires t) (perform.enum-told-4 t) (perform.link-at-requires-2 t) (perform.link-at-requires-3 t) (perform.run-rounds-requires t) (perform.enum-told-5 t) (perform.link-at-requires-4 t) (perform.link-at-requires-5 t) (perform.run-do-requires t) (perform.enum-told-6 t) (perform.run-for-requires t) (perform.enum-told-7 t) (perform.run-switch-requires t) (perform.enum-told-8 t) (perform.enum-told-9 t) (perform.enum-told-10 t) (perform.word-at-requires t) (perform.jump-requires t) (perform.same-length t) (perform.returns t) (perform.same-length-2 t) (perform.returns-2 t) (perform.same-length-3 t) (perform.returns-3 t) (perform.same-length-4 t) (perform.returns-4 t) (perform.same-length-5 t) (perform.returns-5 t) (perform.same-length-6 t) (perform.returns-6 t) (perform.same-length-7 t) (perform.returns-7 t) (perform.returns-8 t) (perform.returns-9 t) (perform.returns-10 t) (perform.returns-11 t))
+    (λ t. perform-lts.spec (perform-claims t) (perform-at t) perform-reads.Post (perform.statement-kind-at-requires t) (perform.enum-told t) (perform.express-requires t) (perform.enum-told-2 t) (perform.link-at-requires t) (perform.run-list-requires t) (perform.enum-told-3 t) (perform.run-if-requires t) (perform.enum-told-4 t) (perform.link-at-requires-2 t) (perform.link-at-requires-3 t) (perform.run-rounds-requires t) (perform.enum-told-5 t) (perform.link-at-requires-4 t) (perform.link-at-requires-5 t) (perform.run-do-requires t) (perform.enum-told-6 t) (perform.run-for-requires t) (perform.enum-told-7 t) (perform.run-switch-requires t) (perform.enum-told-8 t) (perform.enum-told-9 t) (perform.enum-told-10 t) (perform.word-at-requires t) (perform.jump-requires t) (perform.same-length t) (perform.returns t) (perform.same-length-2 t) (perform.returns-2 t) (perform.same-length-3 t) (perform.returns-3 t) (perform.same-length-4 t) (perform.returns-4 t) (perform.same-length-5 t) (perform.returns-5 t) (perform.same-length-6 t) (perform.returns-6 t) (perform.same-length-7 t) (perform.returns-7 t) (perform.returns-8 t) (perform.returns-9 t) (perform.returns-10 t) (perform.returns-11 t))
     (λ t. round-lts.spec (round-claims t) (round-at t) round-reads.Post (round.part-requires t) (round.operand-requires t) (round.enum-known-tested t) (round.enum-told t) (round.same-length t) (round.returns t) (round.is-true-requires t) (round.same-length-2 t) (round.returns-2 t) (round.run-statement-requires t) (round.after-body-requires t) (round.flow-requires t) (round.enum-told-2 t) (round.same-length-3 t) (round.returns-3 t) (round.part-requires-2 t) (round.operand-requires-2 t) (round.enum-told-3 t) (round.enum-told-4 t) (round.same-length-4 t) (round.returns-4 t) (round.same-length-5 t) (round.returns-5 t))
     (λ t. run-do-lts.spec (run-do-claims t) (run-do-at t) run-do-reads.Post run-do-Inv-loop run-do-μ-loop (run-do.loop-holds t) (run-do.do-round-requires t) (run-do.flow-requires t) (run-do.enum-told t) (run-do.loop-less t) (run-do.loop-again t) (run-do.same-length t) (run-do.returns t))
     (λ t. run-for-lts.spec (run-for-claims t) (run-for-at t) run-for-reads.Post (run-for.link-at-requires t) (run-for.part-requires t) (run-for.operand-requires t) (run-for.enum-told t) (run-for.enum-told-2 t) (run-for.same-length t) (run-for.returns t) (run-for.link-at-requires-2 t) (run-for.link-at-requires-3 t) (run-for.link-at-requires-4 t) (run-for.run-rounds-requires t) (run-for.same-length-2 t) (run-for.returns-2 t))

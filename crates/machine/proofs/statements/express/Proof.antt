@@ -14,8 +14,8 @@ link-at-requires c κs =
     let here = c .before .pre in
     link-asks (here .ready) (sound-row here) (omega arith)
 
-eval-requires : tie.Need-eval-requires
-eval-requires c κs =
+eval-operation-requires : tie.Need-eval-operation-requires
+eval-operation-requires c κs =
     let here = c .before .before .before .before .pre in
     linked (here .ready) (sound-row here) (c .before .before .link-at .ensures) refl
 
@@ -35,7 +35,7 @@ returns : tie.Need-returns
 returns c =
     let start = c .before .before .before .before .before .before .before .before .before in
     let past-link-at = c .before .before .before .before .before .before .before .link-at in
-    let past-eval = c .before .before .before .before .eval in
+    let past-eval = c .before .before .before .before .eval-operation in
     let past-operand = c .before .before .operand in
     hands-flow (past-eval .result) (past-eval .last .1 .1 .1 .1 .0) (past-eval .last .1 .1 .1 .0) (past-eval .ok) (past-eval .ensures) (past-operand .result) (past-operand .ensures) (c .enum-told2 .given .1) _ ∙ sym (express-row (start .pre) (past-link-at .ensures) (start .args .left .now) (start .args .store .now))
 
@@ -46,7 +46,7 @@ returns-2 : tie.Need-returns-2
 returns-2 c =
     let start = c .before .before .before .before .before .before .before .before .before in
     let past-link-at = c .before .before .before .before .before .before .before .link-at in
-    let past-eval = c .before .before .before .before .eval in
+    let past-eval = c .before .before .before .before .eval-operation in
     let past-operand = c .before .before .operand in
     ran-next _ _ ∙ sym (express-row (start .pre) (past-link-at .ensures) (start .args .left .now) (start .args .store .now) ∙ goes _ (past-eval .result) (past-eval .last .1 .1 .1 .1 .0) (past-eval .last .1 .1 .1 .0) (past-eval .ok) (past-eval .ensures) (past-operand .result) (past-operand .ensures) (c .enum-told .given .0 .0) (c .enum-told .given .1))
 
@@ -55,7 +55,7 @@ express-spec =
     tie.close
     (tie.spec
     link-at-requires
-    eval-requires
+    eval-operation-requires
     operand-requires
     enum-told
     enum-told-2

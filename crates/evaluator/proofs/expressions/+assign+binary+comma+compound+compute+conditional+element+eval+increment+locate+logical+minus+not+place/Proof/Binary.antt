@@ -1,11 +1,9 @@
 -- The right operand, the left one, the operation.
 use borrow.Author.Needs.{needs}
-use mathlib.Core.Path.{refl, sym, ap₂, _∙_}
+use mathlib.Core.Path.{refl, sym, _∙_}
 use Prim.Native.Nat.{ℕ, _-_}
 use native.Mathlib.Omega.{arith}
-use Rattle.words.specs.Arithmetic.{apply}
-use Rattle.words.specs.Laws.{back}
-use Rattle.evaluator.proofs.Operands.{goes, hands-up, settled-is, link-asks, linked, nearer}
+use Rattle.evaluator.proofs.Operands.{goes, hands-up, handed-on, operands-handed, link-asks, linked, nearer}
 use Rattle.evaluator.proofs.Rows.{sound-row, binary-row}
 use Rattle.evaluator.proofs.expressions.binary.Reads as reads
 use Rattle.evaluator.proofs.expressions.+assign+binary+comma+compound+compute+conditional+element+eval+increment+locate+logical+minus+not+place.Lts-binary as lts
@@ -87,31 +85,27 @@ returns-2 t c =
     hands-up (past-eval2 .result) (past-eval2 .last .1 .1 .1 .1 .0) (past-eval2 .last .1 .1 .1 .0) (past-eval2 .ok) (past-eval2 .ensures) (past-operand2 .result) (past-operand2 .ensures) (past-enum-told2 .given .1) _
     ∙ sym (binary-row here (past-link-at2 .ensures) (past-link-at .ensures) (start .args .left .now) (start .args .store .now) ∙ goes _ (past-eval .result) (past-eval .last .1 .1 .1 .1 .0) (past-eval .last .1 .1 .1 .0) (past-eval .ok) (past-eval .ensures) (past-operand .result) (past-operand .ensures) (past-second .given .0 .0) (past-second .given .1))
 
-pub apply-requires : (t : ℕ) → lts.Need-apply-requires (binary-claims t) (binary-at t) reads.Post
-apply-requires t c κs = search needs
-
-pub settled-requires : (t : ℕ) → lts.Need-settled-requires (binary-claims t) (binary-at t) reads.Post
-settled-requires t c κs = search needs
+pub operate-requires : (t : ℕ) → lts.Need-operate-requires (binary-claims t) (binary-at t) reads.Post
+operate-requires t c κs = search needs
 
 pub same-length-3 : (t : ℕ) → lts.Need-same-length-3 (binary-claims t) (binary-at t) reads.Post
 same-length-3 t c = search needs
 
 pub returns-3 : (t : ℕ) → lts.Need-returns-3 (binary-claims t) (binary-at t) reads.Post
 returns-3 t c =
-    let start = c .before .before .before .before .before .before .before .before .before .before .before .before .before .before .before .before .before .before .before .before .before in
-    let past-link-at = c .before .before .before .before .before .before .before .before .before .before .before .before .before .before .before .before .before .before .before .link-at in
-    let past-eval = c .before .before .before .before .before .before .before .before .before .before .before .before .before .before .before .before .eval in
-    let past-operand = c .before .before .before .before .before .before .before .before .before .before .before .before .before .before .operand in
-    let past-second = c .before .before .before .before .before .before .before .before .before .before .before .before .second in
-    let past-known-told = c .before .before .before .before .before .before .before .before .before .before .before .known-told in
-    let past-link-at2 = c .before .before .before .before .before .before .before .before .before .before .link-at2 in
-    let past-eval2 = c .before .before .before .before .before .before .before .eval2 in
-    let past-operand2 = c .before .before .before .before .before .operand2 in
-    let past-first = c .before .before .before .first in
-    let past-known-told2 = c .before .before .known-told2 in
-    let past-apply = c .before .apply in
-    let past-settled = c .settled in
+    let start = c .before .before .before .before .before .before .before .before .before .before .before .before .before .before .before .before .before .before .before .before in
+    let past-link-at = c .before .before .before .before .before .before .before .before .before .before .before .before .before .before .before .before .before .before .link-at in
+    let past-eval = c .before .before .before .before .before .before .before .before .before .before .before .before .before .before .before .eval in
+    let past-operand = c .before .before .before .before .before .before .before .before .before .before .before .before .before .operand in
+    let past-second = c .before .before .before .before .before .before .before .before .before .before .before .second in
+    let past-known-told = c .before .before .before .before .before .before .before .before .before .before .known-told in
+    let past-link-at2 = c .before .before .before .before .before .before .before .before .before .link-at2 in
+    let past-eval2 = c .before .before .before .before .before .before .eval2 in
+    let past-operand2 = c .before .before .before .before .operand2 in
+    let past-first = c .before .before .first in
+    let past-known-told2 = c .before .known-told2 in
+    let past-operate = c .operate in
     let here = start .pre .1 in
-    settled-is (past-settled .result) (past-apply .result) (apply (start .args .operator) (past-first .given .0 .0) (past-second .given .0 .0)) (past-settled .ok) (past-settled .ensures)
-    (past-apply .ensures ∙ ap₂ (apply (start .args .operator)) (back (past-first .given .0 .0) (past-known-told2 .given .0 .1)) (back (past-second .given .0 .0) (past-known-told .given .0 .1))) _ _
+    handed-on (past-operate .result) _ _ (past-operate .ok) ∙ past-operate .ensures _ _
+    ∙ operands-handed (start .args .operator) (past-first .given .0 .0) (past-second .given .0 .0) (past-known-told2 .given .0 .1) (past-known-told .given .0 .1) _ _
     ∙ sym (binary-row here (past-link-at2 .ensures) (past-link-at .ensures) (start .args .left .now) (start .args .store .now) ∙ goes _ (past-eval .result) (past-eval .last .1 .1 .1 .1 .0) (past-eval .last .1 .1 .1 .0) (past-eval .ok) (past-eval .ensures) (past-operand .result) (past-operand .ensures) (past-second .given .0 .0) (past-second .given .1) ∙ goes _ (past-eval2 .result) (past-eval2 .last .1 .1 .1 .1 .0) (past-eval2 .last .1 .1 .1 .0) (past-eval2 .ok) (past-eval2 .ensures) (past-operand2 .result) (past-operand2 .ensures) (past-first .given .0 .0) (past-first .given .1))

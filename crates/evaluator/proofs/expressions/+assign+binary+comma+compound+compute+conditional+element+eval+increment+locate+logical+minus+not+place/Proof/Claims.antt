@@ -52,16 +52,16 @@ use Rattle.evaluator.proofs.answers.position.Reads as position-reads
 use Rattle.evaluator.proofs.answers.settled.Reads as settled-reads
 use Rattle.evaluator.proofs.expressions.constant.Reads as constant-reads
 use Rattle.evaluator.proofs.expressions.variable.Reads as variable-reads
+use Rattle.evaluator.proofs.kinds.expression_kind_at.Reads as expression-kind-at-reads
 use Rattle.evaluator.proofs.operations.decides.Reads as decides-reads
 use Rattle.evaluator.proofs.operations.link_at.Reads as link-at-reads
+use Rattle.evaluator.proofs.operations.operate.Reads as operate-reads
 use Rattle.evaluator.proofs.operations.update.Reads as update-reads
 use Rattle.evaluator.proofs.operations.within.Reads as within-reads
-use Rattle.words.proofs.arithmetic.apply.Reads as apply-reads
 use Rattle.words.proofs.arithmetic.bit.Reads as bit-reads
 use Rattle.words.proofs.arithmetic.is_true.Reads as is-true-reads
 use Rattle.words.proofs.arithmetic.logical_not.Reads as logical-not-reads
 use Rattle.words.proofs.arithmetic.minus.Reads as minus-reads
-use Rattle.words.proofs.kinds.kind_at.Reads as kind-at-reads
 use Rattle.words.proofs.table.number_at.Reads as number-at-reads
 use Rattle.words.proofs.table.word_at.Reads as word-at-reads
 
@@ -199,7 +199,7 @@ abbrev pub assign-claims : ℕ → assign-lts.Claims
 assign-claims t = (link-at-reads.Asked, link-at-reads.Learnt, eval-below t, eval.Post, operand-reads.Asked, operand-reads.Learnt, place-below t, place.Post, position-reads.Asked, position-reads.Learnt)
 
 abbrev pub binary-claims : ℕ → binary-lts.Claims
-binary-claims t = (link-at-reads.Asked, link-at-reads.Learnt, eval-below t, eval.Post, operand-reads.Asked, operand-reads.Learnt, apply-reads.Asked, apply-reads.Learnt, settled-reads.Asked, settled-reads.Learnt)
+binary-claims t = (link-at-reads.Asked, link-at-reads.Learnt, eval-below t, eval.Post, operand-reads.Asked, operand-reads.Learnt, operate-reads.Asked, operate-reads.Learnt)
 
 abbrev pub comma-claims : ℕ → comma-lts.Claims
 comma-claims t = (link-at-reads.Asked, link-at-reads.Learnt, eval-below t, eval.Post, operand-reads.Asked, operand-reads.Learnt)
@@ -208,7 +208,7 @@ abbrev pub compound-claims : ℕ → compound-lts.Claims
 compound-claims t = (link-at-reads.Asked, link-at-reads.Learnt, eval-below t, eval.Post, operand-reads.Asked, operand-reads.Learnt, place-below t, place.Post, position-reads.Asked, position-reads.Learnt, update-reads.Asked, update-reads.Learnt)
 
 abbrev pub compute-claims : ℕ → compute-lts.Claims
-compute-claims t = (kind-at-reads.Asked, kind-at-reads.Learnt, constant-reads.Asked, constant-reads.Learnt, variable-reads.Asked, variable-reads.Learnt, element-below t, element.Post, minus-below t, minus.Post, not-below t, not.Post, binary-below t, binary.Post, logical-below t, logical.Post, conditional-below t, conditional.Post, comma-below t, comma.Post, assign-below t, assign.Post, compound-below t, compound.Post, increment-below t, increment.Post)
+compute-claims t = (expression-kind-at-reads.Asked, expression-kind-at-reads.Learnt, constant-reads.Asked, constant-reads.Learnt, variable-reads.Asked, variable-reads.Learnt, element-below t, element.Post, minus-below t, minus.Post, not-below t, not.Post, binary-below t, binary.Post, logical-below t, logical.Post, conditional-below t, conditional.Post, comma-below t, comma.Post, assign-below t, assign.Post, compound-below t, compound.Post, increment-below t, increment.Post)
 
 abbrev pub conditional-claims : ℕ → conditional-lts.Claims
 conditional-claims t = (link-at-reads.Asked, link-at-reads.Learnt, eval-below t, eval.Post, operand-reads.Asked, operand-reads.Learnt, is-true-reads.Asked, is-true-reads.Learnt)

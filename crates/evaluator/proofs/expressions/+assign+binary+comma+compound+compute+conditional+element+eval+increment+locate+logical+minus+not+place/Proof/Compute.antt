@@ -1,22 +1,24 @@
 -- A row of each kind is handed to the function of its kind.
 use borrow.Author.Needs.{needs}
-use mathlib.Core.Path.{sym, _∙_}
+use mathlib.Core.Path.{refl, sym, _∙_}
 use Prim.Native.Nat.{ℕ, _-_}
 use native.Mathlib.Omega.{arith}
 use lib.IntN.{pos}
 use lib.ListN.{length}
 use mathlib.Core.Bool.{not}
 use Rattle.words.specs.declared.Kind.the-variants.{Constant}
+use Rattle.evaluator.specs.Kinds.{isExpression}
 use Rattle.evaluator.specs.Ready.{Entered}
 use Rattle.evaluator.proofs.Decoding.{answered-word}
+use Rattle.evaluator.proofs.Among.{kept}
 use Rattle.evaluator.proofs.Operands.{handed-on}
 use Rattle.evaluator.proofs.Rows.{field-inside, constant-row, other-row}
 use Rattle.evaluator.proofs.expressions.compute.Reads as reads
 use Rattle.evaluator.proofs.expressions.+assign+binary+comma+compound+compute+conditional+element+eval+increment+locate+logical+minus+not+place.Lts-compute as lts
 use Rattle.evaluator.proofs.expressions.+assign+binary+comma+compound+compute+conditional+element+eval+increment+locate+logical+minus+not+place.Proof.Claims.{compute-claims, compute-at}
 
-pub kind-at-requires : (t : ℕ) → lts.Need-kind-at-requires (compute-claims t) (compute-at t) reads.Post
-kind-at-requires t c κs =
+pub expression-kind-at-requires : (t : ℕ) → lts.Need-expression-kind-at-requires (compute-claims t) (compute-at t) reads.Post
+expression-kind-at-requires t c κs =
     let start = c .before in
     let here = start .pre .1 in
     omega (arith, here .setting .sound .whole, here .below)
@@ -35,11 +37,11 @@ enum-told-2 t c = search needs
 
 pub variable-requires : (t : ℕ) → lts.Need-variable-requires (compute-claims t) (compute-at t) reads.Post
 variable-requires t c κs =
-    let past-kind-at = c .before .before .before .kind-at in
+    let past-expression-kind-at = c .before .before .before .expression-kind-at in
     let past-enum-told2 = c .before .enum-told2 in
     let start = c .before .before .before .before .before in
     let here = start .pre .1 in
-    record { ready = here; kind-is = sym (past-kind-at .ensures) ∙ past-enum-told2 .given .1 }
+    record { ready = here; kind-is = kept isExpression (past-expression-kind-at .ensures) (past-enum-told2 .given .1) refl }
 
 pub enum-told-3 : (t : ℕ) → lts.Need-enum-told-3 (compute-claims t) (compute-at t) reads.Post
 enum-told-3 t c = search needs
@@ -47,10 +49,10 @@ enum-told-3 t c = search needs
 pub element-requires : (t : ℕ) → lts.Need-element-requires (compute-claims t) (compute-at t) reads.Post
 element-requires t c κs =
     let start = c .before .before .before .before .before .before in
-    let past-kind-at = c .before .before .before .before .kind-at in
+    let past-expression-kind-at = c .before .before .before .before .expression-kind-at in
     let past-enum-told3 = c .before .before .enum-told3 in
     let here = start .pre .1 in
-    (omega (arith, start .pre .0), record { ready = here; kind-is = sym (past-kind-at .ensures) ∙ past-enum-told3 .given .1 })
+    (omega (arith, start .pre .0), record { ready = here; kind-is = kept isExpression (past-expression-kind-at .ensures) (past-enum-told3 .given .1) refl })
 
 pub enum-told-4 : (t : ℕ) → lts.Need-enum-told-4 (compute-claims t) (compute-at t) reads.Post
 enum-told-4 t c = search needs
@@ -58,10 +60,10 @@ enum-told-4 t c = search needs
 pub minus-requires : (t : ℕ) → lts.Need-minus-requires (compute-claims t) (compute-at t) reads.Post
 minus-requires t c κs =
     let start = c .before .before .before .before .before .before in
-    let past-kind-at = c .before .before .before .before .kind-at in
+    let past-expression-kind-at = c .before .before .before .before .expression-kind-at in
     let past-enum-told4 = c .before .before .enum-told4 in
     let here = start .pre .1 in
-    (omega (arith, start .pre .0), record { ready = here; kind-is = sym (past-kind-at .ensures) ∙ past-enum-told4 .given .1 })
+    (omega (arith, start .pre .0), record { ready = here; kind-is = kept isExpression (past-expression-kind-at .ensures) (past-enum-told4 .given .1) refl })
 
 pub enum-told-5 : (t : ℕ) → lts.Need-enum-told-5 (compute-claims t) (compute-at t) reads.Post
 enum-told-5 t c = search needs
@@ -69,10 +71,10 @@ enum-told-5 t c = search needs
 pub not-requires : (t : ℕ) → lts.Need-not-requires (compute-claims t) (compute-at t) reads.Post
 not-requires t c κs =
     let start = c .before .before .before .before .before .before in
-    let past-kind-at = c .before .before .before .before .kind-at in
+    let past-expression-kind-at = c .before .before .before .before .expression-kind-at in
     let past-enum-told5 = c .before .before .enum-told5 in
     let here = start .pre .1 in
-    (omega (arith, start .pre .0), record { ready = here; kind-is = sym (past-kind-at .ensures) ∙ past-enum-told5 .given .1 })
+    (omega (arith, start .pre .0), record { ready = here; kind-is = kept isExpression (past-expression-kind-at .ensures) (past-enum-told5 .given .1) refl })
 
 pub enum-known-kind : (t : ℕ) → lts.Need-enum-known-kind (compute-claims t) (compute-at t) reads.Post
 enum-known-kind t c = search needs
@@ -80,10 +82,10 @@ enum-known-kind t c = search needs
 pub binary-requires : (t : ℕ) → lts.Need-binary-requires (compute-claims t) (compute-at t) reads.Post
 binary-requires t c κs =
     let start = c .before .before .before .before .before .before .before in
-    let past-kind-at = c .before .before .before .before .before .kind-at in
+    let past-expression-kind-at = c .before .before .before .before .before .expression-kind-at in
     let past-kind = c .before .before .before .kind in
     let here = start .pre .1 in
-    (omega (arith, start .pre .0), record { ready = here; kind-is = sym (past-kind-at .ensures) ∙ past-kind .given .1 })
+    (omega (arith, start .pre .0), record { ready = here; kind-is = kept isExpression (past-expression-kind-at .ensures) (past-kind .given .1) refl })
 
 pub enum-told-6 : (t : ℕ) → lts.Need-enum-told-6 (compute-claims t) (compute-at t) reads.Post
 enum-told-6 t c = search needs
@@ -91,10 +93,10 @@ enum-told-6 t c = search needs
 pub logical-requires : (t : ℕ) → lts.Need-logical-requires (compute-claims t) (compute-at t) reads.Post
 logical-requires t c κs =
     let start = c .before .before .before .before .before .before in
-    let past-kind-at = c .before .before .before .before .kind-at in
+    let past-expression-kind-at = c .before .before .before .before .expression-kind-at in
     let past-enum-told6 = c .before .before .enum-told6 in
     let here = start .pre .1 in
-    (omega (arith, start .pre .0), record { ready = here; kind-is = sym (past-kind-at .ensures) ∙ past-enum-told6 .given .1 })
+    (omega (arith, start .pre .0), record { ready = here; kind-is = kept isExpression (past-expression-kind-at .ensures) (past-enum-told6 .given .1) refl })
 
 pub enum-told-7 : (t : ℕ) → lts.Need-enum-told-7 (compute-claims t) (compute-at t) reads.Post
 enum-told-7 t c = search needs
@@ -102,10 +104,10 @@ enum-told-7 t c = search needs
 pub logical-requires-2 : (t : ℕ) → lts.Need-logical-requires-2 (compute-claims t) (compute-at t) reads.Post
 logical-requires-2 t c κs =
     let start = c .before .before .before .before .before .before in
-    let past-kind-at = c .before .before .before .before .kind-at in
+    let past-expression-kind-at = c .before .before .before .before .expression-kind-at in
     let past-enum-told7 = c .before .before .enum-told7 in
     let here = start .pre .1 in
-    (omega (arith, start .pre .0), record { ready = here; kind-is = sym (past-kind-at .ensures) ∙ past-enum-told7 .given .1 })
+    (omega (arith, start .pre .0), record { ready = here; kind-is = kept isExpression (past-expression-kind-at .ensures) (past-enum-told7 .given .1) refl })
 
 pub enum-told-8 : (t : ℕ) → lts.Need-enum-told-8 (compute-claims t) (compute-at t) reads.Post
 enum-told-8 t c = search needs
@@ -113,10 +115,10 @@ enum-told-8 t c = search needs
 pub conditional-requires : (t : ℕ) → lts.Need-conditional-requires (compute-claims t) (compute-at t) reads.Post
 conditional-requires t c κs =
     let start = c .before .before .before .before .before .before in
-    let past-kind-at = c .before .before .before .before .kind-at in
+    let past-expression-kind-at = c .before .before .before .before .expression-kind-at in
     let past-enum-told8 = c .before .before .enum-told8 in
     let here = start .pre .1 in
-    (omega (arith, start .pre .0), record { ready = here; kind-is = sym (past-kind-at .ensures) ∙ past-enum-told8 .given .1 })
+    (omega (arith, start .pre .0), record { ready = here; kind-is = kept isExpression (past-expression-kind-at .ensures) (past-enum-told8 .given .1) refl })
 
 pub enum-told-9 : (t : ℕ) → lts.Need-enum-told-9 (compute-claims t) (compute-at t) reads.Post
 enum-told-9 t c = search needs
@@ -124,10 +126,10 @@ enum-told-9 t c = search needs
 pub comma-requires : (t : ℕ) → lts.Need-comma-requires (compute-claims t) (compute-at t) reads.Post
 comma-requires t c κs =
     let start = c .before .before .before .before .before .before in
-    let past-kind-at = c .before .before .before .before .kind-at in
+    let past-expression-kind-at = c .before .before .before .before .expression-kind-at in
     let past-enum-told9 = c .before .before .enum-told9 in
     let here = start .pre .1 in
-    (omega (arith, start .pre .0), record { ready = here; kind-is = sym (past-kind-at .ensures) ∙ past-enum-told9 .given .1 })
+    (omega (arith, start .pre .0), record { ready = here; kind-is = kept isExpression (past-expression-kind-at .ensures) (past-enum-told9 .given .1) refl })
 
 pub enum-told-10 : (t : ℕ) → lts.Need-enum-told-10 (compute-claims t) (compute-at t) reads.Post
 enum-told-10 t c = search needs
@@ -135,10 +137,10 @@ enum-told-10 t c = search needs
 pub assign-requires : (t : ℕ) → lts.Need-assign-requires (compute-claims t) (compute-at t) reads.Post
 assign-requires t c κs =
     let start = c .before .before .before .before .before .before in
-    let past-kind-at = c .before .before .before .before .kind-at in
+    let past-expression-kind-at = c .before .before .before .before .expression-kind-at in
     let past-enum-told10 = c .before .before .enum-told10 in
     let here = start .pre .1 in
-    (omega (arith, start .pre .0), record { ready = here; kind-is = sym (past-kind-at .ensures) ∙ past-enum-told10 .given .1 })
+    (omega (arith, start .pre .0), record { ready = here; kind-is = kept isExpression (past-expression-kind-at .ensures) (past-enum-told10 .given .1) refl })
 
 pub enum-known-kind-2 : (t : ℕ) → lts.Need-enum-known-kind-2 (compute-claims t) (compute-at t) reads.Post
 enum-known-kind-2 t c = search needs
@@ -146,10 +148,10 @@ enum-known-kind-2 t c = search needs
 pub compound-requires : (t : ℕ) → lts.Need-compound-requires (compute-claims t) (compute-at t) reads.Post
 compound-requires t c κs =
     let start = c .before .before .before .before .before .before .before in
-    let past-kind-at = c .before .before .before .before .before .kind-at in
+    let past-expression-kind-at = c .before .before .before .before .before .expression-kind-at in
     let past-kind2 = c .before .before .before .kind2 in
     let here = start .pre .1 in
-    (omega (arith, start .pre .0), record { ready = here; kind-is = sym (past-kind-at .ensures) ∙ past-kind2 .given .1 })
+    (omega (arith, start .pre .0), record { ready = here; kind-is = kept isExpression (past-expression-kind-at .ensures) (past-kind2 .given .1) refl })
 
 pub enum-known-kind-3 : (t : ℕ) → lts.Need-enum-known-kind-3 (compute-claims t) (compute-at t) reads.Post
 enum-known-kind-3 t c = search needs
@@ -157,10 +159,10 @@ enum-known-kind-3 t c = search needs
 pub increment-requires : (t : ℕ) → lts.Need-increment-requires (compute-claims t) (compute-at t) reads.Post
 increment-requires t c κs =
     let start = c .before .before .before .before .before .before .before in
-    let past-kind-at = c .before .before .before .before .before .kind-at in
+    let past-expression-kind-at = c .before .before .before .before .before .expression-kind-at in
     let past-kind3 = c .before .before .before .kind3 in
     let here = start .pre .1 in
-    (omega (arith, start .pre .0), record { ready = here; kind-is = sym (past-kind-at .ensures) ∙ past-kind3 .given .1 })
+    (omega (arith, start .pre .0), record { ready = here; kind-is = kept isExpression (past-expression-kind-at .ensures) (past-kind3 .given .1) refl })
 
 pub enum-known-kind-4 : (t : ℕ) → lts.Need-enum-known-kind-4 (compute-claims t) (compute-at t) reads.Post
 enum-known-kind-4 t c = search needs
@@ -168,19 +170,19 @@ enum-known-kind-4 t c = search needs
 pub increment-requires-2 : (t : ℕ) → lts.Need-increment-requires-2 (compute-claims t) (compute-at t) reads.Post
 increment-requires-2 t c κs =
     let start = c .before .before .before .before .before .before .before in
-    let past-kind-at = c .before .before .before .before .before .kind-at in
+    let past-expression-kind-at = c .before .before .before .before .before .expression-kind-at in
     let past-kind4 = c .before .before .before .kind4 in
     let here = start .pre .1 in
-    (omega (arith, start .pre .0), record { ready = here; kind-is = sym (past-kind-at .ensures) ∙ past-kind4 .given .1 })
+    (omega (arith, start .pre .0), record { ready = here; kind-is = kept isExpression (past-expression-kind-at .ensures) (past-kind4 .given .1) refl })
 
 pub returns : (t : ℕ) → lts.Need-returns (compute-claims t) (compute-at t) reads.Post
 returns t c =
     let start = c .before .before .before .before .before in
-    let past-kind-at = c .before .before .before .kind-at in
+    let past-expression-kind-at = c .before .before .before .expression-kind-at in
     let past-enum-told = c .before .enum-told in
     let past-constant = c .constant in
     let here = start .pre .1 in
-    let entry : Entered (start .args .rows .now) (start .args .bounds .now) (length (start .args .store .now)) (start .args .row) Constant = record { ready = here; kind-is = sym (past-kind-at .ensures) ∙ past-enum-told .given .1 } in
+    let entry : Entered (start .args .rows .now) (start .args .bounds .now) (length (start .args .store .now)) (start .args .row) Constant = record { ready = here; kind-is = kept isExpression (past-expression-kind-at .ensures) (past-enum-told .given .1) refl } in
     handed-on (past-constant .result) _ _ (past-constant .ok) ∙ past-constant .ensures _ _ ∙ sym (constant-row entry (start .args .left .now) (start .args .store .now))
 
 pub same-length : (t : ℕ) → lts.Need-same-length (compute-claims t) (compute-at t) reads.Post
@@ -291,7 +293,7 @@ returns-14 t c =
 pub returns-15 : (t : ℕ) → lts.Need-returns-15 (compute-claims t) (compute-at t) reads.Post
 returns-15 t c =
     let start = c .before .before .before in
-    let past-kind-at = c .before .kind-at in
+    let past-expression-kind-at = c .before .expression-kind-at in
     let past-match = c .match in
     let here = start .pre .1 in
-    answered-word (pos 0) (omega arith) _ _ ∙ sym (other-row here (past-kind-at .result) (past-kind-at .ensures) (past-match .keys15) (start .args .left .now) (start .args .store .now))
+    answered-word (pos 0) (omega arith) _ _ ∙ sym (other-row here (past-expression-kind-at .result) (past-expression-kind-at .ensures) (past-match .keys15) (start .args .left .now) (start .args .store .now))

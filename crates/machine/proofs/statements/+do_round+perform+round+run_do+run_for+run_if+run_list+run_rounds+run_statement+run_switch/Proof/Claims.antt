@@ -50,12 +50,12 @@ use Rattle.machine.proofs.flows.after_body.Reads as after-body-reads
 use Rattle.machine.proofs.flows.after_switch.Reads as after-switch-reads
 use Rattle.machine.proofs.flows.flow.Reads as flow-reads
 use Rattle.machine.proofs.flows.jump.Reads as jump-reads
+use Rattle.machine.proofs.kinds.statement_kind_at.Reads as statement-kind-at-reads
 use Rattle.machine.proofs.lists.find_start.Reads as find-start-reads
 use Rattle.machine.proofs.lists.resume.Reads as resume-reads
 use Rattle.machine.proofs.statements.express.Reads as express-reads
 use Rattle.machine.proofs.statements.part.Reads as part-reads
 use Rattle.words.proofs.arithmetic.is_true.Reads as is-true-reads
-use Rattle.words.proofs.kinds.kind_at.Reads as kind-at-reads
 use Rattle.words.proofs.table.word_at.Reads as word-at-reads
 
 abbrev pub μ-do-round : Measures 4 do-round-kinds.ps ℕ
@@ -175,7 +175,7 @@ abbrev pub do-round-claims : ℕ → do-round-lts.Claims
 do-round-claims t = (run-statement-below t, run-statement.Post, after-body-reads.Asked, after-body-reads.Learnt, flow-reads.Asked, flow-reads.Learnt, eval-reads.Asked, eval-reads.Learnt, operand-reads.Asked, operand-reads.Learnt, is-true-reads.Asked, is-true-reads.Learnt)
 
 abbrev pub perform-claims : ℕ → perform-lts.Claims
-perform-claims t = (kind-at-reads.Asked, kind-at-reads.Learnt, express-reads.Asked, express-reads.Learnt, link-at-reads.Asked, link-at-reads.Learnt, run-list-below t, run-list.Post, run-if-below t, run-if.Post, run-rounds-below t, run-rounds.Post, run-do-below t, run-do.Post, run-for-below t, run-for.Post, run-switch-below t, run-switch.Post, word-at-reads.Asked, word-at-reads.Learnt, jump-reads.Asked, jump-reads.Learnt)
+perform-claims t = (statement-kind-at-reads.Asked, statement-kind-at-reads.Learnt, express-reads.Asked, express-reads.Learnt, link-at-reads.Asked, link-at-reads.Learnt, run-list-below t, run-list.Post, run-if-below t, run-if.Post, run-rounds-below t, run-rounds.Post, run-do-below t, run-do.Post, run-for-below t, run-for.Post, run-switch-below t, run-switch.Post, word-at-reads.Asked, word-at-reads.Learnt, jump-reads.Asked, jump-reads.Learnt)
 
 abbrev pub round-claims : ℕ → round-lts.Claims
 round-claims t = (part-reads.Asked, part-reads.Learnt, operand-reads.Asked, operand-reads.Learnt, is-true-reads.Asked, is-true-reads.Learnt, run-statement-below t, run-statement.Post, after-body-reads.Asked, after-body-reads.Learnt, flow-reads.Asked, flow-reads.Learnt)

@@ -1,0 +1,121 @@
+-- `request_answer`: an arm for each request.
+use native.Mathlib.Omega.{arith}
+use Rattle.command_answer.specs.Output.{requestOutput}
+use Rattle.command_answer.proofs.Kernels.{roomy-any}
+use borrow.Author.Needs.{needs}
+use Rattle.command_answer.proofs.answer.request_answer.Statement.{statement}
+use Rattle.command_answer.proofs.answer.request_answer.Tie as tie
+
+enum-known-request : tie.Need-enum-known-request
+enum-known-request c = search needs
+
+check-answer-requires : tie.Need-check-answer-requires
+check-answer-requires c κs = (roomy-any _ (c .before .before .before .before .before .before .before .before .before .pre .0), c .before .before .before .before .before .before .before .before .before .pre .1 .1)
+
+enum-known-request-2 : tie.Need-enum-known-request-2
+enum-known-request-2 c = search needs
+
+run-answer-requires : tie.Need-run-answer-requires
+run-answer-requires c κs = (roomy-any _ (c .before .before .before .before .before .before .before .before .before .pre .0), c .before .before .before .before .before .before .before .before .before .pre .1)
+
+enum-told : tie.Need-enum-told
+enum-told c = search needs
+
+translate-answer-requires : tie.Need-translate-answer-requires
+translate-answer-requires c κs = (c .before .before .before .before .before .before .before .before .pre .0, c .before .before .before .before .before .before .before .before .pre .1 .1)
+
+enum-told-2 : tie.Need-enum-told-2
+enum-told-2 c = search needs
+
+usage-line-requires : tie.Need-usage-line-requires
+usage-line-requires c κs = omega (arith, c .before .before .before .before .before .before .pre .1 .1)
+
+enum-told-3 : tie.Need-enum-told-3
+enum-told-3 c = search needs
+
+wrong-budget-line-requires : tie.Need-wrong-budget-line-requires
+wrong-budget-line-requires c κs = omega (arith, c .before .before .before .before .before .before .pre .1 .1)
+
+same-length : tie.Need-same-length
+same-length c = search needs
+
+same-length-2 : tie.Need-same-length-2
+same-length-2 c = search needs
+
+same-length-3 : tie.Need-same-length-3
+same-length-3 c = search needs
+
+returns : tie.Need-returns
+unfolding requestOutput
+returns c = rw (c .before .before .before .before .before .before .before .before .before .request .given .1) (c .before .before .before .before .check-answer .ensures)
+
+same-length-4 : tie.Need-same-length-4
+same-length-4 c = search needs
+
+same-length-5 : tie.Need-same-length-5
+same-length-5 c = search needs
+
+same-length-6 : tie.Need-same-length-6
+same-length-6 c = search needs
+
+returns-2 : tie.Need-returns-2
+unfolding requestOutput
+returns-2 c = rw (c .before .before .before .before .before .before .before .before .before .request2 .given .1) (c .before .before .before .before .run-answer .ensures)
+
+same-length-7 : tie.Need-same-length-7
+same-length-7 c = search needs
+
+same-length-8 : tie.Need-same-length-8
+same-length-8 c = search needs
+
+same-length-9 : tie.Need-same-length-9
+same-length-9 c = search needs
+
+returns-3 : tie.Need-returns-3
+unfolding requestOutput
+returns-3 c = rw (c .before .before .before .before .before .before .before .before .enum-told .given .1) (c .before .before .before .before .translate-answer .ensures)
+
+same-length-10 : tie.Need-same-length-10
+same-length-10 c = search needs
+
+returns-4 : tie.Need-returns-4
+unfolding requestOutput
+returns-4 c = rw (c .before .before .before .before .enum-told2 .given .1) (c .before .before .usage-line .ensures)
+
+same-length-11 : tie.Need-same-length-11
+same-length-11 c = search needs
+
+returns-5 : tie.Need-returns-5
+unfolding requestOutput
+returns-5 c = rw (c .before .before .before .before .enum-told3 .given .1) (c .before .before .wrong-budget-line .ensures)
+
+pub request-answer-spec : {M : Type 1} → statement M
+request-answer-spec =
+    tie.close
+    (tie.spec
+    enum-known-request
+    check-answer-requires
+    enum-known-request-2
+    run-answer-requires
+    enum-told
+    translate-answer-requires
+    enum-told-2
+    usage-line-requires
+    enum-told-3
+    wrong-budget-line-requires
+    same-length
+    same-length-2
+    same-length-3
+    returns
+    same-length-4
+    same-length-5
+    same-length-6
+    returns-2
+    same-length-7
+    same-length-8
+    same-length-9
+    returns-3
+    same-length-10
+    returns-4
+    same-length-11
+    returns-5)

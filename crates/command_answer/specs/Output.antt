@@ -1,0 +1,123 @@
+-- Output: the bytes that the command prints for a request, the text on standard input and the bytes of a store file.
+use mathlib.Core.Bool.{Bool, true}
+use mathlib.Core.List.{List}
+use mathlib.Core.Option.{Option, none, some}
+use Prim.Native.Nat.{ℕ, _+_, _*_, _≤_}
+use lib.Dec.{leb}
+use lib.IntN.{ℤ, pos}
+use lib.ListN.{length, replicate}
+use Rattle.words.specs.Word.{pick}
+use Rattle.words.specs.Layout.{leading, rowLimit, storeWords}
+use Rattle.words.specs.declared.Form.{Form}
+use Rattle.words.specs.declared.Form.the-variants.{Source}
+use Rattle.words.specs.declared.Verdict.{Verdict}
+use Rattle.words.specs.declared.Verdict.the-variants.{Accepted, Refused}
+use Rattle.text_form.specs.Text.{textBytes, Parsed, parsed, malformed, Program, parse}
+use Rattle.text_form.specs.Answers.{causeOf}
+use Rattle.report.specs.Lines.{refusedLine}
+use Rattle.fate.specs.KernelForms.{kernelHeaderOf, kernelRowsOf}
+use Rattle.clight.specs.Runs.{refusalOf, RunResult, runResult}
+use Rattle.command_answer.specs.Lines.{verdictLine, runLine, usageLine, wrongBudgetLine, longTextLine, longStoreLine, malformedLine}
+use Rattle.command_answer.specs.StoreFile.{storeIn}
+use Rattle.command_answer.specs.declared.request.Request.{Request}
+use Rattle.command_answer.specs.declared.request.Request.the-variants.{Check, Run, Translate, WrongArguments, WrongBudget}
+
+-- ---- limits
+
+-- Bytes of a text. Every text that a check accepts is shorter: a row takes at most 34 bytes.
+abbrev pub textLimit : ℕ
+textLimit = 2097152
+
+-- Bytes of a store file: 16,384 words of at most eleven bytes, each with a byte that parts it from the next.
+abbrev pub storeLimit : ℕ
+storeLimit = 196608
+
+-- Bytes that every output has room in: twelve for each of the 34 words of a kernel header and the 245,880 of kernel rows.
+abbrev pub outputRoom : ℕ
+outputRoom = 2950968
+
+-- Tables as long as a legal program of the form needs; those for a kernel program serve either.
+pub record Roomy (form : Form) (header rows : List ℤ) : Type 0 where
+  pub header-room : leading form + 32 ≤ length header
+  pub rows-room : 6 * rowLimit form ≤ length rows
+
+-- ---- a text
+
+unfoldable pub programOutput : Option ℕ → Program → (List ℤ → List ℤ → List ℕ) → List ℕ
+programOutput (some number) program output = refusedLine number 0
+programOutput none program output = output (program .header) (program .rows)
+
+unfoldable pub parsedOutput : Form → Parsed Program → (List ℤ → List ℤ → List ℕ) → List ℕ
+parsedOutput form (malformed line) output = refusedLine 14 line
+parsedOutput form (parsed program) output = programOutput (causeOf form (program .header) (length (program .rows)) true) program output
+
+-- "The reader tests 14 first, then 1, 2": its refusal, or what is printed for the header and rows. The tables are as long as a legal
+-- program needs, so that 10 does not arise.
+unfoldable pub textOutput : Form → List ℕ → (List ℤ → List ℤ → List ℕ) → List ℕ
+textOutput form text output = parsedOutput form (parse form text) output
+
+-- ---- check
+
+abbrev pub checkLine : Form → (header rows : List ℤ) → List ℕ
+checkLine form header rows = verdictLine (refusalOf form header rows)
+
+unfoldable pub checkOutput : Form → List ℕ → List ℕ
+checkOutput form text = textOutput form text (checkLine form)
+
+-- ---- run
+
+abbrev pub resultLine : RunResult → List ℕ
+resultLine result = runLine (result .answer) (result .store)
+
+abbrev pub storeLine : Form → ℕ → (store header rows : List ℤ) → List ℕ
+storeLine form budget store header rows = resultLine (runResult form header rows budget store)
+
+unfoldable pub runOutput : Form → ℕ → List ℕ → List ℤ → List ℕ
+runOutput form budget text store = textOutput form text (storeLine form budget store)
+
+-- "else zeros"
+abbrev pub zeros : ℕ → List ℤ
+zeros words = replicate words (pos 0)
+
+abbrev pub zerosLine : Form → ℕ → (header rows : List ℤ) → List ℕ
+zerosLine form budget header rows = storeLine form budget (zeros (storeWords form header)) header rows
+
+unfoldable pub zerosOutput : Form → ℕ → List ℕ → List ℕ
+zerosOutput form budget text = textOutput form text (zerosLine form budget)
+
+-- A malformed word is told before the text is read; a wrong number of words is cause 11, in its place.
+unfoldable pub storedOutput : Form → ℕ → List ℕ → Parsed (List ℤ) → List ℕ
+storedOutput form budget text (malformed number) = malformedLine number
+storedOutput form budget text (parsed words) = runOutput form budget text words
+
+-- `given` says whether a store file was named.
+unfoldable pub startedOutput : Form → ℕ → (text : List ℕ) → (given : Bool) → (stored : List ℕ) → List ℕ
+startedOutput form budget text given stored = pick given (storedOutput form budget text (storeIn stored)) (zerosOutput form budget text)
+
+-- ---- translate
+
+-- "translate (prints the kernel text)".
+abbrev pub verdictText : Verdict → (header rows : List ℤ) → List ℕ
+verdictText (Refused refusal) header rows = refusedLine (refusal .number) (refusal .place)
+verdictText Accepted header rows = textBytes (kernelHeaderOf header rows) (kernelRowsOf header rows)
+
+abbrev pub kernelText : (header rows : List ℤ) → List ℕ
+kernelText header rows = verdictText (refusalOf Source header rows) header rows
+
+unfoldable pub translateOutput : List ℕ → List ℕ
+translateOutput text = textOutput Source text kernelText
+
+-- ---- all requests
+
+unfoldable pub requestOutput : Request → (text : List ℕ) → (given : Bool) → (stored : List ℕ) → List ℕ
+requestOutput (Check form) text given stored = checkOutput form text
+requestOutput (Run form budget) text given stored = startedOutput form budget text given stored
+requestOutput Translate text given stored = translateOutput text
+requestOutput WrongArguments text given stored = usageLine
+requestOutput WrongBudget text given stored = wrongBudgetLine
+
+unfoldable pub commandOutput : Request → (text : List ℕ) → (given : Bool) → (stored : List ℕ) → List ℕ
+commandOutput request text given stored =
+    pick (leb (length text) textLimit)
+    (pick (leb (length stored) storeLimit) (requestOutput request text given stored) longStoreLine)
+    longTextLine

@@ -1,0 +1,194 @@
+// What each verb prints. A writer puts its bytes at the start of `out`, and answers how many they are. The tables `header` and `rows` are
+// lent to read the text into; what stands in them after it is of no use to a caller.
+use super::line::malformed_line;
+use super::line::run_line;
+use super::line::verdict_line;
+use super::store_file::StoreRead;
+use super::store_file::read_words;
+use clight::runs;
+use report::line::refused_line;
+use text_form::ReadAnswer;
+use words::Form;
+use words::RunVerdict;
+use words::Verdict;
+use words::layout::store_words;
+ghost use mathlib.Core.Path.{_≡_};
+ghost use mathlib.Core.Bool.{true};
+ghost use Prim.Native.Nat.{_≤_};
+ghost use lib.ListN.{length};
+ghost use Rattle.words.specs.Layout.{headerFits, storeWords};
+ghost use Rattle.text_form.specs.Writer.{Put};
+ghost use Rattle.report.specs.Lines.{lineRoom};
+ghost use Rattle.clight.specs.Runs.{refusalOf, runResult, resultOf};
+ghost use Rattle.command_answer.specs.StoreFile.{storeIn};
+ghost use Rattle.command_answer.specs.Output.{Roomy, outputRoom, storeLimit, checkOutput, resultLine, runOutput, zeros, zerosOutput, storedOutput, startedOutput};
+
+fn check_form(form: Form, header: &[i32], rows: &[i32]) -> Verdict
+    ensures { λ r. ⌜ r ≡ refusalOf form (now (header .entry)) (now (rows .entry)) ⌝ }
+{
+    match form {
+        Form::Source => runs::check(header, rows),
+        Form::Kernel => runs::kernel_check(header, rows),
+    }
+}
+
+// `check` and `kernel-check`.
+pub fn check_answer(
+    form: Form,
+    text: &[u8],
+    header: &mut [i32],
+    rows: &mut [i32],
+    out: &mut [u8],
+) -> usize
+    requires { ⌜ Roomy form (now header) (now rows) ⌝ }
+    requires { ⌜ outputRoom ≤ length (now out) ⌝ }
+    ensures { λ r. ⌜ Put (checkOutput form (now (text .entry))) (now (out .entry)) r (now (out .exit)) ⌝ }
+{
+    let answer = text_form::read(form, text, header, rows);
+    match answer {
+        ReadAnswer::Refused(refusal) => refused_line(refusal, out),
+        ReadAnswer::Read(numbers, words) => {
+            let verdict = check_form(form, &header[0..numbers], &rows[0..words]);
+            verdict_line(verdict, out)
+        }
+    }
+}
+
+fn run_form(form: Form, header: &[i32], rows: &[i32], store: &mut [i32], budget: u32) -> RunVerdict
+    ensures { λ r. ⌜ resultOf r (now (store .exit)) ≡ runResult form (now (header .entry)) (now (rows .entry)) budget (now (store .entry)) ⌝ }
+{
+    match form {
+        Form::Source => runs::run(header, rows, store, budget),
+        Form::Kernel => runs::kernel_run(header, rows, store, budget),
+    }
+}
+
+// Runs a program on the store, and writes the line.
+fn put_run(
+    form: Form,
+    header: &[i32],
+    rows: &[i32],
+    store: &mut [i32],
+    budget: u32,
+    out: &mut [u8],
+) -> usize
+    requires { ⌜ lineRoom (length (now store)) ≤ length (now out) ⌝ }
+    ensures { λ r. ⌜ Put (resultLine (runResult form (now (header .entry)) (now (rows .entry)) budget (now (store .entry)))) (now (out .entry)) r (now (out .exit)) ⌝ }
+{
+    let verdict = run_form(form, header, rows, store, budget);
+    run_line(verdict, store, out)
+}
+
+// A run from the words of a store file.
+fn run_text(
+    form: Form,
+    budget: u32,
+    text: &[u8],
+    store: &mut [i32],
+    header: &mut [i32],
+    rows: &mut [i32],
+    out: &mut [u8],
+) -> usize
+    requires { ⌜ Roomy form (now header) (now rows) ⌝ }
+    requires { ⌜ lineRoom (length (now store)) ≤ length (now out) ⌝ }
+    ensures { λ r. ⌜ Put (runOutput form budget (now (text .entry)) (now (store .entry))) (now (out .entry)) r (now (out .exit)) ⌝ }
+{
+    let answer = text_form::read(form, text, header, rows);
+    match answer {
+        ReadAnswer::Refused(refusal) => refused_line(refusal, out),
+        ReadAnswer::Read(numbers, words) => put_run(
+            form,
+            &header[0..numbers],
+            &rows[0..words],
+            store,
+            budget,
+            out,
+        ),
+    }
+}
+
+// Runs a program from zeros, and writes the line.
+fn put_zeros_run(form: Form, header: &[i32], rows: &[i32], budget: u32, out: &mut [u8]) -> usize
+    requires { ⌜ headerFits form (now header) ≡ true ⌝ }
+    requires { ⌜ outputRoom ≤ length (now out) ⌝ }
+    ensures { λ r. ⌜ Put (resultLine (runResult form (now (header .entry)) (now (rows .entry)) budget (zeros (storeWords form (now (header .entry)))))) (now (out .entry)) r (now (out .exit)) ⌝ }
+{
+    let count = store_words(form, header);
+    let mut store = [0i32; 16384];
+    put_run(form, header, rows, &mut store[0..count], budget, out)
+}
+
+// A run from zeros.
+fn run_zeros(
+    form: Form,
+    budget: u32,
+    text: &[u8],
+    header: &mut [i32],
+    rows: &mut [i32],
+    out: &mut [u8],
+) -> usize
+    requires { ⌜ Roomy form (now header) (now rows) ⌝ }
+    requires { ⌜ outputRoom ≤ length (now out) ⌝ }
+    ensures { λ r. ⌜ Put (zerosOutput form budget (now (text .entry))) (now (out .entry)) r (now (out .exit)) ⌝ }
+{
+    let answer = text_form::read(form, text, header, rows);
+    match answer {
+        ReadAnswer::Refused(refusal) => refused_line(refusal, out),
+        ReadAnswer::Read(numbers, words) => {
+            put_zeros_run(form, &header[0..numbers], &rows[0..words], budget, out)
+        }
+    }
+}
+
+// A run from a store file, read before the text.
+fn run_stored(
+    form: Form,
+    budget: u32,
+    text: &[u8],
+    stored: &[u8],
+    header: &mut [i32],
+    rows: &mut [i32],
+    out: &mut [u8],
+) -> usize
+    requires { ⌜ Roomy form (now header) (now rows) ⌝ }
+    requires { ⌜ length (now stored) ≤ storeLimit ⌝ }
+    requires { ⌜ outputRoom ≤ length (now out) ⌝ }
+    ensures { λ r. ⌜ Put (storedOutput form budget (now (text .entry)) (storeIn (now (stored .entry)))) (now (out .entry)) r (now (out .exit)) ⌝ }
+{
+    let mut store = [0i32; 98304];
+    let read = read_words(stored, &mut store);
+    match read {
+        StoreRead::Malformed(number) => malformed_line(number, out),
+        StoreRead::Words(count) => run_text(
+            form,
+            budget,
+            text,
+            &mut store[0..count],
+            header,
+            rows,
+            out,
+        ),
+    }
+}
+
+// `run` and `kernel-run`.
+pub fn run_answer(
+    form: Form,
+    budget: u32,
+    text: &[u8],
+    given: bool,
+    stored: &[u8],
+    header: &mut [i32],
+    rows: &mut [i32],
+    out: &mut [u8],
+) -> usize
+    requires { ⌜ Roomy form (now header) (now rows) ⌝ }
+    requires { ⌜ length (now stored) ≤ storeLimit ⌝ }
+    requires { ⌜ outputRoom ≤ length (now out) ⌝ }
+    ensures { λ r. ⌜ Put (startedOutput form budget (now (text .entry)) given (now (stored .entry))) (now (out .entry)) r (now (out .exit)) ⌝ }
+{
+    if given {
+        return run_stored(form, budget, text, stored, header, rows, out);
+    }
+    run_zeros(form, budget, text, header, rows, out)
+}

@@ -1,6 +1,9 @@
 // What an answer says: a word is a value, and the numbers behind the words say why the run stops.
+use super::INDEX;
+use super::OVERFLOW;
 use super::Operand;
 use super::Position;
+use super::ZERO_DIVISOR;
 use words::Computed;
 use words::FaultSort;
 use words::table::natural;
@@ -38,9 +41,9 @@ pub fn fault(sort: FaultSort) -> i64
     ensures { λ r. ⌜ r ≡ stopNumber (faultOf sort) ⌝ }
 {
     match sort {
-        FaultSort::Overflow => 2147483649,
-        FaultSort::ZeroDivisor => 2147483650,
-        FaultSort::Index => 2147483651,
+        FaultSort::Overflow => OVERFLOW,
+        FaultSort::ZeroDivisor => ZERO_DIVISOR,
+        FaultSort::Index => INDEX,
     }
 }
 

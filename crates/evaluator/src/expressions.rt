@@ -1,7 +1,9 @@
 // Evaluation by recursion down links: the measure is the number of rows from the row on. `eval` enters a row, and `compute` hands
-// it to the function of its kind.
+// it to the function of its kind. Slices are lent again at each call (`&*rows`): handed on as they stand they would be copied as one
+// piece of 16 bytes, on which the callee's reads of pointer and length wait.
 use super::Operand;
 use super::Position;
+use super::SPENT;
 use super::answers::operand;
 use super::answers::position;
 use super::answers::settled;
@@ -39,7 +41,7 @@ pub fn eval(rows: &[i32], bounds: &[usize], row: usize, store: &mut [i32], left:
 {
     let n = *left;
     if n == 0 {
-        return 2147483648;
+        return SPENT;
     }
     *left = n - 1;
     let number = number_at(rows, row, 0);
@@ -49,7 +51,7 @@ pub fn eval(rows: &[i32], bounds: &[usize], row: usize, store: &mut [i32], left:
     if number == 2 {
         return variable(rows, bounds, row, store);
     }
-    compute(rows, bounds, row, store, left)
+    compute(&*rows, &*bounds, row, store, left)
 }
 
 // A row that was entered: what follows, by its kind. A row that is no expression has the value 0.
@@ -61,18 +63,18 @@ pub fn compute(rows: &[i32], bounds: &[usize], row: usize, store: &mut [i32], le
     match kind {
         Kind::Constant => constant(rows, row),
         Kind::Variable => variable(rows, bounds, row, store),
-        Kind::Element => element(rows, bounds, row, store, left),
-        Kind::Minus => minus(rows, bounds, row, store, left),
-        Kind::Not => not(rows, bounds, row, store, left),
-        Kind::Binary(operator) => binary(rows, bounds, row, operator, store, left),
-        Kind::And => logical(rows, bounds, row, false, store, left),
-        Kind::Or => logical(rows, bounds, row, true, store, left),
-        Kind::Conditional => conditional(rows, bounds, row, store, left),
-        Kind::Comma => comma(rows, bounds, row, store, left),
-        Kind::Assign => assign(rows, bounds, row, store, left),
-        Kind::Compound(operator) => compound(rows, bounds, row, operator, store, left),
-        Kind::Prefix(operator) => increment(rows, bounds, row, operator, false, store, left),
-        Kind::Postfix(operator) => increment(rows, bounds, row, operator, true, store, left),
+        Kind::Element => element(&*rows, &*bounds, row, store, left),
+        Kind::Minus => minus(&*rows, &*bounds, row, store, left),
+        Kind::Not => not(&*rows, &*bounds, row, store, left),
+        Kind::Binary(operator) => binary(&*rows, &*bounds, row, operator, store, left),
+        Kind::And => logical(&*rows, &*bounds, row, false, store, left),
+        Kind::Or => logical(&*rows, &*bounds, row, true, store, left),
+        Kind::Conditional => conditional(&*rows, &*bounds, row, store, left),
+        Kind::Comma => comma(&*rows, &*bounds, row, store, left),
+        Kind::Assign => assign(&*rows, &*bounds, row, store, left),
+        Kind::Compound(operator) => compound(&*rows, &*bounds, row, operator, store, left),
+        Kind::Prefix(operator) => increment(&*rows, &*bounds, row, operator, false, store, left),
+        Kind::Postfix(operator) => increment(&*rows, &*bounds, row, operator, true, store, left),
         _ => 0,
     }
 }
@@ -91,10 +93,10 @@ pub fn eval_operation(
 {
     let n = *left;
     if n == 0 {
-        return 2147483648;
+        return SPENT;
     }
     *left = n - 1;
-    compute(rows, bounds, row, store, left)
+    compute(&*rows, &*bounds, row, store, left)
 }
 
 // A constant's row, entered.
@@ -119,10 +121,10 @@ fn element(rows: &[i32], bounds: &[usize], row: usize, store: &mut [i32], left: 
     requires { ⌜ Entered (now rows) (now bounds) (length (now store)) row kinds.Kind.Element ⌝ }
     ensures { λ r. ⌜ answered r (now (left .exit)) (now (store .exit)) ≡ spend (evaluateAt (now (rows .entry)) (now (bounds .entry)) row) (now (left .entry)) (now (store .entry)) ⌝ }
 {
-    let p = locate(rows, bounds, row, store, left);
-    let place = position(p);
+    let answer = locate(&*rows, &*bounds, row, store, left);
+    let place = position(answer);
     let Position::At(at) = place else {
-        return p;
+        return answer;
     };
     store[at] as i64
 }
@@ -132,10 +134,10 @@ fn locate(rows: &[i32], bounds: &[usize], row: usize, store: &mut [i32], left: &
     requires { ⌜ Entered (now rows) (now bounds) (length (now store)) row kinds.Kind.Element ⌝ }
     ensures { λ r. ⌜ placed r (now (left .exit)) (now (store .exit)) ≡ spend (locateAt (now (rows .entry)) (now (bounds .entry)) row) (now (left .entry)) (now (store .entry)) ⌝ }
 {
-    let r = eval(rows, bounds, link_at(rows, row, 2), store, left);
-    let index = operand(r);
+    let answer = eval(&*rows, &*bounds, link_at(rows, row, 2), store, left);
+    let index = operand(answer);
     let Operand::Value(value) = index else {
-        return r;
+        return answer;
     };
     within(bounds, link_at(rows, row, 1), value)
 }
@@ -147,12 +149,12 @@ fn place(rows: &[i32], bounds: &[usize], row: usize, store: &mut [i32], left: &m
 {
     let n = *left;
     if n == 0 {
-        return 2147483648;
+        return SPENT;
     }
     *left = n - 1;
     let number = number_at(rows, row, 0);
     if number == 3 {
-        return locate(rows, bounds, row, store, left);
+        return locate(&*rows, &*bounds, row, store, left);
     }
     word_at(rows, row, 1) as i64
 }
@@ -161,10 +163,10 @@ fn minus(rows: &[i32], bounds: &[usize], row: usize, store: &mut [i32], left: &m
     requires { ⌜ Entered (now rows) (now bounds) (length (now store)) row kinds.Kind.Minus ⌝ }
     ensures { λ r. ⌜ answered r (now (left .exit)) (now (store .exit)) ≡ spend (evaluateAt (now (rows .entry)) (now (bounds .entry)) row) (now (left .entry)) (now (store .entry)) ⌝ }
 {
-    let r = eval(rows, bounds, link_at(rows, row, 1), store, left);
-    let first = operand(r);
+    let answer = eval(&*rows, &*bounds, link_at(rows, row, 1), store, left);
+    let first = operand(answer);
     let Operand::Value(value) = first else {
-        return r;
+        return answer;
     };
     settled(minus_word(value))
 }
@@ -173,10 +175,10 @@ fn not(rows: &[i32], bounds: &[usize], row: usize, store: &mut [i32], left: &mut
     requires { ⌜ Entered (now rows) (now bounds) (length (now store)) row kinds.Kind.Not ⌝ }
     ensures { λ r. ⌜ answered r (now (left .exit)) (now (store .exit)) ≡ spend (evaluateAt (now (rows .entry)) (now (bounds .entry)) row) (now (left .entry)) (now (store .entry)) ⌝ }
 {
-    let r = eval(rows, bounds, link_at(rows, row, 1), store, left);
-    let first = operand(r);
+    let answer = eval(&*rows, &*bounds, link_at(rows, row, 1), store, left);
+    let first = operand(answer);
     let Operand::Value(value) = first else {
-        return r;
+        return answer;
     };
     logical_not(value) as i64
 }
@@ -193,15 +195,15 @@ fn binary(
     requires { ⌜ Entered (now rows) (now bounds) (length (now store)) row (kinds.Kind.Binary operator) ⌝ }
     ensures { λ r. ⌜ answered r (now (left .exit)) (now (store .exit)) ≡ spend (evaluateAt (now (rows .entry)) (now (bounds .entry)) row) (now (left .entry)) (now (store .entry)) ⌝ }
 {
-    let r = eval(rows, bounds, link_at(rows, row, 2), store, left);
-    let second = operand(r);
+    let right_answer = eval(&*rows, &*bounds, link_at(rows, row, 2), store, left);
+    let second = operand(right_answer);
     let Operand::Value(right) = second else {
-        return r;
+        return right_answer;
     };
-    let q = eval(rows, bounds, link_at(rows, row, 1), store, left);
-    let first = operand(q);
+    let left_answer = eval(&*rows, &*bounds, link_at(rows, row, 1), store, left);
+    let first = operand(left_answer);
     let Operand::Value(value) = first else {
-        return q;
+        return left_answer;
     };
     operate(operator, value, right)
 }
@@ -218,18 +220,18 @@ fn logical(
     requires { ⌜ Entered (now rows) (now bounds) (length (now store)) row (pick decided kinds.Kind.Or kinds.Kind.And) ⌝ }
     ensures { λ r. ⌜ answered r (now (left .exit)) (now (store .exit)) ≡ spend (evaluateAt (now (rows .entry)) (now (bounds .entry)) row) (now (left .entry)) (now (store .entry)) ⌝ }
 {
-    let r = eval(rows, bounds, link_at(rows, row, 1), store, left);
-    let first = operand(r);
+    let left_answer = eval(&*rows, &*bounds, link_at(rows, row, 1), store, left);
+    let first = operand(left_answer);
     let Operand::Value(value) = first else {
-        return r;
+        return left_answer;
     };
     if decides(value, decided) {
         return bit(decided) as i64;
     }
-    let q = eval(rows, bounds, link_at(rows, row, 2), store, left);
-    let second = operand(q);
+    let right_answer = eval(&*rows, &*bounds, link_at(rows, row, 2), store, left);
+    let second = operand(right_answer);
     let Operand::Value(right) = second else {
-        return q;
+        return right_answer;
     };
     bit(is_true(right)) as i64
 }
@@ -238,27 +240,27 @@ fn conditional(rows: &[i32], bounds: &[usize], row: usize, store: &mut [i32], le
     requires { ⌜ Entered (now rows) (now bounds) (length (now store)) row kinds.Kind.Conditional ⌝ }
     ensures { λ r. ⌜ answered r (now (left .exit)) (now (store .exit)) ≡ spend (evaluateAt (now (rows .entry)) (now (bounds .entry)) row) (now (left .entry)) (now (store .entry)) ⌝ }
 {
-    let r = eval(rows, bounds, link_at(rows, row, 1), store, left);
-    let test = operand(r);
+    let answer = eval(&*rows, &*bounds, link_at(rows, row, 1), store, left);
+    let test = operand(answer);
     let Operand::Value(value) = test else {
-        return r;
+        return answer;
     };
     if is_true(value) {
-        return eval(rows, bounds, link_at(rows, row, 2), store, left);
+        return eval(&*rows, &*bounds, link_at(rows, row, 2), store, left);
     }
-    eval(rows, bounds, link_at(rows, row, 3), store, left)
+    eval(&*rows, &*bounds, link_at(rows, row, 3), store, left)
 }
 
 fn comma(rows: &[i32], bounds: &[usize], row: usize, store: &mut [i32], left: &mut u32) -> i64
     requires { ⌜ Entered (now rows) (now bounds) (length (now store)) row kinds.Kind.Comma ⌝ }
     ensures { λ r. ⌜ answered r (now (left .exit)) (now (store .exit)) ≡ spend (evaluateAt (now (rows .entry)) (now (bounds .entry)) row) (now (left .entry)) (now (store .entry)) ⌝ }
 {
-    let r = eval(rows, bounds, link_at(rows, row, 1), store, left);
-    let first = operand(r);
+    let answer = eval(&*rows, &*bounds, link_at(rows, row, 1), store, left);
+    let first = operand(answer);
     let Operand::Value(_) = first else {
-        return r;
+        return answer;
     };
-    eval(rows, bounds, link_at(rows, row, 2), store, left)
+    eval(&*rows, &*bounds, link_at(rows, row, 2), store, left)
 }
 
 // "Value, then the place's index, then the bounds test, then the store. The result is the value stored."
@@ -266,18 +268,18 @@ fn assign(rows: &[i32], bounds: &[usize], row: usize, store: &mut [i32], left: &
     requires { ⌜ Entered (now rows) (now bounds) (length (now store)) row kinds.Kind.Assign ⌝ }
     ensures { λ r. ⌜ answered r (now (left .exit)) (now (store .exit)) ≡ spend (evaluateAt (now (rows .entry)) (now (bounds .entry)) row) (now (left .entry)) (now (store .entry)) ⌝ }
 {
-    let r = eval(rows, bounds, link_at(rows, row, 2), store, left);
-    let second = operand(r);
+    let value_answer = eval(&*rows, &*bounds, link_at(rows, row, 2), store, left);
+    let second = operand(value_answer);
     let Operand::Value(value) = second else {
-        return r;
+        return value_answer;
     };
-    let p = place(rows, bounds, link_at(rows, row, 1), store, left);
-    let first = position(p);
+    let place_answer = place(&*rows, &*bounds, link_at(rows, row, 1), store, left);
+    let first = position(place_answer);
     let Position::At(at) = first else {
-        return p;
+        return place_answer;
     };
     store[at] = value;
-    r
+    value_answer
 }
 
 // Kinds 22 to 26: "value, index, bounds test, read, operate, store".
@@ -292,15 +294,15 @@ fn compound(
     requires { ⌜ Entered (now rows) (now bounds) (length (now store)) row (kinds.Kind.Compound operator) ⌝ }
     ensures { λ r. ⌜ answered r (now (left .exit)) (now (store .exit)) ≡ spend (evaluateAt (now (rows .entry)) (now (bounds .entry)) row) (now (left .entry)) (now (store .entry)) ⌝ }
 {
-    let r = eval(rows, bounds, link_at(rows, row, 2), store, left);
-    let second = operand(r);
+    let value_answer = eval(&*rows, &*bounds, link_at(rows, row, 2), store, left);
+    let second = operand(value_answer);
     let Operand::Value(right) = second else {
-        return r;
+        return value_answer;
     };
-    let p = place(rows, bounds, link_at(rows, row, 1), store, left);
-    let first = position(p);
+    let place_answer = place(&*rows, &*bounds, link_at(rows, row, 1), store, left);
+    let first = position(place_answer);
     let Position::At(at) = first else {
-        return p;
+        return place_answer;
     };
     update(operator, at, right, false, store)
 }
@@ -318,10 +320,10 @@ fn increment(
     requires { ⌜ Entered (now rows) (now bounds) (length (now store)) row (pick old (kinds.Kind.Postfix operator) (kinds.Kind.Prefix operator)) ⌝ }
     ensures { λ r. ⌜ answered r (now (left .exit)) (now (store .exit)) ≡ spend (evaluateAt (now (rows .entry)) (now (bounds .entry)) row) (now (left .entry)) (now (store .entry)) ⌝ }
 {
-    let p = place(rows, bounds, link_at(rows, row, 1), store, left);
-    let first = position(p);
+    let place_answer = place(&*rows, &*bounds, link_at(rows, row, 1), store, left);
+    let first = position(place_answer);
     let Position::At(at) = first else {
-        return p;
+        return place_answer;
     };
     update(operator, at, 1, old, store)
 }

@@ -1,6 +1,9 @@
 // What a statement's answer says: -1 next, -2 break, -3 continue, a label that is sought (-4 for one that no label has), or, beyond
 // the words, why the run stops, as an evaluation says it. A round's answer says the same, where a continue goes round again.
+use super::CONTINUE;
 use super::Flow;
+use super::NEXT;
+use super::NO_LABEL;
 use evaluator::Operand;
 use evaluator::answers::operand;
 use words::table::natural;
@@ -46,7 +49,7 @@ pub fn jump(label: i32) -> i64
     ensures { λ r. ⌜ ((n : ℕ) (s : List ℤ) → ran r n s ≡ gives (seeking (labelOf (naturalOf label))) n s) ⌝ }
 {
     if label < 0 {
-        return -4;
+        return NO_LABEL;
     }
     label as i64
 }
@@ -59,7 +62,7 @@ pub fn after_switch(answer: i64) -> i64
     let Flow::Break = ended else {
         return answer;
     };
-    -1
+    NEXT
 }
 
 // The answer of a round whose body ended with this one.
@@ -68,8 +71,8 @@ pub fn after_body(answer: i64) -> i64
 {
     let ended = flow(answer);
     match ended {
-        Flow::Next => -3,
-        Flow::Break => -1,
+        Flow::Next => CONTINUE,
+        Flow::Break => NEXT,
         Flow::Continue => answer,
         Flow::Goto(_) => answer,
         Flow::Halted => answer,

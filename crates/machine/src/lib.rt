@@ -6,6 +6,16 @@ pub mod lists; // lists.rt: where a list goes on: the search for a mark
 pub mod statements; // statements.rt: statement runs and list runs
 pub mod whole; // whole.rt: the run of a program
 
+// How a statement ended, as an answer, where it seeks no label and the run goes on.
+pub const NEXT: i64 = -1;
+
+pub const BREAK: i64 = -2;
+
+pub const CONTINUE: i64 = -3;
+
+// The answer of a goto whose label no row can have.
+pub const NO_LABEL: i64 = -4;
+
 // How a statement ended: the next item follows; a break, a continue or the search for a label is under way; or the run stops there.
 pub enum Flow {
     Next,

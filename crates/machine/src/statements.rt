@@ -1,5 +1,9 @@
-// Statement runs and list runs, which call each other: the measure is the unspent budget, and the rows ahead in a list.
+// Statement runs and list runs, which call each other: the measure is the unspent budget, and the rows ahead in a list. Slices are
+// lent again at each call, as in the evaluator's expressions.rt, which says why.
+use super::BREAK;
+use super::CONTINUE;
 use super::Flow;
+use super::NEXT;
 use super::flows::after_body;
 use super::flows::after_switch;
 use super::flows::flow;
@@ -8,6 +12,7 @@ use super::kinds::statement_kind_at;
 use super::lists::find_start;
 use super::lists::resume;
 use evaluator::Operand;
+use evaluator::SPENT;
 use evaluator::answers::operand;
 use evaluator::expressions::eval;
 use evaluator::expressions::eval_operation;
@@ -39,7 +44,7 @@ fn part(
     if row == 0 {
         return absent as i64;
     }
-    eval(rows, bounds, row, store, left)
+    eval(&*rows, &*bounds, row, store, left)
 }
 
 // An expression statement's row, entered.
@@ -47,12 +52,12 @@ fn express(rows: &[i32], bounds: &[usize], row: usize, store: &mut [i32], left: 
     requires { ⌜ Entered (now rows) (now bounds) (length (now store)) row kinds.Kind.Express ⌝ }
     ensures { λ r. ⌜ ran r (now (left .exit)) (now (store .exit)) ≡ spend (performAt (now (rows .entry)) (now (bounds .entry)) row) (now (left .entry)) (now (store .entry)) ⌝ }
 {
-    let r = eval_operation(rows, bounds, link_at(rows, row, 1), store, left);
-    let value = operand(r);
+    let answer = eval_operation(&*rows, &*bounds, link_at(rows, row, 1), store, left);
+    let value = operand(answer);
     let Operand::Value(_) = value else {
-        return r;
+        return answer;
     };
-    -1
+    NEXT
 }
 
 // The statement at a row.
@@ -68,10 +73,10 @@ pub fn run_statement(
 {
     let n = *left;
     if n == 0 {
-        return 2147483648;
+        return SPENT;
     }
     *left = n - 1;
-    perform(rows, bounds, row, store, left)
+    perform(&*rows, &*bounds, row, store, left)
 }
 
 // A row that was entered: what follows, by its kind. A row that is no statement does nothing.
@@ -81,12 +86,12 @@ fn perform(rows: &[i32], bounds: &[usize], row: usize, store: &mut [i32], left: 
 {
     let kind = statement_kind_at(rows, row);
     match kind {
-        Kind::Express => express(rows, bounds, row, store, left),
-        Kind::Block => run_list(rows, bounds, link_at(rows, row, 1), store, left),
-        Kind::If => run_if(rows, bounds, row, store, left),
+        Kind::Express => express(&*rows, &*bounds, row, store, left),
+        Kind::Block => run_list(&*rows, &*bounds, link_at(rows, row, 1), store, left),
+        Kind::If => run_if(&*rows, &*bounds, row, store, left),
         Kind::While => run_rounds(
-            rows,
-            bounds,
+            &*rows,
+            &*bounds,
             link_at(rows, row, 1),
             0,
             link_at(rows, row, 2),
@@ -94,19 +99,19 @@ fn perform(rows: &[i32], bounds: &[usize], row: usize, store: &mut [i32], left: 
             left,
         ),
         Kind::Do => run_do(
-            rows,
-            bounds,
+            &*rows,
+            &*bounds,
             link_at(rows, row, 1),
             link_at(rows, row, 2),
             store,
             left,
         ),
-        Kind::For => run_for(rows, bounds, row, store, left),
-        Kind::Switch => run_switch(rows, bounds, row, store, left),
-        Kind::Break => -2,
-        Kind::Continue => -3,
+        Kind::For => run_for(&*rows, &*bounds, row, store, left),
+        Kind::Switch => run_switch(&*rows, &*bounds, row, store, left),
+        Kind::Break => BREAK,
+        Kind::Continue => CONTINUE,
         Kind::Goto => jump(word_at(rows, row, 1)),
-        _ => -1,
+        _ => NEXT,
     }
 }
 
@@ -122,9 +127,9 @@ pub fn run_list(
     ensures { λ r. ⌜ ran r (now (left .exit)) (now (store .exit)) ≡ spend (itemsFrom (now (rows .entry)) (now (bounds .entry)) first) (now (left .entry)) (now (store .entry)) ⌝ }
 {
     let mut at = first;
-    let mut answer: i64 = -1;
+    let mut answer = NEXT;
     while at != 0 {
-        answer = run_statement(rows, bounds, at, store, left);
+        answer = run_statement(&*rows, &*bounds, at, store, left);
         at = resume(rows, at, answer);
     }
     answer
@@ -135,19 +140,19 @@ fn run_if(rows: &[i32], bounds: &[usize], row: usize, store: &mut [i32], left: &
     requires { ⌜ Entered (now rows) (now bounds) (length (now store)) row kinds.Kind.If ⌝ }
     ensures { λ r. ⌜ ran r (now (left .exit)) (now (store .exit)) ≡ spend (performAt (now (rows .entry)) (now (bounds .entry)) row) (now (left .entry)) (now (store .entry)) ⌝ }
 {
-    let r = eval(rows, bounds, link_at(rows, row, 1), store, left);
-    let test = operand(r);
+    let answer = eval(&*rows, &*bounds, link_at(rows, row, 1), store, left);
+    let test = operand(answer);
     let Operand::Value(value) = test else {
-        return r;
+        return answer;
     };
     if is_true(value) {
-        return run_statement(rows, bounds, link_at(rows, row, 2), store, left);
+        return run_statement(&*rows, &*bounds, link_at(rows, row, 2), store, left);
     }
     let other = link_at(rows, row, 3);
     if other == 0 {
-        return -1;
+        return NEXT;
     }
-    run_statement(rows, bounds, other, store, left)
+    run_statement(&*rows, &*bounds, other, store, left)
 }
 
 // A round of a while or a for: test, body, step.
@@ -163,25 +168,25 @@ fn round(
     requires { ⌜ ReadyRounds (now rows) (now bounds) (length (now store)) test action body ⌝ }
     ensures { λ r. ⌜ turned r (now (left .exit)) (now (store .exit)) ≡ spend (roundAt (now (rows .entry)) (now (bounds .entry)) test action body) (now (left .entry)) (now (store .entry)) ⌝ }
 {
-    let r = part(rows, bounds, test, 1, store, left);
-    let tested = operand(r);
+    let test_answer = part(&*rows, &*bounds, test, 1, store, left);
+    let tested = operand(test_answer);
     let Operand::Value(value) = tested else {
-        return r;
+        return test_answer;
     };
     if !is_true(value) {
-        return -1;
+        return NEXT;
     }
-    let q = after_body(run_statement(rows, bounds, body, store, left));
-    let turn = flow(q);
+    let body_answer = after_body(run_statement(&*rows, &*bounds, body, store, left));
+    let turn = flow(body_answer);
     let Flow::Continue = turn else {
-        return q;
+        return body_answer;
     };
-    let p = part(rows, bounds, action, 0, store, left);
-    let stepped = operand(p);
+    let step_answer = part(&*rows, &*bounds, action, 0, store, left);
+    let stepped = operand(step_answer);
     let Operand::Value(_) = stepped else {
-        return p;
+        return step_answer;
     };
-    -3
+    CONTINUE
 }
 
 // The rounds of a while or a for, until one is the last.
@@ -198,10 +203,10 @@ fn run_rounds(
     ensures { λ r. ⌜ ran r (now (left .exit)) (now (store .exit)) ≡ spend (roundsAt (now (rows .entry)) (now (bounds .entry)) test action body) (now (left .entry)) (now (store .entry)) ⌝ }
 {
     loop {
-        let q = round(rows, bounds, test, action, body, store, left);
-        let turn = flow(q);
+        let answer = round(&*rows, &*bounds, test, action, body, store, left);
+        let turn = flow(answer);
         let Flow::Continue = turn else {
-            return q;
+            return answer;
         };
     }
 }
@@ -218,20 +223,20 @@ fn do_round(
     requires { ⌜ ReadyDo (now rows) (now bounds) (length (now store)) body test ⌝ }
     ensures { λ r. ⌜ turned r (now (left .exit)) (now (store .exit)) ≡ spend (doRoundAt (now (rows .entry)) (now (bounds .entry)) body test) (now (left .entry)) (now (store .entry)) ⌝ }
 {
-    let q = after_body(run_statement(rows, bounds, body, store, left));
-    let turn = flow(q);
+    let body_answer = after_body(run_statement(&*rows, &*bounds, body, store, left));
+    let turn = flow(body_answer);
     let Flow::Continue = turn else {
-        return q;
+        return body_answer;
     };
-    let r = eval(rows, bounds, test, store, left);
-    let tested = operand(r);
+    let test_answer = eval(&*rows, &*bounds, test, store, left);
+    let tested = operand(test_answer);
     let Operand::Value(value) = tested else {
-        return r;
+        return test_answer;
     };
     if is_true(value) {
-        return -3;
+        return CONTINUE;
     }
-    -1
+    NEXT
 }
 
 fn run_do(
@@ -246,10 +251,10 @@ fn run_do(
     ensures { λ r. ⌜ ran r (now (left .exit)) (now (store .exit)) ≡ spend (doAt (now (rows .entry)) (now (bounds .entry)) body test) (now (left .entry)) (now (store .entry)) ⌝ }
 {
     loop {
-        let q = do_round(rows, bounds, body, test, store, left);
-        let turn = flow(q);
+        let answer = do_round(&*rows, &*bounds, body, test, store, left);
+        let turn = flow(answer);
         let Flow::Continue = turn else {
-            return q;
+            return answer;
         };
     }
 }
@@ -259,14 +264,14 @@ fn run_for(rows: &[i32], bounds: &[usize], row: usize, store: &mut [i32], left: 
     requires { ⌜ Entered (now rows) (now bounds) (length (now store)) row kinds.Kind.For ⌝ }
     ensures { λ r. ⌜ ran r (now (left .exit)) (now (store .exit)) ≡ spend (performAt (now (rows .entry)) (now (bounds .entry)) row) (now (left .entry)) (now (store .entry)) ⌝ }
 {
-    let r = part(rows, bounds, link_at(rows, row, 1), 0, store, left);
-    let start = operand(r);
+    let answer = part(&*rows, &*bounds, link_at(rows, row, 1), 0, store, left);
+    let start = operand(answer);
     let Operand::Value(_) = start else {
-        return r;
+        return answer;
     };
     run_rounds(
-        rows,
-        bounds,
+        &*rows,
+        &*bounds,
         link_at(rows, row, 2),
         link_at(rows, row, 3),
         link_at(rows, row, 4),
@@ -280,11 +285,11 @@ fn run_switch(rows: &[i32], bounds: &[usize], row: usize, store: &mut [i32], lef
     requires { ⌜ Entered (now rows) (now bounds) (length (now store)) row kinds.Kind.Switch ⌝ }
     ensures { λ r. ⌜ ran r (now (left .exit)) (now (store .exit)) ≡ spend (performAt (now (rows .entry)) (now (bounds .entry)) row) (now (left .entry)) (now (store .entry)) ⌝ }
 {
-    let r = eval(rows, bounds, link_at(rows, row, 1), store, left);
-    let selector = operand(r);
+    let answer = eval(&*rows, &*bounds, link_at(rows, row, 1), store, left);
+    let selector = operand(answer);
     let Operand::Value(value) = selector else {
-        return r;
+        return answer;
     };
     let first = find_start(rows, link_at(rows, row, 2), value);
-    after_switch(run_list(rows, bounds, first, store, left))
+    after_switch(run_list(&*rows, &*bounds, first, store, left))
 }

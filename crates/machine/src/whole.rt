@@ -1,6 +1,9 @@
 // The run of a program.
 use super::statements::run_statement;
+use evaluator::OVERFLOW;
 use evaluator::Operand;
+use evaluator::SPENT;
+use evaluator::ZERO_DIVISOR;
 use evaluator::answers::operand;
 use words::Ending;
 use words::FaultSort;
@@ -43,13 +46,13 @@ fn ending_of(answer: i64) -> Ending
     let Operand::Halted = ended else {
         return Ending::Plain;
     };
-    if answer == 2147483648 {
+    if answer == SPENT {
         return Ending::Spent;
     }
-    if answer == 2147483649 {
+    if answer == OVERFLOW {
         return Ending::Fault(FaultSort::Overflow);
     }
-    if answer == 2147483650 {
+    if answer == ZERO_DIVISOR {
         return Ending::Fault(FaultSort::ZeroDivisor);
     }
     Ending::Fault(FaultSort::Index)
@@ -68,7 +71,7 @@ fn start(
     ensures { λ r. ⌜ ran r (now (left .exit)) (now (store .exit)) ≡ spend (wholeAt (now (lengths .entry)) variables (now (rows .entry))) (now (left .entry)) (now (store .entry)) ⌝ }
 {
     fill_bounds(lengths, variables, bounds);
-    run_statement(rows, bounds, 0, store, left)
+    run_statement(&*rows, &*bounds, 0, store, left)
 }
 
 // The run of a program with a budget.

@@ -1,12 +1,13 @@
 -- Laws of the grammar: what holds of every kind is tested over the table.
 use mathlib.Core.Path.{_≡_, refl}
-use mathlib.Core.Bool.{Bool, false}
+use mathlib.Core.Bool.{Bool, true, false}
 use mathlib.Core.List.{List, []}
 use Prim.Native.Nat.{ℕ, _≤_, _<_}
 use native.Mathlib.Omega.{arith}
 use native.Mathlib.Decide.{decLt}
 use lib.IntN.{ℤ}
 use lib.ListN.{List·getD-eq-default}
+use Rattle.words.specs.Word.{pick}
 use Rattle.words.specs.Table.{numberAt}
 use Rattle.structure.specs.Grammar.{unused, variable, label, grammar, sortOf, sortAt, between, isLink, link}
 use Rattle.structure.specs.Search.{some}
@@ -37,3 +38,12 @@ kind-no-number kind = no-kind-has (between variable label) 0 refl refl kind
 pub kind-links-none : (rows : List ℤ) (row : ℕ) → link rows row 0 ≡ 0
 unfolding link sortAt
 kind-links-none rows row = rw (kind-no-link (numberAt rows row 0))
+
+-- a word that is 0 links nothing, whatever its sort
+pub zero-links-none : (rows : List ℤ) (row field : ℕ) → numberAt rows row field ≡ 0 → link rows row field ≡ 0
+unfolding link
+zero-links-none rows row field z = rw z (go (isLink (sortAt rows row field)))
+  where
+    go : (links : Bool) → _≡_ {A = ℕ} (pick links 0 0) 0
+    go true = refl
+    go false = refl

@@ -32,13 +32,14 @@ pub fn is_foreign(form: Form, rows: &[i32], row: usize, field: usize) -> bool
     requires { ⌜ (6 * row + 5 < length (now rows)) × (field < 6) ⌝ }
     ensures { λ r. ⌜ r ≡ foreign form (now (rows .entry)) row field ⌝ }
 {
+    let number = number_at(rows, row, field);
     if field == 0 {
-        return !in_language(form, number_at(rows, row, 0));
+        return !in_language(form, number);
     }
-    if sort_at(rows, row, field) == UNUSED {
-        return number_at(rows, row, field) != 0;
+    if number == 0 {
+        return false;
     }
-    false
+    sort_at(rows, row, field) == UNUSED
 }
 
 // The row is of the sort that a link asks for.

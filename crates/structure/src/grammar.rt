@@ -215,13 +215,17 @@ pub fn is_required(sort: u8) -> bool
     sort == BRANCH
 }
 
-// The row that a field links, or 0.
+// The row that a field links, or 0. Most words of a table are 0, and need no look at the table of kinds.
 pub fn link(rows: &[i32], row: usize, field: usize) -> usize
     requires { ⌜ (6 * row + 5 < length (now rows)) × (field < 6) ⌝ }
     ensures { λ r. ⌜ r ≡ linkOf (now (rows .entry)) row field ⌝ }
 {
+    let number = number_at(rows, row, field);
+    if number == 0 {
+        return 0;
+    }
     if is_link(sort_at(rows, row, field)) {
-        return number_at(rows, row, field);
+        return number;
     }
     0
 }

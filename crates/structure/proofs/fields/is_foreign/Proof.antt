@@ -1,11 +1,23 @@
--- `is_foreign` makes its definition's tests in order.
-use mathlib.Core.Bool.{not}
-use mathlib.Core.Path.{ap}
+-- `is_foreign` makes its definition's tests, the word before its sort.
+use mathlib.Core.Bool.{Bool, true, false, not, _&&_}
+use mathlib.Core.Path.{_≡_, refl, ap, _∙_}
+use denote.Ref.{now}
+use lib.Dec.{eqb}
 use borrow.Author.Tests.{eq-eqb, ne-eqb}
+use Rattle.words.specs.Table.{numberAt}
+use Rattle.structure.specs.Grammar.{unused, sortAt, inLanguage}
 use Rattle.structure.specs.Fields.{foreign}
 use borrow.Author.Needs.{needs}
 use Rattle.structure.proofs.fields.is_foreign.Statement.{statement}
 use Rattle.structure.proofs.fields.is_foreign.Tie as tie
+
+and-false : (b : Bool) → false ≡ (b && false)
+and-false true = refl
+and-false false = refl
+
+and-true : (b : Bool) → b ≡ (b && true)
+and-true true = refl
+and-true false = refl
 
 number-at-requires : tie.Need-number-at-requires
 number-at-requires c κs = search needs
@@ -16,23 +28,24 @@ in-language-requires c κs = search needs
 returns : tie.Need-returns
 unfolding foreign
 returns c =
-    rw (eq-eqb _ _ (c .before .before .if1 .taken), ← c .before .number-at .ensures) (ap not (c .in-language .ensures))
-
-sort-at-requires : tie.Need-sort-at-requires
-sort-at-requires c κs = search needs
-
-number-at-requires-2 : tie.Need-number-at-requires-2
-number-at-requires-2 c κs = search needs
+    let start = c .before .before .before in
+    let first = c .before .if1 .taken in
+    let kind = c .before .before .number-at .ensures ∙ ap (numberAt (now (start .args .rows)) (start .args .row)) first in
+    rw (eq-eqb _ _ first) (ap not (c .in-language .ensures ∙ ap (inLanguage (start .args .form)) kind))
 
 returns-2 : tie.Need-returns-2
 unfolding foreign
 returns-2 c =
-    rw (ne-eqb _ _ (c .before .before .before .if1 .left), ← c .before .before .sort-at .ensures, eq-eqb _ _ (c .before .if2 .taken), ← c .number-at2 .ensures)
+    let start = c .before .before .before in
+    rw (ne-eqb _ _ (c .before .if1 .left), ← c .before .before .number-at .ensures, eq-eqb _ _ (c .if2 .taken)) (and-false (eqb (sortAt (now (start .args .rows)) (start .args .row) (start .args .field)) unused))
+
+sort-at-requires : tie.Need-sort-at-requires
+sort-at-requires c κs = search needs
 
 returns-3 : tie.Need-returns-3
 unfolding foreign
 returns-3 c =
-    rw (ne-eqb _ _ (c .before .before .if1 .left), ← c .before .sort-at .ensures, ne-eqb _ _ (c .if2 .left))
+    rw (ne-eqb _ _ (c .before .before .if1 .left), ← c .before .before .before .number-at .ensures, ne-eqb _ _ (c .before .if2 .left), ← c .sort-at .ensures) (and-true _)
 
 pub is-foreign-spec : {M : Type 1} → statement M
 is-foreign-spec =
@@ -41,7 +54,6 @@ is-foreign-spec =
     number-at-requires
     in-language-requires
     returns
-    sort-at-requires
-    number-at-requires-2
     returns-2
+    sort-at-requires
     returns-3)

@@ -9,7 +9,7 @@ use lib.IntN.{ℤ, pos}
 use lib.ListN.{length}
 use Rattle.words.specs.Word.{natural, pick}
 use Rattle.words.specs.Table.{rowCount, wordAt, numberAt}
-use Rattle.words.specs.Kinds.{kindAt}
+use Rattle.words.specs.Kinds.{kinds, kindIn, kindOf, kindAt}
 use Rattle.words.specs.Arithmetic.{isTrue}
 use Rattle.words.specs.declared.Kind.{Kind}
 use Rattle.words.specs.declared.Kind.the-variants.{Constant, Variable, Element, Minus, Not, Binary, And, Or, Conditional, Comma, Assign, Compound, Prefix, Postfix, Empty, Express, Block, If, While, Do, For, Switch, Case, Default, Break, Continue, Goto, Label, Other}
@@ -29,6 +29,11 @@ use Rattle.evaluator.proofs.Tags.{excluded, tag}
 use Rattle.machine.specs.Lists.{startOf, InTable}
 use Rattle.machine.specs.Rows.{partOr, performAt, execAt, itemsFrom, roundsAt, doAt}
 use Rattle.machine.proofs.Enter.{enter-empty, enter-express, enter-block, enter-ifThen, enter-ifElse, enter-while, enter-do, enter-for, enter-switch, enter-break, enter-continue, enter-goto, switch-starts}
+
+-- the kind with this number
+pub number-express : (rows : List ℤ) (row n : ℕ) → n ≡ numberAt rows row 0 → n ≡ 41 → kindAt rows row ≡ Express
+unfolding kindAt kindOf kindIn kinds
+number-express rows row n p e = rw (← p, e)
 
 -- the tree at the row is known
 known : (rows : List ℤ) (bounds : List ℕ) (row : ℕ) (t : Statement) (n : ℕ) (s : List ℤ) → statementAt rows row ≡ t

@@ -19,6 +19,7 @@ use evaluator::expressions::eval_operation;
 use evaluator::operations::link_at;
 use words::Kind;
 use words::arithmetic::is_true;
+use words::table::number_at;
 use words::table::word_at;
 ghost use mathlib.Core.Path.{_≡_};
 ghost use lib.ListN.{length};
@@ -115,6 +116,23 @@ fn perform(rows: &[i32], bounds: &[usize], row: usize, store: &mut [i32], left: 
     }
 }
 
+// The statement at a row, where it is most often an expression statement, which needs no call of `perform`: an item of a list.
+fn run_item(rows: &[i32], bounds: &[usize], row: usize, store: &mut [i32], left: &mut u32) -> i64
+    requires { ⌜ Ready (now rows) (now bounds) (length (now store)) row ⌝ }
+    ensures { λ r. ⌜ ran r (now (left .exit)) (now (store .exit)) ≡ spend (execAt (now (rows .entry)) (now (bounds .entry)) row) (now (left .entry)) (now (store .entry)) ⌝ }
+{
+    let n = *left;
+    if n == 0 {
+        return SPENT;
+    }
+    *left = n - 1;
+    let number = number_at(rows, row, 0);
+    if number == 41 {
+        return express(&*rows, &*bounds, row, store, left);
+    }
+    perform(&*rows, &*bounds, row, store, left)
+}
+
 // The list from a first item on; 0 is the empty list.
 pub fn run_list(
     rows: &[i32],
@@ -129,7 +147,7 @@ pub fn run_list(
     let mut at = first;
     let mut answer = NEXT;
     while at != 0 {
-        answer = run_statement(&*rows, &*bounds, at, store, left);
+        answer = run_item(&*rows, &*bounds, at, store, left);
         at = resume(rows, at, answer);
     }
     answer

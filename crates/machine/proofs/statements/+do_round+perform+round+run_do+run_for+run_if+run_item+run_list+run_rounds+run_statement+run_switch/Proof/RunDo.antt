@@ -11,8 +11,8 @@ use Rattle.machine.proofs.Answers.{not-continue, goes-round, round-fall
 use Rattle.machine.proofs.Enter.{loop-round}
 use Rattle.machine.proofs.Rows.{table-row}
 use Rattle.machine.proofs.statements.run_do.Reads as reads
-use Rattle.machine.proofs.statements.+do_round+perform+round+run_do+run_for+run_if+run_list+run_rounds+run_statement+run_switch.Lts-run_do as lts
-use Rattle.machine.proofs.statements.+do_round+perform+round+run_do+run_for+run_if+run_list+run_rounds+run_statement+run_switch.Proof.Claims.{run-do-claims, run-do-at, run-do-Inv-loop, run-do-μ-loop}
+use Rattle.machine.proofs.statements.+do_round+perform+round+run_do+run_for+run_if+run_item+run_list+run_rounds+run_statement+run_switch.Lts-run_do as lts
+use Rattle.machine.proofs.statements.+do_round+perform+round+run_do+run_for+run_if+run_item+run_list+run_rounds+run_statement+run_switch.Proof.Claims.{run-do-claims, run-do-at, run-do-Inv-loop, run-do-μ-loop}
 
 pub loop-holds : (t : ℕ) → lts.Need-loop-holds (run-do-claims t) (run-do-at t) reads.Post run-do-Inv-loop run-do-μ-loop
 loop-holds t c = (refl, omega arith, refl)

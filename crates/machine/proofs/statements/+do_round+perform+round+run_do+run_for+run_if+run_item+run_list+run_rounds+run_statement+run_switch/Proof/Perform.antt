@@ -19,8 +19,8 @@ use Rattle.evaluator.proofs.Rows.{field-inside, sound-row}
 use Rattle.machine.proofs.Answers.{ran-next, ran-break, ran-continue, ran-handed}
 use Rattle.machine.proofs.Rows.{table-row, optional-asks, optional, block-row, while-row, do-row, break-row, continue-row, goto-row, idle-row}
 use Rattle.machine.proofs.statements.perform.Reads as reads
-use Rattle.machine.proofs.statements.+do_round+perform+round+run_do+run_for+run_if+run_list+run_rounds+run_statement+run_switch.Lts-perform as lts
-use Rattle.machine.proofs.statements.+do_round+perform+round+run_do+run_for+run_if+run_list+run_rounds+run_statement+run_switch.Proof.Claims.{perform-claims, perform-at}
+use Rattle.machine.proofs.statements.+do_round+perform+round+run_do+run_for+run_if+run_item+run_list+run_rounds+run_statement+run_switch.Lts-perform as lts
+use Rattle.machine.proofs.statements.+do_round+perform+round+run_do+run_for+run_if+run_item+run_list+run_rounds+run_statement+run_switch.Proof.Claims.{perform-claims, perform-at}
 
 pub statement-kind-at-requires : (t : ℕ) → lts.Need-statement-kind-at-requires (perform-claims t) (perform-at t) reads.Post
 statement-kind-at-requires t c κs =

@@ -11,8 +11,8 @@ use Rattle.evaluator.proofs.Rows.{sound-row}
 use Rattle.machine.proofs.Answers.{ran-next, ran-handed, hands-flow, answered-least}
 use Rattle.machine.proofs.Rows.{optional-asks, optional, otherwise-none, otherwise-some, if-row}
 use Rattle.machine.proofs.statements.run_if.Reads as reads
-use Rattle.machine.proofs.statements.+do_round+perform+round+run_do+run_for+run_if+run_list+run_rounds+run_statement+run_switch.Lts-run_if as lts
-use Rattle.machine.proofs.statements.+do_round+perform+round+run_do+run_for+run_if+run_list+run_rounds+run_statement+run_switch.Proof.Claims.{run-if-claims, run-if-at}
+use Rattle.machine.proofs.statements.+do_round+perform+round+run_do+run_for+run_if+run_item+run_list+run_rounds+run_statement+run_switch.Lts-run_if as lts
+use Rattle.machine.proofs.statements.+do_round+perform+round+run_do+run_for+run_if+run_item+run_list+run_rounds+run_statement+run_switch.Proof.Claims.{run-if-claims, run-if-at}
 
 pub link-at-requires : (t : ℕ) → lts.Need-link-at-requires (run-if-claims t) (run-if-at t) reads.Post
 link-at-requires t c κs =

@@ -11,8 +11,8 @@ use Rattle.machine.proofs.Answers.{not-continue, goes-round, round-fall
 use Rattle.machine.proofs.Enter.{rounds-round}
 use Rattle.machine.proofs.Rows.{table-row}
 use Rattle.machine.proofs.statements.run_rounds.Reads as reads
-use Rattle.machine.proofs.statements.+do_round+perform+round+run_do+run_for+run_if+run_list+run_rounds+run_statement+run_switch.Lts-run_rounds as lts
-use Rattle.machine.proofs.statements.+do_round+perform+round+run_do+run_for+run_if+run_list+run_rounds+run_statement+run_switch.Proof.Claims.{run-rounds-claims, run-rounds-at, run-rounds-Inv-loop, run-rounds-μ-loop}
+use Rattle.machine.proofs.statements.+do_round+perform+round+run_do+run_for+run_if+run_item+run_list+run_rounds+run_statement+run_switch.Lts-run_rounds as lts
+use Rattle.machine.proofs.statements.+do_round+perform+round+run_do+run_for+run_if+run_item+run_list+run_rounds+run_statement+run_switch.Proof.Claims.{run-rounds-claims, run-rounds-at, run-rounds-Inv-loop, run-rounds-μ-loop}
 
 pub loop-holds : (t : ℕ) → lts.Need-loop-holds (run-rounds-claims t) (run-rounds-at t) reads.Post run-rounds-Inv-loop run-rounds-μ-loop
 loop-holds t c = (refl, omega arith, refl)

@@ -11,8 +11,8 @@ use Rattle.machine.proofs.Answers.{flow-next, ran-least}
 use Rattle.machine.proofs.Items.{ahead-falls, continued-next, continued-end, list-step}
 use Rattle.machine.proofs.Rows.{in-table, table-row}
 use Rattle.machine.proofs.statements.run_list.Reads as reads
-use Rattle.machine.proofs.statements.+do_round+perform+round+run_do+run_for+run_if+run_list+run_rounds+run_statement+run_switch.Lts-run_list as lts
-use Rattle.machine.proofs.statements.+do_round+perform+round+run_do+run_for+run_if+run_list+run_rounds+run_statement+run_switch.Proof.Claims.{run-list-claims, run-list-at, run-list-Inv-loop, run-list-μ-loop}
+use Rattle.machine.proofs.statements.+do_round+perform+round+run_do+run_for+run_if+run_item+run_list+run_rounds+run_statement+run_switch.Lts-run_list as lts
+use Rattle.machine.proofs.statements.+do_round+perform+round+run_do+run_for+run_if+run_item+run_list+run_rounds+run_statement+run_switch.Proof.Claims.{run-list-claims, run-list-at, run-list-Inv-loop, run-list-μ-loop}
 
 pub loop-holds : (t : ℕ) → lts.Need-loop-holds (run-list-claims t) (run-list-at t) reads.Post run-list-Inv-loop run-list-μ-loop
 loop-holds t c =
@@ -20,8 +20,8 @@ loop-holds t c =
     let here = start .pre .1 in
     (here .below, refl, omega arith, continued-next (start .args .rows .now) (layoutFrom (start .args .bounds .now)) (negsuc 0) (start .args .left .now) (start .args .store .now) (start .args .first) flow-next)
 
-pub run-statement-requires : (t : ℕ) → lts.Need-run-statement-requires (run-list-claims t) (run-list-at t) reads.Post run-list-Inv-loop run-list-μ-loop
-run-statement-requires t c κs =
+pub run-item-requires : (t : ℕ) → lts.Need-run-item-requires (run-list-claims t) (run-list-at t) reads.Post run-list-Inv-loop run-list-μ-loop
+run-item-requires t c κs =
     let start = c .before .before .before .before .before in
     let past-loop = c .before .before .before .loop in
     let here = start .pre .1 in
@@ -47,14 +47,14 @@ loop-again t c =
     let start = c .before .before .before .before .before .before .before .before in
     let past-loop = c .before .before .before .before .before .before .loop in
     let past-loop-test = c .before .before .before .before .before .loop-test in
-    let past-run-statement = c .before .before .run-statement in
+    let past-run-item = c .before .before .run-item in
     let past-resume = c .resume in
     let here = start .pre .1 in (
       past-resume .ensures .below,
-      past-run-statement .kept .1 .1 .1 .0 ∙ past-loop .inv .1,
-      omega (arith, past-loop .inv .2, ran-least (past-run-statement .result) (past-run-statement .last .1 .1 .1 .1 .0) (past-run-statement .last .1 .1 .1 .0) (past-loop .left) (past-loop .store) (execAt (start .args .rows .now) (start .args .bounds .now) (past-loop .at)) (past-run-statement .ensures)),
+      past-run-item .kept .1 .1 .1 .0 ∙ past-loop .inv .1,
+      omega (arith, past-loop .inv .2, ran-least (past-run-item .result) (past-run-item .last .1 .1 .1 .1 .0) (past-run-item .last .1 .1 .1 .0) (past-loop .left) (past-loop .store) (execAt (start .args .rows .now) (start .args .bounds .now) (past-loop .at)) (past-run-item .ensures)),
       past-loop .inv .3
-          ∙ list-step (layoutFrom (start .args .bounds .now)) (start .args .rows .now) (in-table (table-row here (past-loop .inv .0) refl)) (past-loop-test .taken) _ (past-loop .left) (past-loop .store) (past-run-statement .result) (past-run-statement .last .1 .1 .1 .1 .0) (past-run-statement .last .1 .1 .1 .0) (past-run-statement .ok) (past-run-statement .ensures) (past-resume .result) (past-resume .ensures),
+          ∙ list-step (layoutFrom (start .args .bounds .now)) (start .args .rows .now) (in-table (table-row here (past-loop .inv .0) refl)) (past-loop-test .taken) _ (past-loop .left) (past-loop .store) (past-run-item .result) (past-run-item .last .1 .1 .1 .1 .0) (past-run-item .last .1 .1 .1 .0) (past-run-item .ok) (past-run-item .ensures) (past-resume .result) (past-resume .ensures),
     )
 
 pub same-length : (t : ℕ) → lts.Need-same-length (run-list-claims t) (run-list-at t) reads.Post run-list-Inv-loop run-list-μ-loop

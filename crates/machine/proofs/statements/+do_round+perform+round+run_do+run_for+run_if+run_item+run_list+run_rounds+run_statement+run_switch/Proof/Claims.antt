@@ -15,34 +15,37 @@ use Rattle.machine.specs.Rows.{itemsFrom, roundsAt, doAt}
 use Rattle.machine.proofs.Items.{ahead}
 use Rattle.machine.proofs.statements.do_round.Reads as do-round
 use Rattle.machine.proofs.statements.do_round.Kinds as do-round-kinds
-use Rattle.machine.proofs.statements.+do_round+perform+round+run_do+run_for+run_if+run_list+run_rounds+run_statement+run_switch.Lts-do_round as do-round-lts
+use Rattle.machine.proofs.statements.+do_round+perform+round+run_do+run_for+run_if+run_item+run_list+run_rounds+run_statement+run_switch.Lts-do_round as do-round-lts
 use Rattle.machine.proofs.statements.perform.Reads as perform
 use Rattle.machine.proofs.statements.perform.Kinds as perform-kinds
-use Rattle.machine.proofs.statements.+do_round+perform+round+run_do+run_for+run_if+run_list+run_rounds+run_statement+run_switch.Lts-perform as perform-lts
+use Rattle.machine.proofs.statements.+do_round+perform+round+run_do+run_for+run_if+run_item+run_list+run_rounds+run_statement+run_switch.Lts-perform as perform-lts
 use Rattle.machine.proofs.statements.round.Reads as round
 use Rattle.machine.proofs.statements.round.Kinds as round-kinds
-use Rattle.machine.proofs.statements.+do_round+perform+round+run_do+run_for+run_if+run_list+run_rounds+run_statement+run_switch.Lts-round as round-lts
+use Rattle.machine.proofs.statements.+do_round+perform+round+run_do+run_for+run_if+run_item+run_list+run_rounds+run_statement+run_switch.Lts-round as round-lts
 use Rattle.machine.proofs.statements.run_do.Reads as run-do
 use Rattle.machine.proofs.statements.run_do.Kinds as run-do-kinds
-use Rattle.machine.proofs.statements.+do_round+perform+round+run_do+run_for+run_if+run_list+run_rounds+run_statement+run_switch.Lts-run_do as run-do-lts
+use Rattle.machine.proofs.statements.+do_round+perform+round+run_do+run_for+run_if+run_item+run_list+run_rounds+run_statement+run_switch.Lts-run_do as run-do-lts
 use Rattle.machine.proofs.statements.run_for.Reads as run-for
 use Rattle.machine.proofs.statements.run_for.Kinds as run-for-kinds
-use Rattle.machine.proofs.statements.+do_round+perform+round+run_do+run_for+run_if+run_list+run_rounds+run_statement+run_switch.Lts-run_for as run-for-lts
+use Rattle.machine.proofs.statements.+do_round+perform+round+run_do+run_for+run_if+run_item+run_list+run_rounds+run_statement+run_switch.Lts-run_for as run-for-lts
 use Rattle.machine.proofs.statements.run_if.Reads as run-if
 use Rattle.machine.proofs.statements.run_if.Kinds as run-if-kinds
-use Rattle.machine.proofs.statements.+do_round+perform+round+run_do+run_for+run_if+run_list+run_rounds+run_statement+run_switch.Lts-run_if as run-if-lts
+use Rattle.machine.proofs.statements.+do_round+perform+round+run_do+run_for+run_if+run_item+run_list+run_rounds+run_statement+run_switch.Lts-run_if as run-if-lts
+use Rattle.machine.proofs.statements.run_item.Reads as run-item
+use Rattle.machine.proofs.statements.run_item.Kinds as run-item-kinds
+use Rattle.machine.proofs.statements.+do_round+perform+round+run_do+run_for+run_if+run_item+run_list+run_rounds+run_statement+run_switch.Lts-run_item as run-item-lts
 use Rattle.machine.proofs.statements.run_list.Reads as run-list
 use Rattle.machine.proofs.statements.run_list.Kinds as run-list-kinds
-use Rattle.machine.proofs.statements.+do_round+perform+round+run_do+run_for+run_if+run_list+run_rounds+run_statement+run_switch.Lts-run_list as run-list-lts
+use Rattle.machine.proofs.statements.+do_round+perform+round+run_do+run_for+run_if+run_item+run_list+run_rounds+run_statement+run_switch.Lts-run_list as run-list-lts
 use Rattle.machine.proofs.statements.run_rounds.Reads as run-rounds
 use Rattle.machine.proofs.statements.run_rounds.Kinds as run-rounds-kinds
-use Rattle.machine.proofs.statements.+do_round+perform+round+run_do+run_for+run_if+run_list+run_rounds+run_statement+run_switch.Lts-run_rounds as run-rounds-lts
+use Rattle.machine.proofs.statements.+do_round+perform+round+run_do+run_for+run_if+run_item+run_list+run_rounds+run_statement+run_switch.Lts-run_rounds as run-rounds-lts
 use Rattle.machine.proofs.statements.run_statement.Reads as run-statement
 use Rattle.machine.proofs.statements.run_statement.Kinds as run-statement-kinds
-use Rattle.machine.proofs.statements.+do_round+perform+round+run_do+run_for+run_if+run_list+run_rounds+run_statement+run_switch.Lts-run_statement as run-statement-lts
+use Rattle.machine.proofs.statements.+do_round+perform+round+run_do+run_for+run_if+run_item+run_list+run_rounds+run_statement+run_switch.Lts-run_statement as run-statement-lts
 use Rattle.machine.proofs.statements.run_switch.Reads as run-switch
 use Rattle.machine.proofs.statements.run_switch.Kinds as run-switch-kinds
-use Rattle.machine.proofs.statements.+do_round+perform+round+run_do+run_for+run_if+run_list+run_rounds+run_statement+run_switch.Lts-run_switch as run-switch-lts
+use Rattle.machine.proofs.statements.+do_round+perform+round+run_do+run_for+run_if+run_item+run_list+run_rounds+run_statement+run_switch.Lts-run_switch as run-switch-lts
 use Rattle.evaluator.proofs.answers.operand.Reads as operand-reads
 use Rattle.evaluator.proofs.expressions.eval.Reads as eval-reads
 use Rattle.evaluator.proofs.operations.link_at.Reads as link-at-reads
@@ -56,6 +59,7 @@ use Rattle.machine.proofs.lists.resume.Reads as resume-reads
 use Rattle.machine.proofs.statements.express.Reads as express-reads
 use Rattle.machine.proofs.statements.part.Reads as part-reads
 use Rattle.words.proofs.arithmetic.is_true.Reads as is-true-reads
+use Rattle.words.proofs.table.number_at.Reads as number-at-reads
 use Rattle.words.proofs.table.word_at.Reads as word-at-reads
 
 abbrev pub μ-do-round : Measures 4 do-round-kinds.ps ℕ
@@ -75,6 +79,9 @@ abbrev pub μ-run-for : Measures 4 run-for-kinds.ps ℕ
 
 abbrev pub μ-run-if : Measures 4 run-if-kinds.ps ℕ
 μ-run-if κs a = 6 * a .1 .1 .1 .1 .0 .now + 1
+
+abbrev pub μ-run-item : Measures 4 run-item-kinds.ps ℕ
+μ-run-item κs a = 6 * a .1 .1 .1 .1 .0 .now + 0
 
 abbrev pub μ-run-list : Measures 4 run-list-kinds.ps ℕ
 μ-run-list κs a = 6 * a .1 .1 .1 .1 .0 .now + 1
@@ -123,6 +130,12 @@ run-if-at t = and 4 run-if-kinds.ps (is 4 run-if-kinds.ps μ-run-if t) run-if.Pr
 
 abbrev pub run-if-below : ℕ → In 4 run-if-kinds.ps
 run-if-below t = and 4 run-if-kinds.ps (falls 4 run-if-kinds.ps _<_ μ-run-if t) run-if.Pre
+
+abbrev pub run-item-at : ℕ → In 4 run-item-kinds.ps
+run-item-at t = and 4 run-item-kinds.ps (is 4 run-item-kinds.ps μ-run-item t) run-item.Pre
+
+abbrev pub run-item-below : ℕ → In 4 run-item-kinds.ps
+run-item-below t = and 4 run-item-kinds.ps (falls 4 run-item-kinds.ps _<_ μ-run-item t) run-item.Pre
 
 abbrev pub run-list-at : ℕ → In 4 run-list-kinds.ps
 run-list-at t = and 4 run-list-kinds.ps (is 4 run-list-kinds.ps μ-run-list t) run-list.Pre
@@ -189,8 +202,11 @@ run-for-claims t = (link-at-reads.Asked, link-at-reads.Learnt, part-reads.Asked,
 abbrev pub run-if-claims : ℕ → run-if-lts.Claims
 run-if-claims t = (link-at-reads.Asked, link-at-reads.Learnt, eval-reads.Asked, eval-reads.Learnt, operand-reads.Asked, operand-reads.Learnt, is-true-reads.Asked, is-true-reads.Learnt, run-statement-below t, run-statement.Post)
 
+abbrev pub run-item-claims : ℕ → run-item-lts.Claims
+run-item-claims t = (number-at-reads.Asked, number-at-reads.Learnt, express-reads.Asked, express-reads.Learnt, perform-below t, perform.Post)
+
 abbrev pub run-list-claims : ℕ → run-list-lts.Claims
-run-list-claims t = (run-statement-below t, run-statement.Post, resume-reads.Asked, resume-reads.Learnt)
+run-list-claims t = (run-item-below t, run-item.Post, resume-reads.Asked, resume-reads.Learnt)
 
 abbrev pub run-rounds-claims : ℕ → run-rounds-lts.Claims
 run-rounds-claims t = (round-below t, round.Post, flow-reads.Asked, flow-reads.Learnt)

@@ -16,8 +16,8 @@ use Rattle.machine.proofs.Answers.{turned-last, turned-again, hands-tur
 use Rattle.machine.proofs.Enter.{stepRest, step-rest, round-is}
 use Rattle.machine.proofs.Rows.{table-row}
 use Rattle.machine.proofs.statements.round.Reads as reads
-use Rattle.machine.proofs.statements.+do_round+perform+round+run_do+run_for+run_if+run_list+run_rounds+run_statement+run_switch.Lts-round as lts
-use Rattle.machine.proofs.statements.+do_round+perform+round+run_do+run_for+run_if+run_list+run_rounds+run_statement+run_switch.Proof.Claims.{round-claims, round-at}
+use Rattle.machine.proofs.statements.+do_round+perform+round+run_do+run_for+run_if+run_item+run_list+run_rounds+run_statement+run_switch.Lts-round as lts
+use Rattle.machine.proofs.statements.+do_round+perform+round+run_do+run_for+run_if+run_item+run_list+run_rounds+run_statement+run_switch.Proof.Claims.{round-claims, round-at}
 
 pub part-requires : (t : ℕ) → lts.Need-part-requires (round-claims t) (round-at t) reads.Post
 part-requires t c κs =

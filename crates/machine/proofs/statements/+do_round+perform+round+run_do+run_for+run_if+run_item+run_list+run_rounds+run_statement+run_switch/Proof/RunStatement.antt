@@ -7,8 +7,8 @@ use Rattle.evaluator.proofs.Enter.{entered, not-entered}
 use Rattle.machine.specs.Rows.{performAt}
 use Rattle.machine.proofs.Answers.{ran-spent, ran-handed}
 use Rattle.machine.proofs.statements.run_statement.Reads as reads
-use Rattle.machine.proofs.statements.+do_round+perform+round+run_do+run_for+run_if+run_list+run_rounds+run_statement+run_switch.Lts-run_statement as lts
-use Rattle.machine.proofs.statements.+do_round+perform+round+run_do+run_for+run_if+run_list+run_rounds+run_statement+run_switch.Proof.Claims.{run-statement-claims, run-statement-at}
+use Rattle.machine.proofs.statements.+do_round+perform+round+run_do+run_for+run_if+run_item+run_list+run_rounds+run_statement+run_switch.Lts-run_statement as lts
+use Rattle.machine.proofs.statements.+do_round+perform+round+run_do+run_for+run_if+run_item+run_list+run_rounds+run_statement+run_switch.Proof.Claims.{run-statement-claims, run-statement-at}
 
 pub returns : (t : ℕ) → lts.Need-returns (run-statement-claims t) (run-statement-at t) reads.Post
 returns t c =

@@ -14,8 +14,8 @@ use Rattle.machine.proofs.Answers.{turned-last, turned-again, hands-tur
 use Rattle.machine.proofs.Enter.{testRest, test-rest, do-round-is}
 use Rattle.machine.proofs.Rows.{table-row}
 use Rattle.machine.proofs.statements.do_round.Reads as reads
-use Rattle.machine.proofs.statements.+do_round+perform+round+run_do+run_for+run_if+run_list+run_rounds+run_statement+run_switch.Lts-do_round as lts
-use Rattle.machine.proofs.statements.+do_round+perform+round+run_do+run_for+run_if+run_list+run_rounds+run_statement+run_switch.Proof.Claims.{do-round-claims, do-round-at}
+use Rattle.machine.proofs.statements.+do_round+perform+round+run_do+run_for+run_if+run_item+run_list+run_rounds+run_statement+run_switch.Lts-do_round as lts
+use Rattle.machine.proofs.statements.+do_round+perform+round+run_do+run_for+run_if+run_item+run_list+run_rounds+run_statement+run_switch.Proof.Claims.{do-round-claims, do-round-at}
 
 pub run-statement-requires : (t : ℕ) → lts.Need-run-statement-requires (do-round-claims t) (do-round-at t) reads.Post
 run-statement-requires t c κs =

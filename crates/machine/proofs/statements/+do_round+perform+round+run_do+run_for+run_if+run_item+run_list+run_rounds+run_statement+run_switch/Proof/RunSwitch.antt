@@ -17,8 +17,8 @@ use Rattle.machine.specs.Lists.{startOf}
 use Rattle.machine.proofs.Answers.{ran-handed, hands-flow, switch-turns, answered-least}
 use Rattle.machine.proofs.Rows.{in-table, table-row, optional-asks, optional, switch-row}
 use Rattle.machine.proofs.statements.run_switch.Reads as reads
-use Rattle.machine.proofs.statements.+do_round+perform+round+run_do+run_for+run_if+run_list+run_rounds+run_statement+run_switch.Lts-run_switch as lts
-use Rattle.machine.proofs.statements.+do_round+perform+round+run_do+run_for+run_if+run_list+run_rounds+run_statement+run_switch.Proof.Claims.{run-switch-claims, run-switch-at}
+use Rattle.machine.proofs.statements.+do_round+perform+round+run_do+run_for+run_if+run_item+run_list+run_rounds+run_statement+run_switch.Lts-run_switch as lts
+use Rattle.machine.proofs.statements.+do_round+perform+round+run_do+run_for+run_if+run_item+run_list+run_rounds+run_statement+run_switch.Proof.Claims.{run-switch-claims, run-switch-at}
 
 pub link-at-requires : (t : ℕ) → lts.Need-link-at-requires (run-switch-claims t) (run-switch-at t) reads.Post
 link-at-requires t c κs =

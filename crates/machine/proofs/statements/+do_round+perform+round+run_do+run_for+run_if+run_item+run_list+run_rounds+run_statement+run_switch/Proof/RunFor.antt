@@ -10,8 +10,8 @@ use Rattle.machine.specs.Rows.{partOr}
 use Rattle.machine.proofs.Answers.{ran-handed, hands-flow, answered-least}
 use Rattle.machine.proofs.Rows.{optional-asks, optional, for-row}
 use Rattle.machine.proofs.statements.run_for.Reads as reads
-use Rattle.machine.proofs.statements.+do_round+perform+round+run_do+run_for+run_if+run_list+run_rounds+run_statement+run_switch.Lts-run_for as lts
-use Rattle.machine.proofs.statements.+do_round+perform+round+run_do+run_for+run_if+run_list+run_rounds+run_statement+run_switch.Proof.Claims.{run-for-claims, run-for-at}
+use Rattle.machine.proofs.statements.+do_round+perform+round+run_do+run_for+run_if+run_item+run_list+run_rounds+run_statement+run_switch.Lts-run_for as lts
+use Rattle.machine.proofs.statements.+do_round+perform+round+run_do+run_for+run_if+run_item+run_list+run_rounds+run_statement+run_switch.Proof.Claims.{run-for-claims, run-for-at}
 
 pub link-at-requires : (t : ℕ) → lts.Need-link-at-requires (run-for-claims t) (run-for-at t) reads.Post
 link-at-requires t c κs =

@@ -48,7 +48,7 @@ module _ (rows : List ℤ) (t : Tree rows) where
   before-inside (adjacent leads) = leads .inside
   before-inside (further b leads) = leads .inside
 
-  before-before : {item between row : ℕ} → Before rows item between → Before rows between row → Before rows item row
+  pub before-before : {item between row : ℕ} → Before rows item between → Before rows between row → Before rows item row
   before-before a (adjacent leads) = further a leads
   before-before a (further b leads) = further (before-before a b) leads
 
@@ -70,7 +70,7 @@ module _ (rows : List ℤ) (t : Tree rows) where
       (λ m. subst (λ (x : ℕ). Met rows x item) (sym (next-of row leads ∙ rw m)) met)
 
   -- the mark before a row, if there is one, is before it
-  noted-before : (row : ℕ) → row < rowCount rows → (noteAt MarkBefore rows row ≡ 0 → ⊥) → Before rows (noteAt MarkBefore rows row) row
+  pub noted-before : (row : ℕ) → row < rowCount rows → (noteAt MarkBefore rows row ≡ 0 → ⊥) → Before rows (noteAt MarkBefore rows row) row
   noted-before =
       by-owner rows t (λ (row : ℕ). (noteAt MarkBefore rows row ≡ 0 → ⊥) → Before rows (noteAt MarkBefore rows row) row)
       (λ p. absurd (p (noteAt-root MarkBefore rows)))

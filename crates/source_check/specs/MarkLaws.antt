@@ -50,7 +50,7 @@ module _ (rows : List ℤ) (t : Tree rows) where
       by-owner rows t (λ (row : ℕ). noteAt MarkBefore rows row ≤ row) (rw noteAt-root (omega arith))
       (λ owner field h leads lower. let l = linked-lower owner field h leads lower in omega arith)
 
-  pub mark-lower : (row : ℕ) → 0 < row → row < rowCount rows → noteAt MarkBefore rows row < row
+  mark-lower : (row : ℕ) → 0 < row → row < rowCount rows → noteAt MarkBefore rows row < row
   mark-lower row p n =
       let o = owner-of rows t row p n in
       let inside : o .owner < rowCount rows = (let e = o .earlier in omega arith) in
@@ -80,9 +80,6 @@ module _ (rows : List ℤ) (t : Tree rows) where
             ≡ pick (eqb mark 0) false (pick (sameMark rows mark row) true (equalAmong more rows (noteAt MarkBefore rows mark) row))
         go (yes q) r = rw (eq-eqb _ _ q)
         go (no q) r = rw (r (above-zero mark q))
-
-    pub equal-none : (mark : ℕ) → mark ≡ 0 → equalAmong mark rows mark row ≡ false
-    equal-none mark z = rw z (equal-zero 0)
 
     pub equal-here : (mark : ℕ) → (mark ≡ 0 → ⊥) → sameMark rows mark row ≡ true → equalAmong mark rows mark row ≡ true
     unfolding equalAmong

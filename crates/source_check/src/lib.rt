@@ -9,6 +9,7 @@ use words::Form;
 use words::Refusal;
 use words::Verdict;
 
+pub mod mark_tree; // mark_tree.rt: a search tree for the marks of each list
 pub mod marks; // marks.rt: cause 8
 pub mod notes; // notes.rt: what a pass along the links notes of each row
 pub mod places; // places.rt: cause 7

@@ -14,7 +14,7 @@ ghost use Rattle.structure.specs.Passes.{written, Notes};
 ghost use Rattle.source_check.specs.Places.{handed, noteAt};
 
 // A row number in 16 bits, and back.
-fn narrow(row: usize) -> u16
+pub fn narrow(row: usize) -> u16
     requires { ⌜ row < 65536 ⌝ }
     ensures { λ r. ⌜ r ≡ row ⌝ }
 {

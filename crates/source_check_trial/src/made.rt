@@ -1,11 +1,11 @@
-// Tables that are made here: one without a header, deep ones and long ones.
+// Tables that are made here: one without a header, deep ones, long ones and large switches.
 use super::verdict::write;
 use source_check::check;
 ghost use Prim.Native.Nat.{_*_, _+_, _<_, _≤_};
 ghost use lib.ListN.{length};
 
 fn word(number: usize) -> i32
-    requires { ⌜ number < 65536 ⌝ }
+    requires { ⌜ number < 2147483648 ⌝ }
 {
     number as i32
 }
@@ -47,6 +47,32 @@ fn list(rows: &mut [i32], count: usize)
     }
 }
 
+// The value of the case at a row.
+fn value(row: usize, step: usize) -> i32
+    requires { ⌜ (row < 2048) × (step ≤ 1048576) ⌝ }
+{
+    word(row * step)
+}
+
+// Cases from row 3 on, linked by next, with values that are `step` apart.
+fn cases(rows: &mut [i32], count: usize, step: usize)
+    requires { ⌜ (3 ≤ count) × (6 * count ≤ length (now rows)) × (count ≤ 2048) × (step ≤ 1048576) ⌝ }
+{
+    for row in 3..count {
+        put(rows, row, 48, value(row, step), behind(row, count));
+    }
+}
+
+// A block with a switch at row 1, over the constant at row 2; its list begins at row 3.
+fn put_switch(rows: &mut [i32])
+    requires { ⌜ 18 ≤ length (now rows) ⌝ }
+{
+    put(rows, 0, 42, 1, 0);
+    put(rows, 1, 47, 2, 0);
+    put(rows, 2, 1, 0, 0);
+    rows[8] = 3;
+}
+
 fn check_rows(rows: &[i32], count: usize)
     requires { ⌜ (6 * count ≤ length (now rows)) × (count ≤ 2049) ⌝ }
 {
@@ -69,6 +95,17 @@ pub fn check_list(count: usize)
     let mut rows = [0i32; 12294];
     list(&mut rows, count);
     put(&mut rows, 0, 42, 1, 0);
+    check_rows(&rows, count);
+}
+
+// A table that is one switch of `count - 3` cases, of which the last has the value for the row `last`.
+pub fn check_switch(count: usize, step: usize, last: usize)
+    requires { ⌜ (4 ≤ count) × (count ≤ 2048) × (step ≤ 1048576) × (last < 2048) ⌝ }
+{
+    let mut rows = [0i32; 12294];
+    cases(&mut rows, count, step);
+    put(&mut rows, count - 1, 48, value(last, step), 0);
+    put_switch(&mut rows);
     check_rows(&rows, count);
 }
 

@@ -1,5 +1,5 @@
 // Runs the check on the tables of standard input, then on tables that are made here.
-mod made; // made.rt: tables that are made here: one without a header, deep ones and long ones
+mod made; // made.rt: tables that are made here: one without a header, deep ones, long ones and large switches
 mod number; // number.rt: the decimal numbers of a text
 mod tables; // tables.rt: the tables of a text
 mod verdict; // verdict.rt: writes what the check answers
@@ -14,4 +14,8 @@ fn main() {
     made::check_nested(2048);
     made::check_list(2048);
     made::check_list(2049);
+    made::check_switch(2048, 1, 2047);
+    made::check_switch(2048, 1, 3);
+    made::check_switch(2048, 1048576, 2047);
+    made::check_switch(2048, 1048576, 2046);
 }

@@ -3,8 +3,8 @@ use borrow.Author.Tests.{eq-eqb, ne-eqb}
 use Rattle.words.specs.Laws.{sameWord-bits}
 use Rattle.source_check.specs.Marks.{sameMark}
 use borrow.Author.Needs.{needs}
-use Rattle.source_check.proofs.marks.same_mark.Statement.{statement}
-use Rattle.source_check.proofs.marks.same_mark.Tie as tie
+use Rattle.source_check.proofs.mark_tree.same_mark.Statement.{statement}
+use Rattle.source_check.proofs.mark_tree.same_mark.Tie as tie
 
 number-at-requires : tie.Need-number-at-requires
 number-at-requires c κs = search needs

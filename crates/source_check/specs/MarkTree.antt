@@ -72,7 +72,7 @@ abbrev pub InTree : List ℤ → List ℕ → List ℕ → ℕ → Type 0
 InTree rows roots children mark = isMark (numberAt rows mark 0) ≡ true → Reached children (getD roots mark 0) (keyAt rows mark) mark
 
 -- Every mark before the row is in its list's tree.
-pub record Planted (rows : List ℤ) (roots : List ℕ) (row : ℕ) (children : List ℕ) : Type 0 where
+pub record HoldsMarks (rows : List ℤ) (roots : List ℕ) (row : ℕ) (children : List ℕ) : Type 0 where
   pub nodes : Children rows row children
   pub reached : (mark : ℕ) → mark < row → InTree rows roots children mark
 
@@ -90,7 +90,7 @@ Placing rows children root row Nothing = repeated rows row ≡ true
 
 -- The row is taken in, and is no repeated mark.
 pub record Taken (rows : List ℤ) (roots : List ℕ) (row : ℕ) (children : List ℕ) : Type 0 where
-  pub planted : Planted rows roots (row + 1) children
+  pub holds-marks : HoldsMarks rows roots (row + 1) children
   pub new : repeated rows row ≡ false
 
 -- It is taken in, or is a repeated mark.

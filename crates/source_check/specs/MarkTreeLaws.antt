@@ -23,7 +23,7 @@ use Rattle.structure.specs.Structured.{Tree}
 use Rattle.source_check.specs.Places.{isMark, noteAt}
 use Rattle.source_check.specs.Marks.{sameMark, equalAmong, repeated}
 use Rattle.source_check.specs.Legal.{Before, adjacent, further}
-use Rattle.source_check.specs.MarkTree.{rootBy, Begins, itself, earlier, Roots, NodeBefore, keyAt, child, Leading, stay, down, Reached, Children, InTree, Planted, Free, Taken}
+use Rattle.source_check.specs.MarkTree.{rootBy, Begins, itself, earlier, Roots, NodeBefore, keyAt, child, Leading, stay, down, Reached, Children, InTree, HoldsMarks, Free, Taken}
 use Rattle.source_check.specs.PlaceLaws.{by-test}
 use Rattle.source_check.specs.DistinctLaws.{both, before-later, before-before, noted-before, repeated-by}
 use Rattle.source_check.specs.declared.Note.the-variants.{MarkBefore}
@@ -169,8 +169,8 @@ zeros zero i = refl
 zeros (suc n) zero = refl
 zeros (suc n) (suc i) = zeros n i
 
-pub planted-start : (rows : List ℤ) (roots : List ℕ) (n : ℕ) → 2 * rowCount rows ≤ n → Planted rows roots 0 (replicate n 0)
-planted-start rows roots n room =
+pub holds-marks-start : (rows : List ℤ) (roots : List ℕ) (n : ℕ) → 2 * rowCount rows ≤ n → HoldsMarks rows roots 0 (replicate n 0)
+holds-marks-start rows roots n room =
     record {
       nodes = record {
         room = rw length-replicate room;
@@ -180,7 +180,7 @@ planted-start rows roots n room =
       reached = λ mark h. absurd (omega arith);
     }
 
-module _ (rows : List ℤ) (t : Tree rows) (roots : List ℕ) (r : Roots rows (rowCount rows) roots) (row : ℕ) (n : row < rowCount rows) (children : List ℕ) (p : Planted rows roots row children) where
+module _ (rows : List ℤ) (t : Tree rows) (roots : List ℕ) (r : Roots rows (rowCount rows) roots) (row : ℕ) (n : row < rowCount rows) (children : List ℕ) (p : HoldsMarks rows roots row children) where
   later : Children rows (row + 1) children
   later = record { room = p .nodes .room; behind = p .nodes .behind; lower = λ place q. let b = p .nodes .lower place q in omega arith }
 
@@ -189,7 +189,7 @@ module _ (rows : List ℤ) (t : Tree rows) (roots : List ℕ) (r : Roots rows (r
   unfolding repeated
   taken-other k =
       record {
-        planted = record {
+        holds-marks = record {
           nodes = later;
           reached = below-next (InTree rows roots children) row (p .reached) (λ m. clash (sym m ∙ k));
         };
@@ -200,7 +200,7 @@ module _ (rows : List ℤ) (t : Tree rows) (roots : List ℕ) (r : Roots rows (r
   pub taken-root : getD roots row 0 ≡ row → Taken rows roots row children
   taken-root e =
       record {
-        planted = record {
+        holds-marks = record {
           nodes = later;
           reached = below-next (InTree rows roots children) row (p .reached)
               (λ m. rw e (record { rest = keyAt rows row; leads = stay }));
@@ -231,7 +231,7 @@ module _ (rows : List ℤ) (t : Tree rows) (roots : List ℕ) (r : Roots rows (r
     pub taken-free : Taken rows roots row (set children place row)
     taken-free =
         record {
-          planted = record {
+          holds-marks = record {
             nodes = nodes;
             reached = below-next (InTree rows roots (set children place row)) row
                 (λ mark h m. let w = p .reached mark h m in record { rest = w .rest; leads = leading-set place row (free .absent) (w .leads) })

@@ -18,7 +18,7 @@ ghost use Rattle.structure.specs.Structured.{Tree};
 ghost use Rattle.structure.specs.Passes.{Notes};
 ghost use Rattle.source_check.specs.Places.{isMark, noteAt};
 ghost use Rattle.source_check.specs.Marks.{sameMark};
-ghost use Rattle.source_check.specs.MarkTree.{rootBy, NodeBefore, Roots, Children, Planted, Placing, Taking};
+ghost use Rattle.source_check.specs.MarkTree.{rootBy, NodeBefore, Roots, Children, HoldsMarks, Placing, Taking};
 ghost use Rattle.source_check.specs.declared.Note.the-variants.{MarkBefore};
 
 fn same_mark(rows: &[i32], mark: usize, row: usize) -> bool
@@ -88,7 +88,7 @@ fn free_place(rows: &[i32], children: &[u16], root: usize, row: usize) -> Found
 
 // Takes a row into the tree of its list, if it is a mark; false where that is a repeated one.
 pub fn take_in(rows: &[i32], roots: &[u16], children: &mut [u16], row: usize) -> bool
-    requires { ⌜ Tree (now rows) × Roots (now rows) (length (now rows) / 6) (now roots) × Planted (now rows) (now roots) row (now children) × (row < length (now rows) / 6) ⌝ }
+    requires { ⌜ Tree (now rows) × Roots (now rows) (length (now rows) / 6) (now roots) × HoldsMarks (now rows) (now roots) row (now children) × (row < length (now rows) / 6) ⌝ }
     ensures { λ r. ⌜ Taking (now (rows .entry)) (now (roots .entry)) row (now (children .exit)) r ⌝ }
 {
     if !between(48, 49, number_at(rows, row, 0)) {

@@ -10,11 +10,11 @@ ghost use lib.ListN.{length};
 ghost use Rattle.structure.specs.Search.{lowestRow};
 ghost use Rattle.structure.specs.Structured.{Tree};
 ghost use Rattle.source_check.specs.Marks.{repeated};
-ghost use Rattle.source_check.specs.MarkTree.{Roots, Planted};
+ghost use Rattle.source_check.specs.MarkTree.{Roots, HoldsMarks};
 
 // The lowest repeated mark: the first row that is not taken in. The trees hold no mark yet.
 fn lowest_repeated_row(rows: &[i32], roots: &[u16], children: &mut [u16]) -> Found
-    requires { ⌜ Tree (now rows) × Roots (now rows) (length (now rows) / 6) (now roots) × Planted (now rows) (now roots) 0 (now children) ⌝ }
+    requires { ⌜ Tree (now rows) × Roots (now rows) (length (now rows) / 6) (now roots) × HoldsMarks (now rows) (now roots) 0 (now children) ⌝ }
     ensures { λ r. ⌜ r ≡ lowestRow (now (rows .entry)) (repeated (now (rows .entry))) ⌝ }
 {
     let count = rows.len() / 6;

@@ -1,6 +1,6 @@
 -- `lowest_repeated` begins with trees of no marks.
 use native.Mathlib.Omega.{arith}
-use Rattle.source_check.specs.MarkTreeLaws.{planted-start}
+use Rattle.source_check.specs.MarkTreeLaws.{holds-marks-start}
 use borrow.Author.Needs.{needs}
 use Rattle.source_check.proofs.marks.lowest_repeated.Statement.{statement}
 use Rattle.source_check.proofs.marks.lowest_repeated.Tie as tie
@@ -30,7 +30,7 @@ lowest-repeated-row-requires : tie.Need-lowest-repeated-row-requires
 lowest-repeated-row-requires c κs =
     let start = c .before .before .before .before .before .before .before .before .before in
     let few = start .pre .1 in
-    (start .pre .0, c .before .before .before .write-roots .ensures, planted-start _ _ 4096 (omega arith))
+    (start .pre .0, c .before .before .before .write-roots .ensures, holds-marks-start _ _ 4096 (omega arith))
 
 returns : tie.Need-returns
 returns c = search needs

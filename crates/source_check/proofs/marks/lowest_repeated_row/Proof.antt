@@ -9,13 +9,13 @@ use Rattle.words.specs.Table.{rowCount}
 use Rattle.structure.specs.Search.{lowestRow}
 use Rattle.structure.specs.SearchLaws.{Looked, looked-start, looked-on, looked-hit, looked-end}
 use Rattle.source_check.specs.Marks.{repeated}
-use Rattle.source_check.specs.MarkTree.{Planted}
+use Rattle.source_check.specs.MarkTree.{HoldsMarks}
 use Rattle.source_check.proofs.marks.lowest_repeated_row.Statement.{statement}
 use Rattle.source_check.proofs.marks.lowest_repeated_row.Tie as tie
 
 abbrev Inv-loop : tie.InvT-loop
 Inv-loop rows roots children₀ count row₀ children row =
-    (row ≤ count) × (count ≡ rowCount rows) × (length children ≡ length children₀) × Planted rows roots row children × Looked (repeated rows) count row
+    (row ≤ count) × (count ≡ rowCount rows) × (length children ≡ length children₀) × HoldsMarks rows roots row children × Looked (repeated rows) count row
 
 abbrev μ-loop : tie.MeasureT-loop
 μ-loop rows roots children₀ count row₀ children row =
@@ -50,7 +50,7 @@ loop-less c =
 loop-again : tie.Need-loop-again Inv-loop μ-loop
 loop-again c =
     let taken = rw (not-false (c .before .before .before .take-in .result) (c .if1 .left)) at (c .before .before .before .take-in .ensures) in
-    (omega arith, refl, c .before .before .before .take-in .kept .1 .1 .0 ∙ c .before .before .before .before .before .before .loop .inv .2, taken .planted, looked-on _ _ _ false (omega arith) (c .before .before .before .before .before .before .loop .inv .4) (sym (taken .new)) refl)
+    (omega arith, refl, c .before .before .before .take-in .kept .1 .1 .0 ∙ c .before .before .before .before .before .before .loop .inv .2, taken .holds-marks, looked-on _ _ _ false (omega arith) (c .before .before .before .before .before .before .loop .inv .4) (sym (taken .new)) refl)
 
 same-length-2 : tie.Need-same-length-2 Inv-loop μ-loop
 same-length-2 c =

@@ -20,5 +20,10 @@ pub mod Rows
 pub mod Depth
 -- Places: in the tree of a legal source program break, continue, case and default stand where they may.
 pub mod Places
+-- Gives: runs that give a value with a property. Endings: a source tree's run ends with no break, continue or search under way.
+pub mod Gives
+pub mod Endings
 -- Source: what a legal source program gives to its users.
 pub mod Source
+-- Rules accepted: the check accepts every rule of the table.
+pub mod RulesAccepted

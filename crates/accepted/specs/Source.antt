@@ -8,8 +8,11 @@ use lib.Signed.{mag}
 use Rattle.words.specs.Table.{rowCount}
 use Rattle.words.specs.Layout.{layoutOf, storeWords}
 use Rattle.words.specs.declared.Form.the-variants.{Source}
+use Rattle.computation.specs.Run.{Limit, start}
 use Rattle.language.specs.Decode.{decode}
 use Rattle.language.specs.DecodeLaws.{listAt}
+use Rattle.language.specs.Meaning.{next}
+use Rattle.language.specs.Program.{programOf, runUnder}
 use Rattle.language.specs.Sizes.{statementRows, statementDepth}
 use Rattle.language.specs.Sound.{Sound}
 use Rattle.language.specs.WellFormed.{SourceTree}
@@ -18,6 +21,8 @@ use Rattle.source_check.specs.Legal.{Legal}
 use Rattle.accepted.specs.Statements.{program-block}
 use Rattle.accepted.specs.Names.{named-contents, source-variable}
 use Rattle.accepted.specs.Places.{placed-contents}
+use Rattle.accepted.specs.Gives.{Gives}
+use Rattle.accepted.specs.Endings.{program-ends}
 use Rattle.accepted.specs.Sound.{structured-sound}
 use Rattle.accepted.specs.Rows.{structured-rows}
 use Rattle.accepted.specs.Depth.{structured-depth}
@@ -51,3 +56,10 @@ module _ (header rows : List ℤ) (legal : Legal header rows) where
   -- Its constants and case values are words of the table.
   pub legal-worded : ((i : ℕ) → mag (getD rows i (pos 0)) < 2 ^ 31) → Worded (decode rows)
   legal-worded = structured-worded Source header rows (legal .structured)
+
+  -- A run that comes to its end is not on its way out of a loop or switch, nor to a mark, under any limit and from any store: `Plain`
+  -- says no less than document 01's "ends plainly".
+  pub legal-ends-normally : (limit : Limit) (store : List ℤ) → Gives (λ signal. signal ≡ next) (runUnder limit Source header rows store)
+  unfolding runUnder programOf
+  legal-ends-normally limit store =
+      rw (program-block Source header rows (legal .structured)) (program-ends (layoutOf Source header) limit (listAt rows (link rows 0 1)) (placed-contents header rows legal) (start store))

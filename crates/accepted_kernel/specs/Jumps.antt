@@ -2,50 +2,19 @@
 -- that stands ahead; a list takes it there, or hands it on to a list around.
 use mathlib.Core.Path.{_≡_, refl, sym}
 use mathlib.Core.Bool.{Bool, true, false, _||_}
-use Prim.Native.Nat.{ℕ, zero, suc}
+use Prim.Native.Nat.{ℕ}
 use lib.Dec.{eqb}
 use lib.IntN.{pos}
 use Rattle.words.specs.Word.{pick}
 use Rattle.words.specs.Layout.{Layout}
 use Rattle.words.specs.Arithmetic.{isTrue}
 use Rattle.computation.specs.Computation.{Turn, again, leave, Computation, ret, _>>=_, _>>_}
-use Rattle.computation.specs.Run.{State, Result, ok, stopped, Limit, andThen, runStep, roundsFrom, afterTurn, iterate, run}
+use Rattle.computation.specs.Run.{State, ok, Limit, roundsFrom, run}
 use Rattle.language.specs.Trees.{label, has, sameMark, Statement, block, Items, none, _then_, _here_, _⧺_}
 use Rattle.language.specs.Meaning.{Signal, next, seeking, entersStatement, entersMark, enter, ifTrue, value, evaluate, afterBody, afterTest, perform, items, exec}
 use Rattle.structure.specs.SearchLaws.{clash}
+use Rattle.accepted.specs.Gives.{Gives, Any, any, gives-weaker, gives-then, Leaves, gives-iterate, entered, chosen}
 use Rattle.translation.specs.KernelForm.{KernelStatement, kernel-empty, kernel-assign, kernel-block, kernel-if, kernel-while, kernel-goto, KernelItems, kernel-none, kernel-then, kernel-label}
-
--- ---- runs that give a value with a property, unless they are stopped
-
-abbrev pub Gives : {A : Type 0} → (A → Type 0) → Result A → Type 0
-Gives P (ok a σ) = P a
-Gives P (stopped why σ) = Unit {0}
-
-abbrev Any : {A : Type 0} → A → Type 0
-Any a = Unit {0}
-
-any : {A : Type 0} (r : Result A) → Gives Any r
-any (ok a σ) = tt
-any (stopped why σ) = tt
-
-gives-then : {A B : Type 0} (P : A → Type 0) (Q : B → Type 0) (r : Result A) (k : A → State → Result B) → Gives P r → ((a : A) (τ : State) → P a → Gives Q (k a τ)) → Gives Q (andThen r k)
-gives-then P Q (ok a σ) k p h = h a σ p
-gives-then P Q (stopped why σ) k p h = tt
-
--- what a round leaves the loop with
-abbrev Leaves : {A : Type 0} → (A → Type 0) → Turn A → Type 0
-Leaves P again = Unit {0}
-Leaves P (leave a) = P a
-
-turned : {A : Type 0} (P : A → Type 0) (more : State → Result A) (turn : Turn A) (ν : State) → Leaves P turn → Gives P (more ν) → Gives P (afterTurn more turn ν)
-turned P more again ν p r = r
-turned P more (leave a) ν p r = p
-
-gives-iterate : {A : Type 0} (P : A → Type 0) (l : Limit) (n : ℕ) (body : State → Result (Turn A)) → ((σ : State) → Gives (Leaves P) (body σ)) → (σ : State) → Gives P (iterate l n body σ)
-gives-iterate P l zero body h σ = tt
-gives-iterate P l (suc n) body h σ =
-    gives-then Any P (runStep l σ) (λ _ τ. andThen (body τ) (afterTurn (iterate l n body))) (any (runStep l σ))
-    (λ _ τ _. gives-then (Leaves P) P (body τ) (afterTurn (iterate l n body)) (h τ) (λ turn ν p. turned P (iterate l n body) turn ν p (gives-iterate P l n body h ν)))
 
 -- ---- jumps
 
@@ -55,14 +24,6 @@ pub data Lands (ahead : Items) : Signal → Type 0 where
   jumps : {number : ℕ} → has (label number) ahead ≡ true → Lands ahead (seeking (label number))
 
 module _ (L : Layout) (limit : Limit) where
-  entered : {A : Type 0} (P : A → Type 0) (m : Computation A) → ((σ : State) → Gives P (run limit m σ)) → (σ : State) → Gives P (run limit (enter m) σ)
-  unfolding run
-  entered P m h σ = gives-then Any P (runStep limit σ) (λ _ τ. run limit m τ) (any (runStep limit σ)) (λ _ τ _. h τ)
-
-  chosen : {A : Type 0} (P : A → Type 0) (test : Bool) (m n : Computation A) → ((σ : State) → Gives P (run limit m σ)) → ((σ : State) → Gives P (run limit n σ)) → (σ : State) → Gives P (run limit (pick test m n) σ)
-  chosen P true m n f g σ = f σ
-  chosen P false m n f g σ = g σ
-
   -- after a while's body: the next round, or the loop is left by the jump
   after-body : {ahead : Items} {signal : Signal} → Lands ahead signal → (σ : State) → Gives (Leaves (Lands ahead)) (run limit (afterBody (ret (pos 0) >> ret again) signal) σ)
   unfolding run
@@ -73,17 +34,17 @@ module _ (L : Layout) (limit : Limit) where
   at-statement : (ahead is : Items) (s : Statement) {signal : Signal} → ((σ : State) → Gives (Lands (is ⧺ ahead)) (run limit (perform L s) σ)) → Lands ((s then is) ⧺ ahead) signal
       → (σ : State) → Gives (Lands (is ⧺ ahead)) (run limit (pick (entersStatement signal) (enter (perform L s)) (ret signal)) σ)
   unfolding run has _⧺_
-  at-statement ahead is s h goes-on σ = entered (Lands (is ⧺ ahead)) (perform L s) h σ
+  at-statement ahead is s h goes-on σ = entered limit (Lands (is ⧺ ahead)) (perform L s) h σ
   at-statement ahead is s h (jumps e) σ = jumps e
 
   at-label : (ahead is : Items) (mark : ℕ) {signal : Signal} → Lands ((label mark here is) ⧺ ahead) signal
       → (σ : State) → Gives (Lands (is ⧺ ahead)) (run limit (pick (entersMark signal (label mark)) (enter (ret next)) (ret signal)) σ)
   unfolding run has _⧺_ sameMark
-  at-label ahead is mark goes-on σ = entered (Lands (is ⧺ ahead)) (ret next) (λ τ. goes-on) σ
+  at-label ahead is mark goes-on σ = entered limit (Lands (is ⧺ ahead)) (ret next) (λ τ. goes-on) σ
   at-label ahead is mark (jumps {number} e) σ = go (eqb number mark) e σ
     where
       go : (b : Bool) → (b || has (label number) (is ⧺ ahead)) ≡ true → (σ : State) → Gives (Lands (is ⧺ ahead)) (run limit (pick b (enter (ret next)) (ret (seeking (label number)))) σ)
-      go true e σ = entered (Lands (is ⧺ ahead)) (ret next) (λ τ. goes-on) σ
+      go true e σ = entered limit (Lands (is ⧺ ahead)) (ret next) (λ τ. goes-on) σ
       go false e σ = jumps e
 
   mutual
@@ -95,15 +56,15 @@ module _ (L : Layout) (limit : Limit) where
     statement-lands (kernel-block k) σ = items-lands k next goes-on σ
     statement-lands (kernel-if {ahead} {onTrue} {onFalse} {e} a yes-form no-form) σ =
         gives-then Any (Lands ahead) (run limit (value L e) σ) (λ test. run limit (ifTrue test (enter (perform L (block onTrue))) (enter (perform L (block onFalse))))) (any (run limit (value L e) σ))
-        (λ test τ _. chosen (Lands ahead) (isTrue test) (enter (perform L (block onTrue))) (enter (perform L (block onFalse)))
-        (entered (Lands ahead) (perform L (block onTrue)) (λ ν. items-lands yes-form next goes-on ν))
-        (entered (Lands ahead) (perform L (block onFalse)) (λ ν. items-lands no-form next goes-on ν)) τ)
+        (λ test τ _. chosen limit (Lands ahead) (isTrue test) (enter (perform L (block onTrue))) (enter (perform L (block onFalse)))
+        (entered limit (Lands ahead) (perform L (block onTrue)) (λ ν. items-lands yes-form next goes-on ν))
+        (entered limit (Lands ahead) (perform L (block onFalse)) (λ ν. items-lands no-form next goes-on ν)) τ)
     statement-lands (kernel-while {ahead} {body} {e} a form) σ =
         gives-iterate (Lands ahead) limit (roundsFrom limit σ) (run limit round)
         (λ τ. gives-then Any (Leaves (Lands ahead)) (run limit (evaluate L e) τ) (λ v. run limit (afterTest turn v)) (any (run limit (evaluate L e) τ))
-        (λ v ν _. chosen (Leaves (Lands ahead)) (isTrue v) turn (ret (leave next))
+        (λ v ν _. chosen limit (Leaves (Lands ahead)) (isTrue v) turn (ret (leave next))
         (λ ρ. gives-then (Lands ahead) (Leaves (Lands ahead)) (run limit (enter (perform L (block body))) ρ) (λ signal. run limit (afterBody (ret (pos 0) >> ret again) signal))
-        (entered (Lands ahead) (perform L (block body)) (λ μ. items-lands form next goes-on μ) ρ) (λ signal μ lands. after-body lands μ))
+        (entered limit (Lands ahead) (perform L (block body)) (λ μ. items-lands form next goes-on μ) ρ) (λ signal μ lands. after-body lands μ))
         (λ ρ. goes-on) ν)) σ
       where
         turn : Computation (Turn Signal)
@@ -125,12 +86,8 @@ module _ (L : Layout) (limit : Limit) where
   -- Ahead of a whole program there is nothing, so every jump has found its label when the run comes to its end.
   pub program-lands : (contents : Items) → KernelItems none contents → (σ : State) → Gives (λ signal. signal ≡ next) (run limit (exec L (block contents)) σ)
   unfolding perform has
-  program-lands contents k σ = entered (λ signal. signal ≡ next) (perform L (block contents)) (λ τ. at-end (run limit (items L contents next) τ) (items-lands k next goes-on τ)) σ
+  program-lands contents k σ = entered limit (λ signal. signal ≡ next) (perform L (block contents)) (λ τ. gives-weaker (Lands none) (λ signal. signal ≡ next) (run limit (items L contents next) τ) (items-lands k next goes-on τ) ends) σ
     where
       ends : (signal : Signal) → Lands none signal → signal ≡ next
       ends signal goes-on = refl
       ends signal (jumps e) = clash (sym e)
-
-      at-end : (r : Result Signal) → Gives (Lands none) r → Gives (λ signal. signal ≡ next) r
-      at-end (ok signal τ) lands = ends signal lands
-      at-end (stopped why τ) lands = tt

@@ -17,11 +17,12 @@ use Rattle.language.specs.Sound.{Sound}
 use Rattle.structure.specs.Grammar.{link}
 use Rattle.translation.specs.KernelForm.{KernelItems}
 use Rattle.kernel_check.specs.Legal.{Legal}
+use Rattle.accepted.specs.Gives.{Gives}
 use Rattle.accepted.specs.Sound.{structured-sound}
 use Rattle.accepted.specs.Statements.{program-block}
 use Rattle.accepted.specs.Rows.{structured-rows}
 use Rattle.accepted.specs.Depth.{structured-depth}
-use Rattle.accepted_kernel.specs.Jumps.{Gives, program-lands}
+use Rattle.accepted_kernel.specs.Jumps.{program-lands}
 use Rattle.accepted_kernel.specs.Forms.{contents-form}
 
 module _ (header rows : List ℤ) (legal : Legal header rows) where

@@ -1,5 +1,7 @@
 -- The public entries: what each answers, for all words it can be lent. A line of comment for each file.
 -- Runs: the answers of run and kernel run, and what they leave in the store.
 pub mod Runs
+-- Acceptance: the second promise of check and kernel check: they accept the legal programs and no others.
+pub mod Acceptance
 -- Laws of accepted programs, of both forms.
 pub mod AcceptedLaws

@@ -7,18 +7,21 @@ use words::layout::store_words;
 ghost use mathlib.Core.Path.{_≡_};
 ghost use Rattle.words.specs.declared.Form.the-variants.{Source, Kernel};
 ghost use Rattle.words.specs.declared.Verdict.the-variants.{Accepted};
+ghost use Rattle.clight.specs.Acceptance.{AcceptsLegal};
 ghost use Rattle.clight.specs.Runs.{refusalOf, runResult, runAfter, resultOf};
 
-// The check of source programs.
+// The check of source programs. The second promise is demand 2: the legal programs are accepted, and no others.
 pub fn check(header: &[i32], rows: &[i32]) -> Verdict
     ensures { λ r. ⌜ r ≡ refusalOf Source (now (header .entry)) (now (rows .entry)) ⌝ }
+    ensures { λ r. ⌜ AcceptsLegal Source (now (header .entry)) (now (rows .entry)) r ⌝ }
 {
     source_check::check(header, rows)
 }
 
-// The check of kernel programs.
+// The check of kernel programs, with the same two promises.
 pub fn kernel_check(header: &[i32], rows: &[i32]) -> Verdict
     ensures { λ r. ⌜ r ≡ refusalOf Kernel (now (header .entry)) (now (rows .entry)) ⌝ }
+    ensures { λ r. ⌜ AcceptsLegal Kernel (now (header .entry)) (now (rows .entry)) r ⌝ }
 {
     kernel_check::check(header, rows)
 }

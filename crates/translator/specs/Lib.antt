@@ -7,3 +7,5 @@ pub mod TranslationLaws
 pub mod HeaderLaws
 -- Laws of an accepted source program: what the measures and the writers ask of it, and how large its kernel form is.
 pub mod AcceptedLaws
+-- Laws of room: where 20×n+20 rows are lent, an accepted program is translated.
+pub mod RoomLaws

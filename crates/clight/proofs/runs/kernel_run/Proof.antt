@@ -12,7 +12,7 @@ enum-told : tie.Need-enum-told
 enum-told c = search needs
 
 run-accepted-requires : tie.Need-run-accepted-requires
-run-accepted-requires c κs = sym (c .before .before .before .kernel-check .ensures) ∙ c .before .enum-told .given .1
+run-accepted-requires c κs = sym (c .before .before .before .kernel-check .ensures .0) ∙ c .before .enum-told .given .1
 
 enum-known-verdict : tie.Need-enum-known-verdict
 enum-known-verdict c = search needs
@@ -22,11 +22,11 @@ same-length c = search needs
 
 returns : tie.Need-returns
 unfolding runResult
-returns c = rw (← c .before .before .before .before .before .kernel-check .ensures, c .before .before .before .enum-told .given .1) (c .before .run-accepted .ensures)
+returns c = rw (← c .before .before .before .before .before .kernel-check .ensures .0, c .before .before .before .enum-told .given .1) (c .before .run-accepted .ensures)
 
 returns-2 : tie.Need-returns-2
 unfolding runResult
-returns-2 c = rw (← c .before .before .before .kernel-check .ensures, c .before .verdict .given .1)
+returns-2 c = rw (← c .before .before .before .kernel-check .ensures .0, c .before .verdict .given .1)
 
 pub kernel-run-spec : {M : Type 1} → statement M
 kernel-run-spec =

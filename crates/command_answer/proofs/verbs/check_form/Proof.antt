@@ -16,10 +16,10 @@ kernel-check-requires : tie.Need-kernel-check-requires
 kernel-check-requires c κs = search needs
 
 returns : tie.Need-returns
-returns c = rw (c .before .enum-told .given .1) (c .check .ensures)
+returns c = rw (c .before .enum-told .given .1) (c .check .ensures .0)
 
 returns-2 : tie.Need-returns-2
-returns-2 c = rw (c .before .enum-told2 .given .1) (c .kernel-check .ensures)
+returns-2 c = rw (c .before .enum-told2 .given .1) (c .kernel-check .ensures .0)
 
 pub check-form-spec : {M : Type 1} → statement M
 check-form-spec =

@@ -12,7 +12,7 @@ of-verdict-requires : tie.Need-of-verdict-requires
 of-verdict-requires c κs = search needs
 
 returns : tie.Need-returns
-returns c = c .of-verdict .ensures ∙ ap verdictAnswer (c .before .kernel-check .ensures)
+returns c = c .of-verdict .ensures ∙ ap verdictAnswer (c .before .kernel-check .ensures .0)
 
 pub clight-kernel-check-spec : {M : Type 1} → statement M
 clight-kernel-check-spec = tie.close (tie.spec kernel-check-requires of-verdict-requires returns)

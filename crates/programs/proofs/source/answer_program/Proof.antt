@@ -17,7 +17,7 @@ enum-told : tie.Need-enum-told
 enum-told c = search needs
 
 answer-accepted-requires : tie.Need-answer-accepted-requires
-answer-accepted-requires c κs = sym (c .before .before .before .before .before .check .ensures) ∙ c .before .before .before .enum-told .given .1
+answer-accepted-requires c κs = sym (c .before .before .before .before .before .check .ensures .0) ∙ c .before .before .before .enum-told .given .1
 
 returns : tie.Need-returns
 returns c = search needs

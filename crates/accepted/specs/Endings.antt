@@ -1,0 +1,166 @@
+-- Endings: in a source tree every break, continue and search for a mark finds its end inside the tree: a loop or switch takes a break, a
+-- loop a continue, a switch's own list has the mark that it seeks. By recursion on the tree.
+use mathlib.Core.Path.{_≡_, refl, sym}
+use mathlib.Core.Bool.{Bool, true, false, _||_}
+use lib.IntN.{ℤ, pos}
+use Rattle.words.specs.Word.{pick}
+use Rattle.words.specs.Layout.{Layout}
+use Rattle.words.specs.Arithmetic.{isTrue}
+use Rattle.computation.specs.Computation.{Turn, again, leave, Computation, ret, _>>=_, _>>_}
+use Rattle.computation.specs.Run.{State, ok, Limit, roundsFrom, run}
+use Rattle.language.specs.Trees.{Part, absent, present, Mark, case, default, sameMark, has, Statement, empty, express, block, ifThen, ifElse, while, doWhile, for, switch, break, continue, goto, Items, none, _then_, _here_}
+use Rattle.language.specs.Meaning.{Signal, next, breaking, continuing, seeking, entersStatement, entersMark, target, afterSwitch, afterBody, afterTest, enter, ifTrue, value, valueOf, evaluate, rounds, perform, items, exec}
+use Rattle.language.specs.WellFormed.{Placed, PlacedItems}
+use Rattle.structure.specs.SearchLaws.{clash}
+use Rattle.accepted.specs.Gives.{Gives, Any, any, gives-weaker, gives-then, Leaves, gives-iterate, entered, chosen}
+
+-- How a statement may end: the next item follows, or a break or a continue where one may stand.
+pub data Allowed (mayBreak mayContinue : Bool) : Signal → Type 0 where
+  goes-on : Allowed mayBreak mayContinue next
+  breaks : mayBreak ≡ true → Allowed mayBreak mayContinue breaking
+  continues : mayContinue ≡ true → Allowed mayBreak mayContinue continuing
+
+-- How a run may come to the rest of a list: as a statement may end, or on its way to a mark that the rest has.
+pub data Arrives (rest : Items) (mayBreak mayContinue : Bool) : Signal → Type 0 where
+  ended : {signal : Signal} → Allowed mayBreak mayContinue signal → Arrives rest mayBreak mayContinue signal
+  sought : {mark : Mark} → has mark rest ≡ true → Arrives rest mayBreak mayContinue (seeking mark)
+
+-- A switch seeks a mark that its list has, or goes past.
+target-arrives : (v : ℤ) (is : Items) (mayContinue : Bool) → Arrives is true mayContinue (target v is)
+target-arrives v is c = go (has (case v) is) (has default is) refl refl
+  where
+    go : (a b : Bool) → has (case v) is ≡ a → has default is ≡ b → Arrives is true c (pick a (seeking (case v)) (pick b (seeking default) breaking))
+    go true b e f = sought e
+    go false true e f = sought f
+    go false false e f = ended (breaks refl)
+
+-- A switch takes a break.
+after-switch : {mayBreak mayContinue : Bool} {signal : Signal} → Allowed true mayContinue signal → Allowed mayBreak mayContinue (afterSwitch signal)
+after-switch goes-on = goes-on
+after-switch (breaks e) = goes-on
+after-switch (continues e) = continues e
+
+module _ (L : Layout) (limit : Limit) where
+  -- ---- loops
+
+  module _ (mayBreak mayContinue : Bool) where
+    abbrev Left : Turn Signal → Type 0
+    Left = Leaves (Allowed mayBreak mayContinue)
+
+    -- a loop takes a break and a continue of its body
+    after-body : (rest : Computation (Turn Signal)) → ((σ : State) → Gives Left (run limit rest σ)) → {signal : Signal} → Allowed true true signal
+        → (σ : State) → Gives Left (run limit (afterBody rest signal) σ)
+    unfolding run
+    after-body rest h goes-on σ = h σ
+    after-body rest h (breaks e) σ = goes-on
+    after-body rest h (continues e) σ = h σ
+
+    -- a body that ends as a loop's body may, and then the rest of the round
+    body-then : (body : Computation Signal) (rest : Computation (Turn Signal)) → ((σ : State) → Gives (Allowed true true) (run limit body σ)) → ((σ : State) → Gives Left (run limit rest σ))
+        → (σ : State) → Gives Left (run limit (body >>= λ signal. afterBody rest signal) σ)
+    unfolding run
+    body-then body rest f g σ = gives-then (Allowed true true) Left (run limit body σ) (λ signal. run limit (afterBody rest signal)) (f σ) (λ signal τ allowed. after-body rest g allowed τ)
+
+    -- a test, and then the rest of the round
+    test-then : (test : Computation ℤ) (rest : Computation (Turn Signal)) → ((σ : State) → Gives Left (run limit rest σ)) → (σ : State) → Gives Left (run limit (test >>= λ v. afterTest rest v) σ)
+    unfolding run
+    test-then test rest g σ =
+        gives-then Any Left (run limit test σ) (λ v. run limit (afterTest rest v)) (any (run limit test σ))
+        (λ v τ _. chosen limit Left (isTrue v) rest (ret (leave next)) g (λ ρ. goes-on) τ)
+
+    action-then : (action : Part) (σ : State) → Gives Left (run limit (valueOf L action >> ret again) σ)
+    unfolding run
+    action-then action σ = gives-then Any Left (run limit (valueOf L action) σ) (λ _ τ. ok again τ) (any (run limit (valueOf L action) σ)) (λ _ τ _. tt)
+
+    rounds-end : (test action : Part) (body : Computation Signal) → ((σ : State) → Gives (Allowed true true) (run limit body σ))
+        → (σ : State) → Gives (Allowed mayBreak mayContinue) (run limit (rounds L test action body) σ)
+    unfolding run
+    rounds-end (present test) action body h σ =
+        gives-iterate (Allowed mayBreak mayContinue) limit (roundsFrom limit σ) (run limit (evaluate L test >>= λ v. afterTest turn v))
+        (test-then (evaluate L test) turn (body-then (enter body) (valueOf L action >> ret again) (entered limit (Allowed true true) body h) (action-then action))) σ
+      where
+        turn : Computation (Turn Signal)
+        turn = enter body >>= λ signal. afterBody (valueOf L action >> ret again) signal
+    rounds-end absent action body h σ =
+        gives-iterate (Allowed mayBreak mayContinue) limit (roundsFrom limit σ) (run limit (body >>= λ signal. afterBody (valueOf L action >> ret again) signal))
+        (body-then body (valueOf L action >> ret again) h (action-then action)) σ
+
+  -- ---- lists
+
+  at-statement : {is : Items} {mayBreak mayContinue : Bool} (s : Statement) {signal : Signal} → ((σ : State) → Gives (Allowed mayBreak mayContinue) (run limit (perform L s) σ))
+      → Arrives (s then is) mayBreak mayContinue signal → (σ : State) → Gives (Arrives is mayBreak mayContinue) (run limit (pick (entersStatement signal) (enter (perform L s)) (ret signal)) σ)
+  unfolding run has
+  at-statement {is} {mayBreak} {mayContinue} s h (ended goes-on) σ =
+      let further = Arrives is mayBreak mayContinue in
+      entered limit further (perform L s) (λ τ. gives-weaker (Allowed mayBreak mayContinue) further (run limit (perform L s) τ) (h τ) (λ _ allowed. ended allowed)) σ
+  at-statement s h (ended (breaks e)) σ = ended (breaks e)
+  at-statement s h (ended (continues e)) σ = ended (continues e)
+  at-statement s h (sought e) σ = sought e
+
+  at-mark : {is : Items} {mayBreak mayContinue : Bool} (mark : Mark) {signal : Signal} → Arrives (mark here is) mayBreak mayContinue signal
+      → (σ : State) → Gives (Arrives is mayBreak mayContinue) (run limit (pick (entersMark signal mark) (enter (ret next)) (ret signal)) σ)
+  unfolding run has
+  at-mark {is} {mayBreak} {mayContinue} mark (ended goes-on) σ = entered limit (Arrives is mayBreak mayContinue) (ret next) (λ τ. ended goes-on) σ
+  at-mark mark (ended (breaks e)) σ = ended (breaks e)
+  at-mark mark (ended (continues e)) σ = ended (continues e)
+  at-mark {is} {mayBreak} {mayContinue} mark (sought {mark = other} e) σ = go (sameMark other mark) e
+    where
+      go : (same : Bool) → (same || has other is) ≡ true → Gives (Arrives is mayBreak mayContinue) (run limit (pick same (enter (ret next)) (ret (seeking other))) σ)
+      go true e = entered limit (Arrives is mayBreak mayContinue) (ret next) (λ τ. ended goes-on) σ
+      go false e = sought e
+
+  -- ---- statements
+
+  mutual
+    unfolding run perform items Placed PlacedItems has
+
+    statement-ends : (s : Statement) (mayBreak mayContinue : Bool) → Placed mayBreak mayContinue s → (σ : State) → Gives (Allowed mayBreak mayContinue) (run limit (perform L s) σ)
+    statement-ends empty b c p σ = goes-on
+    statement-ends (express e) b c p σ = gives-then Any (Allowed b c) (run limit (value L e) σ) (λ _ τ. ok next τ) (any (run limit (value L e) σ)) (λ _ τ _. goes-on)
+    statement-ends (block is) b c p σ = items-end is false b c p next (ended goes-on) σ
+    statement-ends (ifThen e onTrue) b c p σ =
+        gives-then Any (Allowed b c) (run limit (value L e) σ) (λ test. run limit (ifTrue test (enter (perform L onTrue)) (ret next))) (any (run limit (value L e) σ))
+        (λ test τ _. chosen limit (Allowed b c) (isTrue test) (enter (perform L onTrue)) (ret next)
+        (entered limit (Allowed b c) (perform L onTrue) (λ ν. statement-ends onTrue b c p ν)) (λ ν. goes-on) τ)
+    statement-ends (ifElse e onTrue onFalse) b c p σ =
+        gives-then Any (Allowed b c) (run limit (value L e) σ) (λ test. run limit (ifTrue test (enter (perform L onTrue)) (enter (perform L onFalse)))) (any (run limit (value L e) σ))
+        (λ test τ _. chosen limit (Allowed b c) (isTrue test) (enter (perform L onTrue)) (enter (perform L onFalse))
+        (entered limit (Allowed b c) (perform L onTrue) (λ ν. statement-ends onTrue b c (p .0) ν))
+        (entered limit (Allowed b c) (perform L onFalse) (λ ν. statement-ends onFalse b c (p .1) ν)) τ)
+    statement-ends (while e body) b c p σ = rounds-end b c (present e) absent (perform L body) (λ τ. statement-ends body true true p τ) σ
+    statement-ends (doWhile body e) b c p σ =
+        gives-iterate (Allowed b c) limit (roundsFrom limit σ) (run limit (perform L body >>= λ signal. afterBody (value L e >>= λ v. afterTest (ret again) v) signal))
+        (body-then b c (perform L body) (value L e >>= λ v. afterTest (ret again) v) (λ τ. statement-ends body true true p τ) (test-then b c (value L e) (ret again) (λ τ. tt))) σ
+    statement-ends (for first test action body) b c p σ =
+        gives-then Any (Allowed b c) (run limit (valueOf L first) σ) (λ _. run limit (rounds L test action (perform L body))) (any (run limit (valueOf L first) σ))
+        (λ _ τ _. rounds-end b c test action (perform L body) (λ ν. statement-ends body true true p ν) τ)
+    statement-ends (switch e is) b c p σ =
+        gives-then Any (Allowed b c) (run limit (value L e) σ) (λ v. run limit (items L is (target v is) >>= λ signal. ret (afterSwitch signal))) (any (run limit (value L e) σ))
+        (λ v τ _. gives-then (Allowed true c) (Allowed b c) (run limit (items L is (target v is)) τ) (λ signal ν. ok (afterSwitch signal) ν)
+        (items-end is true true c p (target v is) (target-arrives v is c) τ) (λ signal ν allowed. after-switch allowed))
+    statement-ends break b c p σ = breaks p
+    statement-ends continue b c p σ = continues p
+    statement-ends (goto l) b c p σ = absurd p
+
+    items-end : (is : Items) (inSwitch mayBreak mayContinue : Bool) → PlacedItems inSwitch mayBreak mayContinue is → (signal : Signal) → Arrives is mayBreak mayContinue signal
+        → (σ : State) → Gives (Allowed mayBreak mayContinue) (run limit (items L is signal) σ)
+    items-end none i b c p signal (ended allowed) σ = allowed
+    items-end none i b c p _ (sought e) σ = clash (sym e)
+    items-end (s then is) i b c p signal arrives σ =
+        gives-then (Arrives is b c) (Allowed b c) (run limit (pick (entersStatement signal) (enter (perform L s)) (ret signal)) σ) (λ after. run limit (items L is after))
+        (at-statement s (λ τ. statement-ends s b c (p .0) τ) arrives σ) (λ after τ arrived. items-end is i b c (p .1) after arrived τ)
+    items-end (mark here is) i b c p signal arrives σ =
+        gives-then (Arrives is b c) (Allowed b c) (run limit (pick (entersMark signal mark) (enter (ret next)) (ret signal)) σ) (λ after. run limit (items L is after))
+        (at-mark mark arrives σ) (λ after τ arrived. items-end is i b c (p .1) after arrived τ)
+
+  -- Around a whole program stands no loop and no switch, so the run ends with nothing but the next item to follow.
+  pub program-ends : (contents : Items) → PlacedItems false false false contents → (σ : State) → Gives (λ signal. signal ≡ next) (run limit (exec L (block contents)) σ)
+  unfolding perform
+  program-ends contents placed σ =
+      entered limit (λ signal. signal ≡ next) (perform L (block contents))
+      (λ τ. gives-weaker (Allowed false false) (λ signal. signal ≡ next) (run limit (items L contents next) τ) (items-end contents false false false placed next (ended goes-on) τ) nothing-else) σ
+    where
+      nothing-else : (signal : Signal) → Allowed false false signal → signal ≡ next
+      nothing-else signal goes-on = refl
+      nothing-else signal (breaks e) = clash (sym e)
+      nothing-else signal (continues e) = clash (sym e)

@@ -1,0 +1,46 @@
+-- Rules accepted: the check accepts every rule of the table, by computing; so each is legal, and the check does not turn all programs
+-- down.
+use mathlib.Core.Path.{_≡_, refl}
+use mathlib.Core.List.{List, [], _∷_, map}
+use Rattle.words.specs.Word.{sameWord, natural}
+use Rattle.words.specs.Table.{wordAt, numberAt}
+use Rattle.words.specs.Layout.{layoutOf, sum, storeSize, storeWords, allWithin, headerFits, countFits}
+use Rattle.words.specs.declared.Verdict.{Verdict}
+use Rattle.words.specs.declared.Verdict.the-variants.{Accepted}
+use Rattle.language.specs.Rules.{Rule, table}
+use Rattle.structure.specs.Fields.{foreign, fits, leadsRight, mislinked, boundsOf, numberFits, outside}
+use Rattle.structure.specs.Grammar.{grammar, sortOf, sortAt, inLanguage, isExpression, isPlace, isStatement, isLink, isRequired, link}
+use Rattle.structure.specs.Links.{target, linksAmong, linkCount, loneBlock, notOnce, linker, received, noteBy, note, deeper, depthAt, tooDeep}
+use Rattle.structure.specs.Refusal.{at, unless, _next_, rowCauses, structuralRefusal}
+use Rattle.structure.specs.Search.{lowest, some, lowestRow, someField}
+use Rattle.source_check.specs.Marks.{sameMark, equalAmong, repeated}
+use Rattle.source_check.specs.Places.{handed, noteAt, outOfPlace, misplaced}
+use Rattle.source_check.specs.Refusal.{laterRefusal, refusal}
+use Rattle.source_check.specs.Legal.{Legal}
+use Rattle.source_check.specs.AcceptsLegal.{accepts-legal}
+
+-- What the check answers of a rule's program.
+abbrev pub checked : Rule → Verdict
+checked rule = refusal (rule .header) (rule .rows)
+
+abbrev pub accepted : Rule → Verdict
+accepted rule = Accepted
+
+pub rules-accepted : map checked table ≡ map accepted table
+unfolding sameWord natural wordAt numberAt layoutOf sum storeSize storeWords allWithin headerFits countFits foreign fits leadsRight mislinked boundsOf numberFits outside grammar sortOf sortAt inLanguage isExpression isPlace isStatement isLink isRequired link target linksAmong linkCount loneBlock notOnce linker received noteBy note deeper depthAt tooDeep at unless _next_ rowCauses structuralRefusal lowest some lowestRow someField sameMark equalAmong repeated handed noteAt outOfPlace misplaced laterRefusal refusal
+rules-accepted = refl
+
+-- Each of a list of rules is legal.
+abbrev pub AllLegal : List Rule → Type 0
+AllLegal [] = Unit {0}
+AllLegal (rule ∷ rest) = Legal (rule .header) (rule .rows) × AllLegal rest
+
+accepted-all-legal : (rules : List Rule) → map checked rules ≡ map accepted rules → AllLegal rules
+accepted-all-legal [] e = tt
+accepted-all-legal (rule ∷ rest) e =
+    let first : checked rule ≡ Accepted = cc in
+    let others : map checked rest ≡ map accepted rest = cc in
+    (accepts-legal (rule .header) (rule .rows) .0 first, accepted-all-legal rest others)
+
+pub rules-legal : AllLegal table
+rules-legal = accepted-all-legal table rules-accepted

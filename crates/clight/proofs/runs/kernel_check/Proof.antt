@@ -1,0 +1,19 @@
+-- `kernel_check` hands on what the check of kernel programs answers; that it accepts the legal programs and no others is a theorem
+-- about the definitions.
+use borrow.Author.Needs.{needs}
+use Rattle.words.specs.declared.Form.the-variants.{Kernel}
+use Rattle.clight.specs.Acceptance.{check-accepts-legal}
+use Rattle.clight.proofs.runs.kernel_check.Statement.{statement}
+use Rattle.clight.proofs.runs.kernel_check.Tie as tie
+
+check-requires : tie.Need-check-requires
+check-requires c κs = search needs
+
+returns : tie.Need-returns
+returns c =
+    let start = c .before in
+    let told = c .check .ensures in
+    (told, check-accepts-legal Kernel (start .args .header .now) (start .args .rows .now) _ told)
+
+pub kernel-check-spec : {M : Type 1} → statement M
+kernel-check-spec = tie.close (tie.spec check-requires returns)

@@ -7,7 +7,7 @@ use native.Mathlib.Omega.{arith}
 use lib.IntN.{ℤ}
 use lib.ListN.{length}
 use Rattle.words.specs.Table.{rowCount}
-use Rattle.words.specs.Layout.{headerFits, layoutOf, storeWords}
+use Rattle.words.specs.Layout.{headerFits, countFits, layoutOf, storeWords}
 use Rattle.words.specs.Laws.{headerFits-facts, countFits-facts, rowLimit-most}
 use Rattle.words.specs.declared.Form.{Form}
 use Rattle.words.specs.declared.Form.the-variants.{Source, Kernel}
@@ -27,11 +27,14 @@ module _ (form : Form) (header rows : List ℤ) (accepted : refusalOf form heade
   pub accepted-header : headerFits form header ≡ true
   accepted-header = accepted-structured form header rows accepted .header-fits
 
+  pub accepted-count : countFits form (length rows) ≡ true
+  accepted-count = accepted-structured form header rows accepted .count-fits
+
   pub accepted-sound : Sound rows (layoutOf form header) (storeWords form header)
   accepted-sound = structured-sound form header rows (accepted-structured form header rows accepted)
 
   pub accepted-rows : rowCount rows ≤ 40980
-  accepted-rows = omega (arith, countFits-facts form (length rows) (accepted-structured form header rows accepted .count-fits) .most, rowLimit-most form)
+  accepted-rows = omega (arith, countFits-facts form (length rows) accepted-count .most, rowLimit-most form)
 
 pub source-words : (header rows : List ℤ) → refusalOf Source header rows ≡ Accepted → storeWords Source header ≤ 8192
 unfolding storeWords

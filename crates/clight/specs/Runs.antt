@@ -28,8 +28,8 @@ pub record RunResult : Type 0 where
   pub store : List ℤ
 
 -- An answer and the store that it leaves.
-abbrev pub resultOf : RunVerdict → List ℤ → RunResult
-resultOf answer store = record { answer = answer; store = store }
+abbrev pub answerAndStore : RunVerdict → List ℤ → RunResult
+answerAndStore answer store = record { answer = answer; store = store }
 
 -- A refusal leaves the store as it was.
 abbrev pub runRefused : Refusal → List ℤ → RunResult

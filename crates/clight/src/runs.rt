@@ -8,7 +8,7 @@ ghost use mathlib.Core.Path.{_≡_};
 ghost use Rattle.words.specs.declared.Form.the-variants.{Source, Kernel};
 ghost use Rattle.words.specs.declared.Verdict.the-variants.{Accepted};
 ghost use Rattle.clight.specs.Acceptance.{AcceptsLegal};
-ghost use Rattle.clight.specs.Runs.{refusalOf, runResult, runAfter, resultOf};
+ghost use Rattle.clight.specs.Runs.{refusalOf, runResult, runAfter, answerAndStore};
 
 // The check of source programs. The second promise is demand 2: the legal programs are accepted, and no others.
 pub fn check(header: &[i32], rows: &[i32]) -> Verdict
@@ -35,7 +35,7 @@ fn run_accepted(
     budget: u32,
 ) -> RunVerdict
     requires { ⌜ refusalOf form (now header) (now rows) ≡ Accepted ⌝ }
-    ensures { λ r. ⌜ resultOf r (now (store .exit)) ≡ runAfter Accepted form (now (header .entry)) (now (rows .entry)) budget (now (store .entry)) ⌝ }
+    ensures { λ r. ⌜ answerAndStore r (now (store .exit)) ≡ runAfter Accepted form (now (header .entry)) (now (rows .entry)) budget (now (store .entry)) ⌝ }
 {
     if store.len() != store_words(form, header) {
         return RunVerdict::Refused(Refusal {
@@ -48,7 +48,7 @@ fn run_accepted(
 
 // Runs a source program on the store: "How a run goes".
 pub fn run(header: &[i32], rows: &[i32], store: &mut [i32], budget: u32) -> RunVerdict
-    ensures { λ r. ⌜ resultOf r (now (store .exit)) ≡ runResult Source (now (header .entry)) (now (rows .entry)) budget (now (store .entry)) ⌝ }
+    ensures { λ r. ⌜ answerAndStore r (now (store .exit)) ≡ runResult Source (now (header .entry)) (now (rows .entry)) budget (now (store .entry)) ⌝ }
 {
     let verdict = check(header, rows);
     match verdict {
@@ -59,7 +59,7 @@ pub fn run(header: &[i32], rows: &[i32], store: &mut [i32], budget: u32) -> RunV
 
 // Runs a kernel program on the store.
 pub fn kernel_run(header: &[i32], rows: &[i32], store: &mut [i32], budget: u32) -> RunVerdict
-    ensures { λ r. ⌜ resultOf r (now (store .exit)) ≡ runResult Kernel (now (header .entry)) (now (rows .entry)) budget (now (store .entry)) ⌝ }
+    ensures { λ r. ⌜ answerAndStore r (now (store .exit)) ≡ runResult Kernel (now (header .entry)) (now (rows .entry)) budget (now (store .entry)) ⌝ }
 {
     let verdict = kernel_check(header, rows);
     match verdict {

@@ -2,7 +2,7 @@
 use translator::TranslateAnswer;
 ghost use mathlib.Core.Path.{_≡_};
 ghost use Rattle.fate.specs.KernelForms.{HasKernelForm};
-ghost use Rattle.translator.specs.Translation.{resultOf, translateResult};
+ghost use Rattle.translator.specs.Translation.{answerAndTables, translateResult};
 
 // Writes the kernel header and rows of a source program, and answers how many words each has. The second promise is demands 2 and 3,
 // for every accepted program, every store and every content of the temporaries.
@@ -12,7 +12,7 @@ pub fn translate(
     kernel_header: &mut [i32],
     kernel_rows: &mut [i32],
 ) -> TranslateAnswer
-    ensures { λ r. ⌜ resultOf r (now («kernel_header» .exit)) (now («kernel_rows» .exit)) ≡ translateResult (now (header .entry)) (now (rows .entry)) (now («kernel_header» .entry)) (now («kernel_rows» .entry)) ⌝ }
+    ensures { λ r. ⌜ answerAndTables r (now («kernel_header» .exit)) (now («kernel_rows» .exit)) ≡ translateResult (now (header .entry)) (now (rows .entry)) (now («kernel_header» .entry)) (now («kernel_rows» .entry)) ⌝ }
     ensures { λ _. ⌜ HasKernelForm (now (header .entry)) (now (rows .entry)) ⌝ }
 {
     translator::translate(header, rows, kernel_header, kernel_rows)

@@ -6,8 +6,8 @@
 use command_answer::answer::answer;
 use command_answer::line::unreadable_store_line;
 use command_answer::line::unreadable_text_line;
-use command_answer::request::Request;
-use command_answer::request::request_of;
+use command_request::request::Request;
+use command_request::request::request_of;
 use libc::STDIN_FILENO;
 use libc::STDOUT_FILENO;
 ghost use mathlib.Core.Path.{_≡_};

@@ -1,12 +1,4 @@
 -- The proofs of the command's answers: laws that several functions use, then a folder for each function.
--- Same: two byte strings compared byte by byte.
-pub mod Same
--- Steps: the walk over the digits of a budget.
-pub mod Steps
--- Pieces: what blanks and newlines part.
-pub mod Pieces
--- Walk: the words of a store file, read one after the other.
-pub mod Walk
 -- Readings: what is printed for a text that the reader refused or read.
 pub mod Readings
 -- Joined: how lines are put together.

@@ -10,6 +10,7 @@ use lib.ListN.{length, take}
 use borrow.Author.Tests.{le-leb}
 use Rattle.words.specs.Layout.{headerFits}
 use Rattle.words.specs.Laws.{headerFits-facts, countFits-facts}
+use Rattle.words.specs.OverLaws.{first-of}
 use Rattle.words.specs.declared.Form.{Form}
 use Rattle.words.specs.declared.Refusal.{Refusal}
 use Rattle.text_form.specs.declared.ReadAnswer.the-variants.{Read, Refused}
@@ -70,10 +71,10 @@ module _ (form : Form) (text : List ℕ) {header rows : List ℤ} (r : Roomy for
     parses = ap (parse form) (sym (a .is-text .written)) ∙ text-shows form (a .program .header) (a .program .rows) (a .is-text .sized) (a .is-text .whole) (a .is-text .header-fits) (a .is-text .rows-fit)
 
     header-is : take (numbers - 0) headerLeft ≡ a .program .header
-    header-is = let n : numbers - 0 ≡ numbers = omega arith in rw n (ap (take numbers) (s .header-left) ∙ a .header-read)
+    header-is = first-of headerLeft numbers ∙ ap (take numbers) (s .header-left) ∙ a .header-read
 
     rows-is : take (words - 0) rowsLeft ≡ a .program .rows
-    rows-is = let n : words - 0 ≡ words = omega arith in rw n (ap (take words) (s .rows-left) ∙ a .rows-read)
+    rows-is = first-of rowsLeft words ∙ ap (take words) (s .rows-left) ∙ a .rows-read
 
     pub read-text : length headerLeft ≡ length header → length rowsLeft ≡ length rows → ReadText form text headerLeft rowsLeft numbers words
     unfolding textOutput parsedOutput programOutput

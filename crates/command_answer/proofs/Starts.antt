@@ -1,49 +1,37 @@
 -- What a run starts from: zeros, or the words of a store file; and that its line has room.
-use mathlib.Core.Path.{_≡_, refl, sym, ap, _∙_}
+use mathlib.Core.Path.{_≡_, sym, ap, _∙_}
 use mathlib.Core.Bool.{true}
-use mathlib.Core.List.{List, _∷_}
-use Prim.Native.Nat.{ℕ, zero, suc, _-_, _≤_}
+use mathlib.Core.List.{List}
+use Prim.Native.Nat.{ℕ, _-_, _≤_}
 use native.Mathlib.Omega.{arith}
 use lib.IntN.{ℤ, pos}
 use lib.ListN.{length, take, length-replicate}
 use lib.Seq.{length-take-le}
-use Rattle.words.specs.Layout.{headerFits, storeWords}
+use Rattle.words.specs.Layout.{headerFits, storeWords, zeros}
 use Rattle.words.specs.Laws.{headerFits-facts}
 use Rattle.words.specs.declared.Form.{Form}
 use Rattle.words.specs.declared.Form.the-variants.{Source}
 use Rattle.text_form.specs.Text.{Parsed}
-use Rattle.text_form.specs.AnswerLaws.{take-over}
-use Rattle.words.specs.OverLaws.{over-fits}
+use Rattle.words.specs.OverLaws.{first-of, over-fits, written-part}
 use Rattle.report.specs.Lines.{lineRoom}
-use Rattle.command_answer.specs.StoreFile.{Stored}
-use Rattle.command_answer.specs.Output.{Roomy, outputRoom, zeros}
+use Rattle.command_request.specs.StoreFile.{Stored}
+use Rattle.command_answer.specs.Output.{Roomy, outputRoom}
 
 -- S is at most 8,192, and so is T
 pub words-most : (form : Form) (header : List ℤ) → headerFits form header ≡ true → storeWords form header ≤ 16384
 unfolding storeWords
 words-most form header h = let f = headerFits-facts form header h in omega (arith, f .small-store, f .few-temporaries)
 
-take-zeros : (n m : ℕ) → n ≤ m → take n (zeros m) ≡ zeros n
-take-zeros zero m h = refl
-take-zeros (suc n) zero h = absurd (omega arith)
-take-zeros (suc n) (suc m) h = ap (λ l. pos 0 ∷ l) (take-zeros n m (omega arith))
-
--- the first part of an array of zeros, as it is lent
-pub zeros-part : (n m : ℕ) → n ≤ m → take (n - 0) (zeros m) ≡ zeros n
-zeros-part n m h = let e : n - 0 ≡ n = omega arith in rw e (take-zeros n m h)
-
 -- the line of a run on the first part of a store
 pub part-room : (n : ℕ) (store : List ℤ) → n ≤ length store → length store ≤ 98304 → {room : ℕ} → outputRoom ≤ room → lineRoom (length (take (n - 0) store)) ≤ room
-part-room n store h l o = let e : n - 0 ≡ n = omega arith in rw e (omega (arith, length-take-le n store h))
+part-room n store h l o = rw (first-of store n) (omega (arith, length-take-le n store h))
 
 module _ {read : Parsed (List ℤ)} {count : ℕ} {table left : List ℤ} (s : Stored read count table left) where
   pub stored-inside : length left ≡ length table → count ≤ length left
   stored-inside e = omega (arith, s .size, over-fits (s .words) table (sym (ap length (s .written)) ∙ e))
 
   pub stored-words : take (count - 0) left ≡ s .words
-  stored-words =
-      let e : count - 0 ≡ length (s .words) = omega (arith, s .size) in
-      rw e (ap (take (length (s .words))) (s .written) ∙ take-over (s .words) table)
+  stored-words = written-part (s .words) table left count (s .size) (s .written)
 
 -- arrays for a source program
 pub source-roomy : Roomy Source (zeros 33) (zeros 12288)

@@ -10,7 +10,7 @@ use Rattle.words.specs.declared.RunVerdict.{RunVerdict}
 use Rattle.words.specs.declared.RunVerdict.the-variants as run-cases
 use Rattle.text_form.specs.Number.{digits, numberBytes}
 use Rattle.report.specs.Lines.{lineOf, refusedLine}
-use Rattle.command_answer.specs.Ascii.{ascii}
+use Rattle.command_request.specs.Ascii.{ascii}
 
 -- A check prints `ok`, or its refusal in the trial's manner.
 unfoldable pub verdictLine : Verdict → List ℕ

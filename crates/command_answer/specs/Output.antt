@@ -4,10 +4,10 @@ use mathlib.Core.List.{List}
 use mathlib.Core.Option.{Option, none, some}
 use Prim.Native.Nat.{ℕ, _+_, _*_, _≤_}
 use lib.Dec.{leb}
-use lib.IntN.{ℤ, pos}
-use lib.ListN.{length, replicate}
+use lib.IntN.{ℤ}
+use lib.ListN.{length}
 use Rattle.words.specs.Word.{pick}
-use Rattle.words.specs.Layout.{leading, rowLimit, storeWords}
+use Rattle.words.specs.Layout.{leading, rowLimit, storeWords, zeros}
 use Rattle.words.specs.declared.Form.{Form}
 use Rattle.words.specs.declared.Form.the-variants.{Source}
 use Rattle.words.specs.declared.Verdict.{Verdict}
@@ -18,9 +18,9 @@ use Rattle.report.specs.Lines.{refusedLine}
 use Rattle.fate.specs.KernelForms.{kernelHeaderOf, kernelRowsOf}
 use Rattle.clight.specs.Runs.{refusalOf, RunResult, runResult}
 use Rattle.command_answer.specs.Lines.{verdictLine, runLine, usageLine, wrongBudgetLine, longTextLine, longStoreLine, malformedLine}
-use Rattle.command_answer.specs.StoreFile.{storeIn}
-use Rattle.command_answer.specs.declared.request.Request.{Request}
-use Rattle.command_answer.specs.declared.request.Request.the-variants.{Check, Run, Translate, WrongArguments, WrongBudget}
+use Rattle.command_request.specs.StoreFile.{storeIn}
+use Rattle.command_request.specs.declared.request.Request.{Request}
+use Rattle.command_request.specs.declared.request.Request.the-variants.{Check, Run, Translate, WrongArguments, WrongBudget}
 
 -- ---- limits
 
@@ -76,9 +76,6 @@ unfoldable pub runOutput : Form → ℕ → List ℕ → List ℤ → List ℕ
 runOutput form budget text store = textOutput form text (storeLine form budget store)
 
 -- "else zeros"
-abbrev pub zeros : ℕ → List ℤ
-zeros words = replicate words (pos 0)
-
 abbrev pub zerosLine : Form → ℕ → (header rows : List ℤ) → List ℕ
 zerosLine form budget header rows = storeLine form budget (zeros (storeWords form header)) header rows
 

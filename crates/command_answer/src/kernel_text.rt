@@ -3,7 +3,7 @@ use clight::translate::translate;
 use report::line::refused_line;
 use text_form::ReadAnswer;
 use text_form::WriteAnswer;
-use text_form::digits::number_size;
+use text_form::writer::size_of;
 use translator::TranslateAnswer;
 use words::Form;
 ghost use Prim.Native.Nat.{_≤_};
@@ -11,22 +11,8 @@ ghost use lib.ListN.{length};
 ghost use Rattle.words.specs.declared.Form.the-variants.{Kernel};
 ghost use Rattle.text_form.specs.AnswerLaws.{Passes};
 ghost use Rattle.text_form.specs.Text.{textBytes};
-ghost use Rattle.text_form.specs.Writer.{Measured, Put};
+ghost use Rattle.text_form.specs.Writer.{Put};
 ghost use Rattle.command_answer.specs.Output.{Roomy, outputRoom, kernelText, translateOutput};
-
-// How many bytes words take, each with the tab or newline behind it: no more than twelve.
-fn text_size(words: &[i32]) -> usize
-    requires { ⌜ length (now words) ≤ 245880 ⌝ }
-    ensures { λ r. ⌜ Measured (now (words .entry)) r ⌝ }
-{
-    let mut size: usize = 0;
-    let mut i: usize = 0;
-    while i < words.len() {
-        size += number_size(words[i]) + 1;
-        i += 1;
-    }
-    size
-}
 
 // Writes a kernel program's text. The writer does not refuse it: by their sizes the words have room.
 fn put_kernel(header: &[i32], rows: &[i32], out: &mut [u8]) -> usize
@@ -34,8 +20,8 @@ fn put_kernel(header: &[i32], rows: &[i32], out: &mut [u8]) -> usize
     requires { ⌜ outputRoom ≤ length (now out) ⌝ }
     ensures { λ r. ⌜ Put (textBytes (now (header .entry)) (now (rows .entry))) (now (out .entry)) r (now (out .exit)) ⌝ }
 {
-    let header_size = text_size(header);
-    let rows_size = text_size(rows);
+    let header_size = size_of(header);
+    let rows_size = size_of(rows);
     let answer = text_form::write(Form::Kernel, header, rows, out);
     match answer {
         WriteAnswer::Written(bytes) => bytes,

@@ -1,44 +1,20 @@
 // Whole lines. A writer puts its line at the start of `text`, and answers how many bytes it has.
 use report::field::put_bytes;
 use report::field::put_count;
+use report::field::put_ending_name;
 use report::field::put_words;
 use report::line::refused_line;
 use words::Ending;
-use words::FaultSort;
 use words::RunVerdict;
 use words::Verdict;
 ghost use mathlib.Core.List.{[], _∷_, _++_, map};
 ghost use Prim.Native.Nat.{_+_, _*_, _≤_};
 ghost use lib.ListN.{length};
-ghost use Rattle.words.specs.Answers.{faultName, endingName};
 ghost use Rattle.text_form.specs.Number.{digits, numberBytes};
 ghost use Rattle.text_form.specs.Line.{newline};
 ghost use Rattle.text_form.specs.Writer.{Put};
 ghost use Rattle.report.specs.Lines.{spaced, lineRoom};
 ghost use Rattle.command_answer.specs.Lines.{verdictLine, endedLine, runLine, usageLine, wrongBudgetLine, longTextLine, longStoreLine, unreadableTextLine, unreadableStoreLine, malformedLine};
-
-fn put_fault(sort: FaultSort, text: &mut [u8]) -> usize
-    requires { ⌜ 8 ≤ length (now text) ⌝ }
-    ensures { λ r. ⌜ Put (faultName sort) (now (text .entry)) r (now (text .exit)) ⌝ }
-{
-    match sort {
-        FaultSort::Overflow => put_bytes(b"overflow", text),
-        FaultSort::ZeroDivisor => put_bytes(b"zero", text),
-        FaultSort::Index => put_bytes(b"index", text),
-    }
-}
-
-// The longest is "overflow".
-fn put_ending(ending: Ending, text: &mut [u8]) -> usize
-    requires { ⌜ 8 ≤ length (now text) ⌝ }
-    ensures { λ r. ⌜ Put (endingName ending) (now (text .entry)) r (now (text .exit)) ⌝ }
-{
-    match ending {
-        Ending::Plain => put_bytes(b"ended", text),
-        Ending::Spent => put_bytes(b"spent", text),
-        Ending::Fault(sort) => put_fault(sort, text),
-    }
-}
 
 // The count, the words and the newline at the end of a line.
 fn put_counted(count: u32, words: &[i32], text: &mut [u8]) -> usize
@@ -55,7 +31,7 @@ fn ended_line(ending: Ending, count: u32, words: &[i32], text: &mut [u8]) -> usi
     requires { ⌜ lineRoom (length (now words)) ≤ length (now text) ⌝ }
     ensures { λ r. ⌜ Put (endedLine ending count (now (words .entry))) (now (text .entry)) r (now (text .exit)) ⌝ }
 {
-    let named = put_ending(ending, text);
+    let named = put_ending_name(ending, text);
     named + put_counted(count, words, &mut text[named..])
 }
 

@@ -3,9 +3,9 @@
 use super::line::malformed_line;
 use super::line::run_line;
 use super::line::verdict_line;
-use super::store_file::StoreRead;
-use super::store_file::read_words;
 use clight::runs;
+use command_request::store_file::StoreRead;
+use command_request::store_file::read_words;
 use report::line::refused_line;
 use text_form::ReadAnswer;
 use words::Form;
@@ -16,12 +16,12 @@ ghost use mathlib.Core.Path.{_≡_};
 ghost use mathlib.Core.Bool.{true};
 ghost use Prim.Native.Nat.{_≤_};
 ghost use lib.ListN.{length};
-ghost use Rattle.words.specs.Layout.{headerFits, storeWords};
+ghost use Rattle.words.specs.Layout.{headerFits, storeWords, zeros};
 ghost use Rattle.text_form.specs.Writer.{Put};
 ghost use Rattle.report.specs.Lines.{lineRoom};
-ghost use Rattle.clight.specs.Runs.{refusalOf, runResult, resultOf};
-ghost use Rattle.command_answer.specs.StoreFile.{storeIn};
-ghost use Rattle.command_answer.specs.Output.{Roomy, outputRoom, storeLimit, checkOutput, resultLine, runOutput, zeros, zerosOutput, storedOutput, startedOutput};
+ghost use Rattle.clight.specs.Runs.{refusalOf, runResult, answerAndStore};
+ghost use Rattle.command_request.specs.StoreFile.{storeIn};
+ghost use Rattle.command_answer.specs.Output.{Roomy, outputRoom, storeLimit, checkOutput, resultLine, runOutput, zerosOutput, storedOutput, startedOutput};
 
 fn check_form(form: Form, header: &[i32], rows: &[i32]) -> Verdict
     ensures { λ r. ⌜ r ≡ refusalOf form (now (header .entry)) (now (rows .entry)) ⌝ }
@@ -55,7 +55,7 @@ pub fn check_answer(
 }
 
 fn run_form(form: Form, header: &[i32], rows: &[i32], store: &mut [i32], budget: u32) -> RunVerdict
-    ensures { λ r. ⌜ resultOf r (now (store .exit)) ≡ runResult form (now (header .entry)) (now (rows .entry)) budget (now (store .entry)) ⌝ }
+    ensures { λ r. ⌜ answerAndStore r (now (store .exit)) ≡ runResult form (now (header .entry)) (now (rows .entry)) budget (now (store .entry)) ⌝ }
 {
     match form {
         Form::Source => runs::run(header, rows, store, budget),

@@ -1,7 +1,8 @@
 // Where the cases stand in the input. A case is a line of numbers parted by tabs (budget, length of the text, start words), and then
 // that many bytes of text.
 use text_form::line::piece_end;
-ghost use mathlib.Core.Path.{_≡_};
+use text_form::number::Digits;
+use text_form::number::natural;
 ghost use Prim.Native.Nat.{_≤_, _<_};
 ghost use lib.ListN.{length};
 ghost use Rattle.programs.specs.Cases.{Inside};
@@ -19,38 +20,6 @@ pub struct Case {
 pub enum Found {
     Whole(Case),
     Nothing,
-}
-
-// The number that decimal digits give, where it fits 32 bits.
-pub enum Number {
-    Value(u32),
-    Malformed,
-}
-
-fn wide(digit: u8) -> u64
-    ensures { λ r. ⌜ r ≡ digit ⌝ }
-{
-    digit as u64
-}
-
-fn unsigned(bytes: &[u8]) -> Number {
-    let mut value: u64 = 0;
-    let mut i: usize = 0;
-    while i < bytes.len() {
-        let byte = bytes[i];
-        if byte < b'0' {
-            return Number::Malformed;
-        }
-        if byte > b'9' {
-            return Number::Malformed;
-        }
-        value = 10 * value + wide(byte - b'0');
-        if value > 4294967295 {
-            return Number::Malformed;
-        }
-        i += 1;
-    }
-    Number::Value(value as u32)
 }
 
 // The case whose line ends at `line` and whose start words begin at `words`, where its text of so many bytes is whole.
@@ -83,12 +52,12 @@ pub fn find_case(input: &[u8]) -> Found
         return Found::Nothing;
     }
     let second = piece_end(&input[..line], first + 1, b'\t');
-    let budget = unsigned(&input[..first]);
-    let Number::Value(steps) = budget else {
+    let budget = natural(&input[..first], 4294967295);
+    let Digits::Value(steps) = budget else {
         return Found::Nothing;
     };
-    let length = unsigned(&input[first + 1..second]);
-    let Number::Value(bytes) = length else {
+    let length = natural(&input[first + 1..second], 4294967295);
+    let Digits::Value(bytes) = length else {
         return Found::Nothing;
     };
     case_of(input, steps, second, line, bytes)

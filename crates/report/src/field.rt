@@ -56,25 +56,34 @@ pub fn put_words(words: &[i32], text: &mut [u8]) -> usize
     at
 }
 
-fn put_fault(sort: FaultSort, text: &mut [u8]) -> usize
-    requires { ⌜ 9 ≤ length (now text) ⌝ }
-    ensures { λ r. ⌜ Put (blank ∷ faultName sort) (now (text .entry)) r (now (text .exit)) ⌝ }
+// The longest is "overflow".
+fn put_fault_name(sort: FaultSort, text: &mut [u8]) -> usize
+    requires { ⌜ 8 ≤ length (now text) ⌝ }
+    ensures { λ r. ⌜ Put (faultName sort) (now (text .entry)) r (now (text .exit)) ⌝ }
 {
     match sort {
-        FaultSort::Overflow => put_bytes(b" overflow", text),
-        FaultSort::ZeroDivisor => put_bytes(b" zero", text),
-        FaultSort::Index => put_bytes(b" index", text),
+        FaultSort::Overflow => put_bytes(b"overflow", text),
+        FaultSort::ZeroDivisor => put_bytes(b"zero", text),
+        FaultSort::Index => put_bytes(b"index", text),
     }
 }
 
-// The longest is "overflow".
+// The name of an ending, without a blank before it.
+pub fn put_ending_name(ending: Ending, text: &mut [u8]) -> usize
+    requires { ⌜ 8 ≤ length (now text) ⌝ }
+    ensures { λ r. ⌜ Put (endingName ending) (now (text .entry)) r (now (text .exit)) ⌝ }
+{
+    match ending {
+        Ending::Plain => put_bytes(b"ended", text),
+        Ending::Spent => put_bytes(b"spent", text),
+        Ending::Fault(sort) => put_fault_name(sort, text),
+    }
+}
+
 pub fn put_ending(ending: Ending, text: &mut [u8]) -> usize
     requires { ⌜ 9 ≤ length (now text) ⌝ }
     ensures { λ r. ⌜ Put (blank ∷ endingName ending) (now (text .entry)) r (now (text .exit)) ⌝ }
 {
-    match ending {
-        Ending::Plain => put_bytes(b" ended", text),
-        Ending::Spent => put_bytes(b" spent", text),
-        Ending::Fault(sort) => put_fault(sort, text),
-    }
+    text[0] = b' ';
+    put_ending_name(ending, &mut text[1..]) + 1
 }

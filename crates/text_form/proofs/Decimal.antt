@@ -1,4 +1,4 @@
--- The walk over a field's digits: what the digits passed leave of the value, and which fields are words.
+-- The walk over digits, up to a limit: what the digits passed leave of the value; and which fields are words.
 use mathlib.Core.Path.{_≡_, refl, sym, ap, _∙_}
 use mathlib.Core.Bool.{true, false}
 use mathlib.Core.List.{List, [], _∷_}
@@ -40,36 +40,36 @@ decimal-over (byte ∷ bytes) limit value h =
     (λ t. rw t (decimal-over bytes limit (10 * value + (byte - 48)) (omega arith)))
     (λ t. rw t (atMost-none limit))
 
--- the digits before byte i of a field gave `value`
-pub record Valued (bytes : List ℕ) (value i : ℕ) : Type 0 where
+-- the digits before byte i gave `value`, which is at most the limit
+pub record Valued (limit : ℕ) (bytes : List ℕ) (value i : ℕ) : Type 0 where
   pub inside : i ≤ length bytes
-  pub small : value ≤ 2147483648
+  pub small : value ≤ limit
   pub same : decimal value (drop i bytes) ≡ decimal 0 bytes
 
-pub valued-start : (bytes : List ℕ) → Valued bytes 0 0
-valued-start bytes = record { inside = omega arith; small = omega arith; same = refl }
+pub valued-start : (limit : ℕ) (bytes : List ℕ) → Valued limit bytes 0 0
+valued-start limit bytes = record { inside = omega arith; small = omega arith; same = refl }
 
-module _ {bytes : List ℕ} {value i : ℕ} (v : Valued bytes value i) where
-  pub valued-end : length bytes ≤ i → some value ≡ atMost 2147483648 (decimal 0 bytes)
+module _ {limit : ℕ} {bytes : List ℕ} {value i : ℕ} (v : Valued limit bytes value i) where
+  pub valued-end : length bytes ≤ i → some value ≡ atMost limit (decimal 0 bytes)
   unfolding decimal
   valued-end h =
       let e : decimal value (drop i bytes) ≡ some value = rw (drop-of-length-le bytes {i = i} h) in
-      sym (ap (atMost 2147483648) (sym (v .same) ∙ e) ∙ atMost-within 2147483648 value (v .small))
+      sym (ap (atMost limit) (sym (v .same) ∙ e) ∙ atMost-within limit value (v .small))
 
   module _ (more : i < length bytes) where
-    pub valued-stop : isDigit (getD bytes i 0) ≡ false → none ≡ atMost 2147483648 (decimal 0 bytes)
+    pub valued-stop : isDigit (getD bytes i 0) ≡ false → none ≡ atMost limit (decimal 0 bytes)
     valued-stop t =
         let e : decimal value (drop i bytes) ≡ none = rw (drop-cons bytes i 0 more) (decimal-other value _ _ t) in
-        sym (ap (atMost 2147483648) (sym (v .same) ∙ e) ∙ atMost-none 2147483648)
+        sym (ap (atMost limit) (sym (v .same) ∙ e) ∙ atMost-none limit)
 
     module _ (t : isDigit (getD bytes i 0) ≡ true) (digit : ℕ) (d : digit ≡ getD bytes i 0 - 48) where
       next : decimal (10 * value + digit) (drop (i + 1) bytes) ≡ decimal 0 bytes
       next = rw d (sym (decimal-digit value (getD bytes i 0) (drop (i + 1) bytes) t) ∙ rw (add-one i, ← drop-cons bytes i 0 more) (v .same))
 
-      pub valued-over : 2147483648 < 10 * value + digit → none ≡ atMost 2147483648 (decimal 0 bytes)
-      valued-over h = sym (ap (atMost 2147483648) (sym next) ∙ decimal-over (drop (i + 1) bytes) 2147483648 _ h)
+      pub valued-over : limit < 10 * value + digit → none ≡ atMost limit (decimal 0 bytes)
+      valued-over h = sym (ap (atMost limit) (sym next) ∙ decimal-over (drop (i + 1) bytes) limit _ h)
 
-      pub valued-next : 10 * value + digit ≤ 2147483648 → Valued bytes (10 * value + digit) (i + 1)
+      pub valued-next : 10 * value + digit ≤ limit → Valued limit bytes (10 * value + digit) (i + 1)
       valued-next h = record { inside = omega arith; small = h; same = next }
 
 -- ---- leading zeros

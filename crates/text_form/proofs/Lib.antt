@@ -1,7 +1,7 @@
 -- The proofs of the reader and the writer: laws that several functions use, then a folder for each function.
 -- Signs: a word from its size, and its size.
 pub mod Signs
--- Decimal: the walk over a field's digits.
+-- Decimal: the walk over digits, up to a limit, and which fields are words.
 pub mod Decimal
 -- Pieces: the walk over the fields of a line.
 pub mod Pieces

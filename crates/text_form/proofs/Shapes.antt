@@ -21,8 +21,7 @@ use Rattle.text_form.specs.NumberLaws.{by-cases, not-some}
 use Rattle.text_form.specs.LineLaws.{lines-none}
 use Rattle.text_form.specs.TextLaws.{not-parsed, Kept, keep-reads, program-first}
 use Rattle.text_form.specs.Reader.{wordsOf, HasLines}
-use Rattle.words.specs.OverLaws.{rest-of}
-use Rattle.text_form.specs.ReaderLaws.{first-part}
+use Rattle.words.specs.OverLaws.{first-of, rest-of}
 use Rattle.text_form.proofs.Pieces.{Piece}
 use Rattle.text_form.proofs.Rows.{Sized, lines-step, lines-last}
 
@@ -94,7 +93,7 @@ module _ (form : Form) {text : List ℕ} {end : ℕ} (p : Piece 10 text 0 end) w
       shape-lines r = record {
         program = record { header = s .numbers; rows = r .words };
         inside = h;
-        first-line = rw first-part at (kept .same);
+        first-line = rw first-of at (kept .same);
         other-lines = r .is;
         header-size = s .size;
         rows-size = r .size;

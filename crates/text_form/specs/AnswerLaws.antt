@@ -7,8 +7,7 @@ use Prim.Native.Nat.{ℕ, _≤_}
 use native.Mathlib.Omega.{arith}
 use lib.Dec.{leb}
 use lib.IntN.{ℤ}
-use lib.ListN.{length, take, drop}
-use lib.Seq.{take-append-seam}
+use lib.ListN.{length, take}
 use borrow.Author.Tests.{leb-true, le-leb}
 use Rattle.words.specs.Layout.{headerFits, countFits}
 use Rattle.words.specs.declared.Form.{Form}
@@ -16,6 +15,7 @@ use Rattle.text_form.specs.declared.ReadAnswer.the-variants.{Read}
 use Rattle.text_form.specs.declared.WriteAnswer.the-variants.{Written}
 use Rattle.text_form.specs.Text.{textBytes, Parsed, parsed, malformed, Program, parse}
 use Rattle.words.specs.Over.{over}
+use Rattle.words.specs.OverLaws.{take-over}
 use Rattle.text_form.specs.Answers.{finished, refused, unless, causeOf, readRefused, readProgram, tablesHold, readParsed, readResult, Reads, writeBytes, writeResult, Writes}
 use Rattle.text_form.specs.NumberLaws.{by-cases}
 use Rattle.text_form.specs.TextLaws.{IsText, text-reads}
@@ -58,10 +58,6 @@ both-hold a b c d e =
     by-cases (leb a b)
     (λ t. (leb-true a b t, leb-true c d (rw t at e)))
     (λ t. absurd (let f : false ≡ true = rw t at e in let z : _≡_ {A = ℕ} 0 1 = cc in omega arith))
-
-pub take-over : {A : Type 0} (values buffer : List A) → take (length values) (over values buffer) ≡ values
-unfolding over
-take-over values buffer = take-append-seam values (drop (length values) buffer)
 
 -- ---- a text that nothing turns away
 

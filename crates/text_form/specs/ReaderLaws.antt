@@ -7,17 +7,13 @@ use Prim.Native.Nat.{ℕ, _+_, _-_, _≤_}
 use native.Mathlib.Omega.{arith}
 use lib.IntN.{ℤ}
 use lib.ListN.{length, take, drop}
-use lib.Seq.{take-at}
 use Rattle.words.specs.declared.Form.{Form}
 use Rattle.text_form.specs.Line.{linesOf, fieldsOf, numbersOf}
 use Rattle.text_form.specs.Text.{parsed, rowsFrom}
 use Rattle.words.specs.Over.{over}
 use Rattle.text_form.specs.Answers.{causeOf}
 use Rattle.text_form.specs.Reader.{numbersIn, Holds, HoldsExactly, wordsIn, HoldsRows, HasLines}
-use Rattle.words.specs.OverLaws.{rest-of}
-
-pub first-part : (end : ℕ) (text : List ℕ) → take (end - 0) text ≡ take end text
-first-part end text = let e : end - 0 ≡ end = omega arith in rw e
+use Rattle.words.specs.OverLaws.{first-of, rest-of, written-part}
 
 -- ---- numbers stored in a scratch array
 
@@ -26,14 +22,13 @@ module _ {read : Option (List ℤ)} {numbers : ℕ} (h : HoldsExactly read numbe
   scratch-holds table e = record { well-formed = h .well-formed; room = omega (arith, h .size, h .few) }
 
   pub scratch-part : (table written : List ℤ) → written ≡ over (numbersIn read) table → take (numbers - 0) written ≡ numbersIn read
-  unfolding over
-  scratch-part table written e = let n : numbers - 0 ≡ numbers = omega arith in rw (n, e) (take-at _ _ numbers (h .size))
+  scratch-part table written e = written-part (numbersIn read) table written numbers (sym (h .size)) e
 
 -- ---- the lines of a well-formed text, as their readers are lent them
 
 module _ {form : Form} {text : List ℕ} {end numbers words : ℕ} (l : HasLines form text end numbers words) where
   pub lent-line : numbersOf (fieldsOf (take (end - 0) text)) ≡ some (l .program .header)
-  lent-line = rw (first-part end text) (l .first-line)
+  lent-line = rw (first-of text end) (l .first-line)
 
   lent-rows : rowsFrom 2 (linesOf (take (length text - (end + 1)) (drop (end + 1) text))) ≡ parsed (l .program .rows)
   lent-rows = rw (rest-of text (end + 1)) (l .other-lines)

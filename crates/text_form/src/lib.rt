@@ -2,9 +2,9 @@
 pub mod digits; // digits.rt: how many bytes a number is written with, and those bytes
 pub mod limits; // limits.rt: the causes that reader and writer test alike
 pub mod line; // line.rt: where a field or a line ends, and the numbers of a line
-mod number; // number.rt: the word that a field's bytes are
+pub mod number; // number.rt: the number that bytes are
 pub mod reader; // reader.rt: the shape of a text, and its words
-mod writer; // writer.rt: how many bytes a text takes, and those bytes
+pub mod writer; // writer.rt: how many bytes a text takes, and those bytes
 
 use self::limits::Cause;
 use self::limits::first_cause;

@@ -1,11 +1,11 @@
-// Numbers of a text: the word that a field's bytes are.
+// Numbers of a text: the number without a sign that bytes are, up to a limit, and the word that a field's bytes are.
 ghost use mathlib.Core.Path.{_≡_};
 ghost use Rattle.text_form.specs.Number.{isDigit, decimal as decimalOf, natural as naturalOf, positive as positiveOf, negative as negativeOf, numberOf};
 ghost use Rattle.text_form.specs.Reader.{atMost, digitsValue, fieldNumber};
 
-// The value of digits, where they are well formed and it is at most 2147483648.
+// The value of digits, where they are well formed and it is within the limit.
 pub enum Digits {
-    Value(u64),
+    Value(u32),
     Malformed,
 }
 
@@ -30,9 +30,9 @@ fn wide(digit: u8) -> u64
     digit as u64
 }
 
-// The value of decimal digits. It stops above 2147483648, so that no value wraps.
-fn decimal(bytes: &[u8]) -> Digits
-    ensures { λ r. ⌜ digitsValue r ≡ atMost 2147483648 (decimalOf 0 (now (bytes .entry))) ⌝ }
+// The value of decimal digits. It stops above the limit, so that no value wraps.
+fn decimal(bytes: &[u8], limit: u32) -> Digits
+    ensures { λ r. ⌜ digitsValue r ≡ atMost limit (decimalOf 0 (now (bytes .entry))) ⌝ }
 {
     let mut value: u64 = 0;
     let mut i: usize = 0;
@@ -42,29 +42,29 @@ fn decimal(bytes: &[u8]) -> Digits
             return Digits::Malformed;
         }
         value = 10 * value + wide(byte - b'0');
-        if value > 2147483648 {
+        if value > limit as u64 {
             return Digits::Malformed;
         }
         i += 1;
     }
-    Digits::Value(value)
+    Digits::Value(value as u32)
 }
 
 // At least one digit, and no leading zero.
-fn natural(bytes: &[u8]) -> Digits
-    ensures { λ r. ⌜ digitsValue r ≡ atMost 2147483648 (naturalOf (now (bytes .entry))) ⌝ }
+pub fn natural(bytes: &[u8], limit: u32) -> Digits
+    ensures { λ r. ⌜ digitsValue r ≡ atMost limit (naturalOf (now (bytes .entry))) ⌝ }
 {
     let length = bytes.len();
     if length == 0 {
         return Digits::Malformed;
     }
     if length == 1 {
-        return decimal(bytes);
+        return decimal(bytes, limit);
     }
     if bytes[0] == b'0' {
         return Digits::Malformed;
     }
-    decimal(bytes)
+    decimal(bytes, limit)
 }
 
 fn positive(digits: Digits) -> Field
@@ -103,7 +103,7 @@ pub fn number(field: &[u8]) -> Field
         return Field::Malformed;
     }
     if field[0] == b'-' {
-        return negative(natural(&field[1..]));
+        return negative(natural(&field[1..], 2147483648));
     }
-    positive(natural(field))
+    positive(natural(field, 2147483648))
 }

@@ -20,20 +20,20 @@ pub record TranslateResult : Type 0 where
   pub rows : List ℤ
 
 -- An answer and the tables that it leaves.
-abbrev pub resultOf : TranslateAnswer → List ℤ → List ℤ → TranslateResult
-resultOf answer header rows = record { answer = answer; header = header; rows = rows }
+abbrev pub answerAndTables : TranslateAnswer → List ℤ → List ℤ → TranslateResult
+answerAndTables answer header rows = record { answer = answer; header = header; rows = rows }
 
 -- Where both tables have room, the kernel header and rows are written from their start: "Rows of an output table .. beyond the
 -- result keep their content." Else cause 10, "output table shorter than its result needs".
 abbrev pub written : (kernelHeader kernelRows header rows : List ℤ) → TranslateResult
 written kernelHeader kernelRows header rows =
     pick (leb (length kernelHeader) (length header) && leb (length kernelRows) (length rows))
-    (resultOf (Translated (length kernelHeader) (length kernelRows)) (over kernelHeader header) (over kernelRows rows))
-    (resultOf (TranslateRefused (record { number = 10; place = 0 })) header rows)
+    (answerAndTables (Translated (length kernelHeader) (length kernelRows)) (over kernelHeader header) (over kernelRows rows))
+    (answerAndTables (TranslateRefused (record { number = 10; place = 0 })) header rows)
 
 -- The check's causes first; then the kernel form of docs/REWRITING.md. `outHeader` and `outRows` are the tables lent for it.
 abbrev pub translateAfter : Verdict → (header rows outHeader outRows : List ℤ) → TranslateResult
-translateAfter (Refused refusal) header rows outHeader outRows = resultOf (TranslateRefused refusal) outHeader outRows
+translateAfter (Refused refusal) header rows outHeader outRows = answerAndTables (TranslateRefused refusal) outHeader outRows
 translateAfter Accepted header rows outHeader outRows = written (kernelHeaderOf header rows) (kernelRowsOf header rows) outHeader outRows
 
 unfoldable pub translateResult : (header rows outHeader outRows : List ℤ) → TranslateResult

@@ -1,30 +1,35 @@
--- Laws of the translation's answer: which of three it is, and that it fits the tables lent.
+-- Laws of the translation's answer: which of three it is; a translation that was made stands at the start of both tables.
 use mathlib.Core.Path.{_≡_, refl, sym, ap, _∙_}
 use mathlib.Core.Bool.{Bool, true, false, _&&_}
 use mathlib.Core.List.{List}
-use Prim.Native.Nat.{ℕ, _≤_, _<_}
+use Prim.Native.Nat.{ℕ, _-_, _≤_, _<_}
 use native.Mathlib.Omega.{arith}
 use lib.Dec.{leb}
 use lib.IntN.{ℤ}
-use lib.ListN.{length}
+use lib.ListN.{length, take}
 use borrow.Author.Tests.{leb-true, le-leb, lt-leb}
 use Rattle.words.specs.Word.{pick}
 use Rattle.words.specs.Over.{over}
+use Rattle.words.specs.OverLaws.{written-part}
+use Rattle.words.specs.declared.Refusal.{Refusal}
 use Rattle.words.specs.declared.Verdict.{Verdict}
 use Rattle.words.specs.declared.Verdict.the-variants.{Accepted, Refused as CheckRefused}
 use Rattle.source_check.specs.Refusal.{refusal as sourceRefusal}
 use Rattle.fate.specs.KernelForms.{kernelHeaderOf, kernelRowsOf}
-use Rattle.translator.specs.declared.TranslateAnswer.{TranslateAnswer}
 use Rattle.translator.specs.declared.TranslateAnswer.the-variants.{Translated, Refused}
-use Rattle.translator.specs.Translation.{TranslateResult, resultOf, written, translateAfter, translateResult}
+use Rattle.translator.specs.Translation.{TranslateResult, answerAndTables, written, translateAfter, translateResult}
 
 and-false : (b : Bool) → (b && false) ≡ false
 and-false true = refl
 and-false false = refl
 
+-- an answer with counts is no refusal
+no-refusal : {G : Type 0} {headerWords rowWords : ℕ} {refusal : Refusal} → Translated headerWords rowWords ≡ Refused refusal → G
+no-refusal {headerWords = headerWords} {rowWords = rowWords} {refusal = refusal} e = absurd (let z : _≡_ {A = ℕ} 0 1 = cc in omega arith)
+
 module _ (kernelHeader kernelRows header rows : List ℤ) where
   abbrev pub tooShort : TranslateResult
-  tooShort = resultOf (Refused (record { number = 10; place = 0 })) header rows
+  tooShort = answerAndTables (Refused (record { number = 10; place = 0 })) header rows
 
   pub header-short : length header < length kernelHeader → tooShort ≡ written kernelHeader kernelRows header rows
   header-short h = rw (lt-leb _ _ h)
@@ -33,32 +38,74 @@ module _ (kernelHeader kernelRows header rows : List ℤ) where
   rows-short h = rw (lt-leb _ _ h, and-false)
 
   pub both-written : length kernelHeader ≤ length header → length kernelRows ≤ length rows
-      → resultOf (Translated (length kernelHeader) (length kernelRows)) (over kernelHeader header) (over kernelRows rows) ≡ written kernelHeader kernelRows header rows
+      → answerAndTables (Translated (length kernelHeader) (length kernelRows)) (over kernelHeader header) (over kernelRows rows) ≡ written kernelHeader kernelRows header rows
   both-written h k = rw (le-leb _ _ h, le-leb _ _ k)
 
-  -- ---- what is written fits
+module _ (header rows outHeader outRows : List ℤ) where
+  abbrev kernelHeader : List ℤ
+  kernelHeader = kernelHeaderOf header rows
 
-  module _ (headerWords rowWords : ℕ) where
-    fits-of : (a b : Bool) → leb (length kernelHeader) (length header) ≡ a → leb (length kernelRows) (length rows) ≡ b
-        → Translated headerWords rowWords ≡ pick (a && b) (resultOf (Translated (length kernelHeader) (length kernelRows)) (over kernelHeader header) (over kernelRows rows)) tooShort .answer
-        → (headerWords ≤ length header) × (rowWords ≤ length rows)
-    fits-of true true h r e =
-        let first : length kernelHeader ≡ headerWords = cc in
-        let second : length kernelRows ≡ rowWords = cc in
-        (omega (arith, leb-true (length kernelHeader) (length header) h), omega (arith, leb-true (length kernelRows) (length rows) r))
-    fits-of true false h r e = absurd (let z : _≡_ {A = ℕ} 0 1 = cc in omega arith)
-    fits-of false b h r e = absurd (let z : _≡_ {A = ℕ} 0 1 = cc in omega arith)
+  abbrev kernelRows : List ℤ
+  kernelRows = kernelRowsOf header rows
 
-    written-fits : Translated headerWords rowWords ≡ written kernelHeader kernelRows header rows .answer → (headerWords ≤ length header) × (rowWords ≤ length rows)
-    written-fits = fits-of (leb (length kernelHeader) (length header)) (leb (length kernelRows) (length rows)) refl refl
+  -- Both tables have room for the kernel form.
+  pub record HasRoom : Type 0 where
+    pub header-room : length kernelHeader ≤ length outHeader
+    pub rows-room : length kernelRows ≤ length outRows
 
-module _ (header rows outHeader outRows headerLeft rowsLeft : List ℤ) (headerWords rowWords : ℕ) where
-  fits-after : (verdict : Verdict) → Translated headerWords rowWords ≡ translateAfter verdict header rows outHeader outRows .answer → (headerWords ≤ length outHeader) × (rowWords ≤ length outRows)
-  fits-after (CheckRefused refusal) e = absurd (let z : _≡_ {A = ℕ} 0 1 = cc in omega arith)
-  fits-after Accepted e = written-fits (kernelHeaderOf header rows) (kernelRowsOf header rows) outHeader outRows headerWords rowWords e
+  module _ (headerLeft rowsLeft : List ℤ) where
+    -- ---- a translation that was made
 
-  -- A translation fits both tables.
-  pub translation-fits : (answer : TranslateAnswer) → resultOf answer headerLeft rowsLeft ≡ translateResult header rows outHeader outRows → answer ≡ Translated headerWords rowWords
-      → (headerWords ≤ length outHeader) × (rowWords ≤ length outRows)
-  unfolding translateResult
-  translation-fits answer e told = fits-after (sourceRefusal header rows) (sym told ∙ ap (λ (r : TranslateResult). r .answer) e)
+    -- The check accepts the program; the kernel form has so many words, which fit both tables and stand at their start.
+    pub record Made (headerWords rowWords : ℕ) : Type 0 where
+      pub accepted : sourceRefusal header rows ≡ Accepted
+      pub header-room : headerWords ≤ length outHeader
+      pub rows-room : rowWords ≤ length outRows
+      pub header-written : take (headerWords - 0) headerLeft ≡ kernelHeader
+      pub rows-written : take (rowWords - 0) rowsLeft ≡ kernelRows
+
+    module _ (headerWords rowWords : ℕ) where
+      made-written : (a b : Bool) → leb (length kernelHeader) (length outHeader) ≡ a → leb (length kernelRows) (length outRows) ≡ b → sourceRefusal header rows ≡ Accepted
+          → answerAndTables (Translated headerWords rowWords) headerLeft rowsLeft
+          ≡ pick (a && b) (answerAndTables (Translated (length kernelHeader) (length kernelRows)) (over kernelHeader outHeader) (over kernelRows outRows)) (tooShort kernelHeader kernelRows outHeader outRows)
+          → Made headerWords rowWords
+      made-written true true h r accepted e =
+          let counts : Translated headerWords rowWords ≡ Translated (length kernelHeader) (length kernelRows) = ap (λ (result : TranslateResult). result .answer) e in
+          let first : headerWords ≡ length kernelHeader = cc in
+          let second : rowWords ≡ length kernelRows = cc in
+          record {
+            accepted = accepted;
+            header-room = omega (arith, leb-true (length kernelHeader) (length outHeader) h);
+            rows-room = omega (arith, leb-true (length kernelRows) (length outRows) r);
+            header-written = written-part kernelHeader outHeader headerLeft headerWords first (ap (λ (result : TranslateResult). result .header) e);
+            rows-written = written-part kernelRows outRows rowsLeft rowWords second (ap (λ (result : TranslateResult). result .rows) e);
+          }
+      made-written true false h r accepted e = no-refusal (ap (λ (result : TranslateResult). result .answer) e)
+      made-written false b h r accepted e = no-refusal (ap (λ (result : TranslateResult). result .answer) e)
+
+      pub translation-made : answerAndTables (Translated headerWords rowWords) headerLeft rowsLeft ≡ translateResult header rows outHeader outRows → Made headerWords rowWords
+      unfolding translateResult
+      translation-made e = go (sourceRefusal header rows) refl e
+        where
+          go : (verdict : Verdict) → sourceRefusal header rows ≡ verdict → answerAndTables (Translated headerWords rowWords) headerLeft rowsLeft ≡ translateAfter verdict header rows outHeader outRows
+              → Made headerWords rowWords
+          go (CheckRefused refusal) v e = no-refusal (ap (λ (result : TranslateResult). result .answer) e)
+          go Accepted v e = made-written (leb (length kernelHeader) (length outHeader)) (leb (length kernelRows) (length outRows)) refl refl v e
+
+    -- ---- a translation that was refused
+
+    -- Where an accepted program's kernel form has room, a refusal is the check's.
+    pub translation-refused : (refusal : Refusal) → (sourceRefusal header rows ≡ Accepted → HasRoom)
+        → answerAndTables (Refused refusal) headerLeft rowsLeft ≡ translateResult header rows outHeader outRows → sourceRefusal header rows ≡ CheckRefused refusal
+    unfolding translateResult
+    translation-refused refusal room e = go (sourceRefusal header rows) refl e
+      where
+        go : (verdict : Verdict) → sourceRefusal header rows ≡ verdict → answerAndTables (Refused refusal) headerLeft rowsLeft ≡ translateAfter verdict header rows outHeader outRows
+            → sourceRefusal header rows ≡ CheckRefused refusal
+        go (CheckRefused other) v e =
+            let told : Refused refusal ≡ Refused other = ap (λ (result : TranslateResult). result .answer) e in
+            let same : other ≡ refusal = cc in
+            v ∙ ap CheckRefused same
+        go Accepted v e =
+            let fits = room v in
+            no-refusal (sym (ap (λ (result : TranslateResult). result .answer) (e ∙ sym (both-written kernelHeader kernelRows outHeader outRows (fits .header-room) (fits .rows-room)))))

@@ -11,7 +11,7 @@ ghost use Rattle.words.specs.declared.Verdict.the-variants.{Accepted};
 ghost use Rattle.source_check.specs.Refusal.{refusal as sourceRefusal};
 ghost use Rattle.measures.specs.Measures.{Measured};
 ghost use Rattle.fate.specs.KernelForms.{HasKernelForm};
-ghost use Rattle.translator.specs.Translation.{resultOf, translateAfter, translateResult};
+ghost use Rattle.translator.specs.Translation.{answerAndTables, translateAfter, translateResult};
 
 pub mod header; // header.rt: the kernel header
 
@@ -30,7 +30,7 @@ fn write_measured(
     kernel_rows: &mut [i32],
 ) -> TranslateAnswer
     requires { ⌜ (sourceRefusal (now header) (now rows) ≡ Accepted) × Measured (now rows) (now table) ⌝ }
-    ensures { λ r. ⌜ resultOf r (now («kernel_header» .exit)) (now («kernel_rows» .exit)) ≡ translateAfter Accepted (now (header .entry)) (now (rows .entry)) (now («kernel_header» .entry)) (now («kernel_rows» .entry)) ⌝ }
+    ensures { λ r. ⌜ answerAndTables r (now («kernel_header» .exit)) (now («kernel_rows» .exit)) ≡ translateAfter Accepted (now (header .entry)) (now (rows .entry)) (now («kernel_header» .entry)) (now («kernel_rows» .entry)) ⌝ }
 {
     let header_words = header.len() + 1;
     if header_words > kernel_header.len() {
@@ -59,7 +59,7 @@ fn translate_accepted(
     kernel_rows: &mut [i32],
 ) -> TranslateAnswer
     requires { ⌜ sourceRefusal (now header) (now rows) ≡ Accepted ⌝ }
-    ensures { λ r. ⌜ resultOf r (now («kernel_header» .exit)) (now («kernel_rows» .exit)) ≡ translateAfter Accepted (now (header .entry)) (now (rows .entry)) (now («kernel_header» .entry)) (now («kernel_rows» .entry)) ⌝ }
+    ensures { λ r. ⌜ answerAndTables r (now («kernel_header» .exit)) (now («kernel_rows» .exit)) ≡ translateAfter Accepted (now (header .entry)) (now (rows .entry)) (now («kernel_header» .entry)) (now («kernel_rows» .entry)) ⌝ }
 {
     let mut table = [0usize; 22528];
     measure(rows, &mut table);
@@ -74,7 +74,7 @@ pub fn translate(
     kernel_header: &mut [i32],
     kernel_rows: &mut [i32],
 ) -> TranslateAnswer
-    ensures { λ r. ⌜ resultOf r (now («kernel_header» .exit)) (now («kernel_rows» .exit)) ≡ translateResult (now (header .entry)) (now (rows .entry)) (now («kernel_header» .entry)) (now («kernel_rows» .entry)) ⌝ }
+    ensures { λ r. ⌜ answerAndTables r (now («kernel_header» .exit)) (now («kernel_rows» .exit)) ≡ translateResult (now (header .entry)) (now (rows .entry)) (now («kernel_header» .entry)) (now («kernel_rows» .entry)) ⌝ }
     ensures { λ _. ⌜ HasKernelForm (now (header .entry)) (now (rows .entry)) ⌝ }
 {
     let verdict = source_check::check(header, rows);

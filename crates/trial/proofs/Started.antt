@@ -1,12 +1,12 @@
 -- Runs that start from zeros, of both forms: what an answer says of the program and of the run.
 use mathlib.Core.Path.{_≡_, refl, sym, ap, _∙_}
-use mathlib.Core.List.{List, _∷_, _++_}
-use Prim.Native.Nat.{ℕ, zero, suc, _+_, _-_, _≤_}
+use mathlib.Core.List.{List, _++_}
+use Prim.Native.Nat.{ℕ, _+_, _-_, _≤_}
 use native.Mathlib.Omega.{arith}
 use lib.IntN.{ℤ, pos}
 use lib.ListN.{length, take, length-replicate}
 use borrow.Author.Tests.{eq-eqb}
-use Rattle.words.specs.Layout.{layoutOf, storeSize, storeWords}
+use Rattle.words.specs.Layout.{layoutOf, storeSize, storeWords, zeros}
 use Rattle.words.specs.declared.Form.{Form}
 use Rattle.words.specs.declared.Form.the-variants.{Source, Kernel}
 use Rattle.words.specs.declared.Refusal.{Refusal}
@@ -16,22 +16,13 @@ use Rattle.words.specs.declared.Verdict.{Verdict}
 use Rattle.words.specs.declared.Verdict.the-variants.{Accepted, Refused}
 use Rattle.language.specs.Program.{Finished, runProgram}
 use Rattle.text_form.specs.Writer.{Put}
-use Rattle.words.specs.OverLaws.{part}
+use Rattle.words.specs.OverLaws.{part, first-of}
 use Rattle.report.specs.Lines.{lineRoom, refusedLine, sourceLine, kernelLine}
 use Rattle.report.proofs.Spacing.{SoFar, far-space}
 use Rattle.fate.specs.KernelForms.{kernelHeaderOf, kernelRowsOf}
-use Rattle.clight.specs.Runs.{refusalOf, resultOf, ran, runAfter, runResult}
-use Rattle.trial.specs.Output.{mostWords, budget, zeros, sourceOutput, kernelOutput, runsOutput, checkedOutput}
+use Rattle.clight.specs.Runs.{refusalOf, answerAndStore, ran, runAfter, runResult}
+use Rattle.trial.specs.Output.{mostWords, budget, sourceOutput, kernelOutput, runsOutput, checkedOutput}
 use Rattle.trial.specs.Conditions.{FromZeros, Translates}
-
-take-zeros : (n m : ℕ) → n ≤ m → take n (zeros m) ≡ zeros n
-take-zeros zero m h = refl
-take-zeros (suc n) zero h = absurd (omega arith)
-take-zeros (suc n) (suc m) h = ap (λ l. pos 0 ∷ l) (take-zeros n m (omega arith))
-
--- the first part of an array of zeros, as it is lent
-pub zeros-part : (n m : ℕ) → n ≤ m → take (n - 0) (zeros m) ≡ zeros n
-zeros-part n m h = let e : n - 0 ≡ n = omega arith in rw e (take-zeros n m h)
 
 -- a source run has no temporaries
 pub source-words : (header : List ℤ) → storeWords Source header ≡ storeSize (layoutOf Source header)
@@ -53,20 +44,20 @@ module _ (form : Form) (header rows store : List ℤ) (starts : store ≡ zeros 
   accepted-runs = rw (eq-eqb (length store) (storeWords form header) started-length, starts)
 
   -- the run was made: the check accepts the program
-  pub record Made (answer : RunAnswer) (left : List ℤ) : Type 0 where
+  pub record RunMade (answer : RunAnswer) (left : List ℤ) : Type 0 where
     pub accepted : refusalOf form header rows ≡ Accepted
     pub ending : answer .ending ≡ run .ending
     pub count : answer .count ≡ run .count
     pub store-left : left ≡ run .store
 
-  pub run-made : (answer : RunAnswer) (left : List ℤ) → resultOf (Ran answer) left ≡ runResult form header rows budget store → Made answer left
+  pub run-made : (answer : RunAnswer) (left : List ℤ) → answerAndStore (Ran answer) left ≡ runResult form header rows budget store → RunMade answer left
   unfolding runResult
   run-made answer left e = go (refusalOf form header rows) refl e
     where
-      go : (verdict : Verdict) → refusalOf form header rows ≡ verdict → resultOf (Ran answer) left ≡ runAfter verdict form header rows budget store → Made answer left
+      go : (verdict : Verdict) → refusalOf form header rows ≡ verdict → answerAndStore (Ran answer) left ≡ runAfter verdict form header rows budget store → RunMade answer left
       go (Refused refusal) v e = differ _ refusal (ap (λ r. r .answer) e)
       go Accepted v e =
-          let same : resultOf (Ran answer) left ≡ ran run = e ∙ accepted-runs in
+          let same : answerAndStore (Ran answer) left ≡ ran run = e ∙ accepted-runs in
           let told : Ran answer ≡ Ran (record { ending = run .ending; count = run .count }) = ap (λ r. r .answer) same in
           let whole : answer ≡ record { ending = run .ending; count = run .count } = cc in
           record {
@@ -77,18 +68,18 @@ module _ (form : Form) (header rows store : List ℤ) (starts : store ≡ zeros 
           }
 
   -- the run was refused: the check refuses the program
-  pub run-refused : (refusal : Refusal) (left : List ℤ) → resultOf (RunRefused refusal) left ≡ runResult form header rows budget store → refusalOf form header rows ≡ Refused refusal
+  pub run-refused : (refusal : Refusal) (left : List ℤ) → answerAndStore (RunRefused refusal) left ≡ runResult form header rows budget store → refusalOf form header rows ≡ Refused refusal
   unfolding runResult
   run-refused refusal left e = go (refusalOf form header rows) refl e
     where
-      go : (verdict : Verdict) → refusalOf form header rows ≡ verdict → resultOf (RunRefused refusal) left ≡ runAfter verdict form header rows budget store → refusalOf form header rows ≡ Refused refusal
+      go : (verdict : Verdict) → refusalOf form header rows ≡ verdict → answerAndStore (RunRefused refusal) left ≡ runAfter verdict form header rows budget store → refusalOf form header rows ≡ Refused refusal
       go (Refused other) v e =
           let told : RunRefused refusal ≡ RunRefused other = ap (λ r. r .answer) e in
           let same : other ≡ refusal = cc in
           v ∙ ap Refused same
       go Accepted v e = differ _ refusal (sym (ap (λ r. r .answer) (e ∙ accepted-runs)))
 
-  pub run-accepted : {G : Type 0} → refusalOf form header rows ≡ Accepted → (refusal : Refusal) (left : List ℤ) → resultOf (RunRefused refusal) left ≡ runResult form header rows budget store → G
+  pub run-accepted : {G : Type 0} → refusalOf form header rows ≡ Accepted → (refusal : Refusal) (left : List ℤ) → answerAndStore (RunRefused refusal) left ≡ runResult form header rows budget store → G
   run-accepted a refusal left e = let d : Accepted ≡ Refused refusal = sym a ∙ run-refused refusal left e in absurd (let z : _≡_ {A = ℕ} 0 1 = cc in omega arith)
 
 -- ---- the lines
@@ -98,16 +89,16 @@ pub refused-output : (header rows : List ℤ) (refusal : Refusal) → refusalOf 
 unfolding checkedOutput
 refused-output header rows refusal e = rw e
 
-module _ {header rows store : List ℤ} {starts : store ≡ zeros (storeWords Source header)} {answer : RunAnswer} {left : List ℤ} (m : Made Source header rows store starts answer left) where
+module _ {header rows store : List ℤ} {starts : store ≡ zeros (storeWords Source header)} {answer : RunAnswer} {left : List ℤ} (m : RunMade Source header rows store starts answer left) where
   pub both-lines : sourceLine (answer .ending) (answer .count) left ++ kernelOutput (storeSize (layoutOf Source header)) (kernelHeaderOf header rows) (kernelRowsOf header rows)
       ≡ checkedOutput (refusalOf Source header rows) header rows
   unfolding checkedOutput runsOutput sourceOutput
   both-lines = rw (m .accepted, m .ending, m .count, m .store-left)
 
-module _ {header rows store : List ℤ} {starts : store ≡ zeros (storeWords Kernel header)} {answer : RunAnswer} {left : List ℤ} (m : Made Kernel header rows store starts answer left) where
+module _ {header rows store : List ℤ} {starts : store ≡ zeros (storeWords Kernel header)} {answer : RunAnswer} {left : List ℤ} (m : RunMade Kernel header rows store starts answer left) where
   pub second-line : (words : ℕ) → kernelLine (answer .ending) (take (words - 0) left) ≡ kernelOutput words header rows
   unfolding kernelOutput
-  second-line words = let e : words - 0 ≡ words = omega arith in rw (e, m .ending, m .store-left)
+  second-line words = rw (first-of left words, m .ending, m .store-left)
 
 -- the source's line is put, and there is room behind it for the kernel's
 module _ {header rows store : List ℤ} {room words : ℕ} (z : FromZeros header rows store room) (kept : words ≡ length store) where

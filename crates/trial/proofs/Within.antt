@@ -16,10 +16,11 @@ use Rattle.words.specs.declared.Refusal.{Refusal}
 use Rattle.text_form.specs.Line.{fieldsOf, numbersOf}
 use Rattle.text_form.specs.Text.{malformed, parse}
 use Rattle.words.specs.Over.{over}
+use Rattle.words.specs.OverLaws.{written-part}
 use Rattle.text_form.specs.Answers.{finished, unless, readResult, Reads}
 use Rattle.text_form.specs.declared.ReadAnswer.the-variants.{Read, Refused}
 use Rattle.text_form.specs.NumberLaws.{by-cases, not-some}
-use Rattle.text_form.specs.AnswerLaws.{Passes, read-passing, refused-finished, take-over}
+use Rattle.text_form.specs.AnswerLaws.{Passes, read-passing, refused-finished}
 use Rattle.text_form.specs.Reader.{numbersIn, HasLines}
 use Rattle.text_form.specs.ReaderLaws.{line-exactly, lent-line, scratch-part}
 use Rattle.report.specs.Lines.{refusedLine}
@@ -118,21 +119,16 @@ module _ {text : List ℕ} (w : WithinLimits text) where
         ≡ record { outcome = finished (length (w .program .header) ∷ length (w .program .rows) ∷ []); header = over (w .program .header) header; rows = over (w .program .rows) rows }
     reads = read-passing Source text (w .program) (w .parses) (small .passes) header rows (omega (arith, few-numbers)) (omega (arith, small .few-rows))
 
-    read-part : (count : ℕ) (values buffer left : List ℤ) → length values ≡ count → left ≡ over values buffer → take (count - 0) left ≡ values
-    read-part count values buffer left e f =
-        let n : count - 0 ≡ length values = omega arith in
-        rw (n, f) (take-over values buffer)
-
     pub within-read : (headerWords rowWords : ℕ) → Reads (readResult Source text header rows) (Read headerWords rowWords) headerLeft rowsLeft → Tables headerWords rowWords headerLeft rowsLeft
     within-read headerWords rowWords d =
         let counts : finished (headerWords ∷ rowWords ∷ []) ≡ finished (length (w .program .header) ∷ length (w .program .rows) ∷ []) = rw reads at (d .outcome) in
-        let first : length (w .program .header) ≡ headerWords = cc in
-        let second : length (w .program .rows) ≡ rowWords = cc in
+        let first : headerWords ≡ length (w .program .header) = cc in
+        let second : rowWords ≡ length (w .program .rows) = cc in
         record {
           header-inside = omega (arith, few-numbers);
           rows-inside = omega (arith, small .few-rows);
-          header-read = read-part headerWords (w .program .header) header headerLeft first (rw reads at (d .header-left));
-          rows-read = read-part rowWords (w .program .rows) rows rowsLeft second (rw reads at (d .rows-left));
+          header-read = written-part (w .program .header) header headerLeft headerWords first (rw reads at (d .header-left));
+          rows-read = written-part (w .program .rows) rows rowsLeft rowWords second (rw reads at (d .rows-left));
         }
 
     pub within-accepted : {G : Type 0} (refusal : Refusal) → Reads (readResult Source text header rows) (Refused refusal) headerLeft rowsLeft → G

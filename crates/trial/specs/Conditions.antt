@@ -6,13 +6,13 @@ use mathlib.Core.Option.{none}
 use Prim.Native.Nat.{ℕ, _+_, _*_, _≤_}
 use lib.IntN.{ℤ}
 use lib.ListN.{length}
-use Rattle.words.specs.Layout.{headerFits, layoutOf, storeSize, storeWords}
+use Rattle.words.specs.Layout.{headerFits, layoutOf, storeSize, storeWords, zeros}
 use Rattle.words.specs.declared.Form.the-variants.{Source, Kernel}
 use Rattle.words.specs.declared.Verdict.the-variants.{Accepted}
 use Rattle.text_form.specs.Text.{parsed, Program, parse}
 use Rattle.report.specs.Lines.{lineRoom}
 use Rattle.clight.specs.Runs.{refusalOf}
-use Rattle.trial.specs.Output.{mostRows, mostWords, zeros, trialCause}
+use Rattle.trial.specs.Output.{mostRows, mostWords, trialCause}
 
 -- Bytes enough for both lines: 24,656.
 abbrev pub outputRoom : ℕ

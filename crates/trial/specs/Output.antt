@@ -4,10 +4,10 @@ use mathlib.Core.List.{List, _++_}
 use mathlib.Core.Option.{Option, none, some}
 use Prim.Native.Nat.{ℕ, _*_}
 use lib.Dec.{leb}
-use lib.IntN.{ℤ, pos}
-use lib.ListN.{length, take, replicate}
+use lib.IntN.{ℤ}
+use lib.ListN.{length, take}
 use Rattle.words.specs.Word.{pick}
-use Rattle.words.specs.Layout.{headerFits, countFits, layoutOf, storeSize, storeWords}
+use Rattle.words.specs.Layout.{headerFits, countFits, layoutOf, storeSize, storeWords, zeros}
 use Rattle.words.specs.declared.Form.the-variants.{Source, Kernel}
 use Rattle.words.specs.declared.Verdict.{Verdict}
 use Rattle.words.specs.declared.Verdict.the-variants.{Accepted, Refused}
@@ -30,10 +30,6 @@ mostWords = 1024
 
 abbrev pub budget : ℕ
 budget = 100000
-
--- "starts from zeros"
-abbrev pub zeros : ℕ → List ℤ
-zeros words = replicate words (pos 0)
 
 -- "Output: form, ending .., source count on the first line only, S words".
 unfoldable pub sourceOutput : List ℤ → List ℤ → List ℕ

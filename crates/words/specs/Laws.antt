@@ -15,7 +15,7 @@ use mir.Facts.{toZ-ofZ}
 use borrow.Author.Tests.{ltb-true, leb-true, eqb-true, lt-ltb, le-ltb, le-leb, eq-eqb, ne-eqb}
 use Rattle.words.specs.Word.{isWord, sameWord, natural, pick}
 use Rattle.words.specs.Arithmetic.{Outcome, value, fault, inWord, isTrue, bit, truth, logicalNot, minus, dividing, apply, element}
-use Rattle.words.specs.Layout.{Layout, leading, rowLimit, temporariesOf, layoutOf, sum, storeSize, arrayLength, arrayBase, allWithin, headerFits, countFits}
+use Rattle.words.specs.Layout.{Layout, leading, rowLimit, temporariesOf, layoutOf, sum, storeSize, zeros, arrayLength, arrayBase, allWithin, headerFits, countFits}
 use Rattle.words.specs.declared.FaultSort.the-variants.{Overflow, ZeroDivisor, Index}
 use Rattle.words.specs.declared.Form.the-variants.{Source, Kernel}
 use Rattle.words.specs.declared.Form.{Form}
@@ -243,6 +243,17 @@ arrayBase-next L array h = rw add-one (omega (arith, sum-take (L .lengths) array
 pub array-in-store : (L : Layout) (array : ℕ) → array < length (L .lengths) → arrayBase L array + arrayLength L array ≤ storeSize L
 unfolding arrayBase arrayLength storeSize
 array-in-store L array h = omega (arith, sum-take (L .lengths) array h, sum-most (L .lengths) (suc array))
+
+-- ---- stores of zeros
+
+take-zeros : (n m : ℕ) → n ≤ m → take n (zeros m) ≡ zeros n
+take-zeros zero m h = refl
+take-zeros (suc n) zero h = absurd (omega arith)
+take-zeros (suc n) (suc m) h = ap (λ l. pos 0 ∷ l) (take-zeros n m (omega arith))
+
+-- the first part of an array of zeros, as it is lent
+pub zeros-part : (n m : ℕ) → n ≤ m → take (n - 0) (zeros m) ≡ zeros n
+zeros-part n m h = let e : n - 0 ≡ n = omega arith in rw e (take-zeros n m h)
 
 -- ---- tables
 

@@ -4,7 +4,7 @@ use mathlib.Core.List.{List, [], _∷_, map}
 use Prim.Native.Nat.{ℕ, _+_, _*_, _%_}
 use lib.Dec.{leb, eqb}
 use lib.IntN.{ℤ, pos}
-use lib.ListN.{length, getD, take, drop}
+use lib.ListN.{length, getD, take, drop, replicate}
 use Rattle.words.specs.Word.{natural}
 use Rattle.words.specs.declared.Form.{Form}
 use Rattle.words.specs.declared.Form.the-variants.{Source, Kernel}
@@ -49,6 +49,10 @@ storeSize L = L .variables + sum (L .lengths)
 -- The words that a run's store has: S (source) or S+T (kernel).
 unfoldable pub storeWords : Form → List ℤ → ℕ
 storeWords form header = storeSize (layoutOf form header) + temporariesOf form header
+
+-- A store of so many zeros.
+abbrev pub zeros : ℕ → List ℤ
+zeros words = replicate words (pos 0)
 
 unfoldable pub arrayLength : Layout → ℕ → ℕ
 arrayLength L array = getD (L .lengths) array 0

@@ -10,6 +10,10 @@ use borrow.Rule.Slice.PartMut.{midOf, postOf, putMid}
 use Rattle.words.specs.Over.{over}
 
 module _ {A : Type 0} where
+  -- a shared part from the start
+  pub first-of : (l : List A) (k : ℕ) → take (k - 0) l ≡ take k l
+  first-of l k = let e : k - 0 ≡ k = omega arith in rw e
+
   -- a shared part to the end
   pub rest-of : (l : List A) (k : ℕ) → take (length l - k) (drop k l) ≡ drop k l
   rest-of l k = take-all (length l - k) (drop k l) (rw length-drop (omega arith))
@@ -24,6 +28,15 @@ module _ {A : Type 0} where
   over-fits u l e =
       let sum : length u + (length l - length u) ≡ length l = simp (length-append, length-drop) at e in
       omega arith
+
+  -- the values that were written
+  pub take-over : (u l : List A) → take (length u) (over u l) ≡ u
+  unfolding over
+  take-over u l = take-at u (drop (length u) l) (length u) refl
+
+  -- the same, as a shared part from the start
+  pub written-part : (u l m : List A) (k : ℕ) → k ≡ length u → m ≡ over u l → take (k - 0) m ≡ u
+  written-part u l m k g e = let n : k - 0 ≡ length u = omega arith in rw (n, e) (take-over u l)
 
   -- one value more
   pub over-set : (u l m : List A) (k : ℕ) (b : A) → m ≡ over u l → k ≡ length u → length u < length l → set m k b ≡ over (u ++ (b ∷ [])) l

@@ -8,12 +8,12 @@ use borrow.Author.Needs.{needs}
 use Rattle.command_answer.proofs.line.ended_line.Statement.{statement}
 use Rattle.command_answer.proofs.line.ended_line.Tie as tie
 
-put-ending-requires : tie.Need-put-ending-requires
-put-ending-requires c κs = omega (arith, c .before .before .pre)
+put-ending-name-requires : tie.Need-put-ending-name-requires
+put-ending-name-requires c κs = omega (arith, c .before .before .pre)
 
 -- the ending
-named : (c : tie.After-slice-known2) → SoFar 8 (endingName (c .before .before .before .before .before .args .ending)) (c .before .before .before .before .before .args .text .now) (c .before .before .put-ending .result) (c .before .before .put-ending .last .1 .0)
-named c = record { put = c .before .before .put-ending .ensures; few = omega (arith, ending-few (c .before .before .before .before .before .args .ending)); room = omega (arith, c .before .before .before .before .before .pre) }
+named : (c : tie.After-slice-known2) → SoFar 8 (endingName (c .before .before .before .before .before .args .ending)) (c .before .before .before .before .before .args .text .now) (c .before .before .put-ending-name .result) (c .before .before .put-ending-name .last .1 .0)
+named c = record { put = c .before .before .put-ending-name .ensures; few = omega (arith, ending-few (c .before .before .before .before .before .args .ending)); room = omega (arith, c .before .before .before .before .before .pre) }
 
 sub-put-counted : tie.Need-sub-put-counted
 sub-put-counted c = far-inside (named c)
@@ -40,7 +40,7 @@ pub ended-line-spec : {M : Type 1} → statement M
 ended-line-spec =
     tie.close
     (tie.spec
-    put-ending-requires
+    put-ending-name-requires
     sub-put-counted
     part-put-counted-start
     part-put-counted-end

@@ -4,10 +4,12 @@ use mathlib.Core.Path.{ap, _∙_}
 use mathlib.Core.List.{List}
 use lib.IntN.{ℤ, pos}
 use lib.ListN.{length-replicate}
+use Rattle.words.specs.Layout.{zeros}
+use Rattle.words.specs.Laws.{zeros-part}
 use Rattle.text_form.specs.PutLaws.{put-as}
 use Rattle.clight.specs.Runs.{runResult}
-use Rattle.command_answer.specs.Output.{resultLine, zeros}
-use Rattle.command_answer.proofs.Starts.{words-most, zeros-part, part-room}
+use Rattle.command_answer.specs.Output.{resultLine}
+use Rattle.command_answer.proofs.Starts.{words-most, part-room}
 use borrow.Author.Needs.{needs}
 use Rattle.command_answer.proofs.verbs.put_zeros_run.Statement.{statement}
 use Rattle.command_answer.proofs.verbs.put_zeros_run.Tie as tie

@@ -44,11 +44,11 @@ add-piece-end c = search needs
 piece-end-requires-3 : tie.Need-piece-end-requires-3
 piece-end-requires-3 c κs = omega (arith, slice-aggregate-piece-end-2 c, c .before .if2 .left)
 
-slice-aggregate-unsigned : tie.Need-slice-aggregate-unsigned
-slice-aggregate-unsigned c = sym (length-take-le _ _ (omega (arith, c .before .before .before .if2 .left, c .before .before .before .before .before .before .if1 .left)))
+slice-aggregate-natural : tie.Need-slice-aggregate-natural
+slice-aggregate-natural c = sym (length-take-le _ _ (omega (arith, c .before .before .before .if2 .left, c .before .before .before .before .before .before .if1 .left)))
 
-unsigned-requires : tie.Need-unsigned-requires
-unsigned-requires c κs = search needs
+natural-requires : tie.Need-natural-requires
+natural-requires c κs = search needs
 
 enum-known-budget : tie.Need-enum-known-budget
 enum-known-budget c = search needs
@@ -59,20 +59,20 @@ enum-told c = search needs
 returns-3 : tie.Need-returns-3
 returns-3 c = search needs
 
-add-unsigned : tie.Need-add-unsigned
-add-unsigned c = search needs
+add-natural : tie.Need-add-natural
+add-natural c = search needs
 
-sub-unsigned : tie.Need-sub-unsigned
-sub-unsigned c = search needs
+sub-natural : tie.Need-sub-natural
+sub-natural c = search needs
 
-part-unsigned-start : tie.Need-part-unsigned-start
-part-unsigned-start c = search needs
+part-natural-start : tie.Need-part-natural-start
+part-natural-start c = search needs
 
-part-unsigned-end : tie.Need-part-unsigned-end
-part-unsigned-end c = omega (arith, second-inside _ _ _ _ (c .before .before .before .before .before .before .before .before .before .before .if1 .left) (c .before .before .before .before .before .before .before .if2 .left) (c .before .before .before .before .before .piece-end3 .ensures), c .before .before .before .before .before .before .before .before .before .before .if1 .left)
+part-natural-end : tie.Need-part-natural-end
+part-natural-end c = omega (arith, second-inside _ _ _ _ (c .before .before .before .before .before .before .before .before .before .before .if1 .left) (c .before .before .before .before .before .before .before .if2 .left) (c .before .before .before .before .before .piece-end3 .ensures), c .before .before .before .before .before .before .before .before .before .before .if1 .left)
 
-unsigned-requires-2 : tie.Need-unsigned-requires-2
-unsigned-requires-2 c κs = search needs
+natural-requires-2 : tie.Need-natural-requires-2
+natural-requires-2 c κs = search needs
 
 enum-known-length : tie.Need-enum-known-length
 enum-known-length c = search needs
@@ -101,16 +101,16 @@ find-case-spec =
     slice-aggregate-piece-end-2
     add-piece-end
     piece-end-requires-3
-    slice-aggregate-unsigned
-    unsigned-requires
+    slice-aggregate-natural
+    natural-requires
     enum-known-budget
     enum-told
     returns-3
-    add-unsigned
-    sub-unsigned
-    part-unsigned-start
-    part-unsigned-end
-    unsigned-requires-2
+    add-natural
+    sub-natural
+    part-natural-start
+    part-natural-end
+    natural-requires-2
     enum-known-length
     enum-told-2
     returns-4

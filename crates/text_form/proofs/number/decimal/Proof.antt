@@ -11,13 +11,13 @@ use Rattle.text_form.proofs.number.decimal.Statement.{statement}
 use Rattle.text_form.proofs.number.decimal.Tie as tie
 
 abbrev Inv-loop : tie.InvT-loop
-Inv-loop bytes value₀ i₀ value i = Valued bytes value i
+Inv-loop bytes limit value₀ i₀ value i = Valued limit bytes value i
 
 abbrev μ-loop : tie.MeasureT-loop
-μ-loop bytes value₀ i₀ value i = length bytes - i
+μ-loop bytes limit value₀ i₀ value i = length bytes - i
 
 loop-holds : tie.Need-loop-holds Inv-loop μ-loop
-loop-holds c = valued-start (c .before .args .bytes .now)
+loop-holds c = valued-start _ (c .before .args .bytes .now)
 
 shared-slice-read-byte : tie.Need-shared-slice-read-byte Inv-loop μ-loop
 shared-slice-read-byte c = c .before .loop-test .taken
@@ -52,6 +52,9 @@ loop-less c = omega (arith, c .before .before .before .before .before .loop-test
 loop-again : tie.Need-loop-again Inv-loop μ-loop
 loop-again c = valued-next (c .before .before .before .before .before .before .loop .inv) (c .before .before .before .before .before .loop-test .taken) (sym (c .before .before .before .is-digit .ensures) ∙ not-false _ (c .before .before .if1 .left)) _ (c .before .wide .ensures) (c .if2 .left)
 
+cast-t13 : tie.Need-cast-t13 Inv-loop μ-loop
+cast-t13 c = omega (arith, c .before .loop .inv .small, c .before .before .before .fits)
+
 returns-3 : tie.Need-returns-3 Inv-loop μ-loop
 returns-3 c = valued-end (c .before .loop .inv) (c .loop-test .left)
 
@@ -73,4 +76,5 @@ decimal-spec =
     add-i
     loop-less
     loop-again
+    cast-t13
     returns-3)

@@ -9,25 +9,25 @@ use Rattle.text_form.proofs.number.natural.Statement.{statement}
 use Rattle.text_form.proofs.number.natural.Tie as tie
 
 returns : tie.Need-returns
-returns c = sym (ap (atMost 2147483648) (natural-none _ (c .if1 .taken)) ∙ atMost-none 2147483648)
+returns c = sym (ap (atMost _) (natural-none _ (c .if1 .taken)) ∙ atMost-none _)
 
 decimal-requires : tie.Need-decimal-requires
 decimal-requires c κs = search needs
 
 returns-2 : tie.Need-returns-2
-returns-2 c = c .decimal .ensures ∙ ap (atMost 2147483648) (sym (natural-one _ (c .before .if2 .taken)))
+returns-2 c = c .decimal .ensures ∙ ap (atMost _) (sym (natural-one _ (c .before .if2 .taken)))
 
 shared-slice-read-if3 : tie.Need-shared-slice-read-if3
 shared-slice-read-if3 c = search needs
 
 returns-3 : tie.Need-returns-3
-returns-3 c = sym (ap (atMost 2147483648) (natural-zero _ (c .before .before .before .if1 .left) (c .before .before .if2 .left) (c .if3 .taken)) ∙ atMost-none 2147483648)
+returns-3 c = sym (ap (atMost _) (natural-zero _ (c .before .before .before .if1 .left) (c .before .before .if2 .left) (c .if3 .taken)) ∙ atMost-none _)
 
 decimal-requires-2 : tie.Need-decimal-requires-2
 decimal-requires-2 c κs = search needs
 
 returns-4 : tie.Need-returns-4
-returns-4 c = let filled = c .before .before .before .before .if1 .left in c .decimal2 .ensures ∙ ap (atMost 2147483648) (sym (natural-is _ (omega arith) (c .before .if3 .left)))
+returns-4 c = let filled = c .before .before .before .before .if1 .left in c .decimal2 .ensures ∙ ap (atMost _) (sym (natural-is _ (omega arith) (c .before .if3 .left)))
 
 pub natural-spec : {M : Type 1} → statement M
 natural-spec =

@@ -1,8 +1,9 @@
 -- `run_both`: a store of S zeros, then `run_source_on`.
 use mathlib.Core.Path.{sym, ap, _∙_}
 use native.Mathlib.Omega.{arith}
-use Rattle.trial.specs.Output.{zeros}
-use Rattle.trial.proofs.Started.{zeros-part, source-words}
+use Rattle.words.specs.Layout.{zeros}
+use Rattle.words.specs.Laws.{zeros-part}
+use Rattle.trial.proofs.Started.{source-words}
 use borrow.Author.Needs.{needs}
 use Rattle.trial.proofs.runs.run_both.Statement.{statement}
 use Rattle.trial.proofs.runs.run_both.Tie as tie

@@ -3,8 +3,8 @@ use mathlib.Core.Path.{ap, _∙_}
 use native.Mathlib.Omega.{arith}
 use Rattle.words.specs.declared.Form.the-variants.{Kernel}
 use Rattle.clight.specs.AcceptedLaws.{accepted-header}
-use Rattle.trial.specs.Output.{zeros}
-use Rattle.trial.proofs.Started.{zeros-part}
+use Rattle.words.specs.Layout.{zeros}
+use Rattle.words.specs.Laws.{zeros-part}
 use borrow.Author.Needs.{needs}
 use Rattle.trial.proofs.runs.run_kernel.Statement.{statement}
 use Rattle.trial.proofs.runs.run_kernel.Tie as tie

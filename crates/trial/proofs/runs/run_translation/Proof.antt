@@ -4,7 +4,8 @@ use native.Mathlib.Omega.{arith}
 use Rattle.words.specs.declared.Form.the-variants.{Source}
 use Rattle.text_form.specs.PutLaws.{put-as}
 use Rattle.clight.specs.AcceptedLaws.{accepted-header}
-use Rattle.trial.proofs.Translated.{read-fits, read-output, translated-tables, translated-accepted}
+use Rattle.translator.specs.TranslationLaws.{translation-made}
+use Rattle.trial.proofs.Translated.{read-fits, read-output, translated-accepted}
 use borrow.Author.Needs.{needs}
 use Rattle.trial.proofs.runs.run_translation.Statement.{statement}
 use Rattle.trial.proofs.runs.run_translation.Tie as tie
@@ -33,8 +34,8 @@ part-run-kernel-start c = search needs
 part-run-kernel-end : tie.Need-part-run-kernel-end
 part-run-kernel-end c =
     let s = c .before .before .before .before .before .before .before .before .before .before .before in
-    let tables = translated-tables (s .pre) (c .before .before .before .before .before .before .translate .ensures .1) _ _ _ _ refl refl _ _ (rw (c .before .before .answer .given .1) at (c .before .before .before .before .before .before .translate .ensures .0)) in
-    omega (arith, c .before .before .before .before .before .before .translate .kept .1 .1 .0, tables .header-inside)
+    let made = translation-made _ _ _ _ _ _ _ _ (rw (c .before .before .answer .given .1) at (c .before .before .before .before .before .before .translate .ensures .0)) in
+    omega (arith, c .before .before .before .before .before .before .translate .kept .1 .1 .0, made .header-room)
 
 sub-run-kernel-2 : tie.Need-sub-run-kernel-2
 sub-run-kernel-2 c = search needs
@@ -45,14 +46,14 @@ part-run-kernel-start-2 c = search needs
 part-run-kernel-end-2 : tie.Need-part-run-kernel-end-2
 part-run-kernel-end-2 c =
     let s = c .before .before .before .before .before .before .before .before .before .before .before .before .before in
-    let tables = translated-tables (s .pre) (c .before .before .before .before .before .before .before .before .translate .ensures .1) _ _ _ _ refl refl _ _ (rw (c .before .before .before .before .answer .given .1) at (c .before .before .before .before .before .before .before .before .translate .ensures .0)) in
-    omega (arith, c .before .before .before .before .before .before .before .before .translate .kept .1 .1 .1 .0, tables .rows-inside)
+    let made = translation-made _ _ _ _ _ _ _ _ (rw (c .before .before .before .before .answer .given .1) at (c .before .before .before .before .before .before .before .before .translate .ensures .0)) in
+    omega (arith, c .before .before .before .before .before .before .before .before .translate .kept .1 .1 .1 .0, made .rows-room)
 
 run-kernel-requires : tie.Need-run-kernel-requires
 run-kernel-requires c κs =
     let s = c .before .before .before .before .before .before .before .before .before .before .before .before .before .before .before in
-    let tables = translated-tables (s .pre) (c .before .before .before .before .before .before .before .before .before .before .translate .ensures .1) _ _ _ _ refl refl _ _ (rw (c .before .before .before .before .before .before .answer .given .1) at (c .before .before .before .before .before .before .before .before .before .before .translate .ensures .0)) in
-    read-fits (s .pre) (c .before .before .before .before .before .before .before .before .before .before .translate .ensures .1) _ _ _ (tables .header-written) (tables .rows-written) (c .before .before .before .before .before .before .before .before .before .before .before .before .before .store-size .ensures)
+    let made = translation-made _ _ _ _ _ _ _ _ (rw (c .before .before .before .before .before .before .answer .given .1) at (c .before .before .before .before .before .before .before .before .before .before .translate .ensures .0)) in
+    read-fits (s .pre) (c .before .before .before .before .before .before .before .before .before .before .translate .ensures .1) _ _ _ (made .header-written) (made .rows-written) (c .before .before .before .before .before .before .before .before .before .before .before .before .before .store-size .ensures)
 
 enum-known-answer-2 : tie.Need-enum-known-answer-2
 enum-known-answer-2 c = search needs
@@ -66,14 +67,14 @@ same-length c = search needs
 returns : tie.Need-returns
 returns c =
     let s = c .before .before .before .before .before .before .before .before .before .before .before .before .before .before .before .before .before .before in
-    let tables = translated-tables (s .pre) (c .before .before .before .before .before .before .before .before .before .before .before .before .before .translate .ensures .1) _ _ _ _ refl refl _ _ (rw (c .before .before .before .before .before .before .before .before .before .answer .given .1) at (c .before .before .before .before .before .before .before .before .before .before .before .before .before .translate .ensures .0)) in
-    put-as (read-output (s .pre) (c .before .before .before .before .before .before .before .before .before .before .before .before .before .translate .ensures .1) _ _ _ (tables .header-written) (tables .rows-written) (c .before .before .before .before .before .before .before .before .before .before .before .before .before .before .before .before .store-size .ensures)) (c .before .before .run-kernel .ensures)
+    let made = translation-made _ _ _ _ _ _ _ _ (rw (c .before .before .before .before .before .before .before .before .before .answer .given .1) at (c .before .before .before .before .before .before .before .before .before .before .before .before .before .translate .ensures .0)) in
+    put-as (read-output (s .pre) (c .before .before .before .before .before .before .before .before .before .before .before .before .before .translate .ensures .1) _ _ _ (made .header-written) (made .rows-written) (c .before .before .before .before .before .before .before .before .before .before .before .before .before .before .before .before .store-size .ensures)) (c .before .before .run-kernel .ensures)
 
 same-length-2 : tie.Need-same-length-2
 same-length-2 c = search needs
 
 returns-2 : tie.Need-returns-2
-returns-2 c = translated-accepted (c .before .before .before .before .before .before .before .before .before .before .before .before .before .before .pre) (c .before .before .before .before .before .before .before .before .before .translate .ensures .1) _ _ _ _ refl refl _ (rw (c .before .before .before .before .before .answer2 .given .1) at (c .before .before .before .before .before .before .before .before .before .translate .ensures .0))
+returns-2 c = translated-accepted (c .before .before .before .before .before .before .before .before .before .before .before .before .before .before .pre) (c .before .before .before .before .before .before .before .before .before .translate .ensures .1) _ _ refl refl _ _ _ (rw (c .before .before .before .before .before .answer2 .given .1) at (c .before .before .before .before .before .before .before .before .before .translate .ensures .0))
 
 pub run-translation-spec : {M : Type 1} → statement M
 run-translation-spec =

@@ -1,0 +1,29 @@
+-- `run_arguments`: two arguments or three, of which the second is the budget.
+use mathlib.Core.Path.{ap, _∙_}
+use borrow.Author.Needs.{needs}
+use borrow.Author.Tests.{le-leb, lt-leb}
+use Rattle.command_request.specs.Requests.{budgetOf, runRequest, requestBy}
+use Rattle.command_request.proofs.request.run_arguments.Statement.{statement}
+use Rattle.command_request.proofs.request.run_arguments.Tie as tie
+
+returns : tie.Need-returns
+unfolding requestBy
+returns c = rw (lt-leb _ _ (c .if1 .taken))
+
+returns-2 : tie.Need-returns-2
+unfolding requestBy
+returns-2 c = rw (le-leb _ _ (c .before .if1 .left), lt-leb _ _ (c .if2 .taken))
+
+natural-requires : tie.Need-natural-requires
+natural-requires c κs = search needs
+
+run-request-requires : tie.Need-run-request-requires
+run-request-requires c κs = search needs
+
+returns-3 : tie.Need-returns-3
+unfolding requestBy budgetOf
+returns-3 c = rw (le-leb _ _ (c .before .before .before .if1 .left), le-leb _ _ (c .before .before .if2 .left)) (c .run-request .ensures ∙ ap (runRequest _) (c .before .natural .ensures))
+
+pub run-arguments-spec : {M : Type 1} → statement M
+run-arguments-spec =
+    tie.close (tie.spec returns returns-2 natural-requires run-request-requires returns-3)

@@ -1,0 +1,51 @@
+-- Requests: what the arguments ask for.
+use mathlib.Core.Bool.{Bool, true, false, _&&_}
+use mathlib.Core.List.{List, [], _∷_}
+use mathlib.Core.Option.{Option, none, some}
+use Prim.Native.Nat.{ℕ}
+use lib.Dec.{leb, eqb}
+use Rattle.words.specs.Word.{pick}
+use Rattle.words.specs.declared.Form.{Form}
+use Rattle.words.specs.declared.Form.the-variants.{Source, Kernel}
+use Rattle.text_form.specs.Number.{natural}
+use Rattle.text_form.specs.Reader.{atMost}
+use Rattle.command_request.specs.Ascii.{ascii}
+use Rattle.command_request.specs.declared.request.Verb.{Verb}
+use Rattle.command_request.specs.declared.request.Verb.the-variants as verb-cases
+use Rattle.command_request.specs.declared.request.Request.{Request}
+use Rattle.command_request.specs.declared.request.Request.the-variants.{Check, Run, Translate, WrongArguments, WrongBudget}
+
+unfoldable pub sameBytes : List ℕ → List ℕ → Bool
+sameBytes [] [] = true
+sameBytes [] (second ∷ seconds) = false
+sameBytes (first ∷ firsts) [] = false
+sameBytes (first ∷ firsts) (second ∷ seconds) = eqb first second && sameBytes firsts seconds
+
+-- The first argument says what to do.
+unfoldable pub verbOf : List ℕ → Verb
+verbOf name =
+    pick (sameBytes name (ascii "check")) (verb-cases.Check Source)
+    (pick (sameBytes name (ascii "run")) (verb-cases.Run Source)
+    (pick (sameBytes name (ascii "translate")) verb-cases.Translate
+    (pick (sameBytes name (ascii "kernel-check")) (verb-cases.Check Kernel)
+    (pick (sameBytes name (ascii "kernel-run")) (verb-cases.Run Kernel)
+    verb-cases.Unknown))))
+
+-- "The budget is any unsigned 32-bit number": decimal digits, no sign, no leading zero.
+unfoldable pub budgetOf : List ℕ → Option ℕ
+budgetOf bytes = atMost 4294967295 (natural bytes)
+
+unfoldable pub runRequest : Form → Option ℕ → Request
+runRequest form none = WrongBudget
+runRequest form (some budget) = Run form budget
+
+-- A run has a budget and, where it is not to start from zeros, a store file; the others have no further argument. `count` is the number of
+-- arguments.
+unfoldable pub requestBy : Verb → (count : ℕ) → (second : List ℕ) → Request
+requestBy (verb-cases.Check form) count second = pick (eqb count 1) (Check form) WrongArguments
+requestBy (verb-cases.Run form) count second = pick (leb 2 count && leb count 3) (runRequest form (budgetOf second)) WrongArguments
+requestBy verb-cases.Translate count second = pick (eqb count 1) Translate WrongArguments
+requestBy verb-cases.Unknown count second = WrongArguments
+
+unfoldable pub requestOf : (count : ℕ) → (first second : List ℕ) → Request
+requestOf count first second = requestBy (verbOf first) count second

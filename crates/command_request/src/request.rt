@@ -1,0 +1,115 @@
+// What the arguments ask for.
+use text_form::number::Digits;
+use text_form::number::natural;
+use words::Form;
+ghost use mathlib.Core.Path.{_≡_};
+ghost use lib.Dec.{eqb};
+ghost use Rattle.words.specs.Word.{pick};
+ghost use Rattle.text_form.specs.Reader.{digitsValue};
+ghost use Rattle.command_request.specs.declared.request.Verb.the-variants.{Run as RunVerb};
+ghost use Rattle.command_request.specs.declared.request.Request.the-variants.{WrongArguments};
+ghost use Rattle.command_request.specs.Requests.{sameBytes, verbOf, runRequest, requestBy, requestOf};
+
+// What the first argument says.
+pub enum Verb {
+    Check(Form),
+    Run(Form),
+    Translate,
+    Unknown,
+}
+
+// What all arguments ask for; a run has its budget.
+pub enum Request {
+    Check(Form),
+    Run(Form, u32),
+    Translate,
+    WrongArguments,
+    WrongBudget,
+}
+
+fn is_same(bytes: &[u8], name: &[u8]) -> bool
+    ensures { λ r. ⌜ r ≡ sameBytes (now (bytes .entry)) (now (name .entry)) ⌝ }
+{
+    if bytes.len() != name.len() {
+        return false;
+    }
+    let mut i: usize = 0;
+    while i < bytes.len() {
+        if bytes[i] != name[i] {
+            return false;
+        }
+        i += 1;
+    }
+    true
+}
+
+fn verb_of(name: &[u8]) -> Verb
+    ensures { λ r. ⌜ r ≡ verbOf (now (name .entry)) ⌝ }
+{
+    if is_same(name, b"check") {
+        return Verb::Check(Form::Source);
+    }
+    if is_same(name, b"run") {
+        return Verb::Run(Form::Source);
+    }
+    if is_same(name, b"translate") {
+        return Verb::Translate;
+    }
+    if is_same(name, b"kernel-check") {
+        return Verb::Check(Form::Kernel);
+    }
+    if is_same(name, b"kernel-run") {
+        return Verb::Run(Form::Kernel);
+    }
+    Verb::Unknown
+}
+
+fn run_request(form: Form, budget: Digits) -> Request
+    ensures { λ r. ⌜ r ≡ runRequest form (digitsValue budget) ⌝ }
+{
+    match budget {
+        Digits::Value(steps) => Request::Run(form, steps),
+        Digits::Malformed => Request::WrongBudget,
+    }
+}
+
+// A request that has no further argument.
+fn alone(request: Request, count: usize) -> Request
+    ensures { λ r. ⌜ r ≡ pick (eqb count 1) request WrongArguments ⌝ }
+{
+    if count != 1 {
+        return Request::WrongArguments;
+    }
+    request
+}
+
+// Two arguments or three, of which the second is the budget: any unsigned 32-bit number.
+fn run_arguments(form: Form, count: usize, second: &[u8]) -> Request
+    ensures { λ r. ⌜ r ≡ requestBy (RunVerb form) count (now (second .entry)) ⌝ }
+{
+    if count < 2 {
+        return Request::WrongArguments;
+    }
+    if count > 3 {
+        return Request::WrongArguments;
+    }
+    run_request(form, natural(second, 4294967295))
+}
+
+fn request_by(verb: Verb, count: usize, second: &[u8]) -> Request
+    ensures { λ r. ⌜ r ≡ requestBy verb count (now (second .entry)) ⌝ }
+{
+    match verb {
+        Verb::Check(form) => alone(Request::Check(form), count),
+        Verb::Run(form) => run_arguments(form, count, second),
+        Verb::Translate => alone(Request::Translate, count),
+        Verb::Unknown => Request::WrongArguments,
+    }
+}
+
+// What so many arguments ask for, of which these are the first and the second.
+pub fn request_of(count: usize, first: &[u8], second: &[u8]) -> Request
+    ensures { λ r. ⌜ r ≡ requestOf count (now (first .entry)) (now (second .entry)) ⌝ }
+{
+    request_by(verb_of(first), count, second)
+}

@@ -12,6 +12,7 @@ use borrow.Author.Tests.{eqb-true, ne-eqb}
 use Rattle.words.specs.Word.{pick}
 use Rattle.words.specs.Table.{rowCount, numberAt}
 use Rattle.words.specs.Kinds.{kindAt}
+use Rattle.words.specs.Laws.{both}
 use Rattle.words.specs.declared.Form.{Form}
 use Rattle.words.specs.declared.Kind.{Kind}
 use Rattle.language.specs.Trees.{read}
@@ -22,7 +23,7 @@ use Rattle.structure.specs.Grammar.{expression, optionalExpression, place, bran
 use Rattle.structure.specs.Fields.{fits}
 use Rattle.structure.specs.StructuredLaws.{structured-tree}
 use Rattle.structure.specs.Structured.{Leads, Structured}
-use Rattle.accepted.specs.Sorts.{sorts, sortIn, expression-or-statement, statement-kind, both}
+use Rattle.accepted.specs.Sorts.{sorts, sortIn, expression-or-statement, statement-kind}
 use Rattle.accepted.specs.Fields.{holds, noLink, MayLink, link-none, linked, may-link, next-link}
 use Rattle.accepted.specs.Sums.{totalFrom, along, brought, total-one, gathers}
 use Rattle.accepted.specs.Expressions.{ExpressionRow, constant-row, variable-row, element-row, minus-row, not-row, binary-row, and-row, or-row, comma-row, conditional-row, assign-row, compound-row, prefix-row, postfix-row, placeAt, whole-rows, place-expression, expression-row}

@@ -7,7 +7,8 @@ use Rattle.words.specs.Table.{wordAt, numberAt}
 use Rattle.words.specs.Layout.{layoutOf, sum, storeSize, storeWords, allWithin, headerFits, countFits}
 use Rattle.words.specs.declared.Verdict.{Verdict}
 use Rattle.words.specs.declared.Verdict.the-variants.{Accepted}
-use Rattle.language.specs.Rules.{Rule, table}
+use Rattle.language.specs.Rule.{Rule}
+use Rattle.language.specs.Rules.{table}
 use Rattle.structure.specs.Fields.{foreign, fits, leadsRight, mislinked, boundsOf, numberFits, outside}
 use Rattle.structure.specs.Grammar.{grammar, sortOf, sortAt, inLanguage, isExpression, isPlace, isStatement, isLink, isRequired, link}
 use Rattle.structure.specs.Links.{target, linksAmong, linkCount, loneBlock, notOnce, linker, received, noteBy, note, deeper, depthAt, tooDeep}

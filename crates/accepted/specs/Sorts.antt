@@ -1,7 +1,7 @@
 -- Sorts: the table of kinds by kind. The checks go by kind numbers, trees and runs by kinds: that the two tables agree is one computed
 -- test over the kind numbers.
 use mathlib.Core.Path.{_≡_, refl, sym, ap, _∙_}
-use mathlib.Core.Bool.{Bool, true, false, not, _&&_, _||_}
+use mathlib.Core.Bool.{Bool, true, false, not, _||_}
 use mathlib.Core.List.{List, [], _∷_}
 use mathlib.Core.Logic.{_⊎_, inl, inr, ⊎-elim}
 use Prim.Native.Nat.{ℕ, _≤_, _<_}
@@ -13,6 +13,7 @@ use borrow.Author.Tests.{leb-true, eqb-true, not-true, not-false}
 use Rattle.words.specs.Word.{pick}
 use Rattle.words.specs.Table.{numberAt}
 use Rattle.words.specs.Kinds.{kinds, kindIn, kindOf, kindAt}
+use Rattle.words.specs.Laws.{both}
 use Rattle.words.specs.declared.Form.{Form}
 use Rattle.words.specs.declared.Form.the-variants.{Source, Kernel}
 use Rattle.words.specs.declared.Kind.{Kind}
@@ -133,10 +134,6 @@ unfolding some sortOf grammar
 nexts-agree number h = none-fails (λ n. eqb (sortOf n 5) unused || eqb (sortOf n 5) optionalItem) 54 refl number h
 
 -- ---- numbers of the language
-
-pub both : (a b : Bool) → (a && b) ≡ true → (a ≡ true) × (b ≡ true)
-both true b e = (refl, e)
-both false b e = clash (sym e)
 
 pub either : (a b : Bool) → (a || b) ≡ true → (a ≡ true) ⊎ (b ≡ true)
 either true b e = inl refl

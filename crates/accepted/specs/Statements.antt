@@ -11,6 +11,7 @@ use lib.IntN.{ℤ}
 use borrow.Author.Tests.{eqb-true}
 use Rattle.words.specs.Table.{rowCount, wordAt, numberAt}
 use Rattle.words.specs.Kinds.{kinds, kindIn, kindOf, kindAt}
+use Rattle.words.specs.Laws.{both}
 use Rattle.words.specs.declared.Form.{Form}
 use Rattle.words.specs.declared.Kind.{Kind}
 use Rattle.words.specs.declared.Kind.the-variants.{Constant, Variable, Element, Minus, Not, Binary, And, Or, Conditional, Comma, Assign, Compound, Prefix, Postfix, Empty, Express, Block, If, While, Do, For, Switch, Case, Default, Break, Continue, Goto, Label, Other}
@@ -23,7 +24,7 @@ use Rattle.structure.specs.Fields.{fits}
 use Rattle.structure.specs.SearchLaws.{clash}
 use Rattle.structure.specs.StructuredLaws.{structured-tree}
 use Rattle.structure.specs.Structured.{Leads, Structured}
-use Rattle.accepted.specs.Sorts.{sorts, sortIn, sort-is, statement-kind, both}
+use Rattle.accepted.specs.Sorts.{sorts, sortIn, sort-is, statement-kind}
 use Rattle.accepted.specs.Fields.{holds, Linked, MayLink, linked, may-link, next-link}
 use Rattle.accepted.specs.Expressions.{ExpressionRow, whole-rows, expression-row}
 

@@ -12,6 +12,7 @@ use lib.IntN.{ℤ}
 use borrow.Author.Tests.{eqb-true, eq-eqb}
 use Rattle.words.specs.Table.{rowCount, numberAt}
 use Rattle.words.specs.Kinds.{kinds, kindIn, kindOf, kindAt}
+use Rattle.words.specs.Laws.{both}
 use Rattle.words.specs.declared.Form.the-variants.{Kernel}
 use Rattle.words.specs.declared.Kind.{Kind}
 use Rattle.words.specs.declared.Kind.the-variants.{Block, If}
@@ -23,13 +24,14 @@ use Rattle.structure.specs.Fields.{fits}
 use Rattle.structure.specs.SearchLaws.{clash}
 use Rattle.structure.specs.NoteLaws.{above-zero}
 use Rattle.structure.specs.Structured.{Leads, Structured}
+use Rattle.structure.specs.Lists.{Step, once, on, before-step}
 use Rattle.structure.specs.StructuredLaws.{structured-tree}
 use Rattle.translation.specs.KernelForm.{KernelStatement, kernel-empty, kernel-assign, kernel-block, kernel-if, kernel-while, kernel-goto, KernelItems, kernel-none, kernel-then, kernel-label}
 use Rattle.kernel_check.specs.Accepts.{structured-lone, structured-labels}
 use Rattle.kernel_check.specs.Legal.{Owner, part, beside, behind, outward, Legal}
-use Rattle.kernel_check.specs.ListLaws.{owner-earlier, before-step, Step, once, on}
+use Rattle.kernel_check.specs.ListLaws.{owner-earlier}
 use Rattle.kernel_check.specs.Statements.{isAtom, isBlock, isKernelIf, isKernelWhile, isKernelExpression, isKernelStatement}
-use Rattle.accepted.specs.Sorts.{sorts, sortIn, statementNumber, number-is, both, either, statement-kind}
+use Rattle.accepted.specs.Sorts.{sorts, sortIn, statementNumber, number-is, either, statement-kind}
 use Rattle.accepted.specs.Fields.{holds, Linked, MayLink, linked, may-link, next-link}
 use Rattle.accepted.specs.Expressions.{whole-rows}
 use Rattle.accepted.specs.Statements.{list-some}
@@ -229,9 +231,9 @@ module _ (header rows : List ℤ) (legal : Legal header rows) where
 
   -- Ahead of row 0 there is nothing.
   root-covers : Covers header rows s none 0
-  root-covers number (behind b l) = absurd (let t = structured-tree Kernel header rows s in let lone = structured-lone header rows s in let later = next-there (before-step rows t b) in omega arith)
+  root-covers number (behind b l) = absurd (let lone = structured-lone header rows s in let later = next-there (before-step b) in omega arith)
     where
-      next-there : {item : ℕ} → Step rows (structured-tree Kernel header rows s) 0 item → 0 < link rows 0 5
+      next-there : {item : ℕ} → Step rows 0 item → 0 < link rows 0 5
       next-there (once leads) = leads .later
       next-there (on leads b) = leads .later
   root-covers number (outward o a) = absurd (let e = owner-earlier rows (structured-tree Kernel header rows s) o in omega arith)

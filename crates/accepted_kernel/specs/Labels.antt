@@ -15,8 +15,9 @@ use Rattle.language.specs.DecodeLaws.{listAt, at-label}
 use Rattle.structure.specs.Grammar.{link}
 use Rattle.structure.specs.Fields.{fits}
 use Rattle.structure.specs.Structured.{Leads, Structured}
+use Rattle.structure.specs.Lists.{Before, adjacent, further}
 use Rattle.structure.specs.StructuredLaws.{structured-tree}
-use Rattle.kernel_check.specs.Legal.{Before, adjacent, further, Owner, Ahead, behind, outward}
+use Rattle.kernel_check.specs.Legal.{Owner, Ahead, behind, outward}
 use Rattle.kernel_check.specs.Legal as legal
 use Rattle.kernel_check.specs.LabelLaws.{label-inside}
 use Rattle.kernel_check.specs.ListLaws.{owner-is}

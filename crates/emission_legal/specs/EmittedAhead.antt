@@ -15,8 +15,9 @@ use Rattle.language.specs.Sizes.{expressionRows, placeRows, statementRows, item
 use Rattle.translation.specs.KernelForm.{KernelStatement, kernel-block, kernel-if, kernel-while, kernel-goto, KernelItems, kernel-then, kernel-label}
 use Rattle.structure.specs.Grammar.{grammar, sortOf, isLink, isStatement, link}
 use Rattle.structure.specs.Structured.{Leads}
+use Rattle.structure.specs.Lists.{Before, adjacent, further}
 use Rattle.kernel_check.specs.Statements.{isKernelStatement}
-use Rattle.kernel_check.specs.Legal.{Before, adjacent, further, Owner, part, beside, Ahead, behind, outward}
+use Rattle.kernel_check.specs.Legal.{Owner, part, beside, Ahead, behind, outward}
 use Rattle.emission.specs.Emission.{listLink}
 use Rattle.emission.specs.Emitted.{Row, EmittedExpression, constant-at, read-at, minus-at, binary-at, assign-at, EmittedPlace, variable-at, element-at, EmittedStatement, empty-at, express-at, block-at, if-at, while-at, goto-at, EmittedItems, none-at, then-at, label-at}
 use Rattle.emission.specs.ReadBack.{statement-some, link-forward}

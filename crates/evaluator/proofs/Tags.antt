@@ -14,6 +14,7 @@ use Rattle.words.proofs.Kind as declared
 use Rattle.words.specs.Word.{pick}
 use Rattle.words.specs.Table.{wordAt, numberAt}
 use Rattle.words.specs.Kinds.{kinds, kindIn, kindOf, kindAt}
+use Rattle.words.specs.Laws.{both}
 use Rattle.words.specs.declared.Kind.{Kind}
 use Rattle.words.specs.declared.Kind.the-variants.{Constant, Variable, Element, Minus, Not, Binary, And, Or, Conditional, Comma, Assign, Compound, Prefix, Postfix, Empty, Express, Block, If, While, Do, For, Switch, Case, Default, Break, Continue, Goto, Label, Other}
 use Rattle.language.specs.Trees.{Expression, constant}
@@ -92,10 +93,6 @@ module _ (wanted m : ℕ) where
   abbrev only : List (ℕ × Kind) → Bool
   only [] = true
   only (k ∷ ks) = (not (eqb (tag (k .1)) wanted) || eqb (k .0) m) && only ks
-
-  both : (a b : Bool) → (a && b) ≡ true → (a ≡ true) × (b ≡ true)
-  both true b e = (refl, e)
-  both false b e = clash e
 
   forced : (a b : Bool) → (not a || b) ≡ true → a ≡ true → b ≡ true
   forced true b e t = e

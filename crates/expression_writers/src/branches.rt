@@ -2,10 +2,10 @@
 use super::Branch;
 use super::Choice;
 use leaves::Atom;
+use leaves::assignments::put_binary;
+use leaves::assignments::put_copy;
 use leaves::atoms::atom_at;
 use leaves::atoms::operand_size;
-use leaves::rows::put_binary;
-use leaves::rows::put_copy;
 use measures::Shape;
 use measures::shapes::shape_at;
 use words::Operator;

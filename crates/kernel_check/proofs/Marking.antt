@@ -12,10 +12,11 @@ use lib.Seq.{getD-set-same, getD-set-other}
 use Rattle.words.specs.Table.{rowCount}
 use Rattle.structure.specs.SearchLaws.{clash}
 use Rattle.structure.specs.Structured.{Tree}
+use Rattle.structure.specs.Lists.{before-later, before-inside}
 use Rattle.kernel_check.specs.Labels.{isLabel, labelBehind}
 use Rattle.kernel_check.specs.Legal.{Label}
 use Rattle.kernel_check.specs.LabelLaws.{label-test, test-label, search-behind, behind-search}
-use Rattle.kernel_check.specs.ListLaws.{first-most, same-list, before-first, before-later, before-inside}
+use Rattle.kernel_check.specs.ListLaws.{first-most, same-list, before-first}
 use Rattle.kernel_check.specs.Passes.{noteAt, Jump, NextJump, ListLabel, Marks, Latest, Marked}
 use Rattle.kernel_check.specs.declared.Note.the-variants.{First}
 
@@ -88,8 +89,8 @@ module _ (rows : List ℤ) (number : ℕ) where
         pub mark-none : mark ≤ row → false ≡ labelBehind (rowCount rows) rows number row
         mark-none h = sym (refuted _ (λ e.
             let z = search-behind rows t number (rowCount rows) row n e in
-            let l = late (z .item) (before-first rows t (z .before)) (before-inside rows t (z .before)) (z .is) .late in
-            let after = before-later rows t (z .before) in
+            let l = late (z .item) (before-first rows t (z .before)) (before-inside (z .before)) (z .is) .late in
+            let after = before-later (z .before) in
             omega arith))
 
         pub mark-some : (test : Bool) → row < mark → test ≡ isLabel rows number mark → test ≡ labelBehind (rowCount rows) rows number row
@@ -100,4 +101,4 @@ module _ (rows : List ℤ) (number : ℕ) where
             (same-list rows t row mark h (own .inside) (sym (own .list))) (test-label rows number mark (sym e)))
         mark-some false h e = sym (refuted _ (λ f.
             let z = search-behind rows t number (rowCount rows) row n f in
-            clash (sym (late (z .item) (before-first rows t (z .before)) (before-inside rows t (z .before)) (z .is) .label) ∙ sym e)))
+            clash (sym (late (z .item) (before-first rows t (z .before)) (before-inside (z .before)) (z .is) .label) ∙ sym e)))

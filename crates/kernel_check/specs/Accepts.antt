@@ -8,7 +8,7 @@ use native.Mathlib.Decide.{ℕ-discrete, decLt}
 use lib.Arith.{lt-of-le-ne}
 use lib.Dec.{leb, eqb}
 use lib.IntN.{ℤ}
-use borrow.Author.Tests.{eq-eqb, ne-eqb, ltb-true, leb-true}
+use borrow.Author.Tests.{eq-eqb, ne-eqb, ltb-true, leb-true, not-false}
 use Rattle.words.specs.Word.{pick}
 use Rattle.words.specs.Table.{rowCount, numberAt}
 use Rattle.words.specs.declared.Form.the-variants.{Kernel}
@@ -62,11 +62,7 @@ module _ (header rows : List ℤ) (s : Structured Kernel header rows) where
 module _ (rows : List ℤ) (row : ℕ) where
   form-kept : notKernelForm rows row ≡ false → isStatement rows row ≡ true → isKernelStatement rows row ≡ true
   unfolding notKernelForm
-  form-kept e s = go (isKernelStatement rows row) (rw s at e)
-    where
-      go : (b : Bool) → not b ≡ false → b ≡ true
-      go true e = refl
-      go false e = clash e
+  form-kept e s = not-false (isKernelStatement rows row) (rw s at e)
 
   kept-form : (isStatement rows row ≡ true → isKernelStatement rows row ≡ true) → notKernelForm rows row ≡ false
   unfolding notKernelForm
@@ -118,11 +114,7 @@ module _ (rows : List ℤ) (row : ℕ) where
   module _ (t : Tree rows) (lone : link rows 0 5 ≡ 0) where
     goto-ahead : row < rowCount rows → gotoWithoutLabel rows row ≡ false → numberAt rows row 0 ≡ 52 → Ahead rows (numberAt rows row 1) row
     unfolding gotoWithoutLabel
-    goto-ahead n e k = search-ahead rows t (numberAt rows row 1) lone row row n (go (labelAhead row rows (numberAt rows row 1) row) (rw k at e))
-      where
-        go : (b : Bool) → not b ≡ false → b ≡ true
-        go true e = refl
-        go false e = clash e
+    goto-ahead n e k = search-ahead rows t (numberAt rows row 1) lone row row n (not-false (labelAhead row rows (numberAt rows row 1) row) (rw k at e))
 
     ahead-goto : (numberAt rows row 0 ≡ 52 → Ahead rows (numberAt rows row 1) row) → gotoWithoutLabel rows row ≡ false
     unfolding gotoWithoutLabel

@@ -1,6 +1,6 @@
 -- Laws of labels: in a tree of rows the search of cause 13 finds a label exactly where one is ahead.
 use mathlib.Core.Path.{_≡_, refl, sym, ap, _∙_}
-use mathlib.Core.Bool.{Bool, true, false, _&&_}
+use mathlib.Core.Bool.{Bool, true, false}
 use mathlib.Core.List.{List}
 use Prim.Native.Nat.{ℕ, zero, suc, _+_, _*_, _/_, _≤_, _<_}
 use native.Mathlib.Omega.{arith}
@@ -11,22 +11,20 @@ use lib.ListN.{length, List·getD-eq-default}
 use borrow.Author.Tests.{eq-eqb, ne-eqb, eqb-true, eqb-false}
 use Rattle.words.specs.Word.{natural, pick}
 use Rattle.words.specs.Table.{rowCount, wordAt, numberAt}
+use Rattle.words.specs.Laws.{both}
 use Rattle.structure.specs.Grammar.{link}
 use Rattle.structure.specs.SearchLaws.{clash}
 use Rattle.structure.specs.NoteLaws.{above-zero}
 use Rattle.structure.specs.Structured.{Leads, Tree}
+use Rattle.structure.specs.Lists.{Before, adjacent, Step, once, on, before-later, before-inside, before-before, before-step}
 use Rattle.kernel_check.specs.Labels.{isLabel, ownerAt, labelBehind, labelAhead}
-use Rattle.kernel_check.specs.Legal.{Label, Before, Owner, part, beside, Ahead, behind, outward}
-use Rattle.kernel_check.specs.ListLaws.{owner-root, owner-is, owner-earlier, owner-of-row, owner-below, before-later, before-inside, before-prepend, Step, once, on, before-step}
+use Rattle.kernel_check.specs.Legal.{Label, Owner, part, beside, Ahead, behind, outward}
+use Rattle.kernel_check.specs.ListLaws.{owner-root, owner-is, owner-earlier, owner-of-row, owner-below}
 
 -- beyond the table every word is 0
 pub number-beyond : (rows : List ℤ) (row field : ℕ) → 6 * (length rows / 6) ≡ length rows → rowCount rows ≤ row → 0 ≡ numberAt rows row field
 unfolding numberAt wordAt natural
 number-beyond rows row field whole h = let beyond : length rows ≤ 6 * row + field = omega arith in rw (List·getD-eq-default rows (pos 0) beyond)
-
-both : (a b : Bool) → (a && b) ≡ true → (a ≡ true) × (b ≡ true)
-both true b e = (refl, e)
-both false b e = clash (sym e)
 
 either-way : (b : Bool) → pick b true true ≡ true
 either-way true = refl
@@ -75,17 +73,17 @@ module _ (rows : List ℤ) (t : Tree rows) (number : ℕ) where
           leads = t .forward row 5 n (omega arith) (above-zero _ (eqb-false _ _ a))
 
           next : (here : Bool) → isLabel rows number (link rows row 5) ≡ here → pick here true (labelBehind items rows number (link rows row 5)) ≡ true → Behind row
-          next true h e = record { item = link rows row 5; before = Before.adjacent leads; is = test-label rows number (link rows row 5) h }
+          next true h e = record { item = link rows row 5; before = adjacent leads; is = test-label rows number (link rows row 5) h }
           next false h e =
               let z = r (leads .inside) e in
-              record { item = z .item; before = before-prepend rows t leads (z .before); is = z .is }
+              record { item = z .item; before = before-before (adjacent leads) (z .before); is = z .is }
 
   pub behind-search : (items row item : ℕ) → item ≤ row + items → Before rows row item → Label rows number item → labelBehind items rows number row ≡ true
   unfolding labelBehind
-  behind-search zero row item h b l = absurd (let later = before-later rows t b in omega arith)
-  behind-search (suc items) row item h b l = go item (before-step rows t b) l (λ later. behind-search items (link rows row 5) item (omega arith))
+  behind-search zero row item h b l = absurd (let later = before-later b in omega arith)
+  behind-search (suc items) row item h b l = go item (before-step b) l (λ later. behind-search items (link rows row 5) item (omega arith))
     where
-      go : (item : ℕ) → Step rows t row item → Label rows number item
+      go : (item : ℕ) → Step rows row item → Label rows number item
           → (row < link rows row 5 → Before rows (link rows row 5) item → Label rows number item → labelBehind items rows number (link rows row 5) ≡ true)
           → pick (eqb (link rows row 5) 0) false (pick (isLabel rows number (link rows row 5)) true (labelBehind items rows number (link rows row 5))) ≡ true
       go item (once leads) l r =
@@ -154,10 +152,10 @@ module _ (rows : List ℤ) (t : Tree rows) (number : ℕ) where
     ahead-search (behind {row} {item} b l) = go (ℕ-discrete row 0)
       where
         go : Dec (row ≡ 0) → labelAhead row rows number row ≡ true
-        go (yes q) = clash (sym (behind-search (rowCount rows) row item (let i = before-inside rows t b in omega arith) b l) ∙ rw q (root-behind (rowCount rows)))
+        go (yes q) = clash (sym (behind-search (rowCount rows) row item (let i = before-inside b in omega arith) b l) ∙ rw q (root-behind (rowCount rows)))
         go (no q) =
-            let i = before-inside rows t b in
-            let later = before-later rows t b in
+            let i = before-inside b in
+            let later = before-later b in
             rw (ahead-step row (above-zero row q) (omega arith), behind-search (rowCount rows) row item (omega arith) b l)
     ahead-search (outward {owner} {row} o a) =
         let inside = owner-row-inside o in

@@ -8,17 +8,13 @@ use Rattle.words.specs.Table.{rowCount, numberAt}
 use Rattle.words.specs.declared.Form.the-variants.{Kernel}
 use Rattle.structure.specs.Grammar.{isStatement, link}
 use Rattle.structure.specs.Structured.{Leads, Structured, Shallow}
+use Rattle.structure.specs.Lists.{Before}
 use Rattle.kernel_check.specs.Statements.{isKernelStatement}
 
 -- 53 label, with this label number.
 pub record Label (rows : List ℤ) (number row : ℕ) : Type 0 where
   pub label : numberAt rows row 0 ≡ 53
   pub number-is : numberAt rows row 1 ≡ number
-
--- One item stands before another in a list.
-pub data Before (rows : List ℤ) : ℕ → ℕ → Type 0 where
-  adjacent : {item : ℕ} → Leads rows item 5 → Before rows item (link rows item 5)
-  further : {item row : ℕ} → Before rows item row → Leads rows row 5 → Before rows item (link rows row 5)
 
 -- The owner of a row is the row whose part it is; items of one list share theirs.
 pub data Owner (rows : List ℤ) : ℕ → ℕ → Type 0 where

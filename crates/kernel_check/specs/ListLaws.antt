@@ -10,11 +10,12 @@ use lib.IntN.{ℤ}
 use borrow.Author.Tests.{ne-eqb}
 use Rattle.words.specs.Table.{rowCount}
 use Rattle.structure.specs.Grammar.{link}
-use Rattle.structure.specs.LinkLaws.{owner-of}
-use Rattle.structure.specs.NoteLaws.{above-zero, note-root, note-link}
+use Rattle.structure.specs.LinkLaws.{owner-of, by-owner}
+use Rattle.structure.specs.NoteLaws.{note-root, note-link}
 use Rattle.structure.specs.Structured.{Leads, Tree}
+use Rattle.structure.specs.Lists.{Before, adjacent, further, before-next}
 use Rattle.kernel_check.specs.Labels.{owning, ownerAt}
-use Rattle.kernel_check.specs.Legal.{Before, adjacent, further, Owner, part, beside}
+use Rattle.kernel_check.specs.Legal.{Owner, part, beside}
 use Rattle.kernel_check.specs.Passes.{handed, noteAt}
 use Rattle.kernel_check.specs.declared.Note.{Note}
 use Rattle.kernel_check.specs.declared.Note.the-variants.{First}
@@ -55,6 +56,14 @@ module _ (rows : List ℤ) (t : Tree rows) where
 
   -- ---- the row that links a row, as a part of it or as the next item
 
+  -- a field links a part, or it is the last and links the next item
+  by-field : (P : ℕ → Type 0) (field : ℕ) → field < 6 → (field < 5 → P field) → P 5 → P field
+  by-field P field h part-field next-field = go (ℕ-discrete field 5)
+    where
+      go : Dec (field ≡ 5) → P field
+      go (yes q) = subst P (sym q) next-field
+      go (no q) = part-field (lt-of-le-ne (omega arith) q)
+
   pub data Linked : ℕ → Type 0 where
     as-part : (row field : ℕ) → field < 5 → Leads rows row field → Linked (link rows row field)
     as-next : (row : ℕ) → Leads rows row 5 → Linked (link rows row 5)
@@ -62,50 +71,28 @@ module _ (rows : List ℤ) (t : Tree rows) where
   pub linked : (row : ℕ) → 0 < row → row < rowCount rows → Linked row
   linked row p n =
       let o = owner-of rows t row p n in
-      subst Linked (o .is) (go (o .owner) (o .field) (o .last) (o .leads) (ℕ-discrete (o .field) 5))
-    where
-      go : (owner field : ℕ) → field < 6 → Leads rows owner field → Dec (field ≡ 5) → Linked (link rows owner field)
-      go owner field h leads (yes q) = subst (λ (f : ℕ). Leads rows owner f → Linked (link rows owner f)) (sym q) (as-next owner) leads
-      go owner field h leads (no q) = as-part owner field (lt-of-le-ne (omega arith) q) leads
+      subst Linked (o .is) (by-field (λ (field : ℕ). Leads rows (o .owner) field → Linked (link rows (o .owner) field)) (o .field) (o .last) (as-part (o .owner) (o .field)) (as-next (o .owner)) (o .leads))
+
+  -- what holds of row 0, and goes on to parts and to next items, holds of every row
+  by-linked : (P : ℕ → Type 0) → P 0 → ((row field : ℕ) → field < 5 → Leads rows row field → P row → P (link rows row field)) → ((row : ℕ) → Leads rows row 5 → P row → P (link rows row 5))
+      → (row : ℕ) → row < rowCount rows → P row
+  by-linked P root to-part to-next =
+      by-owner rows t P root
+      (λ owner field h. by-field (λ (f : ℕ). Leads rows owner f → P owner → P (link rows owner f)) field h (to-part owner field) (to-next owner))
 
   -- ---- lists
 
-  -- the first row of a list is no later than its rows; `most` bounds the row
-  first-step : (row : ℕ) → ((y : ℕ) → y < row → y < rowCount rows → first y ≤ y) → Linked row → first row ≤ row
-  first-step row r (as-part y field f leads) = let e = first-part y field f leads in omega arith
-  first-step row r (as-next y leads) =
-      let later = leads .later in
-      let inside = leads .inside in
-      omega (arith, first-next y leads, r y later (omega arith))
-
-  first-before : (most row : ℕ) → row < most → row < rowCount rows → first row ≤ row
-  first-before zero row h n = absurd (omega arith)
-  first-before (suc most) row h n = go (ℕ-discrete row 0) (λ y l m. first-before most y (omega arith) m)
-    where
-      go : Dec (row ≡ 0) → ((y : ℕ) → y < row → y < rowCount rows → first y ≤ y) → first row ≤ row
-      go (yes q) r = rw q (let e = first-root in omega arith)
-      go (no q) r = first-step row r (linked row (above-zero row q) n)
-
+  -- the first row of a list is no later than its rows
   pub first-most : (row : ℕ) → row < rowCount rows → first row ≤ row
-  first-most row n = first-before (suc row) row (omega arith) n
+  first-most =
+      by-linked (λ (row : ℕ). first row ≤ row) (let e = first-root in omega arith)
+      (λ row field h leads lower. let e = first-part row field h leads in omega arith)
+      (λ row leads lower. let e = first-next row leads in let later = leads .later in omega arith)
 
-  -- an item stands before a later row of the same list
-  pub before-later : {item row : ℕ} → Before rows item row → item < row
-  before-later (adjacent leads) = leads .later
-  before-later (further b leads) = let r = before-later b in let l = leads .later in omega arith
-
-  pub before-inside : {item row : ℕ} → Before rows item row → row < rowCount rows
-  before-inside (adjacent leads) = leads .inside
-  before-inside (further b leads) = leads .inside
-
+  -- items of one list have the same first row, and items with the same first row stand in one list, the lower before the higher
   pub before-first : {item row : ℕ} → Before rows item row → first row ≡ first item
   before-first (adjacent {item} leads) = first-next item leads
   before-first (further {item} {row} b leads) = first-next row leads ∙ before-first b
-
-  -- no item stands between an item and the next
-  before-next : {item row : ℕ} → Before rows item row → link rows item 5 ≤ row
-  before-next (adjacent leads) = omega arith
-  before-next (further b leads) = let r = before-next b in let l = leads .later in omega arith
 
   list-step : (item row : ℕ) → ((x y : ℕ) → y < row → x < y → y < rowCount rows → first x ≡ first y → Before rows x y)
       → item < row → row < rowCount rows → first item ≡ first row → Linked row → Before rows item row
@@ -133,24 +120,6 @@ module _ (rows : List ℤ) (t : Tree rows) where
   pub same-list : (item row : ℕ) → item < row → row < rowCount rows → first item ≡ first row → Before rows item row
   same-list item row l n e = list-before (suc row) item row (omega arith) l n e
 
-  -- an item before which another is put
-  pub before-prepend : {item row : ℕ} → Leads rows item 5 → Before rows (link rows item 5) row → Before rows item row
-  before-prepend leads (adjacent next) = further (adjacent leads) next
-  before-prepend leads (further b next) = further (before-prepend leads b) next
-
-  -- the first step from an item to a later one
-  pub data Step (item : ℕ) : ℕ → Type 0 where
-    once : Leads rows item 5 → Step item (link rows item 5)
-    on : {row : ℕ} → Leads rows item 5 → Before rows (link rows item 5) row → Step item row
-
-  pub before-step : {item row : ℕ} → Before rows item row → Step item row
-  before-step (adjacent leads) = once leads
-  before-step (further b leads) = go (before-step b) leads
-    where
-      go : {item row : ℕ} → Step item row → Leads rows row 5 → Step item (link rows row 5)
-      go (once first) leads = on first (adjacent leads)
-      go (on first b) leads = on first (further b leads)
-
   -- ---- owners
 
   pub owner-is : {owner row : ℕ} → Owner rows owner row → ownerAt rows row ≡ owner
@@ -161,25 +130,20 @@ module _ (rows : List ℤ) (t : Tree rows) where
   owner-earlier (part h leads) = leads .later
   owner-earlier (beside o leads) = let r = owner-earlier o in let l = leads .later in omega arith
 
-  -- row 0 has no item behind it; then every other row has an owner; `most` bounds the row
+  -- row 0 has no item behind it; then every other row has an owner
   module _ (lone : link rows 0 5 ≡ 0) where
-    owner-step : (row : ℕ) → ((y : ℕ) → y < row → 0 < y → y < rowCount rows → Owner rows (ownerAt rows y) y) → Linked row → Owner rows (ownerAt rows row) row
-    owner-step row r (as-part y field f leads) = subst (λ (x : ℕ). Owner rows x (link rows y field)) (sym (owner-part y field f leads)) (part f leads)
-    owner-step row r (as-next y leads) =
-        let later : y < link rows y 5 = leads .later in
-        let inside : link rows y 5 < rowCount rows = leads .inside in
-        subst (λ (x : ℕ). Owner rows x (link rows y 5)) (sym (owner-next y leads)) (beside (r y later (first-item y leads) (omega arith)) leads)
+    has-owner : (row : ℕ) → row < rowCount rows → 0 < row → Owner rows (ownerAt rows row) row
+    has-owner =
+        by-linked (λ (row : ℕ). 0 < row → Owner rows (ownerAt rows row) row) (λ p. absurd (omega arith))
+        (λ row field h leads owned p. subst (λ (x : ℕ). Owner rows x (link rows row field)) (sym (owner-part row field h leads)) (part h leads))
+        (λ row leads owned p. subst (λ (x : ℕ). Owner rows x (link rows row 5)) (sym (owner-next row leads)) (beside (owned (first-item row leads)) leads))
       where
-        first-item : (y : ℕ) → Leads rows y 5 → 0 < y
+        first-item : (row : ℕ) → Leads rows row 5 → 0 < row
         first-item zero leads = absurd (let l = leads .later in omega arith)
-        first-item (suc y) leads = omega arith
-
-    has-owner : (most row : ℕ) → row < most → 0 < row → row < rowCount rows → Owner rows (ownerAt rows row) row
-    has-owner zero row h p n = absurd (omega arith)
-    has-owner (suc most) row h p n = owner-step row (λ y l. has-owner most y (omega arith)) (linked row p n)
+        first-item (suc row) leads = omega arith
 
     pub owner-of-row : (row : ℕ) → 0 < row → row < rowCount rows → Owner rows (ownerAt rows row) row
-    owner-of-row row p n = has-owner (suc row) row (omega arith) p n
+    owner-of-row row p n = has-owner row n p
 
     pub owner-below : (row : ℕ) → 0 < row → row < rowCount rows → ownerAt rows row < row
     owner-below row p n = owner-earlier (owner-of-row row p n)

@@ -1,13 +1,16 @@
 // Checks kernel tables and prints each verdict on a line: a legal table, that table damaged once for each cause, and three large ones.
+mod form; // form.rt: small tables for cause 12
+mod labels; // labels.rt: small tables for cause 13
 mod large; // large.rt: tables of 40,980 rows
-mod small; // small.rt: tables written out
+mod structure; // structure.rt: small tables for the causes 1 to 6
+mod tables; // tables.rt: verdicts printed, and a small legal table of which words are changed
 
+use self::form::cases_of_form;
+use self::labels::cases_of_labels;
 use self::large::build_chain;
 use self::large::build_deep;
-use self::small::cases_of_form;
-use self::small::cases_of_labels;
-use self::small::cases_of_structure;
-use self::small::report;
+use self::structure::cases_of_structure;
+use self::tables::report;
 
 fn main() {
     cases_of_structure();

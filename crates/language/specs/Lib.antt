@@ -7,7 +7,10 @@ pub mod Decode
 pub mod Meaning
 -- Programs: the run of a table of rows.
 pub mod Program
--- Rules: document 01's starred rules as one table, and the theorem that they hold.
+-- Rules: what a rule on the shelf is; document 01's starred rules; orders that surprise; both as one table, and the theorem that they hold.
+pub mod Rule
+pub mod StarredRules
+pub mod SurprisingOrders
 pub mod Rules
 pub mod RulesHold
 -- Sizes: the rows and the depth of a tree.

@@ -12,7 +12,8 @@ use Rattle.language.specs.Trees.{sameMark, has}
 use Rattle.language.specs.Decode.{expressionOf, expressionBy, expressionAt, statementOf, itemsOf, treesOf, treesBy, statementAt, itemsAt, decode}
 use Rattle.language.specs.Meaning.{evaluate, perform}
 use Rattle.language.specs.Program.{Finished, programOf, runUnder, runProgram}
-use Rattle.language.specs.Rules.{Rule, table}
+use Rattle.language.specs.Rule.{Rule}
+use Rattle.language.specs.Rules.{table}
 
 -- What the run of a rule's rows comes to, by the definitions.
 abbrev pub runs : Rule → Finished

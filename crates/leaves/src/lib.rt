@@ -1,6 +1,8 @@
 // Leaves: kernel rows that are written by themselves, and what an expression does with its operands' values.
+pub mod assignments; // assignments.rt: the assignments of the kernel
 pub mod atoms; // atoms.rt: kernel atoms and places, from the source rows
-pub mod rows; // rows.rt: the assignments of the kernel, labels, gotos, and the rows that head a block, an if or a loop
+pub mod control; // control.rt: rows that say where a run goes on: blocks, ifs, loops, labels, gotos
+pub mod rows; // rows.rt: what all rows are put together by
 pub mod straight; // straight.rt: what an expression does with its operands' values
 
 // "An atom is a constant or variable."

@@ -1,15 +1,15 @@
 // What an expression does with its operands' values, where it chooses nothing.
 use super::Atom;
 use super::KernelPlace;
+use super::assignments::put_binary;
+use super::assignments::put_copy;
+use super::assignments::put_fetch;
+use super::assignments::put_minus;
+use super::assignments::put_store;
 use super::atoms::atom_at;
 use super::atoms::held_place;
 use super::atoms::kernel_place;
 use super::atoms::place_taken;
-use super::rows::put_binary;
-use super::rows::put_copy;
-use super::rows::put_fetch;
-use super::rows::put_minus;
-use super::rows::put_store;
 use measures::Shape;
 use measures::expressions::taken_at;
 use measures::shapes::shape_at;

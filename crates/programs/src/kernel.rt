@@ -1,4 +1,5 @@
 // The translation of a case's program: its legality, its text, and its run.
+use cases::lines::print_kernel_run;
 use clight::runs::kernel_check;
 use clight::runs::kernel_run;
 use clight::texts::read_kernel;
@@ -6,7 +7,6 @@ use clight::texts::write_kernel;
 use clight::translate::translate;
 use leaves::rows::put;
 use libc::STDOUT_FILENO;
-use report::line::kernel_line;
 use text_form::ReadAnswer;
 use text_form::WriteAnswer;
 use translator::TranslateAnswer;
@@ -25,14 +25,6 @@ ghost use Rattle.clight.specs.Runs.{refusalOf};
 
 fn print(text: &[u8]) {
     io::write_all(STDOUT_FILENO, text);
-}
-
-fn print_run(ending: Ending, store: &[i32])
-    requires { ⌜ length (now store) ≤ 8192 ⌝ }
-{
-    let mut line = [0u8; 98344];
-    let n = kernel_line(ending, store, &mut line);
-    print(&line[..n]);
 }
 
 fn is_same(left: &[i32], right: &[i32]) -> bool {
@@ -101,7 +93,7 @@ fn run_from(header: &[i32], rows: &[i32], start: &[i32], store: &mut [i32], budg
         RunVerdict::Ran(answer) => {
             let ending = answer.ending;
             let size = start.len();
-            print_run(ending, &store[..size]);
+            print_kernel_run(ending, &store[..size]);
         }
     }
 }

@@ -1,18 +1,13 @@
 // A case's program: read, checked and run. What it gives is printed, then its translation is tried.
 use super::kernel::answer_translation;
+use cases::lines::print_refusal;
+use cases::lines::print_source_run;
+use cases::start::start_words;
 use clight::runs::check;
 use clight::runs::run;
 use clight::texts::read_source;
-use libc::STDOUT_FILENO;
-use report::line::refused_line;
-use report::line::source_line;
 use text_form::ReadAnswer;
-use text_form::line::Count;
-use text_form::line::count_numbers;
-use text_form::line::store_numbers;
 use words::Form;
-use words::Refusal;
-use words::RunAnswer;
 use words::RunVerdict;
 use words::Verdict;
 use words::layout::store_words;
@@ -23,39 +18,16 @@ ghost use Rattle.words.specs.declared.Form.the-variants.{Source};
 ghost use Rattle.words.specs.declared.Verdict.the-variants.{Accepted};
 ghost use Rattle.clight.specs.Runs.{refusalOf};
 
-fn print_refusal(refusal: Refusal) {
-    let mut line = [0u8; 64];
-    let n = refused_line(refusal, &mut line);
-    io::write_all(STDOUT_FILENO, &line[..n]);
-}
-
-fn print_run(answer: RunAnswer, store: &[i32])
-    requires { ⌜ length (now store) ≤ 8192 ⌝ }
-{
-    let mut line = [0u8; 98344];
-    let ending = answer.ending;
-    let n = source_line(ending, answer.count, store, &mut line);
-    io::write_all(STDOUT_FILENO, &line[..n]);
-}
-
 // Puts the start words of a case, each behind a tab, into the store, and answers how many they are; without words the store has
-// `size` zeros. Malformed words, or more than there is room for, leave a store of no words.
-fn start_words(words: &[u8], size: usize, store: &mut [i32]) -> usize
+// `size` zeros.
+fn start_size(words: &[u8], size: usize, store: &mut [i32]) -> usize
     requires { ⌜ size ≤ length (now store) ⌝ }
     ensures { λ r. ⌜ r ≤ length (now (store .entry)) ⌝ }
 {
     if words.len() == 0 {
         return size;
     }
-    let count = count_numbers(&words[1..]);
-    let Count::Numbers(n) = count else {
-        return 0;
-    };
-    if n > store.len() {
-        return 0;
-    }
-    store_numbers(&words[1..], store);
-    n
+    start_words(&words[1..], store)
 }
 
 // Runs a program on the store, which holds the start words, then its translation from the start words.
@@ -75,7 +47,8 @@ fn answer_run(
     match verdict {
         RunVerdict::Refused(refusal) => print_refusal(refusal),
         RunVerdict::Ran(answer) => {
-            print_run(answer, store);
+            let ending = answer.ending;
+            print_source_run(ending, answer.count, store);
             answer_translation(header, rows, start, answer, kernel_rows, text, read_rows);
         }
     }
@@ -94,7 +67,7 @@ fn answer_accepted(
     requires { ⌜ refusalOf Source (now header) (now rows) ≡ Accepted ⌝ }
 {
     let mut start = [0i32; 8192];
-    let n = start_words(words, store_words(Form::Source, header), &mut start);
+    let n = start_size(words, store_words(Form::Source, header), &mut start);
     let mut store = start;
     answer_run(
         header,

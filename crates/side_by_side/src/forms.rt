@@ -1,23 +1,18 @@
 // A rule's kernel form, and the runs of both forms from the same words.
 use super::columns::print_columns;
+use cases::lines::print_kernel_run;
+use cases::lines::print_refusal;
+use cases::lines::print_source_run;
+use cases::start::start_words;
 use clight::runs::kernel_run;
 use clight::runs::run;
 use clight::texts::read_source;
 use clight::texts::write_kernel;
 use clight::translate::translate;
 use leaves::rows::put;
-use libc::STDOUT_FILENO;
-use report::line::kernel_line;
-use report::line::refused_line;
-use report::line::source_line;
 use text_form::ReadAnswer;
 use text_form::WriteAnswer;
-use text_form::line::Count;
-use text_form::line::count_numbers;
-use text_form::line::store_numbers;
 use translator::TranslateAnswer;
-use words::Ending;
-use words::Refusal;
 use words::RunVerdict;
 use words::table::natural;
 ghost use Prim.Native.Nat.{_≤_};
@@ -25,44 +20,6 @@ ghost use lib.ListN.{length};
 
 // More steps than any of the rules takes.
 const BUDGET: u32 = 100000;
-
-fn print_refusal(refusal: Refusal) {
-    let mut line = [0u8; 64];
-    let n = refused_line(refusal, &mut line);
-    io::write_all(STDOUT_FILENO, &line[..n]);
-}
-
-fn print_source(ending: Ending, count: u32, store: &[i32])
-    requires { ⌜ length (now store) ≤ 64 ⌝ }
-{
-    let mut line = [0u8; 1024];
-    let n = source_line(ending, count, store, &mut line);
-    io::write_all(STDOUT_FILENO, &line[..n]);
-}
-
-fn print_kernel(ending: Ending, store: &[i32])
-    requires { ⌜ length (now store) ≤ 64 ⌝ }
-{
-    let mut line = [0u8; 1024];
-    let n = kernel_line(ending, store, &mut line);
-    io::write_all(STDOUT_FILENO, &line[..n]);
-}
-
-// Puts the start words into the store, and tells how many they are: none, where they are no words or too many. The run is then
-// refused.
-fn start_words(line: &[u8], store: &mut [i32]) -> usize
-    ensures { λ r. ⌜ r ≤ length (now (store .entry)) ⌝ }
-{
-    let count = count_numbers(line);
-    let Count::Numbers(n) = count else {
-        return 0;
-    };
-    if n > store.len() {
-        return 0;
-    }
-    store_numbers(line, store);
-    n
-}
 
 // How many temporaries a kernel header names: none, where they are more than the store here has room for. The run is then refused.
 fn temporaries_of(header: &[i32]) -> usize
@@ -86,7 +43,7 @@ fn show_source_run(header: &[i32], rows: &[i32], store: &mut [i32])
         RunVerdict::Refused(refusal) => print_refusal(refusal),
         RunVerdict::Ran(answer) => {
             let ending = answer.ending;
-            print_source(ending, answer.count, store);
+            print_source_run(ending, answer.count, store);
         }
     }
 }
@@ -100,7 +57,7 @@ fn show_kernel_run(header: &[i32], rows: &[i32], store: &mut [i32], size: usize)
         RunVerdict::Refused(refusal) => print_refusal(refusal),
         RunVerdict::Ran(answer) => {
             let ending = answer.ending;
-            print_kernel(ending, &store[..size]);
+            print_kernel_run(ending, &store[..size]);
         }
     }
 }

@@ -10,7 +10,7 @@ use lib.Dec.{leb}
 use lib.IntN.{ℤ, pos}
 use borrow.Author.Tests.{leb-true}
 use Rattle.words.specs.Table.{rowCount, wordAt, numberAt}
-use Rattle.words.specs.Laws.{natural-pos}
+use Rattle.words.specs.Laws.{both, natural-pos}
 use Rattle.words.specs.declared.Form.the-variants.{Source}
 use Rattle.words.specs.declared.Verdict.the-variants.{Accepted}
 use Rattle.structure.specs.Grammar.{grammar, sortOf, sortAt}
@@ -19,13 +19,14 @@ use Rattle.structure.specs.DepthLaws.{none-deep-shallow, shallow-none-deep}
 use Rattle.structure.specs.Refusal.{at, _next_, structuralRefusal}
 use Rattle.structure.specs.RefusalLaws.{next-accepts, accepts-next, at-accepts, accepts-at}
 use Rattle.structure.specs.Structured.{Structured, Tree}
+use Rattle.structure.specs.Lists.{before-later}
 use Rattle.structure.specs.StructuredLaws.{accepted-structured, structured-accepted, structured-tree}
 use Rattle.source_check.specs.Places.{isMark, misplaced}
 use Rattle.source_check.specs.Marks.{repeated}
 use Rattle.source_check.specs.Refusal.{laterRefusal, refusal}
 use Rattle.source_check.specs.Legal.{Distinct, Legal}
 use Rattle.source_check.specs.PlaceLaws.{by-test, misplaced-placed, placed-misplaced}
-use Rattle.source_check.specs.DistinctLaws.{both, before-later, Repeats, repeated-by, repeats}
+use Rattle.source_check.specs.DistinctLaws.{Repeats, repeated-by, repeats}
 
 module _ (header rows : List ℤ) (s : Structured Source header rows) where
   tree : Tree rows
@@ -47,7 +48,7 @@ module _ (header rows : List ℤ) (s : Structured Source header rows) where
       record {
         no-equal-case = λ k mark before m v. differ row n e mark (ap isMark k) (record { before = before; kind = m ∙ sym k; value = v });
         no-second-default = λ k mark before m.
-            let earlier = before-later rows tree before in
+            let earlier = before-later before in
             differ row n e mark (ap isMark k) (record { before = before; kind = m ∙ sym k; value = default-value mark (omega arith) m ∙ sym (default-value row n k) });
       }
     where

@@ -1,7 +1,7 @@
 -- Laws of distinct marks: a search back through the marks of a list meets exactly the marks before a row, so cause 8 is document 01's
 -- "second equal case, or second default, in one switch".
 use mathlib.Core.Path.{_≡_, subst, refl, sym, ap, _∙_}
-use mathlib.Core.Bool.{Bool, true, false, _&&_}
+use mathlib.Core.Bool.{true, false}
 use mathlib.Core.List.{List}
 use Prim.Native.Nat.{ℕ, zero, suc, _<_}
 use native.Mathlib.Omega.{arith}
@@ -11,21 +11,17 @@ use lib.IntN.{ℤ}
 use borrow.Author.Tests.{eqb-true, eqb-false, eq-eqb, ne-eqb}
 use Rattle.words.specs.Word.{pick}
 use Rattle.words.specs.Table.{rowCount, wordAt, numberAt}
-use Rattle.words.specs.Laws.{sameWord-refl, sameWord-equal}
+use Rattle.words.specs.Laws.{both, sameWord-refl, sameWord-equal}
 use Rattle.structure.specs.Grammar.{link}
 use Rattle.structure.specs.SearchLaws.{clash}
 use Rattle.structure.specs.LinkLaws.{by-owner}
 use Rattle.structure.specs.Structured.{Leads, Tree}
+use Rattle.structure.specs.Lists.{Before, adjacent, further, before-later, before-before}
 use Rattle.source_check.specs.Places.{isMark, handed, noteAt}
 use Rattle.source_check.specs.Marks.{sameMark, equalAmong, repeated}
-use Rattle.source_check.specs.Legal.{Before, adjacent, further}
 use Rattle.source_check.specs.MarkLaws.{noteAt-root, noteAt-link, mark-inside, equal-here, equal-on}
 use Rattle.source_check.specs.PlaceLaws.{by-test}
 use Rattle.source_check.specs.declared.Note.the-variants.{MarkBefore}
-
-pub both : (a b : Bool) → (a && b) ≡ true → (a ≡ true) × (b ≡ true)
-both true b e = (refl, e)
-both false b e = clash (sym e)
 
 -- ---- marks before a row
 
@@ -40,18 +36,6 @@ none-met (this p) q = p q
 none-met (back p m) q = p q
 
 module _ (rows : List ℤ) (t : Tree rows) where
-  pub before-later : {item row : ℕ} → Before rows item row → item < row
-  before-later (adjacent leads) = leads .later
-  before-later (further b leads) = let l = leads .later in let e = before-later b in omega arith
-
-  before-inside : {item row : ℕ} → Before rows item row → row < rowCount rows
-  before-inside (adjacent leads) = leads .inside
-  before-inside (further b leads) = leads .inside
-
-  pub before-before : {item between row : ℕ} → Before rows item between → Before rows between row → Before rows item row
-  before-before a (adjacent leads) = further a leads
-  before-before a (further b leads) = further (before-before a b) leads
-
   next-of : (row : ℕ) → Leads rows row 5 → noteAt MarkBefore rows (link rows row 5) ≡ pick (isMark (numberAt rows row 0)) row (noteAt MarkBefore rows row)
   unfolding handed
   next-of row leads = noteAt-link rows t MarkBefore row 5 (omega arith) leads

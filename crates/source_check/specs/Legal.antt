@@ -8,6 +8,7 @@ use Rattle.words.specs.Table.{rowCount, wordAt, numberAt}
 use Rattle.words.specs.declared.Form.the-variants.{Source}
 use Rattle.structure.specs.Grammar.{link}
 use Rattle.structure.specs.Structured.{Leads, Structured, Shallow}
+use Rattle.structure.specs.Lists.{Before}
 use Rattle.source_check.specs.Places.{isLoop, isLoopOrSwitch, isMark}
 
 -- A row stands inside a row of such a kind: as one of its parts, or linked by a row that does.
@@ -19,11 +20,6 @@ pub data Inside (rows : List ℤ) (kinds : ℕ → Bool) : ℕ → Type 0 where
 pub data SwitchItem (rows : List ℤ) : ℕ → Type 0 where
   first : {row : ℕ} → numberAt rows row 0 ≡ 47 → Leads rows row 2 → SwitchItem rows (link rows row 2)
   next : {row : ℕ} → Leads rows row 5 → SwitchItem rows row → SwitchItem rows (link rows row 5)
-
--- One item stands before another in a list.
-pub data Before (rows : List ℤ) : ℕ → ℕ → Type 0 where
-  adjacent : {item : ℕ} → Leads rows item 5 → Before rows item (link rows item 5)
-  further : {item row : ℕ} → Before rows item row → Leads rows row 5 → Before rows item (link rows row 5)
 
 -- "A case or default is an item of a switch's own list. Break stands inside a loop or switch, continue inside a loop."
 pub record Placed (rows : List ℤ) (row : ℕ) : Type 0 where

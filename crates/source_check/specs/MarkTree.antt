@@ -13,9 +13,9 @@ use Rattle.words.specs.Word.{pick}
 use Rattle.words.specs.Table.{rowCount, wordAt, numberAt}
 use Rattle.structure.specs.declared.Found.{Found}
 use Rattle.structure.specs.declared.Found.the-variants.{At, Nothing}
+use Rattle.structure.specs.Lists.{Before}
 use Rattle.source_check.specs.Places.{isMark, noteAt}
 use Rattle.source_check.specs.Marks.{sameMark, repeated}
-use Rattle.source_check.specs.Legal.{Before}
 use Rattle.source_check.specs.declared.Note.the-variants.{MarkBefore}
 
 -- ---- roots: the marks of one list share theirs

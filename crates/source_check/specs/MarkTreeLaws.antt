@@ -16,16 +16,16 @@ use lib.Signed.{mag}
 use borrow.Author.Tests.{ltb-true, ltb-false, eqb-true, eqb-false, eq-eqb, ne-eqb}
 use Rattle.words.specs.Word.{pick}
 use Rattle.words.specs.Table.{rowCount, wordAt, numberAt}
-use Rattle.words.specs.Laws.{sameWord-equal}
+use Rattle.words.specs.Laws.{both, sameWord-equal}
 use Rattle.structure.specs.SearchLaws.{clash}
 use Rattle.structure.specs.Grammar.{link}
 use Rattle.structure.specs.Structured.{Tree}
 use Rattle.source_check.specs.Places.{isMark, noteAt}
 use Rattle.source_check.specs.Marks.{sameMark, equalAmong, repeated}
-use Rattle.source_check.specs.Legal.{Before, adjacent, further}
+use Rattle.structure.specs.Lists.{Before, adjacent, further, before-later, before-before}
 use Rattle.source_check.specs.MarkTree.{rootBy, Begins, itself, earlier, Roots, NodeBefore, keyAt, child, Leading, stay, down, Reached, Children, InTree, HoldsMarks, Free, Taken}
 use Rattle.source_check.specs.PlaceLaws.{by-test}
-use Rattle.source_check.specs.DistinctLaws.{both, before-later, before-before, noted-before, repeated-by}
+use Rattle.source_check.specs.DistinctLaws.{noted-before, repeated-by}
 use Rattle.source_check.specs.declared.Note.the-variants.{MarkBefore}
 
 -- what holds of each number below n, and of n, holds below n + 1
@@ -73,16 +73,16 @@ module _ (rows : List ℤ) (t : Tree rows) where
 
   -- the mark before a row stands at a lower one
   noted-lower : (row : ℕ) → row < rowCount rows → (noteAt MarkBefore rows row ≡ 0 → ⊥) → noteAt MarkBefore rows row < row
-  noted-lower row n p = before-later rows t (noted-before rows t row n p)
+  noted-lower row n p = before-later (noted-before rows t row n p)
 
   begins-lower : {root row : ℕ} → Begins rows root row → root ≤ row
   begins-lower itself = omega arith
-  begins-lower (earlier b) = let l = before-later rows t (b .before) in omega arith
+  begins-lower (earlier b) = let l = before-later (b .before) in omega arith
 
   -- a list that begins with the root of a mark before the row
   begins-on : {root mark row : ℕ} → Begins rows root mark → (mark ≡ 0 → ⊥) → Before rows mark row → Begins rows root row
   begins-on itself p b = earlier (record { present = p; before = b })
-  begins-on (earlier a) p b = earlier (record { present = a .present; before = before-before rows t (a .before) b })
+  begins-on (earlier a) p b = earlier (record { present = a .present; before = before-before (a .before) b })
 
   module _ (row : ℕ) (roots : List ℕ) (r : Roots rows row roots) (n : row < rowCount rows) where
     root-begins : Begins rows (rootBy (noteAt MarkBefore rows row) roots row) row
@@ -219,7 +219,7 @@ module _ (rows : List ℤ) (t : Tree rows) (roots : List ℕ) (r : Roots rows (r
 
     nodes : Children rows (row + 1) (set children place row)
     nodes =
-        let room = p .nodes .room in let b = before-later rows t (free .behind) in
+        let room = p .nodes .room in let b = before-later (free .behind) in
         let inside : place < length children = omega arith in
         record {
           room = rw length-set room;
@@ -258,7 +258,7 @@ searched-start rows children root row key b e = rw e (record { node-before = b; 
 
 module _ {rows : List ℤ} (t : Tree rows) {children : List ℕ} {root row node key : ℕ} (s : Searched rows children root row node key) where
   pub node-lower : node < row
-  node-lower = before-later rows t (s .node-before .before)
+  node-lower = before-later (s .node-before .before)
 
   pub searched-equal : row < rowCount rows → isMark (numberAt rows row 0) ≡ true → sameMark rows node row ≡ true → repeated rows row ≡ true
   searched-equal n k e =
@@ -294,7 +294,7 @@ module _ {rows : List ℤ} (t : Tree rows) {children : List ℕ} {root row node 
       child-lower = rw is (nodes .lower (2 * node + key % 2) (λ q. present (is ∙ q)))
 
       pub child-nearer : (node < below) × (below < row)
-      child-nearer = (before-later rows t child-behind, child-lower)
+      child-nearer = (before-later child-behind, child-lower)
 
       -- else the search goes on
       pub searched-on : Searched rows children root row below (key / 2)

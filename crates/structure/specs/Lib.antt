@@ -11,6 +11,8 @@ pub mod Links
 pub mod Refusal
 -- Structured: what document 01 demands of the rows of both forms.
 pub mod Structured
+-- Lists: which item stands before another in a list.
+pub mod Lists
 -- Passes: what the code's loops compute.
 pub mod Passes
 -- Laws of searches.

@@ -12,7 +12,7 @@ use borrow.Author.Tests.{eqb-true, eq-eqb, ne-eqb, ltb-true, lt-ltb, not-false}
 use Rattle.words.specs.Word.{pick}
 use Rattle.words.specs.Table.{rowCount, numberAt}
 use Rattle.words.specs.Layout.{headerFits, countFits}
-use Rattle.words.specs.Laws.{rowLimit-most, countFits-facts}
+use Rattle.words.specs.Laws.{both, rowLimit-most, countFits-facts}
 use Rattle.words.specs.declared.Form.{Form}
 use Rattle.words.specs.declared.Verdict.the-variants.{Accepted}
 use Rattle.structure.specs.Grammar.{unused, variable, array, label, expression, place, branch, sortOf, sortAt, between, inLanguage, isLink, isRequired, link}
@@ -27,10 +27,6 @@ use Rattle.structure.specs.RefusalLaws.{next-accepts, accepts-next, at-a
 use Rattle.structure.specs.Structured.{Leads, Structured, Tree}
 use Rattle.structure.specs.declared.Bounds.{Bounds}
 use Rattle.structure.specs.declared.Found.the-variants.{Nothing}
-
-both : (a b : Bool) → (a && b) ≡ true → (a ≡ true) × (b ≡ true)
-both true b e = (refl, e)
-both false b e = clash (sym e)
 
 -- ---- each field of each row
 

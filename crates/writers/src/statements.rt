@@ -1,51 +1,37 @@
-// The writers of statements and lists.
+// The writers of statements, blocks and lists.
 use super::Exits;
 use super::Loop;
-use super::lists::default_label;
+use super::conditionals::write_if;
 use super::lists::item_labels;
 use super::lists::item_size;
-use super::lists::list_cases;
 use super::lists::list_size;
-use super::lists::statement_labels;
-use super::lists::statement_size;
-use super::lists::write_cases;
-use super::loops::test_size;
-use super::loops::write_round_end;
-use super::loops::write_test;
+use super::loops::write_loop;
+use super::switches::write_switch;
 use expression_writers::expressions::write_expression;
-use leaves::atoms::atom_at;
 use leaves::atoms::operand_size;
+use leaves::control::put_block;
+use leaves::control::put_empty;
+use leaves::control::put_goto;
+use leaves::control::put_label;
 use leaves::rows::behind;
 use leaves::rows::more;
-use leaves::rows::put_block;
-use leaves::rows::put_empty;
-use leaves::rows::put_goto;
-use leaves::rows::put_if;
-use leaves::rows::put_label;
-use leaves::rows::put_loop;
 use measures::Item;
 use measures::Line;
-use measures::expressions::taken_at;
 use measures::lines::item_at;
 use measures::lines::line_at;
 use words::table::number_at;
 ghost use mathlib.Core.Path.{_≡_};
-ghost use mathlib.Core.Bool.{true, false};
-ghost use Prim.Native.Nat.{_+_, _*_, _≤_, _<_};
 ghost use lib.ListN.{length};
-ghost use Rattle.words.specs.Table.{rowCount};
-ghost use Rattle.language.specs.Trees.{block, switch, none, _then_};
-ghost use Rattle.language.specs.Decode.{expressionAt, ifOf, statementAt, itemsAt};
+ghost use Rattle.language.specs.Trees.{block, none, _then_};
+ghost use Rattle.language.specs.Decode.{expressionAt, statementAt, itemsAt};
 ghost use Rattle.language.specs.DecodeLaws.{listAt};
 ghost use Rattle.translation.specs.Translate.{expressionCode, orEmpty, statementCode, itemsCode};
-ghost use Rattle.emission.specs.Emission.{emitStatement, emitItems};
-ghost use Rattle.measures.specs.Measures.{Measured};
+ghost use Rattle.emission.specs.Emission.{emitItems};
 ghost use Rattle.words.specs.Over.{over};
-ghost use Rattle.leaves.specs.Room.{Room};
-ghost use Rattle.writers.specs.Items.{itemCode};
-ghost use Rattle.writers.specs.Code.{exitsOf, bodyCode, roundCode, wholeLoop};
 ghost use Rattle.leaves.specs.Asks.{Writing};
-ghost use Rattle.writers.specs.Asks.{StatementAsks, ListAsks, BlockAsks, BodyAsks, ItemAsks, ExpressAsks, IfAsks, SwitchAsks, bodySize, roundSize, loopSize, LoopFits};
+ghost use Rattle.writers.specs.Items.{itemCode};
+ghost use Rattle.writers.specs.Code.{exitsOf};
+ghost use Rattle.writers.specs.Asks.{StatementAsks, ListAsks, BlockAsks, ItemAsks, ExpressAsks};
 
 // An expression statement: one that leaves nothing to do leaves an empty statement.
 fn write_express(
@@ -212,7 +198,7 @@ pub fn write_block(
 }
 
 // The code of the list at a link. Its labels begin at `label`.
-fn write_list(
+pub fn write_list(
     rows: &[i32],
     table: &[usize],
     store: usize,
@@ -281,247 +267,4 @@ fn write_item(
         Item::Default => put_label(label, base, follows, out),
         Item::Label(_) => put_label(label, base, follows, out),
     }
-}
-
-// An if: its test, and a block for each branch.
-fn write_if(
-    rows: &[i32],
-    table: &[usize],
-    store: usize,
-    test: usize,
-    yes: usize,
-    no: usize,
-    exits: Exits,
-    label: usize,
-    base: usize,
-    follows: bool,
-    out: &mut [i32],
-)
-    requires { ⌜ Writing (now rows) (now table) store × IfAsks (now rows) test yes no exits label base (length (now out)) ⌝ }
-    ensures { λ _. ⌜ now (out .exit) ≡ over (emitItems follows (statementCode store (ifOf no (expressionAt (now (rows .entry)) test) (statementAt (now (rows .entry)) yes) (statementAt (now (rows .entry)) no)) (exitsOf exits) label) base) (now (out .entry)) ⌝ }
-{
-    let k = operand_size(rows, table, test);
-    let n = k + 2;
-    let m = n + 1 + statement_size(rows, table, yes);
-    let end = m + 1 + body_size(rows, table, no);
-    let atom = atom_at(rows, table, store, test, 0);
-    let other = label + statement_labels(rows, table, yes);
-    write_expression(rows, table, store, test, 0, base, true, out);
-    put_if(
-        atom,
-        base + k,
-        base + m,
-        behind(follows, base + end),
-        &mut out[6 * k..],
-    );
-    write_body(
-        rows,
-        table,
-        store,
-        yes,
-        exits,
-        label,
-        base + n,
-        &mut out[6 * n..],
-    );
-    write_body(
-        rows,
-        table,
-        store,
-        no,
-        exits,
-        other,
-        base + m,
-        &mut out[6 * m..],
-    );
-}
-
-// The kernel rows of a branch that may be absent.
-fn body_size(rows: &[i32], table: &[usize], row: usize) -> usize
-    requires { ⌜ Measured (now rows) (now table) × (row < rowCount (now rows)) × (bodySize (now rows) row ≤ 40980) ⌝ }
-    ensures { λ r. ⌜ r ≡ bodySize (now (rows .entry)) row ⌝ }
-{
-    if row == 0 {
-        return 0;
-    }
-    statement_size(rows, table, row)
-}
-
-// A block of the statement at a link, or an empty one.
-fn write_body(
-    rows: &[i32],
-    table: &[usize],
-    store: usize,
-    row: usize,
-    exits: Exits,
-    label: usize,
-    base: usize,
-    out: &mut [i32],
-)
-    requires { ⌜ Writing (now rows) (now table) store × BodyAsks (now rows) row exits label base (length (now out)) ⌝ }
-    ensures { λ _. ⌜ now (out .exit) ≡ over (emitStatement (block (bodyCode store (now (rows .entry)) row (exitsOf exits) label)) base 0) (now (out .entry)) ⌝ }
-{
-    if row == 0 {
-        put_block(0, 0, out);
-        return;
-    }
-    put_block(base + 1, 0, out);
-    write_statement(
-        rows,
-        table,
-        store,
-        row,
-        exits,
-        label,
-        base + 1,
-        false,
-        &mut out[6..],
-    );
-}
-
-// A loop: its first part, the loop itself, and the label behind it.
-fn write_loop(
-    rows: &[i32],
-    table: &[usize],
-    store: usize,
-    parts: Loop,
-    label: usize,
-    base: usize,
-    follows: bool,
-    out: &mut [i32],
-)
-    requires { ⌜ Writing (now rows) (now table) store × LoopFits (now rows) parts label × Room (loopSize (now rows) parts) base (length (now out)) ⌝ }
-    ensures { λ _. ⌜ now (out .exit) ≡ over (emitItems follows (wholeLoop store (now (rows .entry)) parts label) base) (now (out .entry)) ⌝ }
-{
-    let first = parts.first;
-    let k = operand_size(rows, table, first);
-    let n = k + 3;
-    let round = round_size(rows, table, parts);
-    let m = n + round;
-    write_expression(rows, table, store, first, 0, base, true, out);
-    put_loop(base + k, round, &mut out[6 * k..]);
-    write_round(
-        rows,
-        table,
-        store,
-        parts,
-        label,
-        base + n,
-        &mut out[6 * n..],
-    );
-    put_label(label, base + m, follows, &mut out[6 * m..]);
-}
-
-// The rows of a round.
-fn round_size(rows: &[i32], table: &[usize], parts: Loop) -> usize
-    requires { ⌜ Measured (now rows) (now table) × LoopFits (now rows) parts 0 × (roundSize (now rows) parts ≤ 40980) ⌝ }
-    ensures { λ r. ⌜ r ≡ roundSize (now (rows .entry)) parts ⌝ }
-{
-    let before = test_size(rows, table, parts.before);
-    let body = statement_size(rows, table, parts.body);
-    let end = 1 + operand_size(rows, table, parts.action) + test_size(rows, table, parts.after);
-    before + body + end
-}
-
-// A round of a loop.
-fn write_round(
-    rows: &[i32],
-    table: &[usize],
-    store: usize,
-    parts: Loop,
-    label: usize,
-    base: usize,
-    out: &mut [i32],
-)
-    requires { ⌜ Writing (now rows) (now table) store × LoopFits (now rows) parts label × Room (roundSize (now rows) parts) base (length (now out)) ⌝ }
-    ensures { λ _. ⌜ now (out .exit) ≡ over (emitItems false (roundCode store (now (rows .entry)) parts label) base) (now (out .entry)) ⌝ }
-{
-    let before = parts.before;
-    let body = parts.body;
-    let k = test_size(rows, table, before);
-    let n = k + statement_size(rows, table, body);
-    let inner = Exits {
-        breaking: label,
-        continuing: label + 1,
-    };
-    write_test(rows, table, store, before, label, base, true, out);
-    write_statement(
-        rows,
-        table,
-        store,
-        body,
-        inner,
-        label + 2,
-        base + k,
-        true,
-        &mut out[6 * k..],
-    );
-    write_round_end(
-        rows,
-        table,
-        store,
-        parts.action,
-        parts.after,
-        label,
-        base + n,
-        &mut out[6 * n..],
-    );
-}
-
-// A switch: its selector, the tests, the jump to the default, the items, and the label behind it.
-fn write_switch(
-    rows: &[i32],
-    table: &[usize],
-    store: usize,
-    selector: usize,
-    list: usize,
-    exits: Exits,
-    label: usize,
-    base: usize,
-    follows: bool,
-    out: &mut [i32],
-)
-    requires { ⌜ Writing (now rows) (now table) store × SwitchAsks (now rows) selector list exits label base (length (now out)) ⌝ }
-    ensures { λ _. ⌜ now (out .exit) ≡ over (emitItems follows (statementCode store (switch (expressionAt (now (rows .entry)) selector) (listAt (now (rows .entry)) list)) (exitsOf exits) label) base) (now (out .entry)) ⌝ }
-{
-    let k = operand_size(rows, table, selector);
-    let n = k + 11 * list_cases(rows, table, list);
-    let i = n + 1;
-    let m = i + list_size(rows, table, list);
-    let atom = atom_at(rows, table, store, selector, 0);
-    let level = taken_at(rows, table, selector);
-    let inner = Exits {
-        breaking: label,
-        continuing: exits.continuing,
-    };
-    write_expression(rows, table, store, selector, 0, base, true, out);
-    write_cases(
-        rows,
-        table,
-        list,
-        atom,
-        store,
-        level,
-        label + 1,
-        base + k,
-        &mut out[6 * k..],
-    );
-    put_goto(
-        default_label(rows, table, list, label + 1, label),
-        base + n,
-        true,
-        &mut out[6 * n..],
-    );
-    write_list(
-        rows,
-        table,
-        store,
-        list,
-        inner,
-        label + 1,
-        base + i,
-        true,
-        &mut out[6 * i..],
-    );
-    put_label(label, base + m, follows, &mut out[6 * m..]);
 }

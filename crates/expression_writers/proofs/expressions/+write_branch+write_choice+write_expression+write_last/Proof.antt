@@ -38,8 +38,8 @@ use Rattle.expression_writers.proofs.branches.put_finish.Reads as put-f
 use Rattle.leaves.proofs.atoms.operand_size.Reads as operand-size-reads
 use Rattle.leaves.proofs.rows.behind.Reads as behind-reads
 use Rattle.leaves.proofs.rows.more.Reads as more-reads
-use Rattle.leaves.proofs.rows.put_block.Reads as put-block-reads
-use Rattle.leaves.proofs.rows.put_if.Reads as put-if-reads
+use Rattle.leaves.proofs.control.put_block.Reads as put-block-reads
+use Rattle.leaves.proofs.control.put_if.Reads as put-if-reads
 use Rattle.leaves.proofs.straight.put_straight.Reads as put-straight-reads
 use Rattle.measures.proofs.expressions.above_at.Reads as above-at-reads
 use Rattle.measures.proofs.expressions.operands_at.Reads as operands-at-reads

@@ -33,14 +33,14 @@ print-requires-2 c κs = search needs
 enum-known-verdict : tie.Need-enum-known-verdict
 enum-known-verdict c = search needs
 
-slice-reshare-prefix-print-run : tie.Need-slice-reshare-prefix-print-run
-slice-reshare-prefix-print-run c = search needs
+slice-reshare-prefix-print-kernel-run : tie.Need-slice-reshare-prefix-print-kernel-run
+slice-reshare-prefix-print-kernel-run c = search needs
 
-slice-aggregate-print-run : tie.Need-slice-aggregate-print-run
-slice-aggregate-print-run c = sym (length-take-le _ _ (slice-reshare-prefix-print-run (c .before)))
+slice-aggregate-print-kernel-run : tie.Need-slice-aggregate-print-kernel-run
+slice-aggregate-print-kernel-run c = sym (length-take-le _ _ (slice-reshare-prefix-print-kernel-run (c .before)))
 
-print-run-requires : tie.Need-print-run-requires
-print-run-requires c κs = omega (arith, slice-aggregate-print-run c, c .before .before .before .before .before .before .before .before .before .before .before .pre)
+print-kernel-run-requires : tie.Need-print-kernel-run-requires
+print-kernel-run-requires c κs = omega (arith, slice-aggregate-print-kernel-run c, c .before .before .before .before .before .before .before .before .before .before .before .pre)
 
 same-length : tie.Need-same-length
 same-length c = search needs
@@ -67,9 +67,9 @@ run-from-spec =
     slice-aggregate-print-2
     print-requires-2
     enum-known-verdict
-    slice-reshare-prefix-print-run
-    slice-aggregate-print-run
-    print-run-requires
+    slice-reshare-prefix-print-kernel-run
+    slice-aggregate-print-kernel-run
+    print-kernel-run-requires
     same-length
     returns-2
     same-length-2

@@ -12,11 +12,11 @@ use Rattle.programs.proofs.source.answer_accepted.Tie as tie
 store-words-requires : tie.Need-store-words-requires
 store-words-requires c κs = accepted-header Source (c .before .before .args .header .now) (c .before .before .args .rows .now) (c .before .before .pre)
 
-slice-aggregate-start-words : tie.Need-slice-aggregate-start-words
-slice-aggregate-start-words c = search needs
+slice-aggregate-start-size : tie.Need-slice-aggregate-start-size
+slice-aggregate-start-size c = search needs
 
-start-words-requires : tie.Need-start-words-requires
-start-words-requires c κs = omega (arith, c .before .store-words .ensures, source-words (c .before .before .before .before .args .header .now) (c .before .before .before .before .args .rows .now) (c .before .before .before .before .pre))
+start-size-requires : tie.Need-start-size-requires
+start-size-requires c κs = omega (arith, c .before .store-words .ensures, source-words (c .before .before .before .before .args .header .now) (c .before .before .before .before .args .rows .now) (c .before .before .before .before .pre))
 
 array-share-prefix-start : tie.Need-array-share-prefix-start
 array-share-prefix-start c = search needs
@@ -32,7 +32,7 @@ slice-aggregate-answer-run-2 c = sym (length-take-le _ _ (array-borrow-prefix-st
 
 answer-run-requires : tie.Need-answer-run-requires
 answer-run-requires c κs =
-    let few = c .before .before .before .before .before .before .start-words .ensures in
+    let few = c .before .before .before .before .before .before .start-size .ensures in
     (omega (arith, slice-aggregate-answer-run (c .before .before .before .before), few), omega (arith, slice-aggregate-answer-run-2 (c .before .before .before), few))
 
 same-length : tie.Need-same-length
@@ -52,8 +52,8 @@ answer-accepted-spec =
     tie.close
     (tie.spec
     store-words-requires
-    slice-aggregate-start-words
-    start-words-requires
+    slice-aggregate-start-size
+    start-size-requires
     array-share-prefix-start
     slice-aggregate-answer-run
     array-borrow-prefix-store

@@ -18,14 +18,14 @@ print-refusal-requires c κs = search needs
 enum-known-verdict-2 : tie.Need-enum-known-verdict-2
 enum-known-verdict-2 c = search needs
 
-slice-reshare-prefix-print-kernel : tie.Need-slice-reshare-prefix-print-kernel
-slice-reshare-prefix-print-kernel c = search needs
+slice-reshare-prefix-print-kernel-run : tie.Need-slice-reshare-prefix-print-kernel-run
+slice-reshare-prefix-print-kernel-run c = search needs
 
-slice-aggregate-print-kernel : tie.Need-slice-aggregate-print-kernel
-slice-aggregate-print-kernel c = sym (length-take-le _ _ (slice-reshare-prefix-print-kernel (c .before)))
+slice-aggregate-print-kernel-run : tie.Need-slice-aggregate-print-kernel-run
+slice-aggregate-print-kernel-run c = sym (length-take-le _ _ (slice-reshare-prefix-print-kernel-run (c .before)))
 
-print-kernel-requires : tie.Need-print-kernel-requires
-print-kernel-requires c κs = omega (arith, slice-aggregate-print-kernel c, c .before .before .before .before .before .before .before .pre .0)
+print-kernel-run-requires : tie.Need-print-kernel-run-requires
+print-kernel-run-requires c κs = omega (arith, slice-aggregate-print-kernel-run c, c .before .before .before .before .before .before .before .pre .0)
 
 same-length : tie.Need-same-length
 same-length c = search needs
@@ -47,9 +47,9 @@ show-kernel-run-spec =
     enum-known-verdict
     print-refusal-requires
     enum-known-verdict-2
-    slice-reshare-prefix-print-kernel
-    slice-aggregate-print-kernel
-    print-kernel-requires
+    slice-reshare-prefix-print-kernel-run
+    slice-aggregate-print-kernel-run
+    print-kernel-run-requires
     same-length
     returns
     same-length-2

@@ -1,7 +1,7 @@
 -- `take_in` leaves the children at a row that is no mark, or the first of its list, and writes the free place that it finds else.
 use mathlib.Core.Path.{sym, _∙_}
 use native.Mathlib.Omega.{arith}
-use Rattle.source_check.specs.DistinctLaws.{before-later}
+use Rattle.structure.specs.Lists.{before-later}
 use Rattle.source_check.specs.MarkTreeLaws.{root-before, taken-other, taken-root, taken-free}
 use borrow.Author.Tests.{not-true, not-false}
 use borrow.Author.Needs.{needs}
@@ -55,7 +55,7 @@ mul-children : tie.Need-mul-children
 mul-children c =
     let start = c .before .before .before .before .before .before .before .before .before .before .before .before .before .before in
     let free = rw (c .before .before .place .given .1) at (c .before .before .before .before .free-place .ensures) in
-    let lower = before-later _ (start .pre .0) (free .behind) in
+    let lower = before-later (free .behind) in
     let few = start .pre .0 .few in let inside = start .pre .3 in
     omega arith
 
@@ -63,7 +63,7 @@ slice-write-children : tie.Need-slice-write-children
 slice-write-children c =
     let start = c .before .before .before .before .before .before .before .before .before .before .before .before .before .before in
     let free = rw (c .before .before .place .given .1) at (c .before .before .before .before .free-place .ensures) in
-    let lower = before-later _ (start .pre .0) (free .behind) in
+    let lower = before-later (free .behind) in
     let room = start .pre .2 .nodes .room in let inside = start .pre .3 in
     omega arith
 

@@ -51,7 +51,7 @@ fn read_all(fd: i32, buffer: &mut [u8]) -> Input {
     Input::Bytes(at)
 }
 
-// Reads the text, where the arguments ask for something.
+// Reads the text. With wrong arguments nothing is read.
 fn read_text(request: Request, buffer: &mut [u8]) -> Input {
     match request {
         Request::WrongArguments => Input::Bytes(0),
@@ -62,7 +62,7 @@ fn read_text(request: Request, buffer: &mut [u8]) -> Input {
     }
 }
 
-// Reads the store file, where the third argument names one.
+// Reads the store file that the third argument names.
 fn read_store(given: bool, buffer: &mut [u8]) -> Input {
     if !given {
         return Input::Bytes(0);
@@ -175,6 +175,17 @@ fn argument_count() -> usize {
     count - 1
 }
 
+// The third argument names a store file where a run is asked for. With wrong arguments nothing is read.
+fn names_store(request: Request, count: usize) -> bool {
+    match request {
+        Request::Run(_, _) => count == 3,
+        Request::Check(_) => false,
+        Request::Translate => false,
+        Request::WrongArguments => false,
+        Request::WrongBudget => false,
+    }
+}
+
 fn main() {
     let mut first = io::buffer();
     let first_bytes = os::arg(1, &mut first);
@@ -182,5 +193,5 @@ fn main() {
     let second_bytes = os::arg(2, &mut second);
     let count = argument_count();
     let request = request_of(count, &first[..first_bytes], &second[..second_bytes]);
-    respond(request, count == 3);
+    respond(request, names_store(request, count));
 }

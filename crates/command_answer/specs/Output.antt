@@ -113,6 +113,7 @@ requestOutput Translate text given stored = translateOutput text
 requestOutput WrongArguments text given stored = usageLine
 requestOutput WrongBudget text given stored = wrongBudgetLine
 
+-- What is printed: the limits come before the request. (With wrong arguments nothing is read, so that both are empty.)
 unfoldable pub commandOutput : Request → (text : List ℕ) → (given : Bool) → (stored : List ℕ) → List ℕ
 commandOutput request text given stored =
     pick (leb (length text) textLimit)

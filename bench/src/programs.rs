@@ -1,11 +1,13 @@
 //! The programs that are timed.
 
-use interpreter::kernel::LABEL;
+use interpreter::check;
 use interpreter::random::Random;
 use interpreter::table::*;
 use interpreter::tree::*;
+use interpreter::Form::{Kernel, Source};
 
 /// A program of either form: its header and its rows.
+#[derive(Clone)]
 pub struct Program {
     pub name: String,
     pub header: Vec<i32>,
@@ -21,7 +23,7 @@ impl Program {
 /// The source program of these items.
 fn program(name: &str, header: &[i32], items: Vec<Tree>) -> Program {
     let rows = number(&block(items), Order::Pre, &mut Random::new(1, 1));
-    assert_eq!(interpreter::check(header, &rows), Ok(()), "{name} is legal");
+    assert_eq!(check(Source, header, &rows), Ok(()), "{name} is legal");
     Program { name: name.to_string(), header: header.to_vec(), rows }
 }
 
@@ -66,8 +68,8 @@ fn count_up(number: i32, limit: Tree, body: Vec<Tree>) -> Tree {
 }
 
 /// The programs whose steps are counted: some millions each, and a plain end.
-pub fn long_running() -> Vec<Program> {
-    vec![sums(), sieve(), sort(), states()]
+pub fn long_running() -> [Program; 4] {
+    [sums(), sieve(), sort(), states()]
 }
 
 /// Nested loops over variables: additions, remainders, a test.
@@ -153,7 +155,7 @@ pub fn sized(rows: usize) -> Program {
             (left, _) if left >= 6 => set(3, add(v(2), n(7))),
             _ => plain(EMPTY),
         };
-        used += count(&item);
+        used += item.size();
         items.push(item);
     }
     let made = program(&format!("{rows} rows"), &[4, 64], items);
@@ -168,22 +170,13 @@ pub fn one_switch(rows: usize) -> Program {
     program(&format!("switch {rows}"), &[1], vec![switch(v(0), items)])
 }
 
-fn count(tree: &Tree) -> usize {
-    let below = tree.parts.iter().map(|part| match part {
-        Part::One(tree) => count(tree),
-        Part::List(trees) => trees.iter().map(count).sum(),
-        _ => 0,
-    });
-    1 + below.sum::<usize>()
-}
-
 /// A kernel program of so many rows, a multiple of 12: gotos over an assignment to a label.
 pub fn kernel_sized(rows: usize) -> Program {
     let mut table: Vec<Row> = vec![[BLOCK, 1, 0, 0, 0, 0]];
     let mut label = 0;
     while table.len() + 8 <= rows {
         let at = table.len() as i32;
-        table.push([interpreter::kernel::GOTO, label, 0, 0, 0, at + 1]);
+        table.push([GOTO, label, 0, 0, 0, at + 1]);
         table.push([EXPRESSION, at + 2, 0, 0, 0, at + 7]);
         table.push([ASSIGN, at + 3, at + 4, 0, 0, 0]);
         table.push([VARIABLE, 0, 0, 0, 0, 0]);
@@ -199,6 +192,6 @@ pub fn kernel_sized(rows: usize) -> Program {
     }
     table[rows - 1][NEXT] = 0;
     let made = Program { name: format!("{rows} rows"), header: vec![1, 0], rows: table.concat() };
-    assert_eq!(interpreter::kernel::check(&made.header, &made.rows), Ok(()));
+    assert_eq!(check(Kernel, &made.header, &made.rows), Ok(()));
     made
 }

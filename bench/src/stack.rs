@@ -2,11 +2,13 @@
 //! thread's stack is painted, the entry called, and the paint that is left
 //! looked for.
 
+use crate::entries::{Entries, KERNEL, SOURCE};
 use crate::programs::{n, v, Program};
-use interpreter::kernel;
 use interpreter::random::Random;
 use interpreter::table::*;
 use interpreter::tree::*;
+use interpreter::Form::{Kernel, Source};
+use interpreter::{check, text};
 
 const STACK: usize = 8 << 20;
 /// Painted below the painter's own frame.
@@ -87,7 +89,7 @@ fn deepest(name: &str, core: Tree, nest: impl Fn(Tree) -> Tree) -> Program {
     for _ in 0..66 {
         let item = if inner.kind < EMPTY { expression(inner.clone()) } else { inner.clone() };
         let rows = number(&block(vec![item]), Order::Pre, &mut Random::new(1, 1));
-        if interpreter::check(&header, &rows).is_ok() {
+        if check(Source, &header, &rows).is_ok() {
             found = Some(rows);
         }
         inner = nest(inner);
@@ -130,65 +132,48 @@ fn deep_kernels() -> Vec<Program> {
         rows.push([VARIABLE, 0, 0, 0, 0, 0]);
         let header = vec![1, 0, 3];
         let rows = rows.concat();
-        assert_eq!(kernel::check(&header, &rows), Ok(()), "kernel {name}");
+        assert_eq!(check(Kernel, &header, &rows), Ok(()), "kernel {name}");
         programs.push(Program { name: name.to_string(), header, rows });
     }
     programs
 }
 
-fn copy(program: &Program) -> Program {
-    Program {
-        name: program.name.clone(),
-        header: program.header.clone(),
-        rows: program.rows.clone(),
-    }
-}
+/// One of the functions of a form, called on a program.
+type Call = fn(&Entries, &Program);
 
-/// The largest stack that an entry takes on these programs, and the program's name.
-fn largest(programs: &[Program], entry: fn(&Program)) -> (usize, String) {
+/// The largest stack that a call takes on these programs, and the program's name.
+fn largest(call: Call, entries: &'static Entries, programs: &[Program]) -> (usize, String) {
     let each = programs.iter().map(|program| {
-        let own = copy(program);
-        (used(move || entry(&own)), program.name.clone())
+        let own = program.clone();
+        (used(move || call(entries, &own)), program.name.clone())
     });
     each.max().unwrap()
 }
 
-fn run(program: &Program) {
-    let mut store = vec![1; store_size(&program.header) as usize];
-    clight::run(&program.header, &program.rows, &mut store, 10_000).unwrap();
+fn call_check(entries: &Entries, program: &Program) {
+    (entries.check)(&program.header, &program.rows).unwrap();
 }
 
-fn translate(program: &Program) {
+fn call_run(entries: &Entries, program: &Program) {
+    let mut store = vec![1; entries.form.store_words(&program.header)];
+    (entries.run)(&program.header, &program.rows, &mut store, 10_000).unwrap();
+}
+
+fn call_translate(_: &Entries, program: &Program) {
     let mut header = vec![0; program.header.len() + 1];
     let mut rows = vec![0; 6 * clight::kernel_rows(program.row_count())];
     clight::translate(&program.header, &program.rows, &mut header, &mut rows).unwrap();
 }
 
-fn kernel_run(program: &Program) {
-    let words = kernel::store_size(&program.header) as usize + program.header[1] as usize;
-    clight::kernel_run(&program.header, &program.rows, &mut vec![1; words], 10_000).unwrap();
-}
-
-fn read_source(program: &Program) {
-    let text = interpreter::text::write(&program.header, &program.rows);
+fn call_read(entries: &Entries, program: &Program) {
+    let text = text::write(&program.header, &program.rows);
     let (mut header, mut rows) = (program.header.clone(), program.rows.clone());
-    clight::read_source(&text, &mut header, &mut rows).unwrap();
+    (entries.read)(&text, &mut header, &mut rows).unwrap();
 }
 
-fn read_kernel(program: &Program) {
-    let text = interpreter::text::write(&program.header, &program.rows);
-    let (mut header, mut rows) = (program.header.clone(), program.rows.clone());
-    clight::read_kernel(&text, &mut header, &mut rows).unwrap();
-}
-
-fn write_source(program: &Program) {
-    let mut text = interpreter::text::write(&program.header, &program.rows);
-    clight::write_source(&program.header, &program.rows, &mut text).unwrap();
-}
-
-fn write_kernel(program: &Program) {
-    let mut text = interpreter::text::write(&program.header, &program.rows);
-    clight::write_kernel(&program.header, &program.rows, &mut text).unwrap();
+fn call_write(entries: &Entries, program: &Program) {
+    let mut text = text::write(&program.header, &program.rows);
+    (entries.write)(&program.header, &program.rows, &mut text).unwrap();
 }
 
 pub fn print_all() {
@@ -197,25 +182,21 @@ pub fn print_all() {
     kernels.extend(sources.iter().map(crate::programs::translated));
     kernels.push(crate::programs::kernel_sized(40_980));
     sources.push(crate::programs::sized(2_048));
-    let nothing: fn(&Program) = |_| {};
-    let entries: [(&str, &[Program], fn(&Program)); 10] = [
-        ("nothing, for comparison", &sources, nothing),
-        ("check", &sources, |program| {
-            clight::check(&program.header, &program.rows).unwrap();
-        }),
-        ("run", &sources, run),
-        ("translate", &sources, translate),
-        ("kernel check", &kernels, |program| {
-            clight::kernel_check(&program.header, &program.rows).unwrap();
-        }),
-        ("kernel run", &kernels, kernel_run),
-        ("read source", &sources, read_source),
-        ("read kernel", &kernels, read_kernel),
-        ("write source", &sources, write_source),
-        ("write kernel", &kernels, write_kernel),
+    let calls: [(&str, Call, &'static Entries); 10] = [
+        ("nothing, for comparison", |_, _| {}, &SOURCE),
+        ("check", call_check, &SOURCE),
+        ("run", call_run, &SOURCE),
+        ("translate", call_translate, &SOURCE),
+        ("kernel check", call_check, &KERNEL),
+        ("kernel run", call_run, &KERNEL),
+        ("read source", call_read, &SOURCE),
+        ("read kernel", call_read, &KERNEL),
+        ("write source", call_write, &SOURCE),
+        ("write kernel", call_write, &KERNEL),
     ];
-    for (name, programs, entry) in entries {
-        let (bytes, program) = largest(programs, entry);
+    for (name, call, entries) in calls {
+        let programs = if entries.form == Source { &sources } else { &kernels };
+        let (bytes, program) = largest(call, entries, programs);
         assert!(bytes <= 1 << 20, "{name} takes more than 1 MiB of stack: {bytes}");
         println!("  {name:24} {bytes:8} ({program})");
     }

@@ -4,8 +4,9 @@
 //! words), then exactly that many bytes of program text. No start words mean a
 //! store of zeros.
 
+use crate::form::Form;
 use crate::machine::{run, Ending, Outcome};
-use crate::table::{store_size, Refusal};
+use crate::table::Refusal;
 use crate::text;
 use std::fmt::Write;
 
@@ -61,29 +62,29 @@ pub fn read_all(bytes: &[u8]) -> Result<Vec<Case>, String> {
 }
 
 /// The outcome and the store, or the refusal.
-pub fn evaluate(case: &Case) -> Result<(Outcome, Vec<i32>), Refusal> {
-    let (header, rows) = text::read(&case.text)?;
+pub fn evaluate(form: Form, case: &Case) -> Result<(Outcome, Vec<i32>), Refusal> {
+    let (header, rows) = text::read(form, &case.text)?;
     let mut store = case.words.clone();
     if store.is_empty() {
-        store = vec![0; store_size(&header) as usize];
+        store = vec![0; form.store_words(&header)];
     }
-    let outcome = run(&header, &rows, &mut store, case.budget)?;
+    let outcome = run(form, &header, &rows, &mut store, case.budget)?;
     Ok((outcome, store))
 }
 
-pub fn answer(case: &Case) -> String {
-    match evaluate(case) {
+pub fn answer(form: Form, case: &Case) -> String {
+    match evaluate(form, case) {
         Ok((outcome, store)) => answer_line(outcome, &store),
         Err(refusal) => refusal.to_string(),
     }
 }
 
 /// The refusal, or the lines that document 01 has a program and its translation
-/// print: the source's, and, unless that run is spent, the kernel's. The kernel
-/// form is not made here: whatever it is, given steps enough its run has the
-/// same ending and the same S words.
+/// print: the source's, and, unless that run is spent, the kernel's. There is no
+/// translation here: whatever it is, given steps enough its run has the same
+/// ending and the same S words.
 pub fn answer_lines(case: &Case) -> String {
-    let (outcome, store) = match evaluate(case) {
+    let (outcome, store) = match evaluate(Form::Source, case) {
         Ok(evaluated) => evaluated,
         Err(refusal) => return format!("{refusal}\n"),
     };

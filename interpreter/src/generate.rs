@@ -2,8 +2,14 @@
 //! read and written on both sides, effects in indices, fall-through, jumps
 //! through nests, faults half-way, and budgets next to the count.
 
+mod expressions;
+mod loops;
+mod statements;
+mod tangles;
+
 use crate::cases::Case;
 use crate::check::check;
+use crate::form::Form::{self, Source};
 use crate::machine::{run_checked, Ending, Fault, Outcome};
 use crate::random::Random;
 use crate::table::*;
@@ -43,8 +49,8 @@ pub fn case(seed: u64, number: u64, size: Size) -> Case {
         let program = program(random, size);
         let order = any_order(random);
         let rows = crate::tree::number(&program.tree, order, random);
-        let words = start_words(random, &program.header);
-        let outcome = long_run(&program.header, &rows, &words);
+        let words = start_words(Source, random, &program.header);
+        let outcome = long_run(Source, &program.header, &rows, &words);
         // Programs that fault late are rare unless looked for.
         let found = match wanted {
             None => true,
@@ -68,9 +74,9 @@ pub fn any_order(random: &mut Random) -> Order {
     ])
 }
 
-/// S start words, or none, which means zeros.
-pub fn start_words(random: &mut Random, header: &[i32]) -> Vec<i32> {
-    let size = store_size(header) as usize;
+/// Start words, as many as the store has, or none, which means zeros.
+pub fn start_words(form: Form, random: &mut Random, header: &[i32]) -> Vec<i32> {
+    let size = form.store_words(header);
     if size > 2_000 || random.chance(25) {
         return Vec::new();
     }
@@ -84,10 +90,10 @@ pub fn start_words(random: &mut Random, header: &[i32]) -> Vec<i32> {
 }
 
 /// The run that the budget is chosen by; no start words mean zeros.
-pub fn long_run(header: &[i32], rows: &[i32], words: &[i32]) -> Outcome {
+pub fn long_run(form: Form, header: &[i32], rows: &[i32], words: &[i32]) -> Outcome {
     let mut store = words.to_vec();
-    store.resize(store_size(header) as usize, 0);
-    run_checked(header, rows, &mut store, LONG)
+    store.resize(form.store_words(header), 0);
+    run_checked(form, header, rows, &mut store, LONG)
 }
 
 /// A budget next to the count of steps, or a small or a large one.
@@ -139,7 +145,7 @@ pub fn program(random: &mut Random, size: Size) -> Program {
     loop {
         let program = draft(random, size);
         let rows = number(&program.tree, Order::Pre, random);
-        if check(&program.header, &rows).is_ok() {
+        if check(Source, &program.header, &rows).is_ok() {
             return program;
         }
     }

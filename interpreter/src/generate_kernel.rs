@@ -1,14 +1,45 @@
 //! Generated kernel programs: every statement of the kernel form, gotos out of
 //! nests and past items, and damaged tables of them.
 
-use crate::kernel::{store_size, GOTO, LABEL};
+use crate::cases::Case;
+use crate::damage::{damage_text, damage_words, start};
+use crate::form::Form::Kernel;
 use crate::random::Random;
 use crate::table::*;
+use crate::text;
 
 /// A legal kernel program.
 pub struct Program {
     pub header: Vec<i32>,
     pub rows: Vec<Row>,
+}
+
+/// The case of this number.
+pub fn case(seed: u64, number: u64) -> Case {
+    let random = &mut Random::new(seed, number);
+    let Program { header, rows } = program(random);
+    let rows = rows.concat();
+    let (words, budget) = start(Kernel, random, &header, &rows);
+    Case { budget, words, text: text::write(&header, &rows) }
+}
+
+/// The damaged case of this number: its table, at times its start words or its bytes too.
+pub fn damaged_case(seed: u64, number: u64) -> Case {
+    let random = &mut Random::new(!seed, number);
+    let Program { mut header, rows } = program(random);
+    let mut rows = rows.concat();
+    if random.chance(80) {
+        damage(random, &mut header, &mut rows);
+    }
+    let (mut words, budget) = start(Kernel, random, &header, &rows);
+    if header.len() >= Kernel.leading_words() && random.chance(10) {
+        damage_words(Kernel, random, &header, &mut words);
+    }
+    let mut bytes = text::write(&header, &rows);
+    if random.chance(15) {
+        damage_text(random, &mut bytes);
+    }
+    Case { budget, words, text: bytes }
 }
 
 pub fn program(random: &mut Random) -> Program {
@@ -26,7 +57,7 @@ pub fn program(random: &mut Random) -> Program {
 
 /// The numbers that name a variable or a temporary.
 fn variable_numbers(header: &[i32]) -> Vec<i32> {
-    let size = store_size(header) as i32;
+    let size = Kernel.size(header) as i32;
     (0..header[0]).chain(size..size + header[1]).collect()
 }
 
@@ -195,6 +226,7 @@ pub fn damage(random: &mut Random, header: &mut Vec<i32>, rows: &mut Vec<i32>) {
             1 => header.truncate(random.below(header.len() + 1)),
             2 => rows.truncate(random.below(rows.len() + 1)),
             3 => rows.extend([EMPTY, 0, 0, 0, 0, 0]),
+            4..=9 => change_form(random, rows),
             _ => change_word(random, rows),
         }
         if header.is_empty() || rows.is_empty() {
@@ -214,4 +246,27 @@ fn change_word(random: &mut Random, rows: &mut [i32]) {
         4 => random.pick(&[CONSTANT, VARIABLE, ELEMENT, NOT, ASSIGN, EMPTY, BLOCK, GOTO, LABEL]),
         _ => 0,
     };
+}
+
+/// Changes a kind to one with the same fields, or the number of a goto or label: mostly the table
+/// stays well and the form or the labels do not.
+fn change_form(random: &mut Random, rows: &mut [i32]) {
+    let may_change = |&at: &usize| match rows[at..] {
+        [ASSIGN | ADD..=UNEQUAL | GOTO | LABEL, _, ..] => true,
+        [BLOCK, first, ..] => first == 0 && at > 0,
+        _ => false,
+    };
+    let candidates: Vec<usize> = (0..rows.len()).step_by(WORDS).filter(may_change).collect();
+    if candidates.is_empty() {
+        return;
+    }
+    let at = random.pick(&candidates);
+    match rows[at] {
+        ASSIGN => rows[at] = random.between(ADD, UNEQUAL),
+        ADD..=UNEQUAL => rows[at] = ASSIGN,
+        BLOCK => rows[at] = EMPTY,
+        GOTO if random.chance(50) => rows[at] = LABEL,
+        LABEL if random.chance(50) => rows[at] = GOTO,
+        _ => rows[at + 1] = rows[at + 1].wrapping_add(random.pick(&[-1, 1])),
+    }
 }

@@ -1,20 +1,19 @@
 //! A C-light interpreter built apart from the translator, from document 01
 //! alone. The translator's answers are compared with the answers given here.
 //!
-//! A program is a header (`V`, then the array lengths) and rows of six words.
-//! `check` gives the first cause of refusal, `run` checks and then runs.
+//! A program is a header and rows of six words, in one of two forms: the source
+//! form, and the kernel form that translations have. There is no translation
+//! here. `check` gives the first cause of refusal, `run` checks and then runs.
 
 pub mod cases;
 pub mod check;
 pub mod damage;
-mod expressions;
+pub mod form;
 pub mod generate;
 pub mod generate_kernel;
-pub mod kernel;
 pub mod machine;
 pub mod random;
 pub mod rules;
-mod statements;
 pub mod table;
 pub mod tally;
 pub mod text;
@@ -22,5 +21,6 @@ pub mod tree;
 pub mod trial;
 
 pub use check::check;
+pub use form::Form;
 pub use machine::{run, Ending, Fault, Outcome};
 pub use table::Refusal;

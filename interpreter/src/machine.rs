@@ -1,6 +1,9 @@
-//! The C-light machine: plain recursive evaluation over the rows.
+//! The machine of both forms: plain recursive evaluation over the rows.
+
+mod kernel;
 
 use crate::check::check;
+use crate::form::Form;
 use crate::table::*;
 
 #[derive(Clone, Copy, Debug, PartialEq, Eq)]
@@ -38,37 +41,44 @@ pub struct Outcome {
 
 /// Checks the program and the store's size, then runs.
 pub fn run(
+    form: Form,
     header: &[i32],
     rows: &[i32],
     store: &mut [i32],
     budget: u32,
 ) -> Result<Outcome, Refusal> {
-    check(header, rows)?;
-    if store.len() as i64 != store_size(header) {
+    check(form, header, rows)?;
+    if store.len() != form.store_words(header) {
         return Err(Refusal::new(11, 0));
     }
-    Ok(run_checked(header, rows, store, budget))
+    Ok(run_checked(form, header, rows, store, budget))
 }
 
-/// Runs a program that the check accepts, on a store of S words.
-pub fn run_checked(header: &[i32], rows: &[i32], store: &mut [i32], budget: u32) -> Outcome {
-    let arrays = Array::all(header[0], &header[1..]);
+/// Runs a program that the check accepts, on a store of the form's words.
+pub fn run_checked(
+    form: Form,
+    header: &[i32],
+    rows: &[i32],
+    store: &mut [i32],
+    budget: u32,
+) -> Outcome {
+    let arrays = Array::all(header[0], form.lengths(header));
     let mut machine = Machine { rows: rows_of(rows), arrays: &arrays, store, budget, count: 0 };
-    let ending = ending_of(machine.statement(0).map(|_| ()));
-    Outcome { ending, count: machine.count }
-}
-
-pub(crate) fn ending_of(result: Result<(), Stop>) -> Ending {
-    match result {
+    let result = match form {
+        Form::Source => machine.statement(0).map(|_| ()),
+        Form::Kernel => machine.kernel_statement(0).map(|_| ()),
+    };
+    let ending = match result {
         Ok(()) => Ending::Ended,
         Err(Stop::Spent) => Ending::Spent,
         Err(Stop::Fault(fault)) => Ending::Fault(fault),
-    }
+    };
+    Outcome { ending, count: machine.count }
 }
 
 /// Why a run stops before its end.
 #[derive(Clone, Copy)]
-pub(crate) enum Stop {
+enum Stop {
     Spent,
     Fault(Fault),
 }
@@ -81,14 +91,14 @@ enum Flow {
     Continue,
 }
 
-pub(crate) struct Array {
+struct Array {
     start: usize,
     length: i32,
 }
 
 impl Array {
     /// The arrays lie behind the variables, in order.
-    pub(crate) fn all(variables: i32, lengths: &[i32]) -> Vec<Array> {
+    fn all(variables: i32, lengths: &[i32]) -> Vec<Array> {
         let mut arrays = Vec::with_capacity(MAX_ARRAYS);
         let mut start = variables as usize;
         for &length in lengths {
@@ -99,17 +109,17 @@ impl Array {
     }
 }
 
-pub(crate) struct Machine<'a> {
-    pub(crate) rows: &'a [Row],
-    pub(crate) arrays: &'a [Array],
-    pub(crate) store: &'a mut [i32],
-    pub(crate) budget: u32,
-    pub(crate) count: u32,
+struct Machine<'a> {
+    rows: &'a [Row],
+    arrays: &'a [Array],
+    store: &'a mut [i32],
+    budget: u32,
+    count: u32,
 }
 
 impl Machine<'_> {
     /// One step: a row is entered.
-    pub(crate) fn enter(&mut self) -> Result<(), Stop> {
+    fn enter(&mut self) -> Result<(), Stop> {
         if self.count == self.budget {
             return Err(Stop::Spent);
         }
@@ -117,7 +127,7 @@ impl Machine<'_> {
         Ok(())
     }
 
-    pub(crate) fn expression(&mut self, at: i32) -> Result<i32, Stop> {
+    fn expression(&mut self, at: i32) -> Result<i32, Stop> {
         let [kind, a, b, c, ..] = self.rows[at as usize];
         if kind == VARIABLE || kind == ELEMENT {
             let place = self.place(at)?;
@@ -208,39 +218,9 @@ impl Machine<'_> {
                     Ok(Flow::On)
                 }
             }
-            WHILE => {
-                while self.expression(a)? != 0 {
-                    if self.statement(b)? == Flow::Break {
-                        break;
-                    }
-                }
-                Ok(Flow::On)
-            }
-            DO => {
-                loop {
-                    if self.statement(a)? == Flow::Break {
-                        break;
-                    }
-                    if self.expression(b)? == 0 {
-                        break;
-                    }
-                }
-                Ok(Flow::On)
-            }
-            FOR => {
-                if a != 0 {
-                    self.expression(a)?;
-                }
-                while b == 0 || self.expression(b)? != 0 {
-                    if self.statement(d)? == Flow::Break {
-                        break;
-                    }
-                    if c != 0 {
-                        self.expression(c)?;
-                    }
-                }
-                Ok(Flow::On)
-            }
+            WHILE => self.while_loop(a, b),
+            DO => self.do_loop(a, b),
+            FOR => self.for_loop(a, b, c, d),
             SWITCH => {
                 let selector = self.expression(a)?;
                 let mark = self.mark(b, selector);
@@ -254,6 +234,47 @@ impl Machine<'_> {
             // Empty, case and default: the step alone.
             _ => Ok(Flow::On),
         }
+    }
+
+    // The three loops are parts of `statement` written apart, and compiled as such.
+
+    #[inline(always)]
+    fn while_loop(&mut self, test: i32, body: i32) -> Result<Flow, Stop> {
+        while self.expression(test)? != 0 {
+            if self.statement(body)? == Flow::Break {
+                break;
+            }
+        }
+        Ok(Flow::On)
+    }
+
+    #[inline(always)]
+    fn do_loop(&mut self, body: i32, test: i32) -> Result<Flow, Stop> {
+        loop {
+            if self.statement(body)? == Flow::Break {
+                break;
+            }
+            if self.expression(test)? == 0 {
+                break;
+            }
+        }
+        Ok(Flow::On)
+    }
+
+    #[inline(always)]
+    fn for_loop(&mut self, start: i32, test: i32, step: i32, body: i32) -> Result<Flow, Stop> {
+        if start != 0 {
+            self.expression(start)?;
+        }
+        while test == 0 || self.expression(test)? != 0 {
+            if self.statement(body)? == Flow::Break {
+                break;
+            }
+            if step != 0 {
+                self.expression(step)?;
+            }
+        }
+        Ok(Flow::On)
     }
 
     /// Runs the items of a list from the given one on; 0 is an empty list.

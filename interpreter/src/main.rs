@@ -1,10 +1,10 @@
 //! The command line.
 
-use interpreter::cases::{self, answer_line, Case};
+use interpreter::cases::{self, Case};
 use interpreter::generate::{self, Size};
-use interpreter::table::store_size;
 use interpreter::tally::Tally;
-use interpreter::{check, damage, rules, run, text, trial};
+use interpreter::Form::{self, Kernel, Source};
+use interpreter::{check, damage, generate_kernel, rules, text, trial};
 use std::io::{self, Read, Write};
 use std::process::ExitCode;
 
@@ -15,14 +15,19 @@ Texts and case files are read from standard input.
   check                      ok, or refused NUMBER PLACE
   run BUDGET [WORD ...]      ENDING COUNT WORDS, or refused NUMBER PLACE;
                              the store starts from the words, else from zeros
+  kernel-check               the same for a text of the kernel form
+  kernel-run BUDGET [WORD ...]
   trial                      the trial program's line for the source form, or
                              its refusal. The kernel's line is not printed:
-                             there is no kernel form here, and whether its run
+                             there is no translation here, and whether its run
                              stays within the budget is not known.
   generate SEED COUNT        generated cases, numbers 0 to COUNT - 1
   generate SEED COUNT FIRST  the same, from number FIRST on
   generate SEED COUNT large  of 300 to 2,048 rows
   damage SEED COUNT [FIRST]  damaged cases
+  kernel-generate SEED COUNT [FIRST]
+  kernel-damage SEED COUNT [FIRST]
+                             generated and damaged cases of the kernel form
   rules                      the rules on the shelf and more, as cases
   rules names                their names and expected answers, one a line
   answers                    reads cases; of each its refusal, or the line of
@@ -32,7 +37,8 @@ Texts and case files are read from standard input.
                              program printed, answers otherwise
   tally                      reads cases; counts of answers, kinds and sizes
 
-With --tally, generate, damage and rules print the counts instead of the cases.
+With --tally the counts are printed in place of cases. `answers`, `different`
+and `tally` read cases of the source form.
 
 A case is a line BUDGET LENGTH [WORD ...], parted by tabs, and then LENGTH
 bytes of program text. Without words the store starts from zeros.
@@ -56,15 +62,12 @@ fn main() -> ExitCode {
 fn act(arguments: &[&str], tally: bool) -> Result<Vec<u8>, String> {
     match arguments {
         [] | ["help"] | ["--help"] | ["-h"] => Ok(HELP.into()),
-        ["check"] => Ok(check_text(&input()?)),
-        ["run", budget, words @ ..] => run_text(&input()?, budget, words),
+        ["check"] => Ok(check_text(Source, &input()?)),
+        ["run", budget, words @ ..] => run_text(Source, budget, words),
+        ["kernel-check"] => Ok(check_text(Kernel, &input()?)),
+        ["kernel-run", budget, words @ ..] => run_text(Kernel, budget, words),
         ["trial"] => Ok(line(trial::trial(&input()?))),
-        ["generate", seed, count] => generated(seed, count, "0", Size::Mixed, tally),
-        ["generate", seed, count, "large"] => generated(seed, count, "0", Size::Large, tally),
-        ["generate", seed, count, first] => generated(seed, count, first, Size::Mixed, tally),
-        ["damage", seed, count] => damaged(seed, count, "0", tally),
-        ["damage", seed, count, first] => damaged(seed, count, first, tally),
-        ["rules"] => Ok(output(rules::rules().into_iter().map(|rule| rule.case), tally)),
+        ["rules"] => Ok(output(Source, rules::rules().into_iter().map(|rule| rule.case), tally)),
         ["rules", "names"] => Ok(rules::rules()
             .iter()
             .flat_map(|rule| line(format!("{}: {}", rule.name, rule.answer)))
@@ -74,32 +77,43 @@ fn act(arguments: &[&str], tally: bool) -> Result<Vec<u8>, String> {
             Ok(cases.iter().flat_map(|case| cases::answer_lines(case).into_bytes()).collect())
         }
         ["different", printed] => different(printed),
-        ["tally"] => Ok(output(cases::read_all(&input()?)?.into_iter(), true)),
+        ["tally"] => Ok(output(Source, cases::read_all(&input()?)?.into_iter(), true)),
+        ["generate", seed, count, "large"] => {
+            made(Source, |seed, i| generate::case(seed, i, Size::Large), seed, count, &[], tally)
+        }
+        ["generate", seed, count, first @ ..] => {
+            made(Source, |seed, i| generate::case(seed, i, Size::Mixed), seed, count, first, tally)
+        }
+        ["damage", seed, count, first @ ..] => {
+            made(Source, damage::case, seed, count, first, tally)
+        }
+        ["kernel-generate", seed, count, first @ ..] => {
+            made(Kernel, generate_kernel::case, seed, count, first, tally)
+        }
+        ["kernel-damage", seed, count, first @ ..] => {
+            made(Kernel, generate_kernel::damaged_case, seed, count, first, tally)
+        }
         _ => Err(format!("not understood: {}; see --help", arguments.join(" "))),
     }
 }
 
-fn generated(
+/// So many cases of a seed, from the first number on, which is 0 unless it is given.
+fn made(
+    form: Form,
+    make: fn(u64, u64) -> Case,
     seed: &str,
     count: &str,
-    first: &str,
-    size: Size,
+    first: &[&str],
     tally: bool,
 ) -> Result<Vec<u8>, String> {
-    let seed = number(seed)?;
-    Ok(output(numbers(count, first)?.map(|i| generate::case(seed, i, size)), tally))
-}
-
-fn damaged(seed: &str, count: &str, first: &str, tally: bool) -> Result<Vec<u8>, String> {
-    let seed = number(seed)?;
-    Ok(output(numbers(count, first)?.map(|i| damage::case(seed, i)), tally))
-}
-
-/// So many numbers of cases, from the first on.
-fn numbers(count: &str, first: &str) -> Result<std::ops::Range<u64>, String> {
-    let first: u64 = number(first)?;
-    let count: u64 = number(count)?;
-    Ok(first..first.saturating_add(count))
+    let (seed, count): (u64, u64) = (number(seed)?, number(count)?);
+    let first: u64 = match first {
+        [] => 0,
+        [first] => number(first)?,
+        _ => return Err("too many arguments; see --help".to_string()),
+    };
+    let numbers = first..first.saturating_add(count);
+    Ok(output(form, numbers.map(|i| make(seed, i)), tally))
 }
 
 /// The first case that another program answered otherwise, given what it printed.
@@ -121,37 +135,28 @@ fn different(printed: &str) -> Result<Vec<u8>, String> {
 }
 
 /// The cases in their format, or the counts.
-fn output(cases: impl Iterator<Item = Case>, tally: bool) -> Vec<u8> {
+fn output(form: Form, cases: impl Iterator<Item = Case>, tally: bool) -> Vec<u8> {
     let mut bytes = Vec::new();
     if tally {
         let mut counts = Tally::default();
-        cases.for_each(|case| counts.add(&case));
+        cases.for_each(|case| counts.add(form, &case));
         return counts.report().into_bytes();
     }
     cases.for_each(|case| cases::write(&case, &mut bytes));
     bytes
 }
 
-fn check_text(bytes: &[u8]) -> Vec<u8> {
-    match text::read(bytes).and_then(|(header, rows)| check(&header, &rows)) {
+fn check_text(form: Form, bytes: &[u8]) -> Vec<u8> {
+    match text::read(form, bytes).and_then(|(header, rows)| check(form, &header, &rows)) {
         Ok(()) => line("ok".to_string()),
         Err(refusal) => line(refusal.to_string()),
     }
 }
 
-fn run_text(bytes: &[u8], budget: &str, words: &[&str]) -> Result<Vec<u8>, String> {
+fn run_text(form: Form, budget: &str, words: &[&str]) -> Result<Vec<u8>, String> {
     let budget = number(budget)?;
-    let mut store = words.iter().map(|word| number(word)).collect::<Result<Vec<i32>, _>>()?;
-    let answer = text::read(bytes).and_then(|(header, rows)| {
-        if store.is_empty() {
-            store = vec![0; store_size(&header) as usize];
-        }
-        run(&header, &rows, &mut store, budget)
-    });
-    Ok(line(match answer {
-        Ok(outcome) => answer_line(outcome, &store),
-        Err(refusal) => refusal.to_string(),
-    }))
+    let words = words.iter().map(|word| number(word)).collect::<Result<_, _>>()?;
+    Ok(line(cases::answer(form, &Case { budget, words, text: input()? })))
 }
 
 fn number<T: std::str::FromStr>(argument: &str) -> Result<T, String> {

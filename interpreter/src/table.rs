@@ -1,4 +1,5 @@
-//! The header and the rows of a source program.
+//! Document 01's table: the kinds of rows and their fields, the limits of both
+//! forms, and refusals.
 
 use std::fmt;
 
@@ -8,6 +9,12 @@ pub const MAX_LENGTH: i32 = 4096;
 pub const MAX_STORE: i64 = 8192;
 pub const MAX_ROWS: usize = 2048;
 pub const MAX_DEPTH: u32 = 64;
+
+pub const MAX_TEMPORARIES: i32 = 8192;
+pub const MAX_KERNEL_ROWS: usize = 40_980;
+pub const MAX_KERNEL_DEPTH: u32 = 512;
+/// Label numbers are below this.
+pub const LABELS: i32 = 40_980;
 
 /// Words of one row: kind, a, b, c, d, next.
 pub const WORDS: usize = 6;
@@ -58,6 +65,8 @@ pub const CASE: i32 = 48;
 pub const DEFAULT: i32 = 49;
 pub const BREAK: i32 = 50;
 pub const CONTINUE: i32 = 51;
+pub const GOTO: i32 = 52;
+pub const LABEL: i32 = 53;
 
 /// A cause's number and its place: a row, a line of the text, or 0.
 #[derive(Clone, Copy, Debug, PartialEq, Eq)]
@@ -112,24 +121,25 @@ impl Field {
         matches!(self, Field::Branch | Field::MaybeBranch)
     }
 
-    /// Whether a row of this kind is of the sort that the link asks for.
+    /// Whether a row of this kind, which the table has, is of the sort that the link asks for.
     pub fn fits(self, kind: i32) -> bool {
         match self {
             Field::Expression | Field::MaybeExpression => is_expression(kind),
             Field::Place => kind == VARIABLE || kind == ELEMENT,
-            Field::Branch | Field::MaybeBranch | Field::First => is_statement(kind),
+            Field::Branch | Field::MaybeBranch | Field::First => !is_expression(kind),
             _ => false,
         }
     }
 }
 
-/// The fields a to d of a kind; none where the kind is not in the language.
-pub fn fields(kind: i32) -> Option<[Field; 4]> {
+/// The fields a to d of a kind; none where the table does not have it. Each form
+/// has some of the kinds.
+pub(crate) fn fields(kind: i32) -> Option<[Field; 4]> {
     use Field::*;
     let u = Unused;
     let e = Expression;
     let fields = match kind {
-        CONSTANT | CASE => [Value, u, u, u],
+        CONSTANT | CASE | GOTO | LABEL => [Value, u, u, u],
         VARIABLE => [VariableNumber, u, u, u],
         ELEMENT => [ArrayNumber, e, u, u],
         MINUS | NOT => [e, u, u, u],
@@ -150,21 +160,13 @@ pub fn fields(kind: i32) -> Option<[Field; 4]> {
     Some(fields)
 }
 
+/// The rest are statements.
 pub fn is_expression(kind: i32) -> bool {
     (CONSTANT..=POST_DECREMENT).contains(&kind)
 }
 
-pub fn is_statement(kind: i32) -> bool {
-    (EMPTY..=CONTINUE).contains(&kind)
-}
-
 pub fn is_loop(kind: i32) -> bool {
     matches!(kind, WHILE | DO | FOR)
-}
-
-/// S, the number of words of the store: variables, then the arrays.
-pub fn store_size(header: &[i32]) -> i64 {
-    header.iter().map(|&n| i64::from(n)).sum()
 }
 
 /// The rows as groups of six words.

@@ -1,6 +1,7 @@
 //! Counts over a set of cases: answers, kinds of rows, sizes.
 
 use crate::cases::{evaluate, Case};
+use crate::form::Form;
 use crate::table::rows_of;
 use crate::text;
 use std::collections::BTreeMap;
@@ -24,14 +25,14 @@ pub struct Tally {
 }
 
 impl Tally {
-    pub fn add(&mut self, case: &Case) {
+    pub fn add(&mut self, form: Form, case: &Case) {
         self.cases += 1;
         self.bytes += case.text.len();
-        let answer = match evaluate(case) {
+        let answer = match evaluate(form, case) {
             Ok((outcome, _)) => {
                 self.steps += u64::from(outcome.count);
                 self.most_steps = self.most_steps.max(outcome.count);
-                self.add_rows(&case.text);
+                self.add_rows(form, &case.text);
                 outcome.ending.name().to_string()
             }
             Err(refusal) => format!("refused {:2}", refusal.number),
@@ -39,8 +40,8 @@ impl Tally {
         *self.answers.entry(answer).or_default() += 1;
     }
 
-    fn add_rows(&mut self, bytes: &[u8]) {
-        let Ok((_, words)) = text::read(bytes) else { return };
+    fn add_rows(&mut self, form: Form, bytes: &[u8]) {
+        let Ok((_, words)) = text::read(form, bytes) else { return };
         let rows = rows_of(&words);
         self.accepted += 1;
         self.rows += rows.len();

@@ -1,26 +1,22 @@
 //! The text form: reader and writer.
 
-use crate::check::{check_header, check_size};
+use crate::check::check_sizes;
+use crate::form::Form;
 use crate::table::{Refusal, MAX_ARRAYS, WORDS};
 
 /// The header's words and the rows' words.
 pub type Program = (Vec<i32>, Vec<i32>);
 
-/// Reads a source text: 14 first, over the whole text, then 1, then 2.
-pub fn read(bytes: &[u8]) -> Result<Program, Refusal> {
-    let (header, rows) = read_form(bytes)?;
-    check_header(&header)?;
-    check_size(&rows)?;
+/// Reads a text: 14 first, over the whole text, then 1, then 2.
+pub fn read(form: Form, bytes: &[u8]) -> Result<Program, Refusal> {
+    let (header, rows) = read_lines(form, bytes)?;
+    check_sizes(form, &header, &rows)?;
     Ok((header, rows))
 }
 
-/// Reads the words of a text, testing its form (14) alone.
-pub fn read_form(bytes: &[u8]) -> Result<Program, Refusal> {
-    read_lines(bytes, 1, 1 + MAX_ARRAYS)
-}
-
-/// Reads the words of a text whose line 1 has so many numbers, at least and at most.
-pub(crate) fn read_lines(bytes: &[u8], least: usize, most: usize) -> Result<Program, Refusal> {
+/// Reads the words of a text, testing its lines (14) alone.
+pub fn read_lines(form: Form, bytes: &[u8]) -> Result<Program, Refusal> {
+    let header_words = form.leading_words()..=form.leading_words() + MAX_ARRAYS;
     let mut header = Vec::new();
     let mut rows = Vec::new();
     let mut rest = bytes;
@@ -34,7 +30,7 @@ pub(crate) fn read_lines(bytes: &[u8], least: usize, most: usize) -> Result<Prog
             words.push(number(field).ok_or(malformed)?);
         }
         let count = words.len() - before;
-        let well = if line == 1 { (least..=most).contains(&count) } else { count == WORDS };
+        let well = if line == 1 { header_words.contains(&count) } else { count == WORDS };
         if !well {
             return Err(malformed);
         }

@@ -1,5 +1,6 @@
 //! Programs as trees, and their numbering into rows.
 
+use crate::form::Form::Source;
 use crate::random::Random;
 use crate::table::*;
 
@@ -188,9 +189,9 @@ fn lay(tree: &Tree, rows: &mut Vec<Row>) -> usize {
 
 /// The positions in a row that hold links, the next field included.
 pub fn link_fields(row: &Row) -> Vec<usize> {
-    let fields = fields(row[0]).unwrap_or([Field::Unused; 4]);
+    let fields = Source.fields_or_unused(row[0]);
     let mut links: Vec<usize> = (1..NEXT).filter(|&i| fields[i - 1].is_link()).collect();
-    if is_statement(row[0]) {
+    if Source.is_statement(row[0]) {
         links.push(NEXT);
     }
     links
@@ -207,7 +208,7 @@ pub fn renumber(rows: &[Row], order: Order, random: &mut Random) -> Vec<Row> {
             Order::Pre | Order::Last => ready.len() - 1,
             Order::Breadth => 0,
             Order::StatementsFirst => {
-                ready.iter().position(|&at: &usize| is_statement(rows[at][0])).unwrap_or(0)
+                ready.iter().position(|&at: &usize| Source.is_statement(rows[at][0])).unwrap_or(0)
             }
             Order::Random => random.below(ready.len()),
         };

@@ -1,13 +1,14 @@
 //! The source line of the trial program, or its refusal.
 
 use crate::cases::answer_line;
-use crate::check::{check_header, check_size};
+use crate::check::{check_header, check_row_count};
+use crate::form::Form::Source;
 use crate::machine::run;
-use crate::table::{store_size, Refusal, WORDS};
+use crate::table::{Refusal, WORDS};
 use crate::text;
 
 pub const MAX_BYTES: usize = 16_384;
-pub const MAX_TRIAL_STORE: i64 = 1_024;
+pub const MAX_TRIAL_STORE: usize = 1_024;
 pub const MAX_TRIAL_ROWS: usize = 128;
 pub const BUDGET: u32 = 100_000;
 
@@ -22,16 +23,16 @@ fn source_line(bytes: &[u8]) -> Result<String, Refusal> {
     if bytes.len() > MAX_BYTES {
         return Err(Refusal::new(2, 0));
     }
-    let (header, rows) = text::read_form(bytes)?;
-    check_header(&header)?;
-    if store_size(&header) > MAX_TRIAL_STORE {
+    let (header, rows) = text::read_lines(Source, bytes)?;
+    check_header(Source, &header)?;
+    if Source.store_words(&header) > MAX_TRIAL_STORE {
         return Err(Refusal::new(1, 0));
     }
-    check_size(&rows)?;
+    check_row_count(Source, &rows)?;
     if rows.len() > MAX_TRIAL_ROWS * WORDS {
         return Err(Refusal::new(2, 0));
     }
-    let mut store = vec![0; store_size(&header) as usize];
-    let outcome = run(&header, &rows, &mut store, BUDGET)?;
+    let mut store = vec![0; Source.store_words(&header)];
+    let outcome = run(Source, &header, &rows, &mut store, BUDGET)?;
     Ok(format!("source {}", answer_line(outcome, &store)))
 }

@@ -2,10 +2,11 @@
 
 use interpreter::table::*;
 use interpreter::tree::*;
+use interpreter::Form::Source;
 use interpreter::{check, run, Refusal};
 
 fn refused(header: &[i32], rows: &[i32]) -> (u32, u32) {
-    match check(header, rows) {
+    match check(Source, header, rows) {
         Ok(()) => (0, 0),
         Err(Refusal { number, place }) => (number, place),
     }
@@ -63,13 +64,13 @@ fn sizes() {
 fn kinds_and_unused_fields() {
     for kind in (-3..70).chain([i32::MIN, i32::MAX]) {
         let known = (1..=30).contains(&kind) || (40..=51).contains(&kind);
-        assert_eq!(fields(kind).is_some(), known, "{kind}");
+        assert_eq!(Source.fields(kind).is_some(), known, "{kind}");
         let rows = [BLOCK, 1, 0, 0, 0, 0, kind, 0, 0, 0, 0, 0];
         assert_eq!(refused(&[1, 1], &rows) == (3, 1), !known, "{kind}");
     }
     // Every field that the kind does not name, and next of an expression.
     for kind in 1..=CONTINUE {
-        let Some(fields) = fields(kind) else { continue };
+        let Some(fields) = Source.fields(kind) else { continue };
         for i in 1..WORDS {
             let unused =
                 if i == NEXT { is_expression(kind) } else { fields[i - 1] == Field::Unused };
@@ -260,11 +261,11 @@ fn neighbouring_causes() {
 
 #[test]
 fn the_store_comes_last() {
-    assert_eq!(run(&[1], &LONE, &mut [], 5).unwrap_err(), Refusal::new(11, 0));
-    assert_eq!(run(&[1], &LONE, &mut [1, 2], 5).unwrap_err(), Refusal::new(11, 0));
-    assert!(run(&[1], &LONE, &mut [1], 5).is_ok());
+    assert_eq!(run(Source, &[1], &LONE, &mut [], 5).unwrap_err(), Refusal::new(11, 0));
+    assert_eq!(run(Source, &[1], &LONE, &mut [1, 2], 5).unwrap_err(), Refusal::new(11, 0));
+    assert!(run(Source, &[1], &LONE, &mut [1], 5).is_ok());
     let mut store = [7, 8];
     let rows = table(vec![plain(BREAK)]);
-    assert_eq!(run(&[1], &rows, &mut store, 5).unwrap_err(), Refusal::new(7, 1));
+    assert_eq!(run(Source, &[1], &rows, &mut store, 5).unwrap_err(), Refusal::new(7, 1));
     assert_eq!(store, [7, 8]);
 }

@@ -5,6 +5,7 @@ use interpreter::generate::Size;
 use interpreter::table::rows_of;
 use interpreter::tally::Tally;
 use interpreter::tree::link_fields;
+use interpreter::Form::Source;
 use interpreter::{damage, generate, text, Ending};
 
 fn generated(count: u64) -> impl Iterator<Item = Case> {
@@ -13,7 +14,7 @@ fn generated(count: u64) -> impl Iterator<Item = Case> {
 
 fn tally(cases: impl Iterator<Item = Case>) -> Tally {
     let mut tally = Tally::default();
-    cases.for_each(|case| tally.add(&case));
+    cases.for_each(|case| tally.add(Source, &case));
     tally
 }
 
@@ -79,7 +80,7 @@ fn cases_come_back_from_their_format() {
 #[test]
 fn accepted_texts_are_written_the_same() {
     for case in generated(300) {
-        let (header, rows) = text::read(&case.text).unwrap();
+        let (header, rows) = text::read(Source, &case.text).unwrap();
         assert_eq!(text::write(&header, &rows), case.text);
     }
 }
@@ -89,7 +90,7 @@ fn accepted_texts_are_written_the_same() {
 fn rows_come_in_many_orders() {
     let mut far = 0;
     for case in generated(400) {
-        let (_, words) = text::read(&case.text).unwrap();
+        let (_, words) = text::read(Source, &case.text).unwrap();
         let rows = rows_of(&words);
         let in_order = rows.iter().enumerate().all(|(at, row)| {
             let first = link_fields(row).into_iter().map(|i| row[i]).find(|&link| link != 0);
@@ -105,13 +106,13 @@ fn rows_come_in_many_orders() {
 fn budgets() {
     for mut case in generated(300) {
         case.budget = 3_000;
-        let (whole, store) = evaluate(&case).unwrap();
+        let (whole, store) = evaluate(Source, &case).unwrap();
         if whole.ending == Ending::Spent {
             continue;
         }
         for budget in 0..whole.count + 3 {
             case.budget = budget;
-            let (outcome, words) = evaluate(&case).unwrap();
+            let (outcome, words) = evaluate(Source, &case).unwrap();
             if budget < whole.count {
                 assert_eq!((outcome.ending, outcome.count), (Ending::Spent, budget));
             } else {
@@ -135,7 +136,7 @@ fn order_of_rows_does_not_matter() {
                 .map(|order| {
                     let rows = number(&program.tree, order, random);
                     let text = text::write(&program.header, &rows);
-                    evaluate(&Case { budget: 2_000, words: Vec::new(), text }).unwrap()
+                    evaluate(Source, &Case { budget: 2_000, words: Vec::new(), text }).unwrap()
                 })
                 .collect();
         assert!(answers.iter().all(|answer| *answer == answers[0]));
@@ -163,7 +164,7 @@ fn random_tables_are_answered() {
             let most = random.pick(&[0, 0, 3, 6]);
             rows.extend((0..5).map(|i| if i > 1 && i < 4 { 0 } else { random.between(0, most) }));
         }
-        let answer = interpreter::run(&[2, 3], &rows, &mut [0; 5], 100);
+        let answer = interpreter::run(Source, &[2, 3], &rows, &mut [0; 5], 100);
         accepted += answer.is_ok() as usize;
     }
     assert!(accepted > 0);

@@ -1,12 +1,13 @@
 //! The kernel check and the kernel run.
 
-use interpreter::generate_kernel::program;
-use interpreter::kernel::{check, run, store_size};
+use interpreter::generate_kernel::{case, damaged_case, program};
 use interpreter::random::Random;
-use interpreter::{Ending, Fault, Refusal};
+use interpreter::tally::Tally;
+use interpreter::Form::Kernel;
+use interpreter::{check, run, Ending, Fault, Refusal};
 
 fn refused(header: &[i32], rows: &[[i32; 6]]) -> (u32, u32) {
-    match check(header, &rows.concat()) {
+    match check(Kernel, header, &rows.concat()) {
         Ok(()) => (0, 0),
         Err(Refusal { number, place }) => (number, place),
     }
@@ -21,7 +22,7 @@ fn block(first: i32) -> [i32; 6] {
 fn generated_programs_are_legal() {
     for i in 0..3_000 {
         let program = program(&mut Random::new(7, i));
-        assert_eq!(check(&program.header, &program.rows.concat()), Ok(()), "program {i}");
+        assert_eq!(check(Kernel, &program.header, &program.rows.concat()), Ok(()), "program {i}");
     }
 }
 
@@ -87,11 +88,11 @@ fn a_goto_goes_on_at_its_label() {
     ]
     .concat();
     let mut store = [0];
-    let outcome = run(&[1, 0], &rows, &mut store, 100).unwrap();
+    let outcome = run(Kernel, &[1, 0], &rows, &mut store, 100).unwrap();
     // The block, four rows of the first item, the inner block, the goto, the label.
     assert_eq!((outcome.ending, outcome.count, store), (Ending::Ended, 8, [1]));
     let mut store = [0];
-    let outcome = run(&[1, 0], &rows, &mut store, 7).unwrap();
+    let outcome = run(Kernel, &[1, 0], &rows, &mut store, 7).unwrap();
     assert_eq!((outcome.ending, outcome.count, store), (Ending::Spent, 7, [1]));
 }
 
@@ -100,9 +101,10 @@ fn generated_programs_end_in_every_way() {
     let mut seen = [0; 5];
     for i in 0..3_000 {
         let program = program(&mut Random::new(8, i));
-        let words = store_size(&program.header) as usize + program.header[1] as usize;
+        let words = Kernel.store_words(&program.header);
         let outcome =
-            run(&program.header, &program.rows.concat(), &mut vec![1; words], 5_000).unwrap();
+            run(Kernel, &program.header, &program.rows.concat(), &mut vec![1; words], 5_000)
+                .unwrap();
         seen[match outcome.ending {
             Ending::Ended => 0,
             Ending::Spent => 1,
@@ -112,4 +114,23 @@ fn generated_programs_end_in_every_way() {
         }] += 1;
     }
     assert!(seen.iter().all(|&count| count > 20), "{seen:?}");
+}
+
+/// Generated cases end in every way, damaged ones have every cause but 2 and 9,
+/// which take a large table.
+#[test]
+fn shares_of_cases() {
+    let mut tally = Tally::default();
+    (0..2_000).for_each(|i| tally.add(Kernel, &case(5, i)));
+    assert_eq!(tally.accepted, 2_000);
+    for ending in ["ended", "spent", "overflow", "zero", "index"] {
+        assert!(tally.answers[ending] >= 10, "{ending}: {:?}", tally.answers);
+    }
+    let mut tally = Tally::default();
+    (0..2_000).for_each(|i| tally.add(Kernel, &damaged_case(5, i)));
+    for number in [1, 3, 4, 5, 6, 11, 12, 13, 14] {
+        let count = tally.answers.get(&format!("refused {number:2}")).copied().unwrap_or(0);
+        assert!(count >= 20, "{number}: {:?}", tally.answers);
+    }
+    assert!(tally.accepted >= 300);
 }

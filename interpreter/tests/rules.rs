@@ -3,12 +3,13 @@
 use interpreter::cases::{answer, answer_lines, read_all, write, Case};
 use interpreter::rules::{rules, EXAMPLE};
 use interpreter::trial::trial;
+use interpreter::Form::Source;
 
 #[test]
 fn every_rule_has_its_answer() {
     for rule in rules() {
         let text = String::from_utf8_lossy(&rule.case.text).into_owned();
-        assert_eq!(answer(&rule.case), rule.answer, "{}: {text}", rule.name);
+        assert_eq!(answer(Source, &rule.case), rule.answer, "{}: {text}", rule.name);
     }
 }
 

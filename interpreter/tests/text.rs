@@ -5,10 +5,11 @@ use interpreter::table::*;
 use interpreter::text::{number, read, write};
 use interpreter::tree::*;
 use interpreter::trial::trial;
+use interpreter::Form::{Kernel, Source};
 use interpreter::Refusal;
 
 fn refused(text: &str) -> (u32, u32) {
-    match read(text.as_bytes()) {
+    match read(Source, text.as_bytes()) {
         Ok(_) => (0, 0),
         Err(Refusal { number, place }) => (number, place),
     }
@@ -101,11 +102,26 @@ fn order_of_causes() {
 
 #[test]
 fn bytes_and_rows_come_back() {
-    let (header, rows) = read(EXAMPLE.as_bytes()).unwrap();
+    let (header, rows) = read(Source, EXAMPLE.as_bytes()).unwrap();
     assert_eq!((header.as_slice(), rows.len()), ([1, 3].as_slice(), 78));
     assert_eq!(write(&header, &rows), EXAMPLE.as_bytes());
     let rows = [i32::MIN, i32::MAX, -1, 0, 10, -10];
-    assert_eq!(read(&write(&[256, 4096], &rows)), Ok((vec![256, 4096], rows.to_vec())));
+    assert_eq!(read(Source, &write(&[256, 4096], &rows)), Ok((vec![256, 4096], rows.to_vec())));
+}
+
+/// A kernel text has one number more in line 1, and more rows.
+#[test]
+fn kernel_texts() {
+    let refused = |text: &str| read(Kernel, text.as_bytes()).err().map(|r| (r.number, r.place));
+    let row = "42\t0\t0\t0\t0\t0\n";
+    assert_eq!(refused(&format!("1\n{row}")), Some((14, 1)));
+    assert_eq!(refused(&format!("1\t8192\n{row}")), None);
+    assert_eq!(refused(&format!("1\t8193\n{row}")), Some((1, 0)));
+    let ones = |count: usize| format!("{}\n{row}", vec!["1"; count].join("\t"));
+    assert_eq!(refused(&ones(34)), None);
+    assert_eq!(refused(&ones(35)), Some((14, 1)));
+    assert_eq!(refused(&format!("0\t0\n{}", row.repeat(40_980))), None);
+    assert_eq!(refused(&format!("0\t0\n{}", row.repeat(40_981))), Some((2, 0)));
 }
 
 fn empties(header: &[i32], rows: usize) -> Vec<u8> {

@@ -10,6 +10,17 @@ pub struct Answer {
     pub second: usize,
 }
 
+/// A check, of either form.
+pub type Check = unsafe extern "C" fn(*const i32, usize, *const i32, usize) -> Answer;
+/// A run, of either form.
+pub type Run =
+    unsafe extern "C" fn(*const i32, usize, *const i32, usize, *mut i32, usize, u32) -> Answer;
+/// A reader, of either form.
+pub type Read = unsafe extern "C" fn(*const u8, usize, *mut i32, usize, *mut i32, usize) -> Answer;
+/// A writer, of either form.
+pub type Write =
+    unsafe extern "C" fn(*const i32, usize, *const i32, usize, *mut u8, usize) -> Answer;
+
 extern "C" {
     pub fn clight_check(
         header: *const i32,

@@ -115,45 +115,104 @@ impl Answer {
         }
     }
 
-    fn accepted(self) -> Result<(), Refusal> {
-        self.values().map(|_| ())
-    }
-
-    fn run(self) -> Result<Run, Refusal> {
-        let (ending, count) = self.values()?;
-        Ok(Run { ending: ENDINGS[ending], count: count as u32 })
-    }
-
     fn tables(self) -> Result<Tables, Refusal> {
         let (header_words, row_words) = self.values()?;
         Ok(Tables { header_words, row_words })
     }
+}
 
-    fn bytes(self) -> Result<usize, Refusal> {
-        self.values().map(|(bytes, _)| bytes)
-    }
+// What both forms have is a pair of the library's functions with the same arguments; each of these
+// is called with one of a pair.
+
+fn check_by(entry: foreign::Check, header: &[i32], rows: &[i32]) -> Result<(), Refusal> {
+    unsafe { entry(header.as_ptr(), header.len(), rows.as_ptr(), rows.len()) }.values()?;
+    Ok(())
+}
+
+fn run_by(
+    entry: foreign::Run,
+    header: &[i32],
+    rows: &[i32],
+    store: &mut [i32],
+    budget: u32,
+) -> Result<Run, Refusal> {
+    let (header, header_words) = (header.as_ptr(), header.len());
+    let (rows, row_words) = (rows.as_ptr(), rows.len());
+    let (store, store_words) = (store.as_mut_ptr(), store.len());
+    let answer =
+        unsafe { entry(header, header_words, rows, row_words, store, store_words, budget) };
+    let (ending, count) = answer.values()?;
+    Ok(Run { ending: ENDINGS[ending], count: count as u32 })
+}
+
+fn read_by(
+    entry: foreign::Read,
+    text: &[u8],
+    header: &mut [i32],
+    rows: &mut [i32],
+) -> Result<Tables, Refusal> {
+    let (text, text_bytes) = (text.as_ptr(), text.len());
+    let (header, header_words) = (header.as_mut_ptr(), header.len());
+    let (rows, row_words) = (rows.as_mut_ptr(), rows.len());
+    unsafe { entry(text, text_bytes, header, header_words, rows, row_words) }.tables()
+}
+
+fn write_by(
+    entry: foreign::Write,
+    header: &[i32],
+    rows: &[i32],
+    text: &mut [u8],
+) -> Result<usize, Refusal> {
+    let (header, header_words) = (header.as_ptr(), header.len());
+    let (rows, row_words) = (rows.as_ptr(), rows.len());
+    let (text, text_bytes) = (text.as_mut_ptr(), text.len());
+    let answer = unsafe { entry(header, header_words, rows, row_words, text, text_bytes) };
+    Ok(answer.values()?.0)
 }
 
 /// The check of source programs.
 pub fn check(header: &[i32], rows: &[i32]) -> Result<(), Refusal> {
-    unsafe { foreign::clight_check(header.as_ptr(), header.len(), rows.as_ptr(), rows.len()) }
-        .accepted()
+    check_by(foreign::clight_check, header, rows)
+}
+
+/// The check of kernel programs.
+pub fn kernel_check(header: &[i32], rows: &[i32]) -> Result<(), Refusal> {
+    check_by(foreign::clight_kernel_check, header, rows)
 }
 
 /// Runs a source program on a store of S words.
 pub fn run(header: &[i32], rows: &[i32], store: &mut [i32], budget: u32) -> Result<Run, Refusal> {
-    unsafe {
-        foreign::clight_run(
-            header.as_ptr(),
-            header.len(),
-            rows.as_ptr(),
-            rows.len(),
-            store.as_mut_ptr(),
-            store.len(),
-            budget,
-        )
-    }
-    .run()
+    run_by(foreign::clight_run, header, rows, store, budget)
+}
+
+/// Runs a kernel program on a store of S+T words.
+pub fn kernel_run(
+    header: &[i32],
+    rows: &[i32],
+    store: &mut [i32],
+    budget: u32,
+) -> Result<Run, Refusal> {
+    run_by(foreign::clight_kernel_run, header, rows, store, budget)
+}
+
+/// Reads a source text; words of both tables beyond the result keep their content.
+pub fn read_source(text: &[u8], header: &mut [i32], rows: &mut [i32]) -> Result<Tables, Refusal> {
+    read_by(foreign::clight_read_source, text, header, rows)
+}
+
+/// Reads a kernel text; words of both tables beyond the result keep their content.
+pub fn read_kernel(text: &[u8], header: &mut [i32], rows: &mut [i32]) -> Result<Tables, Refusal> {
+    read_by(foreign::clight_read_kernel, text, header, rows)
+}
+
+/// Writes a source program as a text and gives its bytes; those beyond keep their content.
+pub fn write_source(header: &[i32], rows: &[i32], text: &mut [u8]) -> Result<usize, Refusal> {
+    write_by(foreign::clight_write_source, header, rows, text)
+}
+
+/// Writes a kernel program as a text and gives its bytes; those beyond keep their content.
+pub fn write_kernel(header: &[i32], rows: &[i32], text: &mut [u8]) -> Result<usize, Refusal> {
+    write_by(foreign::clight_write_kernel, header, rows, text)
 }
 
 /// Writes the kernel form of a source program; words of both tables beyond the
@@ -178,93 +237,4 @@ pub fn translate(
         )
     }
     .tables()
-}
-
-/// The check of kernel programs.
-pub fn kernel_check(header: &[i32], rows: &[i32]) -> Result<(), Refusal> {
-    unsafe {
-        foreign::clight_kernel_check(header.as_ptr(), header.len(), rows.as_ptr(), rows.len())
-    }
-    .accepted()
-}
-
-/// Runs a kernel program on a store of S+T words.
-pub fn kernel_run(
-    header: &[i32],
-    rows: &[i32],
-    store: &mut [i32],
-    budget: u32,
-) -> Result<Run, Refusal> {
-    unsafe {
-        foreign::clight_kernel_run(
-            header.as_ptr(),
-            header.len(),
-            rows.as_ptr(),
-            rows.len(),
-            store.as_mut_ptr(),
-            store.len(),
-            budget,
-        )
-    }
-    .run()
-}
-
-/// Reads a source text; words of both tables beyond the result keep their content.
-pub fn read_source(text: &[u8], header: &mut [i32], rows: &mut [i32]) -> Result<Tables, Refusal> {
-    unsafe {
-        foreign::clight_read_source(
-            text.as_ptr(),
-            text.len(),
-            header.as_mut_ptr(),
-            header.len(),
-            rows.as_mut_ptr(),
-            rows.len(),
-        )
-    }
-    .tables()
-}
-
-/// Reads a kernel text; words of both tables beyond the result keep their content.
-pub fn read_kernel(text: &[u8], header: &mut [i32], rows: &mut [i32]) -> Result<Tables, Refusal> {
-    unsafe {
-        foreign::clight_read_kernel(
-            text.as_ptr(),
-            text.len(),
-            header.as_mut_ptr(),
-            header.len(),
-            rows.as_mut_ptr(),
-            rows.len(),
-        )
-    }
-    .tables()
-}
-
-/// Writes a source program as a text and gives its bytes; those beyond keep their content.
-pub fn write_source(header: &[i32], rows: &[i32], text: &mut [u8]) -> Result<usize, Refusal> {
-    unsafe {
-        foreign::clight_write_source(
-            header.as_ptr(),
-            header.len(),
-            rows.as_ptr(),
-            rows.len(),
-            text.as_mut_ptr(),
-            text.len(),
-        )
-    }
-    .bytes()
-}
-
-/// Writes a kernel program as a text and gives its bytes; those beyond keep their content.
-pub fn write_kernel(header: &[i32], rows: &[i32], text: &mut [u8]) -> Result<usize, Refusal> {
-    unsafe {
-        foreign::clight_write_kernel(
-            header.as_ptr(),
-            header.len(),
-            rows.as_ptr(),
-            rows.len(),
-            text.as_mut_ptr(),
-            text.len(),
-        )
-    }
-    .bytes()
 }

@@ -4,9 +4,10 @@
 
 mod compared;
 
-use compared::{kernel_program, source_case, Tally};
+use compared::{kernel_program, reader, source_case, source_tables, Tally, KERNEL, SOURCE};
 use interpreter::generate::Size;
 use interpreter::random::Random;
+use interpreter::Form::Source;
 use interpreter::{damage, generate, generate_kernel};
 
 #[test]
@@ -67,7 +68,7 @@ fn translated_programs() {
     for number in 0..1_500 {
         let random = &mut Random::new(40, number);
         let case = generate::case(41, number, Size::Mixed);
-        let (header, rows) = interpreter::text::read(&case.text).unwrap();
+        let (header, rows) = interpreter::text::read(Source, &case.text).unwrap();
         let mut kernel_header = vec![0; header.len() + 1];
         let mut kernel_rows = vec![0; 6 * clight::kernel_rows(rows.len() / 6)];
         let tables =
@@ -111,7 +112,7 @@ fn random_tables() {
         let header = words(random, 4);
         let rows = words(random, 26);
         kernel_program(random, &header, &rows, &mut tally);
-        compared::source_tables(&header, &rows, &mut vec![7; random.below(9)], 50, &mut tally);
+        source_tables(&header, &rows, &mut vec![7; random.below(9)], 50, &mut tally);
     }
     tally.expect(&[1, 2, 3]);
 }
@@ -124,8 +125,8 @@ fn random_texts() {
         let random = &mut Random::new(37, number);
         let length = random.below(40);
         let text: Vec<u8> = (0..length).map(|_| random.pick(b"00123\t\t\n\n- +9")).collect();
-        compared::source_text(&text, &mut tally);
-        compared::kernel_text(&text, &mut tally);
+        reader(&SOURCE, &text, &mut tally);
+        reader(&KERNEL, &text, &mut tally);
     }
     tally.expect(&[2, 14]);
 }
@@ -137,11 +138,11 @@ fn long_texts() {
     let row = "40\t0\t0\t0\t0\t0\n";
     for rows in [2_047, 2_048, 2_049, 40_979, 40_980, 40_981] {
         let text = format!("0\t0\n{}", row.repeat(rows));
-        compared::kernel_text(text.as_bytes(), &mut tally);
-        compared::source_text(text[2..].as_bytes(), &mut tally);
+        reader(&KERNEL, text.as_bytes(), &mut tally);
+        reader(&SOURCE, text[2..].as_bytes(), &mut tally);
         let broken = format!("{text}40\t0\t0\t0\t0\n{row}");
-        compared::kernel_text(broken.as_bytes(), &mut tally);
-        compared::source_text(broken[2..].as_bytes(), &mut tally);
+        reader(&KERNEL, broken.as_bytes(), &mut tally);
+        reader(&SOURCE, broken[2..].as_bytes(), &mut tally);
     }
     tally.expect(&[0, 2, 14]);
 }

@@ -1,7 +1,7 @@
 //! Generated statements and whole programs.
 
-use crate::expressions::STEPS;
-use crate::generate::{end_value, Maker};
+use super::expressions::STEPS;
+use super::{end_value, Maker};
 use crate::table::*;
 use crate::tree::*;
 
@@ -37,41 +37,34 @@ impl Maker<'_> {
     fn statement(&mut self, items: &mut Vec<Tree>, level: i32) {
         self.room -= 1;
         let inner = (level > 0 && self.room > 6) as usize;
-        let form = self.random.weighted(&[
-            (46, 0),
-            (11 * inner, 1),
-            (4 * inner, 2),
-            (10 * inner, 3),
-            (10 * inner, 4),
-            (11 * inner, 5),
-            (18 * inner, 6),
-            (3, 7),
-            (5 * self.breakable as usize, 8),
-            (14 * self.in_loop as usize, 9),
+        let kind = self.random.weighted(&[
+            (46, EXPRESSION),
+            (11 * inner, IF),
+            (4 * inner, BLOCK),
+            (10 * inner, WHILE),
+            (10 * inner, DO),
+            (11 * inner, FOR),
+            (18 * inner, SWITCH),
+            (3, EMPTY),
+            (5 * self.breakable as usize, BREAK),
+            (14 * self.in_loop as usize, CONTINUE),
         ]);
-        match form {
-            0 => {
+        match kind {
+            EXPRESSION => {
                 let depth = self.random.pick(&[1, 2, 2, 3, 3, 4]);
                 items.push(expression(self.top_expression(depth)));
             }
-            1 => {
+            IF => {
                 let test = self.expression(2);
                 let yes = self.single(level - 1);
                 let no = self.random.chance(50).then(|| self.single(level - 1));
                 items.push(choice(test, yes, no));
             }
-            2 => {
-                let list = self.list(level - 1, 3);
-                items.push(block(list));
-            }
-            3..=5 => self.any_loop(items, level, form),
-            6 => {
-                let tree = self.switch(level);
-                items.push(tree);
-            }
-            7 => items.push(plain(EMPTY)),
-            8 => items.push(self.jump(BREAK)),
-            _ => items.push(self.jump(CONTINUE)),
+            BLOCK => items.push(block(self.list(level - 1, 3))),
+            WHILE | DO | FOR => self.any_loop(items, level, kind),
+            SWITCH => items.push(self.switch(level)),
+            EMPTY => items.push(plain(EMPTY)),
+            _ => items.push(self.jump(kind)),
         }
     }
 
@@ -115,7 +108,7 @@ impl Maker<'_> {
     }
 
     /// One statement that is a branch or body.
-    fn single(&mut self, level: i32) -> Tree {
+    pub fn single(&mut self, level: i32) -> Tree {
         let mut items = Vec::new();
         for _ in 0..self.random.pick(&[1, 1, 2, 3]) {
             if self.room > 0 {
@@ -133,137 +126,25 @@ impl Maker<'_> {
         }
     }
 
-    /// A loop of kind 3 while, 4 do, 5 for, mostly bounded by a counter.
-    fn any_loop(&mut self, items: &mut Vec<Tree>, level: i32, form: i32) {
-        let limit = if self.rounds > 12 { 2 } else { 5 };
-        let rounds = self.random.between(0, limit);
-        let number = match self.variables {
-            0 => None,
-            _ => Some(self.written_variable()),
-        };
-        let counter = match number {
-            Some(number) => variable(number),
-            None if self.lengths.is_empty() => {
-                // No place to count in: a loop of at most one round.
-                let body = self.body(level, None, 1);
-                items.push(match form {
-                    3 => while_loop(constant(0), body),
-                    4 => do_loop(body, constant(0)),
-                    _ => for_loop(None, Some(constant(0)), None, body),
-                });
-                return;
-            }
-            None => element(self.array(), constant(0)),
-        };
-        self.room -= 8;
-        let endless = self.random.chance(self.endless);
-        let body = self.body(level, number, rounds.max(1));
-        let zero = assign(counter.clone(), constant(0));
-        let up = self.random.pick(&[PRE_INCREMENT, POST_INCREMENT]);
-        let count = unary(up, counter.clone());
-        let limit = match up {
-            PRE_INCREMENT => constant(rounds + 1),
-            _ => constant(rounds),
-        };
-        let counted = binary(LESS, count.clone(), limit);
-        let test = match self.random.below(5) {
-            0 => binary(COMMA, self.effect_or_leaf(1), counted),
-            1 => binary(AND, counted, self.expression(1)),
-            _ => counted,
-        };
-        match form {
-            _ if endless => {
-                let step = self.random.chance(50).then(|| self.effect_or_leaf(2));
-                items.push(match form {
-                    3 => while_loop(constant(1), body),
-                    4 => do_loop(body, self.pick_constant(&[1, -1, i32::MIN])),
-                    _ => for_loop(None, None, step, body),
-                });
-            }
-            3 => {
-                let (start, test) = match self.random.below(4) {
-                    0 => {
-                        // Down to zero: v-- as the test.
-                        let start = assign(counter.clone(), constant(rounds));
-                        (start, unary(POST_DECREMENT, counter))
-                    }
-                    _ => (zero, test),
-                };
-                items.push(expression(start));
-                items.push(match self.random.chance(20) {
-                    true => self.loop_left_by_break(3, test, body),
-                    false => while_loop(test, body),
-                });
-            }
-            4 => {
-                items.push(expression(zero));
-                items.push(match self.random.chance(15) {
-                    true => self.loop_left_by_break(4, test, body),
-                    false => do_loop(body, test),
-                });
-            }
-            _ => {
-                let start = match self.random.below(4) {
-                    0 => binary(COMMA, zero, self.effect_or_leaf(1)),
-                    _ => zero,
-                };
-                let compare = binary(LESS, counter.clone(), constant(rounds));
-                let step = match self.random.below(4) {
-                    0 => binary(ADD_ASSIGN, counter, constant(1)),
-                    1 => binary(COMMA, self.effect_or_leaf(1), count),
-                    _ => count,
-                };
-                let tree = match self.random.below(8) {
-                    0 => {
-                        items.push(expression(start));
-                        for_loop(None, Some(compare), Some(step), body)
-                    }
-                    1 => for_loop(Some(start), Some(test), None, body),
-                    2 => {
-                        items.push(expression(start));
-                        self.loop_left_by_break(5, test, body)
-                    }
-                    3 => {
-                        let leave = choice(unary(NOT, compare), plain(BREAK), None);
-                        for_loop(Some(start), None, Some(step), block(vec![leave, body]))
-                    }
-                    _ => for_loop(Some(start), Some(compare), Some(step), body),
-                };
-                items.push(tree);
-            }
-        }
-    }
-
-    /// An endless loop whose body leaves by break where the test fails.
-    fn loop_left_by_break(&mut self, form: i32, test: Tree, body: Tree) -> Tree {
-        self.room -= 4;
-        let leave = match self.random.chance(50) {
-            true => choice(test, plain(EMPTY), Some(plain(BREAK))),
-            false => choice(unary(NOT, test), plain(BREAK), None),
-        };
-        let body = block(vec![leave, body]);
-        match form {
-            3 => while_loop(constant(-1), body),
-            4 => do_loop(body, constant(1)),
-            _ => for_loop(None, None, None, body),
-        }
-    }
-
-    fn body(&mut self, level: i32, counter: Option<i32>, rounds: i32) -> Tree {
-        let before = (self.in_loop, self.breakable, self.rounds, self.counters.len());
-        self.in_loop = true;
-        self.breakable = true;
-        self.rounds *= rounds;
-        self.counters.extend(counter);
-        let body = self.single(level - 1);
-        self.counters.truncate(before.3);
-        (self.in_loop, self.breakable, self.rounds, _) = before;
-        body
-    }
-
     fn switch(&mut self, level: i32) -> Tree {
         let marks = self.random.between(0, 5);
-        let selector = match self.random.below(10) {
+        let selector = self.selector();
+        let before = self.breakable;
+        self.breakable = true;
+        let mut items = Vec::new();
+        if self.random.chance(22) {
+            items.extend(self.list(level - 1, 2));
+            if self.random.chance(25) {
+                items.push(plain(BREAK));
+            }
+        }
+        self.marks(&mut items, level, marks);
+        self.breakable = before;
+        switch(selector, items)
+    }
+
+    fn selector(&mut self) -> Tree {
+        match self.random.below(10) {
             // A counter goes through the cases.
             0..=4 if !self.counters.is_empty() => {
                 self.room -= 1;
@@ -275,16 +156,11 @@ impl Maker<'_> {
             }
             5 | 6 if self.variables > 0 => variable(self.read_variable()),
             _ => self.expression(2),
-        };
-        let before = self.breakable;
-        self.breakable = true;
-        let mut items = Vec::new();
-        if self.random.chance(22) {
-            items.extend(self.list(level - 1, 2));
-            if self.random.chance(25) {
-                items.push(plain(BREAK));
-            }
         }
+    }
+
+    /// Up to so many cases of different values, and mostly a default, each with its items.
+    fn marks(&mut self, items: &mut Vec<Tree>, level: i32, marks: i32) {
         let default = match self.random.chance(65) {
             true => self.random.between(0, marks),
             false => -1,
@@ -293,7 +169,7 @@ impl Maker<'_> {
         for mark in 0..=marks {
             if mark == default {
                 items.push(plain(DEFAULT));
-                self.segment(&mut items, level);
+                self.segment(items, level);
             }
             if mark < marks {
                 let value = match self.random.chance(6) {
@@ -306,11 +182,9 @@ impl Maker<'_> {
                 values.push(value);
                 self.room -= 1;
                 items.push(case(value));
-                self.segment(&mut items, level);
+                self.segment(items, level);
             }
         }
-        self.breakable = before;
-        switch(selector, items)
     }
 
     /// The items from one mark to the next: with break, or falling through.

@@ -1,0 +1,86 @@
+//! The two forms of a program, source and kernel, and what sets them apart:
+//! the header, the limits and the kinds.
+
+use crate::table::*;
+
+#[derive(Clone, Copy, Debug, PartialEq, Eq)]
+pub enum Form {
+    /// C-light. A header has V, then the array lengths.
+    Source,
+    /// What a translation is written in. A header has V, T, then the lengths.
+    Kernel,
+}
+
+use Form::{Kernel, Source};
+
+impl Form {
+    pub fn max_rows(self) -> usize {
+        match self {
+            Source => MAX_ROWS,
+            Kernel => MAX_KERNEL_ROWS,
+        }
+    }
+
+    pub fn max_depth(self) -> u32 {
+        match self {
+            Source => MAX_DEPTH,
+            Kernel => MAX_KERNEL_DEPTH,
+        }
+    }
+
+    /// How many words of a header stand ahead of the array lengths.
+    pub fn leading_words(self) -> usize {
+        match self {
+            Source => 1,
+            Kernel => 2,
+        }
+    }
+
+    /// The array lengths of a header that has its leading words.
+    pub fn lengths(self, header: &[i32]) -> &[i32] {
+        &header[self.leading_words()..]
+    }
+
+    /// T, the number of temporaries.
+    pub fn temporaries(self, header: &[i32]) -> i32 {
+        match self {
+            Source => 0,
+            Kernel => header[1],
+        }
+    }
+
+    /// S, the number of words of the variables and the arrays.
+    pub fn size(self, header: &[i32]) -> i64 {
+        i64::from(header[0]) + self.lengths(header).iter().map(|&n| i64::from(n)).sum::<i64>()
+    }
+
+    /// The words of the store: S, or S+T where there are temporaries.
+    pub fn store_words(self, header: &[i32]) -> usize {
+        (self.size(header) + i64::from(self.temporaries(header))) as usize
+    }
+
+    /// The fields a to d of a kind; none where the kind is not in the language.
+    pub fn fields(self, kind: i32) -> Option<[Field; 4]> {
+        let known = match (self, kind) {
+            (Source, kind) => kind <= CONTINUE,
+            (Kernel, CONSTANT..=MINUS | ADD..=UNEQUAL | ASSIGN) => true,
+            (Kernel, EMPTY..=WHILE | GOTO | LABEL) => true,
+            (Kernel, _) => false,
+        };
+        if known {
+            fields(kind)
+        } else {
+            None
+        }
+    }
+
+    /// The fields of a kind; all are unused where it is not in the language.
+    pub fn fields_or_unused(self, kind: i32) -> [Field; 4] {
+        self.fields(kind).unwrap_or([Field::Unused; 4])
+    }
+
+    /// Whether the kind is a statement of this form.
+    pub fn is_statement(self, kind: i32) -> bool {
+        !is_expression(kind) && self.fields(kind).is_some()
+    }
+}

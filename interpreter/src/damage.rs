@@ -33,7 +33,7 @@ enum Damage {
     BranchNext,
     Linked,
     Number,
-    Poke,
+    AnyWord,
     Swap,
     // On the bytes, on the start words.
     Text,
@@ -54,7 +54,7 @@ const WEIGHTS: [(usize, Damage); 17] = [
     (9, Damage::BranchNext),
     (22, Damage::Linked),
     (22, Damage::Number),
-    (12, Damage::Poke),
+    (12, Damage::AnyWord),
     (9, Damage::Swap),
     (16, Damage::Text),
     (14, Damage::Words),

@@ -2,10 +2,10 @@
 //! read and written on both sides, effects in indices, fall-through, jumps
 //! through nests, faults half-way, and budgets next to the count.
 
+mod aliasing;
 mod expressions;
 mod loops;
 mod statements;
-mod tangles;
 
 use crate::cases::Case;
 use crate::check::check;

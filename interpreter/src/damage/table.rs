@@ -37,7 +37,7 @@ pub fn damage_table(random: &mut Random, header: &mut Vec<i32>, rows: &mut Vec<R
         Damage::BranchNext => damage_branch_next(random, rows),
         Damage::Linked => damage_linked(random, rows),
         Damage::Number => damage_number(random, header, rows),
-        Damage::Poke => poke(random, rows),
+        Damage::AnyWord => any_word(random, rows),
         Damage::Swap => swap(random, rows),
         _ => {}
     }
@@ -216,7 +216,7 @@ fn damage_number(random: &mut Random, header: &mut Vec<i32>, rows: &mut [Row]) {
 
 /// A change of any word, or of a kind into a kind of the same fields, or a row
 /// lost or doubled.
-fn poke(random: &mut Random, rows: &mut Vec<Row>) {
+fn any_word(random: &mut Random, rows: &mut Vec<Row>) {
     let all = rows_where(rows, |_| true);
     let Some(at) = some_row(random, &all) else { return };
     let n = rows.len() as i32;

@@ -150,7 +150,7 @@ impl Maker<'_> {
                 binary(kind, place, value)
             }
             10 => unary(self.random.pick(&STEPS), self.place(level)),
-            11 => self.tangle(level),
+            11 => self.aliasing(level),
             _ => self.edge(level),
         }
     }

@@ -74,7 +74,7 @@ impl Maker<'_> {
             return self.expression(level);
         }
         match self.random.below(10) {
-            0..=2 => self.tangle(level),
+            0..=2 => self.aliasing(level),
             3..=4 => self.expression(level),
             _ => self.effect_or_leaf(level),
         }

@@ -36,10 +36,10 @@ impl Maker<'_> {
     }
 
     /// One place read and written on both sides of something.
-    pub fn tangle(&mut self, level: i32) -> Tree {
+    pub fn aliasing(&mut self, level: i32) -> Tree {
         let place = self.shared_place();
         let read = place.clone();
-        let index_tangles = !self.lengths.is_empty() && self.variables > 0;
+        let index_aliasing = !self.lengths.is_empty() && self.variables > 0;
         self.room -= 1;
         match self.random.below(13) {
             0 | 1 => binary(self.calm_operator(), self.effect(place, level), read),
@@ -63,9 +63,9 @@ impl Maker<'_> {
                 let test = self.effect(place.clone(), level);
                 conditional(test, read, self.effect(place, level))
             }
-            8 | 9 if index_tangles => self.index_tangle(level, false),
-            10 | 11 if index_tangles => self.index_tangle(level, true),
-            12 if !self.lengths.is_empty() => self.array_tangle(level),
+            8 | 9 if index_aliasing => self.aliased_index(level, false),
+            10 | 11 if index_aliasing => self.aliased_index(level, true),
+            12 if !self.lengths.is_empty() => self.aliased_array(level),
             _ => {
                 let kind = self.calm_operator();
                 let value = binary(kind, self.effect(place, level), read.clone());
@@ -75,7 +75,7 @@ impl Maker<'_> {
     }
 
     /// a[a[i] = k] and the same array as the value.
-    fn array_tangle(&mut self, level: i32) -> Tree {
+    fn aliased_array(&mut self, level: i32) -> Tree {
         self.room -= 4;
         let array = self.array();
         let last = self.lengths[array as usize] - 1;
@@ -86,7 +86,7 @@ impl Maker<'_> {
     }
 
     /// A variable that is index and value at once.
-    fn index_tangle(&mut self, level: i32, compound: bool) -> Tree {
+    fn aliased_index(&mut self, level: i32, compound: bool) -> Tree {
         self.room -= 4;
         let array = self.array();
         let last = self.lengths[array as usize] - 1;

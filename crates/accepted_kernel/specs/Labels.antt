@@ -1,6 +1,6 @@
 -- Labels: a label that is ahead of a row stands among the items ahead of its tree.
-use mathlib.Core.Path.{_≡_, subst, refl, sym, _∙_}
-use mathlib.Core.Bool.{Bool, true, false, _||_}
+use mathlib.Core.Path.{_≡_, subst, sym, _∙_}
+use mathlib.Core.Bool.{Bool, true, _||_}
 use mathlib.Core.List.{List}
 use Prim.Native.Nat.{ℕ, _<_}
 use native.Mathlib.Omega.{arith}
@@ -10,7 +10,8 @@ use Rattle.words.specs.Table.{rowCount}
 use Rattle.words.specs.Kinds.{kinds, kindIn, kindOf, kindAt}
 use Rattle.words.specs.declared.Form.the-variants.{Kernel}
 use Rattle.words.specs.declared.Kind.the-variants.{Label}
-use Rattle.language.specs.Trees.{Mark, label, sameMark, has, Items, none, _then_, _here_, _⧺_}
+use Rattle.language.specs.Trees.{Mark, label, sameMark, has, Items, _⧺_}
+use Rattle.language.specs.TreeLaws.{has-next, has-left, has-right}
 use Rattle.language.specs.DecodeLaws.{listAt, at-label}
 use Rattle.structure.specs.Grammar.{link}
 use Rattle.structure.specs.Fields.{fits}
@@ -27,29 +28,8 @@ use Rattle.accepted.specs.Statements.{ListRow, no-items, item, case-item, defau
 
 -- ---- marks in a list
 
-or-right : (a b : Bool) → b ≡ true → (a || b) ≡ true
-or-right true b e = refl
-or-right false b e = e
-
 or-left : (a b : Bool) → a ≡ true → (a || b) ≡ true
 or-left a b e = rw e
-
--- a mark of a list, or of what follows it
-pub has-behind : (m : Mark) (is ahead : Items) → has m ahead ≡ true → has m (is ⧺ ahead) ≡ true
-unfolding has _⧺_
-has-behind m none ahead e = e
-has-behind m (s then is) ahead e = has-behind m is ahead e
-has-behind m (n here is) ahead e = or-right (sameMark m n) (has m (is ⧺ ahead)) (has-behind m is ahead e)
-
-pub has-in : (m : Mark) (is ahead : Items) → has m is ≡ true → has m (is ⧺ ahead) ≡ true
-unfolding has _⧺_
-has-in m none ahead e = absurd (let z : _≡_ {A = ℕ} 0 1 = cc in omega arith)
-has-in m (s then is) ahead e = has-in m is ahead e
-has-in m (n here is) ahead e = go (sameMark m n) e (has-in m is ahead)
-  where
-    go : (b : Bool) → (b || has m is) ≡ true → (has m is ≡ true → has m (is ⧺ ahead) ≡ true) → (b || has m (is ⧺ ahead)) ≡ true
-    go true e r = refl
-    go false e r = r e
 
 module _ (header rows : List ℤ) (s : Structured Kernel header rows) where
   -- an item of a list, which another leads to
@@ -67,9 +47,9 @@ module _ (header rows : List ℤ) (s : Structured Kernel header rows) where
   unfolding has
   from-item m (no-items z e) p h = absurd (omega arith)
   from-item m (item q e statement rest) p h = rw e h
-  from-item m (case-item q k e statement rest) p h = rw e (or-right (sameMark m _) _ h)
-  from-item m (default-item q k e statement rest) p h = rw e (or-right (sameMark m _) _ h)
-  from-item m (label-item q k e statement rest) p h = rw e (or-right (sameMark m _) _ h)
+  from-item m {l} (case-item q k e statement rest) p h = rw e (has-next m _ (listAt rows (link rows l 5)) h)
+  from-item m {l} (default-item q k e statement rest) p h = rw e (has-next m _ (listAt rows (link rows l 5)) h)
+  from-item m {l} (label-item q k e statement rest) p h = rw e (has-next m _ (listAt rows (link rows l 5)) h)
 
   from-earlier : (m : Mark) {item row : ℕ} → Before rows item row → has m (listAt rows (link rows row 5)) ≡ true → has m (listAt rows (link rows item 5)) ≡ true
   from-earlier m (adjacent {item} leads) h = from-item m (item-row item (leads-inside leads) leads) (let l = leads .later in omega arith) h
@@ -95,10 +75,10 @@ module _ (header rows : List ℤ) (s : Structured Kernel header rows) where
 
   -- for an item of a list: those behind it, and those ahead of the list's owner
   pub covers-item : (ahead : Items) (owner row : ℕ) → Owner rows owner row → Covers ahead owner → Covers (listAt rows (link rows row 5) ⧺ ahead) row
-  covers-item ahead owner row o c number (behind b l) = has-in (label number) (listAt rows (link rows row 5)) ahead (behind-has number b l)
+  covers-item ahead owner row o c number (behind b l) = has-left (label number) (listAt rows (link rows row 5)) ahead (behind-has number b l)
   covers-item ahead owner row o c number (outward p a) =
       let t = structured-tree Kernel header rows s in
-      has-behind (label number) (listAt rows (link rows row 5)) ahead (c number (subst (Ahead rows number) (sym (owner-is rows t p) ∙ owner-is rows t o) a))
+      has-right (label number) (listAt rows (link rows row 5)) ahead (c number (subst (Ahead rows number) (sym (owner-is rows t p) ∙ owner-is rows t o) a))
 
   -- for a branch or body, which has nothing behind it: those ahead of its owner
   pub covers-branch : (ahead : Items) (owner row : ℕ) → Owner rows owner row → link rows row 5 ≡ 0 → Covers ahead owner → Covers ahead row

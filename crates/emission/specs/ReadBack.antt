@@ -12,10 +12,11 @@ use Rattle.words.specs.declared.Operator.{Operator}
 use Rattle.words.specs.declared.Operator.the-variants.{Add, Subtract, Multiply, Divide, Remainder, Less, Greater, LessOrEqual, GreaterOrEqual, Equal, NotEqual}
 use Rattle.words.specs.declared.Kind.{Kind}
 use Rattle.words.specs.declared.Kind.the-variants.{Constant, Variable, Element, Minus, Binary, Assign, Empty, Express, Block, If, While, Goto, Label}
-use Rattle.language.specs.Trees.{Expression, constant, read, minus, binary, assign, Place, variable, element, label, Statement, empty, express, block, ifThen, ifElse, while, doWhile, for, switch, break, continue, goto, Items, none, _then_, _here_}
+use Rattle.language.specs.Trees.{Expression, constant, read, minus, binary, assign, Place, variable, element, label, Statement, express, block, while, goto, Items, none, _then_, _here_}
 use Rattle.language.specs.Decode.{placeOf, expressionAt, statementAt, itemsAt, decode}
 use Rattle.language.specs.DecodeLaws.{Whole, Forward, listAt, isStatement, at-constant, at-variable, at-element, at-minus, at-binary, at-assign, at-empty, at-express, at-block, at-ifElse, at-while, at-goto, at-item, at-label}
 use Rattle.language.specs.Sizes.{statementRows}
+use Rattle.language.specs.TreeLaws.{statement-some}
 use Rattle.emission.specs.Emission.{operatorNumber, listLink, emit}
 use Rattle.emission.specs.EmissionLaws.{length-emit}
 use Rattle.emission.specs.KernelKinds.{StatementInKernel}
@@ -33,22 +34,6 @@ pub link-forward : (is : Items) (row base : ℕ) → row < base → Forward row 
 link-forward none row base h p = absurd (omega arith)
 link-forward (s then is) row base h p = h
 link-forward (m here is) row base h p = h
-
--- Every statement has a row.
-pub statement-some : (s : Statement) → 0 < statementRows s
-unfolding statementRows
-statement-some empty = omega arith
-statement-some (express e) = omega arith
-statement-some (block is) = omega arith
-statement-some (ifThen e onTrue) = omega arith
-statement-some (ifElse e onTrue onFalse) = omega arith
-statement-some (while e body) = omega arith
-statement-some (doWhile body e) = omega arith
-statement-some (for first test action body) = omega arith
-statement-some (switch e is) = omega arith
-statement-some break = omega arith
-statement-some continue = omega arith
-statement-some (goto l) = omega arith
 
 -- ---- kinds
 

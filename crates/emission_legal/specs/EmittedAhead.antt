@@ -12,6 +12,7 @@ use lib.IntN.{ℤ}
 use Rattle.words.specs.Table.{rowCount, numberAt}
 use Rattle.language.specs.Trees.{Expression, Place, Mark, label, sameMark, has, Statement, Items, none, _then_, _here_, _⧺_}
 use Rattle.language.specs.Sizes.{expressionRows, placeRows, statementRows, itemsRows}
+use Rattle.language.specs.TreeLaws.{statement-some}
 use Rattle.translation.specs.KernelForm.{KernelStatement, kernel-block, kernel-if, kernel-while, kernel-goto, KernelItems, kernel-then, kernel-label}
 use Rattle.structure.specs.Grammar.{grammar, sortOf, isLink, isStatement, link}
 use Rattle.structure.specs.Structured.{Leads}
@@ -20,7 +21,7 @@ use Rattle.kernel_check.specs.Statements.{isKernelStatement}
 use Rattle.kernel_check.specs.Legal.{Owner, part, beside, Ahead, behind, outward}
 use Rattle.emission.specs.Emission.{listLink}
 use Rattle.emission.specs.Emitted.{Row, EmittedExpression, constant-at, read-at, minus-at, binary-at, assign-at, EmittedPlace, variable-at, element-at, EmittedStatement, empty-at, express-at, block-at, if-at, while-at, goto-at, EmittedItems, none-at, then-at, label-at}
-use Rattle.emission.specs.ReadBack.{statement-some, link-forward}
+use Rattle.emission.specs.ReadBack.{link-forward}
 use Rattle.emission_legal.specs.Ranges.{Each, none-of, join, first-and}
 use Rattle.emission_legal.specs.Suits.{row-link}
 use Rattle.emission_legal.specs.EmittedRows.{sort-binary, row-sort, first-statement}

@@ -14,13 +14,13 @@ use Rattle.words.specs.declared.Operator.the-variants.{Add, Subtract, Multiply,
 use Rattle.language.specs.Trees.{Expression, Place, Statement, Items}
 use Rattle.language.specs.WellFormed.{NamedExpression, NamedPlace, NamedStatement, NamedItems}
 use Rattle.language.specs.Sizes.{expressionRows, placeRows, statementRows, itemsRows}
+use Rattle.language.specs.TreeLaws.{statement-some}
 use Rattle.translation.specs.KernelForm.{isLabelNumber, KernelStatement, kernel-block, kernel-if, kernel-while, kernel-goto, KernelItems, kernel-then, kernel-label}
 use Rattle.structure.specs.Grammar.{unused, variable, array, label, expression, place, branch, optionalBranch, optionalItem, grammar, sortOf, sortAt, between, inLanguage, isExpression, isPlace, isStatement}
 use Rattle.structure.specs.Fields.{fits, numberFits}
 use Rattle.structure.specs.declared.Bounds.{Bounds}
 use Rattle.emission.specs.Emission.{operatorNumber, listLink}
 use Rattle.emission.specs.Emitted.{Row, EmittedExpression, constant-at, read-at, minus-at, binary-at, assign-at, EmittedPlace, variable-at, element-at, EmittedStatement, empty-at, express-at, block-at, if-at, while-at, goto-at, EmittedItems, none-at, then-at, label-at}
-use Rattle.emission.specs.ReadBack.{statement-some}
 use Rattle.emission_legal.specs.Ranges.{Each, none-of, join, first-and}
 use Rattle.emission_legal.specs.Suits.{Suits, RowLegal, suits-unused, suits-value, suits-name, suits-link-to, suits-absent, row-legal}
 

@@ -15,6 +15,7 @@ use Rattle.words.specs.declared.Form.the-variants.{Kernel}
 use Rattle.language.specs.Trees.{block, Items, none}
 use Rattle.language.specs.WellFormed.{NamedStatement, NamedItems}
 use Rattle.language.specs.Sizes.{statementRows}
+use Rattle.language.specs.TreeLaws.{statement-some}
 use Rattle.translation.specs.KernelForm.{isLabelNumber, KernelName, name-variable, name-temporary, KernelItems, kernel-block}
 use Rattle.structure.specs.Grammar.{variable, array, label}
 use Rattle.structure.specs.Fields.{boundsOf, numberFits}
@@ -23,7 +24,6 @@ use Rattle.emission.specs.Emission.{listLink, emit}
 use Rattle.emission.specs.EmissionLaws.{length-emit}
 use Rattle.emission.specs.Emitted.{Row, EmittedStatement, block-at, emitted}
 use Rattle.emission.specs.KernelKinds.{a-block}
-use Rattle.emission.specs.ReadBack.{statement-some}
 use Rattle.emission_legal.specs.FormKinds.{items-kinds}
 use Rattle.emission_legal.specs.Suits.{RowLegal, suits-absent}
 use Rattle.emission_legal.specs.EmittedRows.{or-true, legal-statement}

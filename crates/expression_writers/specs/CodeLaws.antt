@@ -8,6 +8,7 @@ use lib.IntN.{ℤ, pos}
 use Rattle.words.specs.Word.{pick}
 use Rattle.language.specs.Trees.{Expression, constant, read, minus, not, binary, and, or, comma, conditional, assign, compound, prefix, postfix, variable, element, Part, absent, present, block, Items, _here_, _⧺_}
 use Rattle.language.specs.Sizes.{expressionRows, statementRows, itemsRows}
+use Rattle.language.specs.TreeLaws.{append-none, append-append}
 use Rattle.language.specs.DecodeLaws.{partAt}
 use Rattle.translation.specs.Translate.{expressionCode}
 use Rattle.translation.specs.TranslateSize.{expressionSize, partSize}
@@ -19,7 +20,7 @@ use Rattle.measures.specs.MeasureLaws.{size-parts}
 use Rattle.words.specs.Over.{over}
 use Rattle.leaves.specs.Room.{moreRows}
 use Rattle.leaves.specs.Straight.{lastSize}
-use Rattle.leaves.specs.Chain.{Wrote, more-is, block-words, append-none, append-append}
+use Rattle.leaves.specs.Chain.{Wrote, more-is, block-words}
 use Rattle.leaves.specs.declared.Atom.{Atom}
 use Rattle.leaves.specs.declared.Atom.the-variants.{Constant, Variable}
 use Rattle.expression_writers.specs.Code.{operandCode, lastCode, finishCode, branchCode}

@@ -28,9 +28,6 @@ later-same {A} other row f g h l = by (ltb row l) refl
     by true e = h l (ltb-true row l e)
     by false e = refl
 
-later-on : {A : Type 0} (other : A) (row : ℕ) (f : ℕ → A) (l : ℕ) → row < l → later other row f l ≡ f l
-later-on other row f l h = rw (lt-ltb row l h)
-
 -- Row l is absent, or later than row.
 abbrev pub Forward : ℕ → ℕ → Type 0
 Forward row l = 0 < l → row < l

@@ -15,6 +15,8 @@ pub mod Rules
 pub mod RulesHold
 -- Sizes: the rows and the depth of a tree.
 pub mod Sizes
+-- Laws of trees: one list of items behind another, the marks that a list has, the rows of a statement.
+pub mod TreeLaws
 -- Well-formed trees: numbers in range; break, continue, case and default in place.
 pub mod WellFormed
 -- Sound tables: what a run asks of a table.

@@ -8,8 +8,9 @@ use lib.IntN.{ℤ, pos}
 use lib.ListN.{length, length-append, length-drop}
 use borrow.Rule.Slice.PartMut.{midOf, putMid}
 use Rattle.words.specs.Word.{pick}
-use Rattle.language.specs.Trees.{Expression, Statement, empty, express, block, ifThen, ifElse, while, doWhile, for, switch, break, continue, goto, Items, none, _then_, _here_, _⧺_}
+use Rattle.language.specs.Trees.{Expression, Statement, block, ifElse, Items, none, _then_, _here_, _⧺_}
 use Rattle.language.specs.Sizes.{expressionRows, statementRows, itemsRows}
+use Rattle.language.specs.TreeLaws.{statement-some}
 use Rattle.translation.specs.TranslateRows.{rows-append}
 use Rattle.emission.specs.Emission.{rowOf, listLink, emitExpression, emitStatement, emitItems}
 use Rattle.emission.specs.EmissionLaws.{orMore, emit-append, length-items}
@@ -67,21 +68,6 @@ room-less n r e = record { inside = omega (arith, r .inside); low = omega (arith
 
 -- ---- lists
 
-statement-some : (s : Statement) → 1 ≤ statementRows s
-unfolding statementRows
-statement-some empty = omega arith
-statement-some (express e) = omega arith
-statement-some (block is) = omega arith
-statement-some (ifThen e onTrue) = omega arith
-statement-some (ifElse e onTrue onFalse) = omega arith
-statement-some (while e body) = omega arith
-statement-some (doWhile body e) = omega arith
-statement-some (for first test action body) = omega arith
-statement-some (switch e is) = omega arith
-statement-some break = omega arith
-statement-some continue = omega arith
-statement-some (goto l) = omega arith
-
 pub more-some : (follows : Bool) (n : ℕ) → 0 < n → moreRows follows n ≡ true
 more-some follows zero h = absurd (omega arith)
 more-some follows (suc n) h = refl
@@ -123,18 +109,6 @@ wrote-next {follows} {xs} {ys} {base} {n} {k} w v = record {
 -- The same list, said otherwise; the same number of rows.
 pub wrote-as : {follows : Bool} {is : Items} {base n : ℕ} {l m : List ℤ} (is′ : Items) → Wrote follows is base n l m → is ≡ is′ → Wrote follows is′ base n l m
 wrote-as {follows} {is} {base} {n} {l} {m} is′ w e = rw e at w
-
-pub append-none : (is : Items) → is ⧺ none ≡ is
-unfolding _⧺_
-append-none none = refl
-append-none (s then is) = ap (λ (x : Items). s then x) (append-none is)
-append-none (m here is) = ap (λ (x : Items). m here x) (append-none is)
-
-pub append-append : (xs ys zs : Items) → (xs ⧺ ys) ⧺ zs ≡ xs ⧺ (ys ⧺ zs)
-unfolding _⧺_
-append-append none ys zs = refl
-append-append (s then xs) ys zs = ap (λ (x : Items). s then x) (append-append xs ys zs)
-append-append (m here xs) ys zs = ap (λ (x : Items). m here x) (append-append xs ys zs)
 
 -- ---- an if
 

@@ -85,10 +85,6 @@ loop-round m n s =
     on (leave signal) n s = refl
 
 module _ (L : Layout) where
-  rounds-loop : (test action : Part) (body : Computation Signal) (n : ℕ) (s : List ℤ) → spend (rounds L test action body) n s ≡ spend (loop (roundOf L test action body)) n s
-  rounds-loop absent action body n s = refl
-  rounds-loop (present e) action body n s = refl
-
   -- a while or a for is a round, and the rounds again or the end
   pub rounds-round : (test action : Part) (body : Computation Signal) (n : ℕ) (s : List ℤ)
       → spend (rounds L test action body) n s ≡ onward (spend (enter (roundOf L test action body)) n s) (onTurn (λ n s. spend (rounds L test action body) n s))

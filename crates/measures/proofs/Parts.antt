@@ -4,11 +4,12 @@ use mathlib.Core.List.{List}
 use Prim.Native.Nat.{ℕ, _+_, _*_, _-_, _≤_, max}
 use native.Mathlib.Omega.{arith}
 use lib.IntN.{ℤ}
-use Rattle.language.specs.Trees.{Expression, constant, read, minus, not, binary, and, or, comma, conditional, assign, compound, prefix, postfix, Place, variable, element, Part, absent, present}
+use Rattle.language.specs.Trees.{Expression, constant, read, minus, not, binary, and, or, comma, conditional, assign, compound, prefix, postfix, Part, absent, present}
 use Rattle.language.specs.Decode.{placeOf, expressionAt}
 use Rattle.language.specs.DecodeLaws.{partAt}
 use Rattle.translation.specs.Translate.{Atom, number, top, atomOf, taken, expressionLevels, partLevels}
 use Rattle.translation.specs.TranslateSize.{indexRows, copyRows, ownRows, expressionSize, partSize}
+use Rattle.translation.specs.TranslateBounds.{copy-most, index-most}
 use Rattle.measures.specs.Source.{Onward, OptionalOnward}
 use Rattle.measures.specs.Shapes.{placeTree, shapeTree, ShapeAt, PlaceAt}
 use Rattle.measures.specs.Operands.{indexOf, firstOperand, secondOperand, thirdOperand, fourthOperand, aboveFirst, ownLevels, plainAtom}
@@ -251,14 +252,6 @@ module _ (rows : List ℤ) (table : List ℕ) (row : ℕ) (m : MeasuredFrom rows
         let qc = part-level (o .third) (thirdOperand e) c (at .third-is) (at .third-onward) ec in
         let qd = part-level (o .fourth) (fourthOperand e) d (at .fourth-is) (at .fourth-onward) ed in
         rw (qa, qb, qc, qd, eo, ev, levels-parts e) (simp (limited-max, limited-twice, limited-more))
-
-copy-most : (h : Atom) → copyRows h ≤ 4
-copy-most (number v) = omega arith
-copy-most top = omega arith
-
-index-most : (p : Place) → indexRows p ≤ 1
-index-most (variable i) = omega arith
-index-most (element array e) = omega arith
 
 pub own-most : (e : Expression) → ownRows e ≤ 16
 own-most (constant v) = omega arith

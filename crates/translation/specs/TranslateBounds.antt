@@ -9,7 +9,7 @@ use Rattle.translation.specs.Translate.{Atom, number, top, taken, atomOf
 use Rattle.translation.specs.TranslateRows.{translation-rows}
 use Rattle.translation.specs.TranslateSize.{indexRows, copyRows, expressionSize, indexSize, partSize, testSize, cases, statementSize, itemsSize}
 
-copy-most : (h : Atom) → copyRows h ≤ 4
+pub copy-most : (h : Atom) → copyRows h ≤ 4
 copy-most (number v) = omega arith
 copy-most top = omega arith
 
@@ -17,7 +17,7 @@ taken-most : (h : Atom) → taken h ≤ 1
 taken-most (number v) = omega arith
 taken-most top = omega arith
 
-index-most : (p : Place) → indexRows p ≤ 1
+pub index-most : (p : Place) → indexRows p ≤ 1
 index-most (variable i) = omega arith
 index-most (element array e) = omega arith
 

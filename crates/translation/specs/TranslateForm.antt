@@ -1,13 +1,14 @@
 -- Every translation has kernel form. By induction on the source tree; for a goto, the labels that stand ahead of the code are carried
 -- along.
-use mathlib.Core.Path.{_≡_, refl, ap}
-use mathlib.Core.Bool.{Bool, true, false, _||_}
+use mathlib.Core.Path.{_≡_, refl}
+use mathlib.Core.Bool.{Bool, true, false}
 use Prim.Native.Nat.{ℕ, _+_, _≤_}
 use native.Mathlib.Omega.{arith}
 use borrow.Author.Tests.{eq-eqb}
 use Rattle.words.specs.declared.Operator.{Operator}
 use Rattle.language.specs.Trees.{Expression, constant, read, minus, not, binary, and, or, comma, conditional, assign, compound, prefix, postfix, Place, variable, element, Part, absent, present, Mark, case, default, label, sameMark, has, Statement, empty, express, block, ifThen, ifElse, while, doWhile, for, switch, break, continue, goto, Items, none, _then_, _here_, _⧺_}
 use Rattle.language.specs.WellFormed.{Placed, PlacedItems}
+use Rattle.language.specs.TreeLaws.{append-append, has-next, has-left, has-right}
 use Rattle.translation.specs.Translate.{Atom, number, top, taken, placeTaken, atomOf, atom, copyCode, kernelPlace, updateCode, postfixCode, expressionCode, indexCode, partCode, orEmpty, testCode, loopCode, caseTests, labels, itemsLabels, labelOf, Exits, exits, statementCode, itemsCode}
 use Rattle.translation.specs.KernelForm.{IsAtom, constant-atom, variable-atom, Assigns, assigns-atom, assigns-minus, assigns-operation, assigns-element, assigns-to-element, isLabelNumber, KernelStatement, kernel-empty, kernel-assign, kernel-block, kernel-if, kernel-while, kernel-goto, KernelItems, kernel-none, kernel-then, kernel-label}
 use Rattle.translation.specs.Related.{by-cases}
@@ -16,40 +17,14 @@ use Rattle.translation.specs.StatementRules.{Below}
 
 -- ---- lists
 
-assoc : (xs ys zs : Items) → (xs ⧺ ys) ⧺ zs ≡ xs ⧺ (ys ⧺ zs)
-unfolding _⧺_
-assoc none ys zs = refl
-assoc (s then xs) ys zs = ap (λ l. s then l) (assoc xs ys zs)
-assoc (m here xs) ys zs = ap (λ l. m here l) (assoc xs ys zs)
-
-or-right-true : (a b : Bool) → b ≡ true → (a || b) ≡ true
-or-right-true true b e = refl
-or-right-true false b e = e
-
-has-left : (m : Mark) (xs ys : Items) → has m xs ≡ true → has m (xs ⧺ ys) ≡ true
-unfolding has _⧺_
-has-left m none ys e = absurd (let z : _≡_ {A = ℕ} 0 1 = cc in omega arith)
-has-left m (s then xs) ys e = has-left m xs ys e
-has-left m (n here xs) ys e = by-cases (sameMark m n) (λ q. rw q) (λ q. rw q (has-left m xs ys (rw q at e)))
-
-has-right : (m : Mark) (xs ys : Items) → has m ys ≡ true → has m (xs ⧺ ys) ≡ true
-unfolding has _⧺_
-has-right m none ys e = e
-has-right m (s then xs) ys e = has-right m xs ys e
-has-right m (n here xs) ys e = or-right-true (sameMark m n) _ (has-right m xs ys e)
-
 has-here : (l : ℕ) (xs : Items) → has (label l) (label l here xs) ≡ true
 unfolding has sameMark
 has-here l xs = rw (eq-eqb l l refl)
 
-has-next : (m n : Mark) (xs : Items) → has m xs ≡ true → has m (n here xs) ≡ true
-unfolding has
-has-next m n xs e = or-right-true (sameMark m n) _ e
-
 append : (r xs ys : Items) → KernelItems (ys ⧺ r) xs → KernelItems r ys → KernelItems r (xs ⧺ ys)
 unfolding _⧺_
 append r none ys h k = k
-append r (s then xs) ys (kernel-then h hs) k = let moved : KernelStatement ((xs ⧺ ys) ⧺ r) s = rw (assoc xs ys r) h in kernel-then moved (append r xs ys hs k)
+append r (s then xs) ys (kernel-then h hs) k = let moved : KernelStatement ((xs ⧺ ys) ⧺ r) s = rw (append-append xs ys r) h in kernel-then moved (append r xs ys hs k)
 append r (m here xs) ys (kernel-label b hs) k = kernel-label b (append r xs ys hs k)
 
 assignment : {r : Items} {e : Expression} → Assigns e → KernelItems r (express e then none)
@@ -141,7 +116,7 @@ module _ (S : ℕ) where
       → KernelItems r (loopCode S (testCode S test l (bs ⧺ label (l + 1) here partCode S action)) l)
   unfolding _⧺_
   form-rounds test action bs l r b h = form-loop (testCode S test l (bs ⧺ label (l + 1) here partCode S action)) l r (omega arith) (form-test test l (bs ⧺ label (l + 1) here partCode S action) (label l here r) (omega arith)
-      (rw (assoc bs (label (l + 1) here partCode S action) (label l here r)) (has-right (label l) bs _ (has-behind action l r)))
+      (rw (append-append bs (label (l + 1) here partCode S action) (label l here r)) (has-right (label l) bs _ (has-behind action l r)))
       (append (label l here r) bs (label (l + 1) here partCode S action) h (kernel-label {l = l + 1} (omega arith) (form-part action (label l here r)))))
 
   form-do : (e : Expression) (bs : Items) (l : ℕ) (r : Items) → l + 2 ≤ 40980 → KernelItems (label (l + 1) here testCode S (present e) l none ⧺ label l here r) bs

@@ -1,13 +1,14 @@
 -- The rows of a translation's code are those that TranslateSize counts. By induction on the tree: `simp` takes the code apart, `omega`
 -- adds up.
 use mathlib.Core.Path.{_≡_, refl, ap}
-use Prim.Native.Nat.{ℕ, _+_, _*_, _≤_, max}
+use Prim.Native.Nat.{ℕ, _+_, _*_, max}
 use native.Mathlib.Omega.{arith}
 use lib.IntN.{pos}
 use Rattle.words.specs.Layout.{Layout, storeSize}
 use Rattle.words.specs.declared.Operator.{Operator}
 use Rattle.language.specs.Trees.{Expression, constant, read, minus, not, binary, and, or, comma, conditional, assign, compound, prefix, postfix, Place, variable, element, Part, absent, present, case, default, label, Statement, empty, express, block, ifThen, ifElse, while, doWhile, for, switch, break, continue, goto, Items, none, _then_, _here_, _⧺_}
 use Rattle.language.specs.Sizes.{expressionRows, placeRows, statementRows, itemsRows}
+use Rattle.language.specs.TreeLaws.{statement-some}
 use Rattle.translation.specs.Translate.{Atom, number, top, atomOf, taken, placeTaken, atom, copyCode, kernelPlace, updateCode, postfixCode, expressionCode, indexCode, partCode, orEmpty, testCode, caseTests, labels, Exits, exits, statementCode, itemsCode, contentsOf, translate}
 use Rattle.translation.specs.TranslateSize.{indexRows, copyRows, expressionSize, indexSize, partSize, testSize, cases, statementSize, itemsSize}
 
@@ -16,21 +17,6 @@ unfolding itemsRows _⧺_
 rows-append none ys = omega arith
 rows-append (s then xs) ys = omega (arith, rows-append xs ys)
 rows-append (m here xs) ys = omega (arith, rows-append xs ys)
-
-statement-some : (s : Statement) → 1 ≤ statementRows s
-unfolding statementRows
-statement-some empty = omega arith
-statement-some (express e) = omega arith
-statement-some (block is) = omega arith
-statement-some (ifThen e onTrue) = omega arith
-statement-some (ifElse e onTrue onFalse) = omega arith
-statement-some (while e body) = omega arith
-statement-some (doWhile body e) = omega arith
-statement-some (for first test action body) = omega arith
-statement-some (switch e is) = omega arith
-statement-some break = omega arith
-statement-some continue = omega arith
-statement-some (goto l) = omega arith
 
 module _ (S : ℕ) where
   pub rows-atom : (t : ℕ) (h : Atom) → expressionRows (atom S t h) ≡ 1

@@ -11,6 +11,7 @@ use Rattle.words.specs.Table.{rowCount, wordAt, numberAt}
 use Rattle.words.specs.Kinds.{kindAt}
 use Rattle.language.specs.Trees.{Expression, Mark, case, default, label, Statement, Items, none, _then_, _here_, _⧺_}
 use Rattle.language.specs.Sizes.{expressionRows, itemsRows}
+use Rattle.language.specs.TreeLaws.{append-none, append-append}
 use Rattle.language.specs.Decode.{statementAt, itemsAt}
 use Rattle.language.specs.DecodeLaws.{listAt}
 use Rattle.translation.specs.Translate.{itemsLabels, caseTests, Exits, itemsCode}
@@ -26,7 +27,7 @@ use Rattle.measures.proofs.Found.{item-found}
 use Rattle.words.specs.Over.{over}
 use Rattle.leaves.specs.Room.{Room, moreRows}
 use Rattle.writers.specs.Items.{itemSize, itemLabels, itemCases, itemTest, itemCode}
-use Rattle.leaves.specs.Chain.{part, back-in, Wrote, append-none, append-append}
+use Rattle.leaves.specs.Chain.{part, back-in, Wrote}
 use Rattle.writers.proofs.Sequence.{back-length, wrote-behind, wrote-none, room-behind, more-rows, more-append, more-true}
 
 -- ---- the first item of a list, and the rest

@@ -8,6 +8,7 @@ use lib.IntN.{ℤ, pos}
 use Rattle.words.specs.Word.{pick}
 use Rattle.language.specs.Trees.{Expression, Part, absent, present, label, Statement, block, ifElse, goto, Items, none, _then_, _here_, _⧺_}
 use Rattle.language.specs.Sizes.{expressionRows, statementRows, itemsRows}
+use Rattle.language.specs.TreeLaws.{append-append}
 use Rattle.language.specs.Decode.{expressionAt, statementAt}
 use Rattle.language.specs.DecodeLaws.{partAt}
 use Rattle.translation.specs.Translate.{choosing, testCode, loopCode, expressionCode, Exits, exits, statementCode}
@@ -22,11 +23,13 @@ use Rattle.leaves.specs.Asks.{AtomAt}
 use Rattle.writers.specs.Asks.{roundSize}
 use Rattle.leaves.specs.Straight.{loopHead}
 use Rattle.expression_writers.specs.Code.{operandCode}
+use Rattle.expression_writers.specs.CodeLaws.{rows-operand}
 use Rattle.writers.specs.Code.{roundEnd, roundCode, wholeLoop}
 use Rattle.leaves.specs.declared.Atom.{Atom}
 use Rattle.writers.specs.declared.Loop.{Loop}
-use Rattle.leaves.specs.Chain.{part, back-in, Put, reworded, Wrote, wrote-put, more-is, link-is, append-append}
-use Rattle.writers.proofs.Sequence.{put-behind, wrote-behind, more-rows, more-append, more-true, append-four, atom-rows}
+use Rattle.leaves.specs.AtomLaws.{atom-rows}
+use Rattle.leaves.specs.Chain.{part, back-in, Put, reworded, Wrote, wrote-put, more-is, link-is}
+use Rattle.writers.proofs.Sequence.{put-behind, wrote-behind, more-rows, more-append, more-true, append-four}
 
 -- ---- operands and tests
 
@@ -39,18 +42,13 @@ test-most absent = omega arith
 test-most (present e) = omega arith
 
 module _ (S : ℕ) where
-  pub operand-rows : (p : Part) (t : ℕ) → itemsRows (operandCode S p t) ≡ partSize p
-  unfolding itemsRows
-  operand-rows absent t = refl
-  operand-rows (present e) t = rows-expression S e t
-
   test-rows : (p : Part) (number : ℕ) → itemsRows (testCode S p number none) ≡ testSize p
   unfolding itemsRows
   test-rows p number = rows-test S p number none ∙ omega arith
 
   -- What a writer of an operand, of a test and of a statement leaves.
   pub operand-written : (p : Part) (t : ℕ) {follows : Bool} {n base : ℕ} {l m : List ℤ} → n ≡ partSize p → m ≡ over (emitItems follows (operandCode S p t) base) l → Wrote follows (operandCode S p t) base n l m
-  operand-written p t h e = record { table = e; size = operand-rows p t ∙ sym h }
+  operand-written p t h e = record { table = e; size = rows-operand S p t ∙ sym h }
 
   pub test-written : (p : Part) (number : ℕ) {follows : Bool} {n base : ℕ} {l m : List ℤ} → n ≡ testSize p → m ≡ over (emitItems follows (testCode S p number none) base) l → Wrote follows (testCode S p number none) base n l m
   test-written p number h e = record { table = e; size = test-rows p number ∙ sym h }
@@ -92,7 +90,7 @@ module _ (S : ℕ) where
     round-end-rows : (action after : Part) (number : ℕ) → itemsRows (roundEnd S rows action after number) ≡ 1 + partSize action + testSize after
     unfolding itemsRows
     round-end-rows action after number =
-        omega (arith, rows-append (operandCode S action 0) (testCode S after number none), operand-rows action 0, test-rows after number)
+        omega (arith, rows-append (operandCode S action 0) (testCode S after number none), rows-operand S action 0, test-rows after number)
 
     round-rows : (parts : Loop) (number : ℕ) → itemsRows (roundCode S rows parts number) ≡ roundSize rows parts
     round-rows parts number =

@@ -10,15 +10,12 @@ use lib.ListN.{length, length-drop, drop}
 use lib.Seq.{take-all}
 use borrow.Rule.Slice.PartMut.{same-len-mid}
 use Rattle.language.specs.Trees.{Items, none, _then_, _here_, _⧺_}
-use Rattle.language.specs.Sizes.{expressionRows, itemsRows}
+use Rattle.language.specs.Sizes.{itemsRows}
 use Rattle.emission.specs.Emission.{emitItems}
 use Rattle.emission.specs.EmissionLaws.{orMore}
 use Rattle.words.specs.Over.{over}
 use Rattle.leaves.specs.Room.{Room, moreRows}
-use Rattle.leaves.specs.Atoms.{atomTree}
 use Rattle.leaves.specs.Chain.{part, back-in, Put, put-next, Wrote, wrote-next, more-is}
-use Rattle.leaves.specs.declared.Atom.{Atom}
-use Rattle.leaves.specs.declared.Atom.the-variants.{Constant, Variable}
 
 -- ---- lengths
 
@@ -69,9 +66,3 @@ pub more-true : (xs : Items) → orMore true xs ≡ true
 more-true none = refl
 more-true (s then is) = refl
 more-true (m here is) = refl
-
--- An atom is one row.
-pub atom-rows : (x : Atom) → expressionRows (atomTree x) ≡ 1
-unfolding expressionRows
-atom-rows (Constant v) = refl
-atom-rows (Variable n) = refl

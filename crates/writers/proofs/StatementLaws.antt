@@ -8,6 +8,7 @@ use lib.IntN.{ℤ, pos}
 use Rattle.words.specs.Word.{pick}
 use Rattle.language.specs.Trees.{Expression, Part, absent, present, default, label, Statement, empty, express, block, ifThen, ifElse, while, doWhile, for, switch, break, continue, goto, Items, none, _then_, _here_, _⧺_}
 use Rattle.language.specs.Sizes.{statementRows, itemsRows}
+use Rattle.language.specs.TreeLaws.{append-none, append-append, statement-some}
 use Rattle.language.specs.Decode.{expressionAt, ifOf, statementAt}
 use Rattle.language.specs.DecodeLaws.{partAt}
 use Rattle.translation.specs.Translate.{Atom, number as constantAtom, top, atomOf, taken, atom, labels, labelOf, choosing, orEmpty, partCode, testCode, loopCode, caseTests, expressionCode, Exits, exits, statementCode, itemsCode}
@@ -15,7 +16,6 @@ use Rattle.translation.specs.TranslateSize.{expressionSize, partSize, cases, st
 use Rattle.translation.specs.TranslateRows.{rows-expression, rows-cases, rows-statement, rows-items}
 use Rattle.emission.specs.Emission.{rowOf, listLink, emitExpression, emitStatement, emitItems}
 use Rattle.emission.specs.EmissionLaws.{emit-append, length-expression, length-statement}
-use Rattle.emission.specs.ReadBack.{statement-some}
 use Rattle.words.specs.Over.{over}
 use Rattle.leaves.specs.Room.{moreRows}
 use Rattle.leaves.specs.Atoms.{atomTree}
@@ -27,8 +27,9 @@ use Rattle.expression_writers.specs.Code.{operandCode}
 use Rattle.writers.specs.Code.{bodyCode, wholeLoop}
 use Rattle.writers.specs.declared.Loop.{Loop}
 use Rattle.leaves.specs.declared.Atom.{Atom as KernelAtom}
-use Rattle.leaves.specs.Chain.{part, back-in, Put, reworded, more-some, link-is, Wrote, wrote-put, append-none, append-append, one-item, choice-words}
-use Rattle.writers.proofs.Sequence.{put-behind, wrote-behind, more-true, append-four, atom-rows}
+use Rattle.leaves.specs.AtomLaws.{atom-rows}
+use Rattle.leaves.specs.Chain.{part, back-in, Put, reworded, more-some, link-is, Wrote, wrote-put, one-item, choice-words}
+use Rattle.writers.proofs.Sequence.{put-behind, wrote-behind, more-true, append-four}
 
 -- ---- branches that may be absent
 
@@ -78,10 +79,6 @@ module _ (S : ℕ) (rows : List ℤ) (row base : ℕ) (follows : Bool) (l : List
       e ∙ ap (λ (xs : Items). over (emitItems follows xs base) l) (operand-is S rows row some ∙ sym (some-rows S (expressionCode S (expressionAt rows row) 0) (λ z. h (sym (express-rows some size) ∙ z))))
 
 -- ---- blocks
-
-pub pick-most : (b : Bool) (n : ℕ) → pick b n 0 ≤ n
-pick-most true n = omega arith
-pick-most false n = omega arith
 
 -- The row of a block, and then its items.
 pub block-put : (X : Items) (base next : ℕ) (l : List ℤ) {first n : ℕ} {l1 l2 : List ℤ} → itemsRows X ≡ n → first ≡ pick (moreRows false n) (base + 1) 0
@@ -240,10 +237,6 @@ module _ (S : ℕ) (rows : List ℤ) where
       ∙ ap (λ (n : ℕ). over (emitItems follows (E ⧺ T ⧺ goto n then I ⧺ L) base) l) et
 
 -- ---- what a statement at a row is
-
--- The line that a match tells.
-pub told : {rows : List ℤ} {row : ℕ} {line line′ : Line} → LineAt rows row line → line ≡ line′ → LineAt rows row line′
-told {rows} {row} l e = subst (λ (line : Line). LineAt rows row line) e l
 
 -- What is written of a line is written of the statement.
 pub line-done : (S : ℕ) (x : Exits) (number base : ℕ) (follows : Bool) (l : List ℤ) {rows : List ℤ} {row : ℕ} {line : Line} {m : List ℤ} → LineAt rows row line

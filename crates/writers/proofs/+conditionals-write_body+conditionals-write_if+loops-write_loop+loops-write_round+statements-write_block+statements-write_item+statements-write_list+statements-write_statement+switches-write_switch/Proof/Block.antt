@@ -5,8 +5,9 @@ use Prim.Native.Nat.{ℕ, _+_}
 use native.Mathlib.Omega.{arith}
 use Rattle.language.specs.DecodeLaws.{listAt}
 use Rattle.writers.specs.Code.{exitsOf}
+use Rattle.leaves.proofs.Words.{pick-most}
 use Rattle.writers.proofs.Sequence.{back-length, room-behind}
-use Rattle.writers.proofs.StatementLaws.{pick-most, block-done}
+use Rattle.writers.proofs.StatementLaws.{block-done}
 use Rattle.writers.proofs.statements.write_block.Reads as reads
 use Rattle.writers.proofs.+conditionals-write_body+conditionals-write_if+loops-write_loop+loops-write_round+statements-write_block+statements-write_item+statements-write_list+statements-write_statement+switches-write_switch.Lts-statements-write_block as lts
 use Rattle.writers.proofs.+conditionals-write_body+conditionals-write_if+loops-write_loop+loops-write_round+statements-write_block+statements-write_item+statements-write_list+statements-write_statement+switches-write_switch.Proof.Claims.{write-block-claims, write-block-at}

@@ -10,11 +10,12 @@ use Rattle.language.specs.Decode.{expressionAt, statementAt}
 use Rattle.translation.specs.Translate.{labels, statementCode}
 use Rattle.translation.specs.TranslateSize.{statementSize}
 use Rattle.emission.specs.Emission.{emitItems}
+use Rattle.measures.specs.ShapeLaws.{lined}
 use Rattle.words.specs.Over.{over}
 use Rattle.writers.specs.Code.{exitsOf}
 use Rattle.leaves.specs.Chain.{room-less}
 use Rattle.writers.proofs.ListLaws.{above-less, optional-inside}
-use Rattle.writers.proofs.StatementLaws.{told, line-done, if-size, if-labels, while-size, do-size, for-size, while-code, do-code, for-code}
+use Rattle.writers.proofs.StatementLaws.{line-done, if-size, if-labels, while-size, do-size, for-size, while-code, do-code, for-code}
 use Rattle.writers.proofs.statements.write_statement.Reads as reads
 use Rattle.writers.proofs.+conditionals-write_body+conditionals-write_if+loops-write_loop+loops-write_round+statements-write_block+statements-write_item+statements-write_list+statements-write_statement+switches-write_switch.Lts-statements-write_statement as lts
 use Rattle.writers.proofs.+conditionals-write_body+conditionals-write_if+loops-write_loop+loops-write_round+statements-write_block+statements-write_item+statements-write_list+statements-write_statement+switches-write_switch.Proof.Claims.{write-statement-claims, write-statement-at}
@@ -34,7 +35,7 @@ unfolding statementSize
 put-empty-requires t c κs =
     let past-line-at = c .before .before .before .line-at in
     let past-enum-told = c .before .enum-told in
-    let is-empty = told (past-line-at .ensures) (past-enum-told .given .1) in
+    let is-empty = lined (past-line-at .ensures) (past-enum-told .given .1) in
     let start = c .before .before .before .before .before in
     let asks = start .pre .1 .1 in
     rw (is-empty .is) at (asks .room)
@@ -47,7 +48,7 @@ unfolding statementSize
 write-express-requires t c κs =
     let past-line-at = c .before .before .before .before .line-at in
     let past-line = c .before .before .line in
-    let is-express = told (past-line-at .ensures) (past-line .given .1) in
+    let is-express = lined (past-line-at .ensures) (past-line .given .1) in
     let start = c .before .before .before .before .before .before in
     let writing = start .pre .1 .0 in
     let asks = start .pre .1 .1 in
@@ -62,7 +63,7 @@ unfolding statementSize labels
 write-block-requires t c κs =
     let past-line-at = c .before .before .before .before .line-at in
     let past-line2 = c .before .before .line2 in
-    let is-block = told (past-line-at .ensures) (past-line2 .given .1) in
+    let is-block = lined (past-line-at .ensures) (past-line2 .given .1) in
     let start = c .before .before .before .before .before .before in
     let args = start .args in
     let asks = start .pre .1 .1 in
@@ -87,7 +88,7 @@ pub write-if-requires : (t : ℕ) → lts.Need-write-if-requires (write-statemen
 write-if-requires t c κs =
     let past-line-at = c .before .before .before .before .line-at in
     let past-line3 = c .before .before .line3 in
-    let is-if = told (past-line-at .ensures) (past-line3 .given .1) in
+    let is-if = lined (past-line-at .ensures) (past-line3 .given .1) in
     let start = c .before .before .before .before .before .before in
     let args = start .args in
     let asks = start .pre .1 .1 in
@@ -122,7 +123,7 @@ unfolding labels
 write-loop-requires t c κs =
     let past-line-at = c .before .before .before .before .line-at in
     let past-line4 = c .before .before .line4 in
-    let is-while = told (past-line-at .ensures) (past-line4 .given .1) in
+    let is-while = lined (past-line-at .ensures) (past-line4 .given .1) in
     let start = c .before .before .before .before .before .before in
     let args = start .args in
     let asks = start .pre .1 .1 in
@@ -154,7 +155,7 @@ unfolding labels
 write-loop-requires-2 t c κs =
     let past-line-at = c .before .before .before .before .line-at in
     let past-line5 = c .before .before .line5 in
-    let is-do = told (past-line-at .ensures) (past-line5 .given .1) in
+    let is-do = lined (past-line-at .ensures) (past-line5 .given .1) in
     let start = c .before .before .before .before .before .before in
     let args = start .args in
     let asks = start .pre .1 .1 in
@@ -186,7 +187,7 @@ unfolding labels
 write-loop-requires-3 t c κs =
     let past-line-at = c .before .before .before .before .line-at in
     let past-line6 = c .before .before .line6 in
-    let is-for = told (past-line-at .ensures) (past-line6 .given .1) in
+    let is-for = lined (past-line-at .ensures) (past-line6 .given .1) in
     let start = c .before .before .before .before .before .before in
     let args = start .args in
     let asks = start .pre .1 .1 in
@@ -218,7 +219,7 @@ unfolding statementSize labels
 write-switch-requires t c κs =
     let past-line-at = c .before .before .before .before .line-at in
     let past-line7 = c .before .before .line7 in
-    let is-switch = told (past-line-at .ensures) (past-line7 .given .1) in
+    let is-switch = lined (past-line-at .ensures) (past-line7 .given .1) in
     let start = c .before .before .before .before .before .before in
     let args = start .args in
     let asks = start .pre .1 .1 in
@@ -247,7 +248,7 @@ unfolding statementSize
 put-goto-requires t c κs =
     let past-line-at = c .before .before .before .line-at in
     let past-enum-told2 = c .before .enum-told2 in
-    let is-break = told (past-line-at .ensures) (past-enum-told2 .given .1) in
+    let is-break = lined (past-line-at .ensures) (past-enum-told2 .given .1) in
     let start = c .before .before .before .before .before in
     let asks = start .pre .1 .1 in
     (rw (is-break .is) at (asks .room), asks .exits-low .0)
@@ -260,7 +261,7 @@ unfolding statementSize
 put-goto-requires-2 t c κs =
     let past-line-at = c .before .before .before .line-at in
     let past-enum-told3 = c .before .enum-told3 in
-    let is-continue = told (past-line-at .ensures) (past-enum-told3 .given .1) in
+    let is-continue = lined (past-line-at .ensures) (past-enum-told3 .given .1) in
     let start = c .before .before .before .before .before in
     let asks = start .pre .1 .1 in
     (rw (is-continue .is) at (asks .room), asks .exits-low .1)
@@ -273,7 +274,7 @@ unfolding statementSize
 put-empty-requires-2 t c κs =
     let past-line-at = c .before .before .before .line-at in
     let past-enum-told4 = c .before .enum-told4 in
-    let is-goto = told (past-line-at .ensures) (past-enum-told4 .given .1) in
+    let is-goto = lined (past-line-at .ensures) (past-enum-told4 .given .1) in
     let start = c .before .before .before .before .before in
     let asks = start .pre .1 .1 in
     rw (is-goto .is) at (asks .room)
@@ -288,7 +289,7 @@ returns t c =
     let args = start .args in
     let past-line-at = c .before .before .before .before .before .line-at in
     let past-enum-told = c .before .before .before .enum-told in
-    let is-empty = told (past-line-at .ensures) (past-enum-told .given .1) in
+    let is-empty = lined (past-line-at .ensures) (past-enum-told .given .1) in
     let past-put-empty = c .before .put-empty in
     line-done (args .store) (exitsOf (args .exits)) (args .label) (args .base) (args .follows) (args .out .now) is-empty (past-put-empty .ensures)
 
@@ -302,7 +303,7 @@ returns-2 t c =
     let args = start .args in
     let past-line-at = c .before .before .before .before .before .before .line-at in
     let past-line = c .before .before .before .before .line in
-    let is-express = told (past-line-at .ensures) (past-line .given .1) in
+    let is-express = lined (past-line-at .ensures) (past-line .given .1) in
     let past-write-express = c .before .write-express in
     line-done (args .store) (exitsOf (args .exits)) (args .label) (args .base) (args .follows) (args .out .now) is-express (past-write-express .ensures)
 
@@ -316,7 +317,7 @@ returns-3 t c =
     let args = start .args in
     let past-line-at = c .before .before .before .before .before .before .line-at in
     let past-line2 = c .before .before .before .before .line2 in
-    let is-block = told (past-line-at .ensures) (past-line2 .given .1) in
+    let is-block = lined (past-line-at .ensures) (past-line2 .given .1) in
     let past-write-block = c .before .write-block in
     line-done (args .store) (exitsOf (args .exits)) (args .label) (args .base) (args .follows) (args .out .now) is-block (past-write-block .ensures)
 
@@ -329,7 +330,7 @@ returns-4 t c =
     let args = start .args in
     let past-line-at = c .before .before .before .before .before .before .line-at in
     let past-line3 = c .before .before .before .before .line3 in
-    let is-if = told (past-line-at .ensures) (past-line3 .given .1) in
+    let is-if = lined (past-line-at .ensures) (past-line3 .given .1) in
     let past-write-if = c .before .write-if in
     line-done (args .store) (exitsOf (args .exits)) (args .label) (args .base) (args .follows) (args .out .now) is-if (past-write-if .ensures)
 
@@ -342,7 +343,7 @@ returns-5 t c =
     let args = start .args in
     let past-line-at = c .before .before .before .before .before .before .line-at in
     let past-line4 = c .before .before .before .before .line4 in
-    let is-while = told (past-line-at .ensures) (past-line4 .given .1) in
+    let is-while = lined (past-line-at .ensures) (past-line4 .given .1) in
     let items : Items → List ℤ = λ xs. over (emitItems (args .follows) xs (args .base)) (args .out .now) in
     let past-write-loop = c .before .write-loop in
     line-done (args .store) (exitsOf (args .exits)) (args .label) (args .base) (args .follows) (args .out .now) is-while (past-write-loop .ensures ∙ ap items (while-code (args .rows .now) (args .store) (past-line4 .given .0 .0) (past-line4 .given .0 .1 .0) (exitsOf (args .exits)) (args .label) (omega (arith, is-while .onward .0 .later))))
@@ -356,7 +357,7 @@ returns-6 t c =
     let args = start .args in
     let past-line-at = c .before .before .before .before .before .before .line-at in
     let past-line5 = c .before .before .before .before .line5 in
-    let is-do = told (past-line-at .ensures) (past-line5 .given .1) in
+    let is-do = lined (past-line-at .ensures) (past-line5 .given .1) in
     let items : Items → List ℤ = λ xs. over (emitItems (args .follows) xs (args .base)) (args .out .now) in
     let past-write-loop2 = c .before .write-loop2 in
     line-done (args .store) (exitsOf (args .exits)) (args .label) (args .base) (args .follows) (args .out .now) is-do (past-write-loop2 .ensures ∙ ap items (do-code (args .rows .now) (args .store) (past-line5 .given .0 .0) (past-line5 .given .0 .1 .0) (exitsOf (args .exits)) (args .label) (omega (arith, is-do .onward .1 .later))))
@@ -370,7 +371,7 @@ returns-7 t c =
     let args = start .args in
     let past-line-at = c .before .before .before .before .before .before .line-at in
     let past-line6 = c .before .before .before .before .line6 in
-    let is-for = told (past-line-at .ensures) (past-line6 .given .1) in
+    let is-for = lined (past-line-at .ensures) (past-line6 .given .1) in
     let items : Items → List ℤ = λ xs. over (emitItems (args .follows) xs (args .base)) (args .out .now) in
     let past-write-loop3 = c .before .write-loop3 in
     line-done (args .store) (exitsOf (args .exits)) (args .label) (args .base) (args .follows) (args .out .now) is-for (past-write-loop3 .ensures ∙ ap items (for-code (args .rows .now) (args .store) (past-line6 .given .0 .0) (past-line6 .given .0 .1 .0) (past-line6 .given .0 .1 .1 .0) (past-line6 .given .0 .1 .1 .1 .0) (exitsOf (args .exits)) (args .label)))
@@ -384,7 +385,7 @@ returns-8 t c =
     let args = start .args in
     let past-line-at = c .before .before .before .before .before .before .line-at in
     let past-line7 = c .before .before .before .before .line7 in
-    let is-switch = told (past-line-at .ensures) (past-line7 .given .1) in
+    let is-switch = lined (past-line-at .ensures) (past-line7 .given .1) in
     let past-write-switch = c .before .write-switch in
     line-done (args .store) (exitsOf (args .exits)) (args .label) (args .base) (args .follows) (args .out .now) is-switch (past-write-switch .ensures)
 
@@ -398,7 +399,7 @@ returns-9 t c =
     let args = start .args in
     let past-line-at = c .before .before .before .before .before .line-at in
     let past-enum-told2 = c .before .before .before .enum-told2 in
-    let is-break = told (past-line-at .ensures) (past-enum-told2 .given .1) in
+    let is-break = lined (past-line-at .ensures) (past-enum-told2 .given .1) in
     let past-put-goto = c .before .put-goto in
     line-done (args .store) (exitsOf (args .exits)) (args .label) (args .base) (args .follows) (args .out .now) is-break (past-put-goto .ensures)
 
@@ -412,7 +413,7 @@ returns-10 t c =
     let args = start .args in
     let past-line-at = c .before .before .before .before .before .line-at in
     let past-enum-told3 = c .before .before .before .enum-told3 in
-    let is-continue = told (past-line-at .ensures) (past-enum-told3 .given .1) in
+    let is-continue = lined (past-line-at .ensures) (past-enum-told3 .given .1) in
     let past-put-goto2 = c .before .put-goto2 in
     line-done (args .store) (exitsOf (args .exits)) (args .label) (args .base) (args .follows) (args .out .now) is-continue (past-put-goto2 .ensures)
 
@@ -426,6 +427,6 @@ returns-11 t c =
     let args = start .args in
     let past-line-at = c .before .before .before .before .before .line-at in
     let past-enum-told4 = c .before .before .before .enum-told4 in
-    let is-goto = told (past-line-at .ensures) (past-enum-told4 .given .1) in
+    let is-goto = lined (past-line-at .ensures) (past-enum-told4 .given .1) in
     let past-put-empty2 = c .before .put-empty2 in
     line-done (args .store) (exitsOf (args .exits)) (args .label) (args .base) (args .follows) (args .out .now) is-goto (past-put-empty2 .ensures)

@@ -8,10 +8,11 @@ use Rattle.language.specs.Trees.{constant, binary, assign, variable, express, n
 use Rattle.emission.specs.Emission.{emitItems}
 use Rattle.words.specs.Over.{over}
 use Rattle.leaves.specs.Atoms.{atomTree}
+use Rattle.leaves.specs.AtomLaws.{atom-rows}
 use mathlib.Core.Bool.{true}
 use native.Mathlib.Omega.{arith}
 use Rattle.language.specs.Sizes.{itemsRows, expressionRows}
-use Rattle.writers.proofs.Sequence.{wrote-behind, atom-rows}
+use Rattle.writers.proofs.Sequence.{wrote-behind}
 use borrow.Author.Needs.{needs}
 use Rattle.writers.proofs.switches.put_case.Statement.{statement}
 use Rattle.writers.proofs.switches.put_case.Tie as tie

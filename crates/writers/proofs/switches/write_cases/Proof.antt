@@ -7,7 +7,7 @@ use native.Mathlib.Omega.{arith}
 use Rattle.translation.specs.Translate.{caseTests, itemsLabels}
 use Rattle.translation.specs.TranslateSize.{cases}
 use Rattle.leaves.specs.Atoms.{atomTree}
-use Rattle.writers.proofs.Sequence.{atom-rows}
+use Rattle.leaves.specs.AtomLaws.{atom-rows}
 use Rattle.writers.proofs.switches.write_cases.Statement.{statement}
 use Rattle.writers.proofs.switches.write_cases.Tie as tie
 

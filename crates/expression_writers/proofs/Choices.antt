@@ -1,8 +1,8 @@
 -- What an expression's code ends with, by its shape: a choice between two branches for and, or and a conditional.
-use mathlib.Core.Path.{_≡_, refl, sym, ap, ap₂, _∙_}
+use mathlib.Core.Path.{_≡_, refl, sym, ap, ap₂, subst, _∙_}
 use mathlib.Core.Bool.{Bool, true, false}
 use mathlib.Core.List.{List}
-use Prim.Native.Nat.{ℕ, _≤_, _<_}
+use Prim.Native.Nat.{ℕ, _+_, _≤_, _<_}
 use native.Mathlib.Omega.{arith}
 use lib.IntN.{ℤ, pos}
 use Rattle.words.specs.Table.{rowCount}
@@ -20,13 +20,54 @@ use Rattle.measures.specs.declared.Shape.{Shape}
 use Rattle.measures.specs.declared.Shape.the-variants.{And, Or, Conditional}
 use Rattle.leaves.specs.Atoms.{atomTree, AtomFits, isNumber}
 use Rattle.leaves.specs.Straight.{straightCode, lastSize}
-use Rattle.leaves.specs.Asks.{AtomAt}
+use Rattle.leaves.specs.Asks.{Writing, AtomAt}
 use Rattle.leaves.specs.declared.Atom.{Atom}
 use Rattle.leaves.specs.declared.Atom.the-variants.{Constant, Variable}
 use Rattle.expression_writers.specs.Code.{operandCode, lastCode, finishCode, branchCode}
-use Rattle.expression_writers.specs.Asks.{finishSize, BranchFits, ChoiceAt, numberBranch}
+use Rattle.expression_writers.specs.Asks.{finishSize, branchSize, BranchFits, ChoiceAt, numberBranch}
 use Rattle.expression_writers.specs.declared.Branch.{Branch}
+use Rattle.expression_writers.specs.declared.Choice.{Choice}
 use Rattle.expression_writers.specs.declared.Choice.the-variants.{Choose, Straight}
+
+-- ---- what a choice tells
+
+-- A choice that was found to be another.
+pub chosen : {S : ℕ} {rows : List ℤ} {row level : ℕ} {choice other : Choice} → ChoiceAt S rows row level choice → choice ≡ other → ChoiceAt S rows row level other
+chosen {S} {rows} {row} {level} at e = subst (λ (c : Choice). ChoiceAt S rows row level c) e at
+
+-- The test and the branches that are chosen between.
+pub record BranchesFit (rows : List ℤ) (row level : ℕ) (test : Atom) (onTrue onFalse : Branch) : Type 0 where
+  pub test-fits : AtomFits test
+  pub true-fits : BranchFits rows onTrue level
+  pub false-fits : BranchFits rows onFalse level
+  pub true-later : 0 < onTrue .row → row < onTrue .row
+  pub false-later : 0 < onFalse .row → row < onFalse .row
+  pub rows-are : lastSize (expressionAt rows row) ≡ 2 + branchSize rows onTrue + branchSize rows onFalse
+
+pub branches-fit : {S : ℕ} {rows : List ℤ} {row level : ℕ} {test : Atom} {onTrue onFalse : Branch} → ChoiceAt S rows row level (Choose test onTrue onFalse)
+    → BranchesFit rows row level test onTrue onFalse
+branches-fit at = record {
+  test-fits = at .fits .0;
+  true-fits = at .fits .1;
+  false-fits = at .fits .2;
+  true-later = at .fits .3;
+  false-later = at .fits .4;
+  rows-are = at .fits .5;
+}
+
+-- ---- the choice of a shape
+
+-- What the caller promised of a row that is worked out at a level.
+pub record RowAsked (S : ℕ) (rows : List ℤ) (table : List ℕ) (row level : ℕ) : Type 0 where
+  pub writing : Writing rows table S
+  pub inside : row < rowCount rows
+  pub level-low : level ≤ row
+
+few-rows : {S : ℕ} {rows : List ℤ} {table : List ℕ} {row level : ℕ} → RowAsked S rows table row level → rowCount rows ≤ 2048
+few-rows asked = asked .writing .measured .source .few-rows
+
+pub level-small : {S : ℕ} {rows : List ℤ} {table : List ℕ} {row level : ℕ} → RowAsked S rows table row level → level ≤ 2048
+level-small asked = omega (arith, asked .level-low, asked .inside, few-rows asked)
 
 module _ (S : ℕ) (rows : List ℤ) (row level : ℕ) where
   pub straight : {s : Shape} → ShapeAt rows row s → lastCode S (shapeTree rows s) level ≡ straightCode S (shapeTree rows s) level → ChoiceAt S rows row level Straight
@@ -40,9 +81,13 @@ module _ (S : ℕ) (rows : List ℤ) (row level : ℕ) where
   some-code : (link : ℕ) → 0 < link → operandCode S (partAt rows link) level ≡ expressionCode S (expressionAt rows link) level
   some-code link h = ap (λ p. operandCode S p level) (part-some rows link h)
 
+  -- whether a value is not 0, into the temporary
+  abbrev truth-of : Expression → Items
+  truth-of value = assigning S (temporary S level) (binary NotEqual value (constant (pos 0))) none
+
   truth-code : (link : ℕ) (x : Atom) → 0 < link → AtomAt S rows link level x
-      → branchCode S rows (branch link true x) level ≡ expressionCode S (expressionAt rows link) level ⧺ assigning S (temporary S level) (binary NotEqual (atom S level (atomOf (expressionAt rows link))) (constant (pos 0))) none
-  truth-code link x h a = ap₂ (λ (is : Items) (y : Expression). is ⧺ assigning S (temporary S level) (binary NotEqual y (constant (pos 0))) none) (some-code link h) (a .is)
+      → branchCode S rows (branch link true x) level ≡ expressionCode S (expressionAt rows link) level ⧺ truth-of (atom S level (atomOf (expressionAt rows link)))
+  truth-code link x h a = ap₂ (λ (is : Items) (y : Expression). is ⧺ truth-of y) (some-code link h) (a .is)
 
   -- a number goes into the temporary; a value that is there already stays
   finish-copy : (x : Atom) (held : Held) → atomTree x ≡ atom S level held → isNumber x ≡ isNumberAtom held → finishCode S false x level ≡ copyCode S level held
@@ -57,7 +102,8 @@ module _ (S : ℕ) (rows : List ℤ) (row level : ℕ) where
   finish-rows (Variable k) (number w) n = absurd (let z : _≡_ {A = ℕ} 0 1 = cc in omega arith)
   finish-rows (Variable k) top n = refl
 
-  value-code : (link : ℕ) (x : Atom) → 0 < link → AtomAt S rows link level x → branchCode S rows (branch link false x) level ≡ expressionCode S (expressionAt rows link) level ⧺ copyCode S level (atomOf (expressionAt rows link))
+  value-code : (link : ℕ) (x : Atom) → 0 < link → AtomAt S rows link level x
+      → branchCode S rows (branch link false x) level ≡ expressionCode S (expressionAt rows link) level ⧺ copyCode S level (atomOf (expressionAt rows link))
   value-code link x h a = ap₂ _⧺_ (some-code link h) (finish-copy x (atomOf (expressionAt rows link)) (a .is) (a .number))
 
   number-code : (v : ℤ) → branchCode S rows (numberBranch v) level ≡ assigning S (temporary S level) (constant v) none
@@ -66,12 +112,22 @@ module _ (S : ℕ) (rows : List ℤ) (row level : ℕ) where
 
   -- ---- what a branch asks
 
-  module _ (few : rowCount rows ≤ 2048) (inside : row < rowCount rows) (low : level ≤ row) where
+  module _ {table : List ℕ} (asked : RowAsked S rows table row level) where
     branch-fits : {link : ℕ} {truth : Bool} {x : Atom} → Onward rows row link → AtomFits x → BranchFits rows (branch link truth x) level
-    branch-fits o f = record { inside = o .inside; level-low = λ h. omega (arith, o .later); level-small = omega arith; atom-fits = f }
+    branch-fits o f = record {
+      inside = o .inside;
+      level-low = λ h. omega (arith, o .later, asked .level-low);
+      level-small = level-small asked;
+      atom-fits = f;
+    }
 
     number-fits : (v : ℤ) → BranchFits rows (numberBranch v) level
-    number-fits v = record { inside = omega arith; level-low = λ h. absurd (omega arith); level-small = omega arith; atom-fits = tt }
+    number-fits v = record {
+      inside = omega (arith, asked .inside);
+      level-low = λ h. absurd (omega arith);
+      level-small = level-small asked;
+      atom-fits = tt;
+    }
 
     some-size : {link : ℕ} → Onward rows row link → partSize (partAt rows link) ≡ expressionSize (expressionAt rows link)
     some-size {link} o = ap partSize (part-some rows link (omega (arith, o .later)))
@@ -85,30 +141,49 @@ module _ (S : ℕ) (rows : List ℤ) (row level : ℕ) where
     ap₃ : {A B C D : Type 0} (f : A → B → C → D) {x x′ : A} {y y′ : B} {z z′ : C} → x ≡ x′ → y ≡ y′ → z ≡ z′ → f x y z ≡ f x′ y′ z′
     ap₃ f p q r = ap₂ (λ g w. g w) (ap₂ f p q) r
 
+    abbrev if-of : Expression → Items → Items → Items
+    if-of test onTrue onFalse = choosing S test onTrue onFalse none
+
     pub and-choice : {a b : ℕ} {test x : Atom} {no : Branch} → ShapeAt rows row (And a b) → AtomAt S rows a level test → AtomAt S rows b level x → no ≡ numberBranch (pos 0)
         → ChoiceAt S rows row level (Choose test (branch b true x) no)
     and-choice {a} {b} {test} {x} {no} f t y n = rw n (record {
-      is = as-last _ f (sym (ap₃ (λ (c : Expression) (p q : Items). choosing S c p q none) (t .is) (truth-code b x (omega (arith, f .onward .1 .later)) y) (number-code (pos 0))));
-      fits = (t .fits, branch-fits (f .onward .1) (y .fits), number-fits (pos 0), (λ h. f .onward .1 .later), (λ h. absurd (omega arith)), last-size f ∙ omega (arith, some-size (f .onward .1)));
+      is = as-last _ f (sym (ap₃ if-of (t .is) (truth-code b x (omega (arith, f .onward .1 .later)) y) (number-code (pos 0))));
+      fits = (
+        t .fits,
+        branch-fits (f .onward .1) (y .fits),
+        number-fits (pos 0),
+        (λ h. f .onward .1 .later),
+        (λ h. absurd (omega arith)),
+        last-size f ∙ omega (arith, some-size (f .onward .1)),
+      );
     })
 
     pub or-choice : {a b : ℕ} {test x : Atom} {onTrue : Branch} → ShapeAt rows row (Or a b) → AtomAt S rows a level test → AtomAt S rows b level x → onTrue ≡ numberBranch (pos 1)
         → ChoiceAt S rows row level (Choose test onTrue (branch b true x))
     or-choice {a} {b} {test} {x} {onTrue} f t y n = rw n (record {
-      is = as-last _ f (sym (ap₃ (λ (c : Expression) (p q : Items). choosing S c p q none) (t .is) (number-code (pos 1)) (truth-code b x (omega (arith, f .onward .1 .later)) y)));
-      fits = (t .fits, number-fits (pos 1), branch-fits (f .onward .1) (y .fits), (λ h. absurd (omega arith)), (λ h. f .onward .1 .later), last-size f ∙ omega (arith, some-size (f .onward .1)));
+      is = as-last _ f (sym (ap₃ if-of (t .is) (number-code (pos 1)) (truth-code b x (omega (arith, f .onward .1 .later)) y)));
+      fits = (
+        t .fits,
+        number-fits (pos 1),
+        branch-fits (f .onward .1) (y .fits),
+        (λ h. absurd (omega arith)),
+        (λ h. f .onward .1 .later),
+        last-size f ∙ omega (arith, some-size (f .onward .1)),
+      );
     })
 
     pub conditional-choice : {c a b : ℕ} {test x y : Atom} → ShapeAt rows row (Conditional c a b) → AtomAt S rows c level test → AtomAt S rows a level x → AtomAt S rows b level y
         → ChoiceAt S rows row level (Choose test (branch a false x) (branch b false y))
     conditional-choice {c} {a} {b} {test} {x} {y} f t p q = record {
-      is = as-last _ f (sym (ap₃ (λ (c : Expression) (p q : Items). choosing S c p q none) (t .is) (value-code a x (omega (arith, f .onward .1 .later)) p) (value-code b y (omega (arith, f .onward .2 .later)) q)));
+      is = as-last _ f (sym (ap₃ if-of (t .is) (value-code a x (omega (arith, f .onward .1 .later)) p) (value-code b y (omega (arith, f .onward .2 .later)) q)));
       fits = (
         t .fits,
         branch-fits (f .onward .1) (p .fits),
         branch-fits (f .onward .2) (q .fits),
         (λ h. f .onward .1 .later),
         (λ h. f .onward .2 .later),
-        last-size f ∙ omega (arith, some-size (f .onward .1), some-size (f .onward .2), finish-rows x (atomOf (expressionAt rows a)) (p .number), finish-rows y (atomOf (expressionAt rows b)) (q .number)),
+        last-size f
+            ∙ omega
+            (arith, some-size (f .onward .1), some-size (f .onward .2), finish-rows x (atomOf (expressionAt rows a)) (p .number), finish-rows y (atomOf (expressionAt rows b)) (q .number)),
       );
     }

@@ -1,11 +1,16 @@
--- What an expression's code ends with, by its shape.
+-- What an expression's code ends with, by its shape: each arm is the law of that shape, from the shape that was found and its atoms.
 use mathlib.Core.Path.{refl}
 use native.Mathlib.Omega.{arith}
 use Rattle.measures.specs.ShapeLaws.{found}
-use Rattle.expression_writers.proofs.Choices.{straight, and-choice, or-choice, conditional-choice}
+use Rattle.expression_writers.proofs.Choices.{RowAsked, level-small, straight, and-choice, or-choice, conditional-choice}
 use borrow.Author.Needs.{needs}
 use Rattle.expression_writers.proofs.branches.choice_at.Statement.{statement}
 use Rattle.expression_writers.proofs.branches.choice_at.Tie as tie
+
+at-start : (c : tie.Start) →
+    let args = c .args in
+    RowAsked (args .store) (args .rows .now) (args .table .now) (args .row) (args .level)
+at-start c = record { writing = c .pre .0; inside = c .pre .1; level-low = c .pre .2 }
 
 shape-at-requires : tie.Need-shape-at-requires
 shape-at-requires c κs = search needs
@@ -29,10 +34,18 @@ enum-known-shape : tie.Need-enum-known-shape
 enum-known-shape c = search needs
 
 atom-at-requires : tie.Need-atom-at-requires
-atom-at-requires c κs = (c .before .before .before .before .before .pre .0, found (c .before .before .before .shape-at .ensures) (c .before .shape .given .1) .onward .0 .inside, omega (arith, c .before .before .before .before .before .pre .2, c .before .before .before .before .before .pre .1, c .before .before .before .before .before .pre .0 .measured .source .few-rows))
+atom-at-requires c κs =
+    let known = c .before in
+    let asked = at-start (known .before .before .before .before) in
+    let shape = found (known .before .before .shape-at .ensures) (known .shape .given .1) in
+    (asked .writing, shape .onward .0 .inside, omega (arith, level-small asked))
 
 atom-at-requires-2 : tie.Need-atom-at-requires-2
-atom-at-requires-2 c κs = (c .before .before .before .before .before .before .pre .0, found (c .before .before .before .before .shape-at .ensures) (c .before .before .shape .given .1) .onward .1 .inside, omega (arith, c .before .before .before .before .before .before .pre .2, c .before .before .before .before .before .before .pre .1, c .before .before .before .before .before .before .pre .0 .measured .source .few-rows))
+atom-at-requires-2 c κs =
+    let known = c .before .before in
+    let asked = at-start (known .before .before .before .before) in
+    let shape = found (known .before .before .shape-at .ensures) (known .shape .given .1) in
+    (asked .writing, shape .onward .1 .inside, omega (arith, level-small asked))
 
 number-branch-requires : tie.Need-number-branch-requires
 number-branch-requires c κs = search needs
@@ -41,10 +54,18 @@ enum-known-shape-2 : tie.Need-enum-known-shape-2
 enum-known-shape-2 c = search needs
 
 atom-at-requires-3 : tie.Need-atom-at-requires-3
-atom-at-requires-3 c κs = (c .before .before .before .before .before .pre .0, found (c .before .before .before .shape-at .ensures) (c .before .shape2 .given .1) .onward .0 .inside, omega (arith, c .before .before .before .before .before .pre .2, c .before .before .before .before .before .pre .1, c .before .before .before .before .before .pre .0 .measured .source .few-rows))
+atom-at-requires-3 c κs =
+    let known = c .before in
+    let asked = at-start (known .before .before .before .before) in
+    let shape = found (known .before .before .shape-at .ensures) (known .shape2 .given .1) in
+    (asked .writing, shape .onward .0 .inside, omega (arith, level-small asked))
 
 atom-at-requires-4 : tie.Need-atom-at-requires-4
-atom-at-requires-4 c κs = (c .before .before .before .before .before .before .pre .0, found (c .before .before .before .before .shape-at .ensures) (c .before .before .shape2 .given .1) .onward .1 .inside, omega (arith, c .before .before .before .before .before .before .pre .2, c .before .before .before .before .before .before .pre .1, c .before .before .before .before .before .before .pre .0 .measured .source .few-rows))
+atom-at-requires-4 c κs =
+    let known = c .before .before in
+    let asked = at-start (known .before .before .before .before) in
+    let shape = found (known .before .before .shape-at .ensures) (known .shape2 .given .1) in
+    (asked .writing, shape .onward .1 .inside, omega (arith, level-small asked))
 
 number-branch-requires-2 : tie.Need-number-branch-requires-2
 number-branch-requires-2 c κs = search needs
@@ -56,13 +77,25 @@ enum-known-shape-3 : tie.Need-enum-known-shape-3
 enum-known-shape-3 c = search needs
 
 atom-at-requires-5 : tie.Need-atom-at-requires-5
-atom-at-requires-5 c κs = (c .before .before .before .before .before .pre .0, found (c .before .before .before .shape-at .ensures) (c .before .shape3 .given .1) .onward .0 .inside, omega (arith, c .before .before .before .before .before .pre .2, c .before .before .before .before .before .pre .1, c .before .before .before .before .before .pre .0 .measured .source .few-rows))
+atom-at-requires-5 c κs =
+    let known = c .before in
+    let asked = at-start (known .before .before .before .before) in
+    let shape = found (known .before .before .shape-at .ensures) (known .shape3 .given .1) in
+    (asked .writing, shape .onward .0 .inside, omega (arith, level-small asked))
 
 atom-at-requires-6 : tie.Need-atom-at-requires-6
-atom-at-requires-6 c κs = (c .before .before .before .before .before .before .pre .0, found (c .before .before .before .before .shape-at .ensures) (c .before .before .shape3 .given .1) .onward .1 .inside, omega (arith, c .before .before .before .before .before .before .pre .2, c .before .before .before .before .before .before .pre .1, c .before .before .before .before .before .before .pre .0 .measured .source .few-rows))
+atom-at-requires-6 c κs =
+    let known = c .before .before in
+    let asked = at-start (known .before .before .before .before) in
+    let shape = found (known .before .before .shape-at .ensures) (known .shape3 .given .1) in
+    (asked .writing, shape .onward .1 .inside, omega (arith, level-small asked))
 
 atom-at-requires-7 : tie.Need-atom-at-requires-7
-atom-at-requires-7 c κs = (c .before .before .before .before .before .before .before .pre .0, found (c .before .before .before .before .before .shape-at .ensures) (c .before .before .before .shape3 .given .1) .onward .2 .inside, omega (arith, c .before .before .before .before .before .before .before .pre .2, c .before .before .before .before .before .before .before .pre .1, c .before .before .before .before .before .before .before .pre .0 .measured .source .few-rows))
+atom-at-requires-7 c κs =
+    let known = c .before .before .before in
+    let asked = at-start (known .before .before .before .before) in
+    let shape = found (known .before .before .shape-at .ensures) (known .shape3 .given .1) in
+    (asked .writing, shape .onward .2 .inside, omega (arith, level-small asked))
 
 enum-told-7 : tie.Need-enum-told-7
 enum-told-7 c = search needs
@@ -92,16 +125,28 @@ returns-5 : tie.Need-returns-5
 returns-5 c = straight _ _ _ _ (found (c .before .before .shape-at .ensures) (c .enum-told5 .given .1)) refl
 
 returns-6 : tie.Need-returns-6
-returns-6 c = and-choice _ _ _ _ (c .before .before .before .before .before .before .before .before .pre .0 .measured .source .few-rows) (c .before .before .before .before .before .before .before .before .pre .1) (c .before .before .before .before .before .before .before .before .pre .2) (found (c .before .before .before .before .before .before .shape-at .ensures) (c .before .before .before .before .shape .given .1)) (c .before .before .atom-at .ensures) (c .before .atom-at2 .ensures) (c .number-branch .ensures)
+returns-6 c =
+    let known = c .before .before .before .before in
+    let asked = at-start (known .before .before .before .before) in
+    let shape = found (known .before .before .shape-at .ensures) (known .shape .given .1) in
+    and-choice _ _ _ _ asked shape (c .before .before .atom-at .ensures) (c .before .atom-at2 .ensures) (c .number-branch .ensures)
 
 returns-7 : tie.Need-returns-7
-returns-7 c = or-choice _ _ _ _ (c .before .before .before .before .before .before .before .before .pre .0 .measured .source .few-rows) (c .before .before .before .before .before .before .before .before .pre .1) (c .before .before .before .before .before .before .before .before .pre .2) (found (c .before .before .before .before .before .before .shape-at .ensures) (c .before .before .before .before .shape2 .given .1)) (c .before .before .atom-at3 .ensures) (c .before .atom-at4 .ensures) (c .number-branch2 .ensures)
+returns-7 c =
+    let known = c .before .before .before .before in
+    let asked = at-start (known .before .before .before .before) in
+    let shape = found (known .before .before .shape-at .ensures) (known .shape2 .given .1) in
+    or-choice _ _ _ _ asked shape (c .before .before .atom-at3 .ensures) (c .before .atom-at4 .ensures) (c .number-branch2 .ensures)
 
 returns-8 : tie.Need-returns-8
 returns-8 c = straight _ _ _ _ (found (c .before .before .shape-at .ensures) (c .enum-told6 .given .1)) refl
 
 returns-9 : tie.Need-returns-9
-returns-9 c = conditional-choice _ _ _ _ (c .before .before .before .before .before .before .before .before .pre .0 .measured .source .few-rows) (c .before .before .before .before .before .before .before .before .pre .1) (c .before .before .before .before .before .before .before .before .pre .2) (found (c .before .before .before .before .before .before .shape-at .ensures) (c .before .before .before .before .shape3 .given .1)) (c .before .before .atom-at5 .ensures) (c .before .atom-at6 .ensures) (c .atom-at7 .ensures)
+returns-9 c =
+    let known = c .before .before .before .before in
+    let asked = at-start (known .before .before .before .before) in
+    let shape = found (known .before .before .shape-at .ensures) (known .shape3 .given .1) in
+    conditional-choice _ _ _ _ asked shape (c .before .before .atom-at5 .ensures) (c .before .atom-at6 .ensures) (c .atom-at7 .ensures)
 
 returns-10 : tie.Need-returns-10
 returns-10 c = straight _ _ _ _ (found (c .before .before .shape-at .ensures) (c .enum-told7 .given .1)) refl

@@ -1,0 +1,228 @@
+-- An expression is written as its code: the operands' code and what is done with their values stand one behind the other. What is known at
+-- each place is gathered once, in a record of ExpressionParts; each need is a law of the nearest record.
+use mathlib.Core.Path.{sym, ap}
+use Prim.Native.Nat.{ℕ}
+use native.Mathlib.Omega.{arith}
+use Rattle.language.specs.DecodeLaws.{partAt}
+use Rattle.measures.specs.MeasureLaws.{whole-behind}
+use Rattle.leaves.specs.LeafLaws.{recoded, nothing-wrote}
+use Rattle.expression_writers.specs.Code.{operandCode}
+use Rattle.expression_writers.proofs.Ranks.{rank-some}
+use Rattle.expression_writers.proofs.ExpressionParts.{ExpressionAsked, source, all-small, row-low}
+use Rattle.expression_writers.proofs.ExpressionParts.{OperandsFound, first-inside, first-small, second-inside, second-small, operands-within, above-low, first-falls, second-falls, first-asks}
+use Rattle.expression_writers.proofs.ExpressionParts.{ExpressionSizes, sizes-within, FirstOperand, first-reach, second-asks, SecondOperand, second-reach, last-asks}
+use Rattle.expression_writers.proofs.ExpressionParts.{LastPart, expression-length, expression-written}
+use Rattle.expression_writers.proofs.expressions.write_expression.Reads as reads
+use Rattle.expression_writers.proofs.expressions.+write_branch+write_choice+write_expression+write_last.Lts-write_expression as lts
+use Rattle.expression_writers.proofs.expressions.+write_branch+write_choice+write_expression+write_last.Proof.Claims.{write-expression-claims, write-expression-at}
+
+-- `t` is the measure of the call.
+module _ (t : ℕ) where
+  -- ---- the places, in the order of the code, and what is known at each
+
+  abbrev Start : Type 0
+  Start = lts.Start (write-expression-claims t) (write-expression-at t) reads.Post
+
+  at-start : (c : Start) →
+      let args = c .args in
+      ExpressionAsked (args .store) (args .rows .now) (args .table .now) (args .row) (args .level) (args .base) (args .out .now)
+  at-start c = record { writing = c .pre .1 .0; asks = c .pre .1 .1 }
+
+  -- The row is not absent, and its operands are known.
+  abbrev Found : Type 0
+  Found = lts.After-operands-at (write-expression-claims t) (write-expression-at t) reads.Post
+
+  abbrev found-start : Found → Start
+  found-start c = c .before .before .before
+
+  at-operands : (c : Found) → OperandsFound (at-start (found-start c)) (c .operands-at .result)
+  at-operands c = record { some = omega (arith, c .before .if1 .left); at = c .operands-at .ensures }
+
+  -- How many levels higher the second operand is worked out and all sizes are known.
+  abbrev Sized : Type 0
+  Sized = lts.After-operand-size3 (write-expression-claims t) (write-expression-at t) reads.Post
+
+  abbrev sized-found : Sized → Found
+  sized-found c = c .before .before .before .before
+
+  at-sizes : (c : Sized) →
+      ExpressionSizes (at-operands (sized-found c)) (c .before .before .before .above-at .result)
+      (c .before .before .operand-size .result) (c .before .operand-size2 .result) (c .operand-size3 .result)
+  at-sizes c = record {
+    above-is = c .before .before .before .above-at .ensures;
+    first-is = c .before .before .operand-size .ensures;
+    second-is = c .before .operand-size2 .ensures;
+    all-is = c .operand-size3 .ensures;
+  }
+
+  -- The first operand is written.
+  abbrev FirstWritten : Type 0
+  FirstWritten = lts.After-out (write-expression-claims t) (write-expression-at t) reads.Post
+
+  abbrev first-sized : FirstWritten → Sized
+  first-sized c = c .before .before .before .before .before
+
+  at-first : (c : FirstWritten) →
+      let firstTable = c .before .write-expression .last .1 .1 .1 .1 .1 .1 .1 .0 in
+      FirstOperand (at-sizes (first-sized c)) (c .before .before .before .more2 .result) firstTable
+  at-first c = record { table-is = c .before .write-expression .ensures }
+
+  -- The second operand is written.
+  abbrev SecondWritten : Type 0
+  SecondWritten = lts.After-out2 (write-expression-claims t) (write-expression-at t) reads.Post
+
+  abbrev second-first : SecondWritten → FirstWritten
+  second-first c = c .before .before .before
+
+  at-second : (c : SecondWritten) →
+      let written = second-first c in
+      let secondWords = c .before .write-expression2 .last .1 .1 .1 .1 .1 .1 .1 .0 in
+      SecondOperand (at-first written) (written .before .before .before .before .more .result) secondWords
+  at-second c = record { more-is = second-first c .before .before .before .more2 .ensures; table-is = c .before .write-expression2 .ensures }
+
+  -- All is written.
+  abbrev LastWritten : Type 0
+  LastWritten = lts.After-out3 (write-expression-claims t) (write-expression-at t) reads.Post
+
+  abbrev last-second : LastWritten → SecondWritten
+  last-second c = c .before .before .before
+
+  at-last : (c : LastWritten) →
+      let written = last-second c in
+      let follows = found-start (sized-found (first-sized (second-first written))) .args .follows in
+      let lastWords = c .before .write-last .last .1 .1 .1 .1 .1 .1 .1 .0 in
+      LastPart (at-second written) follows lastWords
+  at-last c =
+      let past-more = second-first (last-second c) .before .before .before .before .more in
+      record { more-is = past-more .ensures; table-is = c .before .write-last .ensures }
+
+  -- ---- an absent expression
+
+  pub returns : lts.Need-returns (write-expression-claims t) (write-expression-at t) reads.Post
+  returns c =
+      let args = c .before .before .args in
+      recoded _ _ _ _ _ _ (nothing-wrote (args .follows) (args .base) _)
+      (ap (λ r. operandCode (args .store) (partAt (args .rows .now) r) (args .level)) (sym (c .if1 .taken)))
+
+  -- ---- the operands and the sizes
+
+  pub operands-at-requires : lts.Need-operands-at-requires (write-expression-claims t) (write-expression-at t) reads.Post
+  operands-at-requires c κs =
+      let asked = at-start (c .before .before) in
+      (source asked, asked .asks .inside)
+
+  pub above-at-requires : lts.Need-above-at-requires (write-expression-claims t) (write-expression-at t) reads.Post
+  above-at-requires c κs =
+      let asked = at-start (found-start c) in
+      (whole-behind (asked .writing .measured) _, asked .asks .inside)
+
+  pub add-above : lts.Need-add-above (write-expression-claims t) (write-expression-at t) reads.Post
+  add-above c =
+      let found = c .before in
+      omega (arith, above-low (at-operands found) (c .above-at .ensures), row-low (at-start (found-start found)))
+
+  pub operand-size-requires : lts.Need-operand-size-requires (write-expression-claims t) (write-expression-at t) reads.Post
+  operand-size-requires c κs =
+      let found = c .before in
+      let operands = at-operands found in
+      (at-start (found-start found) .writing .measured, first-inside operands, first-small operands)
+
+  pub operand-size-requires-2 : lts.Need-operand-size-requires-2 (write-expression-claims t) (write-expression-at t) reads.Post
+  operand-size-requires-2 c κs =
+      let found = c .before .before in
+      let operands = at-operands found in
+      (at-start (found-start found) .writing .measured, second-inside operands, second-small operands)
+
+  pub add-n : lts.Need-add-n (write-expression-claims t) (write-expression-at t) reads.Post
+  add-n c =
+      let found = c .before .before .before in
+      let within = operands-within (at-operands found) (c .before .operand-size .ensures) (c .operand-size2 .ensures) in
+      omega (arith, within, all-small (at-start (found-start found)))
+
+  pub operand-size-requires-3 : lts.Need-operand-size-requires-3 (write-expression-claims t) (write-expression-at t) reads.Post
+  operand-size-requires-3 c κs =
+      let asked = at-start (found-start (c .before .before .before)) in
+      (asked .writing .measured, asked .asks .inside, all-small asked)
+
+  pub sub-last : lts.Need-sub-last (write-expression-claims t) (write-expression-at t) reads.Post
+  sub-last c = omega (arith, sizes-within (at-sizes c))
+
+  pub more-requires : lts.Need-more-requires (write-expression-claims t) (write-expression-at t) reads.Post
+  more-requires c κs = tt
+
+  pub more-requires-2 : lts.Need-more-requires-2 (write-expression-claims t) (write-expression-at t) reads.Post
+  more-requires-2 c κs = tt
+
+  -- ---- the first operand
+
+  pub write-expression-requires : lts.Need-write-expression-requires (write-expression-claims t) (write-expression-at t) reads.Post
+  write-expression-requires c κs =
+      let found = sized-found (c .before .before .before) in
+      let operands = at-operands found in
+      let start = found-start found in
+      let measure = start .pre .0 in
+      (omega (arith, first-falls operands, measure), (at-start start .writing, first-asks operands))
+
+  -- ---- the second operand
+
+  pub add-write-expression : lts.Need-add-write-expression (write-expression-claims t) (write-expression-at t) reads.Post
+  add-write-expression c = omega (arith, first-reach (at-first c))
+
+  pub mul-write-expression : lts.Need-mul-write-expression (write-expression-claims t) (write-expression-at t) reads.Post
+  mul-write-expression c = omega (arith, first-reach (at-first c))
+
+  pub mul-write-expression-2 : lts.Need-mul-write-expression-2 (write-expression-claims t) (write-expression-at t) reads.Post
+  mul-write-expression-2 c = omega (arith, first-reach (at-first c))
+
+  pub sub-write-expression : lts.Need-sub-write-expression (write-expression-claims t) (write-expression-at t) reads.Post
+  sub-write-expression c = omega (arith, first-reach (at-first c))
+
+  pub part-write-expression-start : lts.Need-part-write-expression-start (write-expression-claims t) (write-expression-at t) reads.Post
+  part-write-expression-start c = omega (arith, first-reach (at-first c))
+
+  pub part-write-expression-end : lts.Need-part-write-expression-end (write-expression-claims t) (write-expression-at t) reads.Post
+  part-write-expression-end c = omega (arith, first-reach (at-first c))
+
+  pub write-expression-requires-2 : lts.Need-write-expression-requires-2 (write-expression-claims t) (write-expression-at t) reads.Post
+  write-expression-requires-2 c κs =
+      let written = c .before in
+      let found = sized-found (first-sized written) in
+      let start = found-start found in
+      let measure = start .pre .0 in
+      (omega (arith, second-falls (at-operands found), measure), (at-start start .writing, second-asks (at-first written)))
+
+  -- ---- what is done with the operands' values
+
+  pub add-write-last : lts.Need-add-write-last (write-expression-claims t) (write-expression-at t) reads.Post
+  add-write-last c = omega (arith, second-reach (at-second c))
+
+  pub mul-write-last : lts.Need-mul-write-last (write-expression-claims t) (write-expression-at t) reads.Post
+  mul-write-last c = omega (arith, second-reach (at-second c))
+
+  pub mul-write-last-2 : lts.Need-mul-write-last-2 (write-expression-claims t) (write-expression-at t) reads.Post
+  mul-write-last-2 c = omega (arith, second-reach (at-second c))
+
+  pub sub-write-last : lts.Need-sub-write-last (write-expression-claims t) (write-expression-at t) reads.Post
+  sub-write-last c = omega (arith, second-reach (at-second c))
+
+  pub part-write-last-start : lts.Need-part-write-last-start (write-expression-claims t) (write-expression-at t) reads.Post
+  part-write-last-start c = omega (arith, second-reach (at-second c))
+
+  pub part-write-last-end : lts.Need-part-write-last-end (write-expression-claims t) (write-expression-at t) reads.Post
+  part-write-last-end c = omega (arith, second-reach (at-second c))
+
+  pub write-last-requires : lts.Need-write-last-requires (write-expression-claims t) (write-expression-at t) reads.Post
+  write-last-requires c κs =
+      let written = c .before in
+      let found = sized-found (first-sized (second-first written)) in
+      let start = found-start found in
+      let measure = start .pre .0 in
+      let asked = at-start start in
+      let rank-is = rank-some (start .args .rows .now) (start .args .row) (at-operands found .some) in
+      (omega (arith, rank-is, asked .asks .inside, measure), (asked .writing, last-asks (at-second written)))
+
+  pub same-length : lts.Need-same-length (write-expression-claims t) (write-expression-at t) reads.Post
+  same-length c = expression-length (at-last c)
+
+  pub returns-2 : lts.Need-returns-2 (write-expression-claims t) (write-expression-at t) reads.Post
+  returns-2 c = expression-written (at-last c)

@@ -1,8 +1,10 @@
 -- Atoms: the kernel's atoms and places, as the code holds them.
 use mathlib.Core.Bool.{Bool, true, false}
+use mathlib.Core.List.{List}
 use Prim.Native.Nat.{ℕ, _<_}
 use lib.IntN.{ℤ, pos}
 use Rattle.language.specs.Trees.{Expression, constant, read, Place, variable, element}
+use Rattle.emission.specs.Emission.{rowOf}
 use Rattle.leaves.specs.declared.Atom.{Atom}
 use Rattle.leaves.specs.declared.Atom.the-variants.{Constant, Variable}
 use Rattle.leaves.specs.declared.KernelPlace.{KernelPlace}
@@ -16,14 +18,10 @@ abbrev pub placeTree : KernelPlace → Place
 placeTree (VariablePlace n) = variable n
 placeTree (Element array index) = element array (atomTree index)
 
--- The kind and the value of an atom's row.
-abbrev pub atomKind : Atom → ℤ
-atomKind (Constant v) = pos 1
-atomKind (Variable n) = pos 2
-
-abbrev pub atomValue : Atom → ℤ
-atomValue (Constant v) = v
-atomValue (Variable n) = pos n
+-- The row of an atom, wherever it stands.
+abbrev pub atomRow : Atom → List ℤ
+atomRow (Constant v) = rowOf 1 v 0 0 0 0
+atomRow (Variable n) = rowOf 2 (pos n) 0 0 0 0
 
 -- Numbers that a word holds.
 abbrev pub AtomFits : Atom → Type 0

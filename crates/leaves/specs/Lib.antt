@@ -3,7 +3,7 @@
 pub mod Room
 -- Atoms: the kernel's atoms and places, as the code holds them.
 pub mod Atoms
--- Straight: what an expression does with the values of its first two operands.
+-- Straight: what an expression does with the values of its first two operands, and the rows that head an assignment and a loop.
 pub mod Straight
 -- Asks: what the leaves ask of their caller.
 pub mod Asks

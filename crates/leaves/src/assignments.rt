@@ -1,179 +1,104 @@
 // The assignments of the kernel: to a variable an atom, its negative, an operation or an element, and to an element an atom.
 use super::Atom;
-use super::rows::atom_kind;
-use super::rows::atom_value;
 use super::rows::behind;
 use super::rows::operator_number;
-use super::rows::put;
+use super::rows::put_atom;
+use super::rows::put_row;
 use words::Operator;
 ghost use mathlib.Core.Path.{_≡_};
-ghost use Prim.Native.Nat.{_<_};
+ghost use mathlib.Core.List.{_++_};
+ghost use Prim.Native.Nat.{_+_, _≤_, _<_};
+ghost use lib.IntN.{pos};
 ghost use lib.ListN.{length};
 ghost use Rattle.language.specs.Trees.{read, minus, binary, assign, variable, element, express, none, _then_};
-ghost use Rattle.emission.specs.Emission.{emitItems};
+ghost use Rattle.emission.specs.Emission.{rowOf, emitItems};
 ghost use Rattle.words.specs.Over.{over};
 ghost use Rattle.leaves.specs.Room.{Room};
-ghost use Rattle.leaves.specs.Atoms.{atomTree, AtomFits};
+ghost use Rattle.leaves.specs.Atoms.{atomTree, atomRow, AtomFits};
+ghost use Rattle.leaves.specs.Straight.{target};
+
+// The rows that head an assignment of `size` rows: the statement, the assignment, whose value stands at the row `value`, and its place's own row.
+fn put_target(
+    kind: usize,
+    number: usize,
+    index: usize,
+    value: usize,
+    size: usize,
+    base: usize,
+    follows: bool,
+    out: &mut [i32],
+)
+    requires { ⌜ Room size base (length (now out)) × (3 ≤ size) × (kind < 65536) × (number < 65536) × (index < 65536) × (value < 65536) ⌝ }
+    ensures { λ _. ⌜ now (out .exit) ≡ over (target kind number index value size base follows) (now (out .entry)) ⌝ }
+{
+    put_row(41, base + 1, 0, 0, behind(follows, base + size), out);
+    put_row(21, base + 2, value, 0, 0, &mut out[6..]);
+    put_row(kind, number, index, 0, 0, &mut out[12..]);
+}
+
+// The rows of an assignment of `size` rows to a variable, up to the first atom of its value: an expression of a kind with the fields a and b.
+fn put_operand(
+    number: usize,
+    kind: usize,
+    a: usize,
+    b: usize,
+    operand: Atom,
+    size: usize,
+    base: usize,
+    follows: bool,
+    out: &mut [i32],
+)
+    requires { ⌜ Room size base (length (now out)) × (5 ≤ size) × (number < 65536) × (kind < 65536) × (a < 65536) × (b < 65536) × AtomFits operand ⌝ }
+    ensures { λ _. ⌜ now (out .exit) ≡ over ((target 2 number 0 (base + 3) size base follows ++ rowOf kind (pos a) b 0 0 0) ++ atomRow operand) (now (out .entry)) ⌝ }
+{
+    put_target(2, number, 0, base + 3, size, base, follows, out);
+    put_row(kind, a, b, 0, 0, &mut out[18..]);
+    put_atom(operand, &mut out[24..]);
+}
 
 // variable := atom
-pub fn put_copy(number: usize, x: Atom, base: usize, follows: bool, out: &mut [i32])
-    requires { ⌜ Room 4 base (length (now out)) × (number < 65536) × AtomFits x ⌝ }
-    ensures { λ _. ⌜ now (out .exit) ≡ over (emitItems follows (express (assign (variable number) (atomTree x)) then none) base) (now (out .entry)) ⌝ }
+pub fn put_copy(number: usize, source: Atom, base: usize, follows: bool, out: &mut [i32])
+    requires { ⌜ Room 4 base (length (now out)) × (number < 65536) × AtomFits source ⌝ }
+    ensures { λ _. ⌜ now (out .exit) ≡ over (emitItems follows (express (assign (variable number) (atomTree source)) then none) base) (now (out .entry)) ⌝ }
 {
-    let next = behind(follows, base + 4) as i32;
-    let b1 = (base + 1) as i32;
-    let b2 = (base + 2) as i32;
-    let b3 = (base + 3) as i32;
-    let n = number as i32;
-    let kind = atom_kind(x);
-    let value = atom_value(x);
-    put(
-        &[
-            41,
-            b1,
-            0,
-            0,
-            0,
-            next,
-            21,
-            b2,
-            b3,
-            0,
-            0,
-            0,
-            2,
-            n,
-            0,
-            0,
-            0,
-            0,
-            kind,
-            value,
-            0,
-            0,
-            0,
-            0,
-        ],
-        out,
-    );
+    put_target(2, number, 0, base + 3, 4, base, follows, out);
+    put_atom(source, &mut out[18..]);
 }
 
 // variable := - atom
-pub fn put_minus(number: usize, x: Atom, base: usize, follows: bool, out: &mut [i32])
-    requires { ⌜ Room 5 base (length (now out)) × (number < 65536) × AtomFits x ⌝ }
-    ensures { λ _. ⌜ now (out .exit) ≡ over (emitItems follows (express (assign (variable number) (minus (atomTree x))) then none) base) (now (out .entry)) ⌝ }
+pub fn put_minus(number: usize, operand: Atom, base: usize, follows: bool, out: &mut [i32])
+    requires { ⌜ Room 5 base (length (now out)) × (number < 65536) × AtomFits operand ⌝ }
+    ensures { λ _. ⌜ now (out .exit) ≡ over (emitItems follows (express (assign (variable number) (minus (atomTree operand))) then none) base) (now (out .entry)) ⌝ }
 {
-    let next = behind(follows, base + 5) as i32;
-    let b1 = (base + 1) as i32;
-    let b2 = (base + 2) as i32;
-    let b3 = (base + 3) as i32;
-    let b4 = (base + 4) as i32;
-    let n = number as i32;
-    let kind = atom_kind(x);
-    let value = atom_value(x);
-    put(
-        &[
-            41,
-            b1,
-            0,
-            0,
-            0,
-            next,
-            21,
-            b2,
-            b3,
-            0,
-            0,
-            0,
-            2,
-            n,
-            0,
-            0,
-            0,
-            0,
-            4,
-            b4,
-            0,
-            0,
-            0,
-            0,
-            kind,
-            value,
-            0,
-            0,
-            0,
-            0,
-        ],
-        out,
-    );
+    put_operand(number, 4, base + 4, 0, operand, 5, base, follows, out);
 }
 
 // variable := atom operator atom
 pub fn put_binary(
     number: usize,
     operator: Operator,
-    x: Atom,
-    y: Atom,
+    left: Atom,
+    right: Atom,
     base: usize,
     follows: bool,
     out: &mut [i32],
 )
-    requires { ⌜ Room 6 base (length (now out)) × (number < 65536) × AtomFits x × AtomFits y ⌝ }
-    ensures { λ _. ⌜ now (out .exit) ≡ over (emitItems follows (express (assign (variable number) (binary operator (atomTree x) (atomTree y))) then none) base) (now (out .entry)) ⌝ }
+    requires { ⌜ Room 6 base (length (now out)) × (number < 65536) × AtomFits left × AtomFits right ⌝ }
+    ensures { λ _. ⌜ now (out .exit) ≡ over (emitItems follows (express (assign (variable number) (binary operator (atomTree left) (atomTree right))) then none) base) (now (out .entry)) ⌝ }
 {
-    let next = behind(follows, base + 6) as i32;
-    let b1 = (base + 1) as i32;
-    let b2 = (base + 2) as i32;
-    let b3 = (base + 3) as i32;
-    let b4 = (base + 4) as i32;
-    let b5 = (base + 5) as i32;
-    let n = number as i32;
-    let operation = (6 + operator_number(operator)) as i32;
-    let x_kind = atom_kind(x);
-    let x_value = atom_value(x);
-    let y_kind = atom_kind(y);
-    let y_value = atom_value(y);
-    put(
-        &[
-            41,
-            b1,
-            0,
-            0,
-            0,
-            next,
-            21,
-            b2,
-            b3,
-            0,
-            0,
-            0,
-            2,
-            n,
-            0,
-            0,
-            0,
-            0,
-            operation,
-            b4,
-            b5,
-            0,
-            0,
-            0,
-            x_kind,
-            x_value,
-            0,
-            0,
-            0,
-            0,
-            y_kind,
-            y_value,
-            0,
-            0,
-            0,
-            0,
-        ],
+    let kind = 6 + operator_number(operator);
+    put_operand(
+        number,
+        kind,
+        base + 4,
+        base + 5,
+        left,
+        6,
+        base,
+        follows,
         out,
     );
+    put_atom(right, &mut out[30..]);
 }
 
 // variable := array[atom]
@@ -188,100 +113,22 @@ pub fn put_fetch(
     requires { ⌜ Room 5 base (length (now out)) × (number < 65536) × (array < 65536) × AtomFits index ⌝ }
     ensures { λ _. ⌜ now (out .exit) ≡ over (emitItems follows (express (assign (variable number) (read (element array (atomTree index)))) then none) base) (now (out .entry)) ⌝ }
 {
-    let next = behind(follows, base + 5) as i32;
-    let b1 = (base + 1) as i32;
-    let b2 = (base + 2) as i32;
-    let b3 = (base + 3) as i32;
-    let b4 = (base + 4) as i32;
-    let n = number as i32;
-    let a = array as i32;
-    let kind = atom_kind(index);
-    let value = atom_value(index);
-    put(
-        &[
-            41,
-            b1,
-            0,
-            0,
-            0,
-            next,
-            21,
-            b2,
-            b3,
-            0,
-            0,
-            0,
-            2,
-            n,
-            0,
-            0,
-            0,
-            0,
-            3,
-            a,
-            b4,
-            0,
-            0,
-            0,
-            kind,
-            value,
-            0,
-            0,
-            0,
-            0,
-        ],
-        out,
-    );
+    put_operand(number, 3, array, base + 4, index, 5, base, follows, out);
 }
 
 // array[atom] := atom
-pub fn put_store(array: usize, index: Atom, x: Atom, base: usize, follows: bool, out: &mut [i32])
-    requires { ⌜ Room 5 base (length (now out)) × (array < 65536) × AtomFits index × AtomFits x ⌝ }
-    ensures { λ _. ⌜ now (out .exit) ≡ over (emitItems follows (express (assign (element array (atomTree index)) (atomTree x)) then none) base) (now (out .entry)) ⌝ }
+pub fn put_store(
+    array: usize,
+    index: Atom,
+    value: Atom,
+    base: usize,
+    follows: bool,
+    out: &mut [i32],
+)
+    requires { ⌜ Room 5 base (length (now out)) × (array < 65536) × AtomFits index × AtomFits value ⌝ }
+    ensures { λ _. ⌜ now (out .exit) ≡ over (emitItems follows (express (assign (element array (atomTree index)) (atomTree value)) then none) base) (now (out .entry)) ⌝ }
 {
-    let next = behind(follows, base + 5) as i32;
-    let b1 = (base + 1) as i32;
-    let b2 = (base + 2) as i32;
-    let b3 = (base + 3) as i32;
-    let b4 = (base + 4) as i32;
-    let a = array as i32;
-    let i_kind = atom_kind(index);
-    let i_value = atom_value(index);
-    let kind = atom_kind(x);
-    let value = atom_value(x);
-    put(
-        &[
-            41,
-            b1,
-            0,
-            0,
-            0,
-            next,
-            21,
-            b2,
-            b4,
-            0,
-            0,
-            0,
-            3,
-            a,
-            b3,
-            0,
-            0,
-            0,
-            i_kind,
-            i_value,
-            0,
-            0,
-            0,
-            0,
-            kind,
-            value,
-            0,
-            0,
-            0,
-            0,
-        ],
-        out,
-    );
+    put_target(3, array, base + 3, base + 4, 5, base, follows, out);
+    put_atom(index, &mut out[18..]);
+    put_atom(value, &mut out[24..]);
 }

@@ -25,7 +25,7 @@ pub fn atom_at(rows: &[i32], table: &[usize], store: usize, row: usize, level: u
     let temporary = Atom::Variable(store + level);
     let shape = shape_at(rows, table[11 * row + 2]);
     match shape {
-        Shape::Number(v) => Atom::Constant(v),
+        Shape::Number(value) => Atom::Constant(value),
         Shape::Read(_) => temporary,
         Shape::Minus(_) => temporary,
         Shape::Not(_) => temporary,
@@ -53,7 +53,7 @@ pub fn held_place(
     ensures { λ r. ⌜ HeldPlace store (now (rows .entry)) place level r ⌝ }
 {
     match place {
-        PlaceShape::Variable(i) => KernelPlace::Variable(i),
+        PlaceShape::Variable(number) => KernelPlace::Variable(number),
         PlaceShape::Element(array, index) => KernelPlace::Element(
             array,
             atom_at(rows, table, store, index, level),

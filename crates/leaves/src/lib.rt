@@ -16,3 +16,11 @@ pub enum KernelPlace {
     Variable(usize),
     Element(usize, Atom),
 }
+
+// Where the code of an expression stands: from the row `base` on, with the temporaries of a store from a level on.
+pub struct Position {
+    pub store: usize,
+    pub level: usize,
+    pub base: usize,
+    pub follows: bool,
+}

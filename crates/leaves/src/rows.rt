@@ -1,22 +1,45 @@
-// What all rows are put together by: words written into a table, links to what stands behind, the words of an atom and of an operator.
+// What all rows are put together by: words, a row and an atom's row written into a table, links to what stands behind, the numbers of operators.
 use super::Atom;
 use words::Operator;
 ghost use mathlib.Core.Path.{_≡_};
-ghost use Prim.Native.Nat.{_≤_};
+ghost use Prim.Native.Nat.{_^_, _≤_, _<_};
+ghost use lib.IntN.{pos};
 ghost use lib.ListN.{length};
 ghost use Rattle.words.specs.Word.{pick};
-ghost use Rattle.emission.specs.Emission.{operatorNumber};
+ghost use Rattle.emission.specs.Emission.{rowOf, operatorNumber};
 ghost use Rattle.words.specs.Over.{over};
 ghost use Rattle.leaves.specs.Room.{moreRows};
-ghost use Rattle.leaves.specs.Atoms.{atomKind, atomValue, AtomFits};
+ghost use Rattle.leaves.specs.Atoms.{atomRow, AtomFits};
 
-// Writes the words `ws` at the start of the table.
-pub fn put(ws: &[i32], out: &mut [i32])
-    requires { ⌜ length (now ws) ≤ length (now out) ⌝ }
-    ensures { λ _. ⌜ now (out .exit) ≡ over (now (ws .entry)) (now (out .entry)) ⌝ }
+// Writes words at the start of the table.
+pub fn put(words: &[i32], out: &mut [i32])
+    requires { ⌜ length (now words) ≤ length (now out) ⌝ }
+    ensures { λ _. ⌜ now (out .exit) ≡ over (now (words .entry)) (now (out .entry)) ⌝ }
 {
-    for i in 0..ws.len() {
-        out[i] = ws[i];
+    for i in 0..words.len() {
+        out[i] = words[i];
+    }
+}
+
+// Writes a row at the start of the table: "kind, a, b, c, d, next". Only a for has a field d, and the kernel has no for.
+pub fn put_row(kind: usize, a: usize, b: usize, c: usize, next: usize, out: &mut [i32])
+    requires { ⌜ (6 ≤ length (now out)) × (kind < 2 ^ 31) × (a < 2 ^ 31) × (b < 2 ^ 31) × (c < 2 ^ 31) × (next < 2 ^ 31) ⌝ }
+    ensures { λ _. ⌜ now (out .exit) ≡ over (rowOf kind (pos a) b c 0 next) (now (out .entry)) ⌝ }
+{
+    put(
+        &[kind as i32, a as i32, b as i32, c as i32, 0, next as i32],
+        out,
+    );
+}
+
+// Writes the row of an atom at the start of the table.
+pub fn put_atom(atom: Atom, out: &mut [i32])
+    requires { ⌜ (6 ≤ length (now out)) × AtomFits atom ⌝ }
+    ensures { λ _. ⌜ now (out .exit) ≡ over (atomRow atom) (now (out .entry)) ⌝ }
+{
+    match atom {
+        Atom::Constant(value) => put(&[1, value, 0, 0, 0, 0], out),
+        Atom::Variable(number) => put_row(2, number, 0, 0, 0, out),
     }
 }
 
@@ -38,25 +61,6 @@ pub fn more(follows: bool, rows: usize) -> bool
         return follows;
     }
     true
-}
-
-pub fn atom_kind(x: Atom) -> i32
-    ensures { λ r. ⌜ r ≡ atomKind x ⌝ }
-{
-    match x {
-        Atom::Constant(_) => 1,
-        Atom::Variable(_) => 2,
-    }
-}
-
-pub fn atom_value(x: Atom) -> i32
-    requires { ⌜ AtomFits x ⌝ }
-    ensures { λ r. ⌜ r ≡ atomValue x ⌝ }
-{
-    match x {
-        Atom::Constant(v) => v,
-        Atom::Variable(n) => n as i32,
-    }
 }
 
 // An operator's place in the list of kinds 6 to 16.

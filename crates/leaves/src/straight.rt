@@ -1,6 +1,7 @@
 // What an expression does with its operands' values, where it chooses nothing.
 use super::Atom;
 use super::KernelPlace;
+use super::Position;
 use super::assignments::put_binary;
 use super::assignments::put_copy;
 use super::assignments::put_fetch;
@@ -24,7 +25,7 @@ ghost use Rattle.emission.specs.Emission.{emitItems};
 ghost use Rattle.words.specs.Over.{over};
 ghost use Rattle.leaves.specs.Room.{Room};
 ghost use Rattle.leaves.specs.Atoms.{atomTree, placeTree, AtomFits, PlaceFits, indexRows};
-ghost use Rattle.leaves.specs.Straight.{straightCode};
+ghost use Rattle.leaves.specs.Straight.{straightCode, elementUpdate};
 ghost use Rattle.leaves.specs.Asks.{Writing, LastAsks, AssignmentAsks, OperationAsks, OperatorAsks};
 
 // variable := place
@@ -33,20 +34,61 @@ fn put_read(number: usize, place: KernelPlace, base: usize, follows: bool, out: 
     ensures { λ _. ⌜ now (out .exit) ≡ over (emitItems follows (express (assign (variable number) (read (placeTree place))) then none) base) (now (out .entry)) ⌝ }
 {
     match place {
-        KernelPlace::Variable(i) => put_copy(number, Atom::Variable(i), base, follows, out),
+        KernelPlace::Variable(source) => put_copy(
+            number,
+            Atom::Variable(source),
+            base,
+            follows,
+            out,
+        ),
         KernelPlace::Element(array, index) => put_fetch(number, array, index, base, follows, out),
     }
 }
 
 // place := atom
-fn put_assign(place: KernelPlace, x: Atom, base: usize, follows: bool, out: &mut [i32])
-    requires { ⌜ Room (4 + indexRows place) base (length (now out)) × PlaceFits place × AtomFits x ⌝ }
-    ensures { λ _. ⌜ now (out .exit) ≡ over (emitItems follows (express (assign (placeTree place) (atomTree x)) then none) base) (now (out .entry)) ⌝ }
+fn put_assign(place: KernelPlace, value: Atom, base: usize, follows: bool, out: &mut [i32])
+    requires { ⌜ Room (4 + indexRows place) base (length (now out)) × PlaceFits place × AtomFits value ⌝ }
+    ensures { λ _. ⌜ now (out .exit) ≡ over (emitItems follows (express (assign (placeTree place) (atomTree value)) then none) base) (now (out .entry)) ⌝ }
 {
     match place {
-        KernelPlace::Variable(i) => put_copy(i, x, base, follows, out),
-        KernelPlace::Element(array, index) => put_store(array, index, x, base, follows, out),
+        KernelPlace::Variable(number) => put_copy(number, value, base, follows, out),
+        KernelPlace::Element(array, index) => put_store(array, index, value, base, follows, out),
     }
+}
+
+// old := element, new := old operator operand, element := new
+fn put_element_update(
+    array: usize,
+    index: Atom,
+    operator: Operator,
+    operand: Atom,
+    old: usize,
+    new: usize,
+    base: usize,
+    follows: bool,
+    out: &mut [i32],
+)
+    requires { ⌜ Room 16 base (length (now out)) × (array < 65536) × AtomFits index × AtomFits operand × (old < 65536) × (new < 65536) ⌝ }
+    ensures { λ _. ⌜ now (out .exit) ≡ over (emitItems follows (elementUpdate operator array (atomTree index) (atomTree operand) old new) base) (now (out .entry)) ⌝ }
+{
+    put_fetch(old, array, index, base, true, out);
+    put_binary(
+        new,
+        operator,
+        Atom::Variable(old),
+        operand,
+        base + 5,
+        true,
+        &mut out[30..],
+    );
+    put_store(
+        array,
+        index,
+        Atom::Variable(new),
+        base + 11,
+        follows,
+        &mut out[66..],
+    );
 }
 
 // place := place operator atom, through the temporary of a level, and an element's old value through one above.
@@ -54,43 +96,36 @@ fn put_update(
     store: usize,
     operator: Operator,
     place: KernelPlace,
-    x: Atom,
+    operand: Atom,
     level: usize,
     above: usize,
     base: usize,
     follows: bool,
     out: &mut [i32],
 )
-    requires { ⌜ Room (10 + 6 * indexRows place) base (length (now out)) × PlaceFits place × AtomFits x × (store + level < 65536) × (store + above < 65536) ⌝ }
-    ensures { λ _. ⌜ now (out .exit) ≡ over (emitItems follows (updateCode store operator (placeTree place) (atomTree x) level above) base) (now (out .entry)) ⌝ }
+    requires { ⌜ Room (10 + 6 * indexRows place) base (length (now out)) × PlaceFits place × AtomFits operand × (store + level < 65536) × (store + above < 65536) ⌝ }
+    ensures { λ _. ⌜ now (out .exit) ≡ over (emitItems follows (updateCode store operator (placeTree place) (atomTree operand) level above) base) (now (out .entry)) ⌝ }
 {
     let result = store + level;
+    let old = store + above;
     match place {
-        KernelPlace::Variable(i) => {
-            put_binary(result, operator, Atom::Variable(i), x, base, true, out);
-            put_copy(i, Atom::Variable(result), base + 6, follows, &mut out[36..]);
+        KernelPlace::Variable(number) => {
+            let value = Atom::Variable(number);
+            put_binary(result, operator, value, operand, base, true, out);
+            let changed = Atom::Variable(result);
+            put_copy(number, changed, base + 6, follows, &mut out[36..]);
         }
-        KernelPlace::Element(array, index) => {
-            let old = store + above;
-            put_fetch(old, array, index, base, true, out);
-            put_binary(
-                result,
-                operator,
-                Atom::Variable(old),
-                x,
-                base + 5,
-                true,
-                &mut out[30..],
-            );
-            put_store(
-                array,
-                index,
-                Atom::Variable(result),
-                base + 11,
-                follows,
-                &mut out[66..],
-            );
-        }
+        KernelPlace::Element(array, index) => put_element_update(
+            array,
+            index,
+            operator,
+            operand,
+            old,
+            result,
+            base,
+            follows,
+            out,
+        ),
     }
 }
 
@@ -109,39 +144,17 @@ fn put_postfix(
     ensures { λ _. ⌜ now (out .exit) ≡ over (emitItems follows (postfixCode store operator (placeTree place) level above) base) (now (out .entry)) ⌝ }
 {
     let old = store + level;
+    let new = store + above;
+    let one = Atom::Constant(1);
     match place {
-        KernelPlace::Variable(i) => {
-            put_copy(old, Atom::Variable(i), base, true, out);
-            put_binary(
-                i,
-                operator,
-                Atom::Variable(old),
-                Atom::Constant(1),
-                base + 4,
-                follows,
-                &mut out[24..],
-            );
+        KernelPlace::Variable(number) => {
+            put_copy(old, Atom::Variable(number), base, true, out);
+            let value = Atom::Variable(old);
+            let rest = &mut out[24..];
+            put_binary(number, operator, value, one, base + 4, follows, rest);
         }
         KernelPlace::Element(array, index) => {
-            let new = store + above;
-            put_fetch(old, array, index, base, true, out);
-            put_binary(
-                new,
-                operator,
-                Atom::Variable(old),
-                Atom::Constant(1),
-                base + 5,
-                true,
-                &mut out[30..],
-            );
-            put_store(
-                array,
-                index,
-                Atom::Variable(new),
-                base + 11,
-                follows,
-                &mut out[66..],
-            );
+            put_element_update(array, index, operator, one, old, new, base, follows, out)
         }
     }
 }
@@ -150,84 +163,99 @@ fn put_postfix(
 fn put_assignment(
     rows: &[i32],
     table: &[usize],
-    store: usize,
     place: usize,
     value: usize,
-    level: usize,
-    base: usize,
-    follows: bool,
+    at: Position,
     out: &mut [i32],
 )
-    requires { ⌜ AssignmentAsks (now rows) (now table) store place value level base (length (now out)) ⌝ }
-    ensures { λ _. ⌜ now (out .exit) ≡ over (emitItems follows (straightCode store (assign (placeOf (expressionAt (now (rows .entry)) place)) (expressionAt (now (rows .entry)) value)) level) base) (now (out .entry)) ⌝ }
+    requires { ⌜ AssignmentAsks (now rows) (now table) (at .store) place value (at .level) (at .base) (length (now out)) ⌝ }
+    ensures { λ _. ⌜ now (out .exit) ≡ over (emitItems (at .follows) (straightCode (at .store) (assign (placeOf (expressionAt (now (rows .entry)) place)) (expressionAt (now (rows .entry)) value)) (at .level)) (at .base)) (now (out .entry)) ⌝ }
 {
-    let x = atom_at(rows, table, store, value, level);
-    let above = level + taken_at(rows, table, value);
-    let target = kernel_place(rows, table, store, place, above);
-    put_assign(target, x, base, follows, out);
+    let source = atom_at(rows, table, at.store, value, at.level);
+    let above = at.level + taken_at(rows, table, value);
+    let target = kernel_place(rows, table, at.store, place, above);
+    put_assign(target, source, at.base, at.follows, out);
 }
 
 // The place at a row, operated on with an atom.
 fn put_operation(
     rows: &[i32],
     table: &[usize],
-    store: usize,
     operator: Operator,
     place: usize,
-    x: Atom,
-    level: usize,
-    base: usize,
-    follows: bool,
+    operand: Atom,
+    at: Position,
     out: &mut [i32],
 )
-    requires { ⌜ OperationAsks (now rows) (now table) store place level base (length (now out)) × AtomFits x ⌝ }
-    ensures { λ _. ⌜ now (out .exit) ≡ over (emitItems follows (updateCode store operator (kernelPlace store (placeOf (expressionAt (now (rows .entry)) place)) (level + 1)) (atomTree x) level (level + 1 + placeTaken (placeOf (expressionAt (now (rows .entry)) place)))) base) (now (out .entry)) ⌝ }
+    requires { ⌜ OperationAsks (now rows) (now table) (at .store) place (at .level) (at .base) (length (now out)) × AtomFits operand ⌝ }
+    ensures { λ _. ⌜ now (out .exit) ≡ over (emitItems (at .follows) (updateCode (at .store) operator (kernelPlace (at .store) (placeOf (expressionAt (now (rows .entry)) place)) (at .level + 1)) (atomTree operand) (at .level) (at .level + 1 + placeTaken (placeOf (expressionAt (now (rows .entry)) place)))) (at .base)) (now (out .entry)) ⌝ }
 {
-    let target = kernel_place(rows, table, store, place, level + 1);
-    let above = level + 1 + place_taken(rows, table, place);
-    put_update(store, operator, target, x, level, above, base, follows, out);
+    let target = kernel_place(rows, table, at.store, place, at.level + 1);
+    let above = at.level + 1 + place_taken(rows, table, place);
+    put_update(
+        at.store,
+        operator,
+        target,
+        operand,
+        at.level,
+        above,
+        at.base,
+        at.follows,
+        out,
+    );
 }
 
 // The place at a row, operated on with 1; its old value is the result.
 fn put_step(
     rows: &[i32],
     table: &[usize],
-    store: usize,
     operator: Operator,
     place: usize,
-    level: usize,
-    base: usize,
-    follows: bool,
+    at: Position,
     out: &mut [i32],
 )
-    requires { ⌜ OperationAsks (now rows) (now table) store place level base (length (now out)) ⌝ }
-    ensures { λ _. ⌜ now (out .exit) ≡ over (emitItems follows (postfixCode store operator (kernelPlace store (placeOf (expressionAt (now (rows .entry)) place)) (level + 1)) level (level + 1 + placeTaken (placeOf (expressionAt (now (rows .entry)) place)))) base) (now (out .entry)) ⌝ }
+    requires { ⌜ OperationAsks (now rows) (now table) (at .store) place (at .level) (at .base) (length (now out)) ⌝ }
+    ensures { λ _. ⌜ now (out .exit) ≡ over (emitItems (at .follows) (postfixCode (at .store) operator (kernelPlace (at .store) (placeOf (expressionAt (now (rows .entry)) place)) (at .level + 1)) (at .level) (at .level + 1 + placeTaken (placeOf (expressionAt (now (rows .entry)) place)))) (at .base)) (now (out .entry)) ⌝ }
 {
-    let target = kernel_place(rows, table, store, place, level + 1);
-    let above = level + 1 + place_taken(rows, table, place);
-    put_postfix(store, operator, target, level, above, base, follows, out);
+    let target = kernel_place(rows, table, at.store, place, at.level + 1);
+    let above = at.level + 1 + place_taken(rows, table, place);
+    put_postfix(
+        at.store,
+        operator,
+        target,
+        at.level,
+        above,
+        at.base,
+        at.follows,
+        out,
+    );
 }
 
 // The operation of a binary operator on the values of its operands.
 fn put_operator(
     rows: &[i32],
     table: &[usize],
-    store: usize,
     operator: Operator,
     left: usize,
     right: usize,
-    level: usize,
-    base: usize,
-    follows: bool,
+    at: Position,
     out: &mut [i32],
 )
-    requires { ⌜ OperatorAsks (now rows) (now table) store left right level base (length (now out)) ⌝ }
-    ensures { λ _. ⌜ now (out .exit) ≡ over (emitItems follows (straightCode store (binary operator (expressionAt (now (rows .entry)) left) (expressionAt (now (rows .entry)) right)) level) base) (now (out .entry)) ⌝ }
+    requires { ⌜ OperatorAsks (now rows) (now table) (at .store) left right (at .level) (at .base) (length (now out)) ⌝ }
+    ensures { λ _. ⌜ now (out .exit) ≡ over (emitItems (at .follows) (straightCode (at .store) (binary operator (expressionAt (now (rows .entry)) left) (expressionAt (now (rows .entry)) right)) (at .level)) (at .base)) (now (out .entry)) ⌝ }
 {
-    let y = atom_at(rows, table, store, right, level);
-    let above = level + taken_at(rows, table, right);
-    let x = atom_at(rows, table, store, left, above);
-    put_binary(store + level, operator, x, y, base, follows, out);
+    let right_atom = atom_at(rows, table, at.store, right, at.level);
+    let above = at.level + taken_at(rows, table, right);
+    let left_atom = atom_at(rows, table, at.store, left, above);
+    put_binary(
+        at.store + at.level,
+        operator,
+        left_atom,
+        right_atom,
+        at.base,
+        at.follows,
+        out,
+    );
 }
 
 // What the expression at a row does with its operands' values.
@@ -245,6 +273,12 @@ pub fn put_straight(
     ensures { λ _. ⌜ now (out .exit) ≡ over (emitItems follows (straightCode store (expressionAt (now (rows .entry)) row) level) base) (now (out .entry)) ⌝ }
 {
     let number = store + level;
+    let at = Position {
+        store,
+        level,
+        base,
+        follows,
+    };
     let shape = shape_at(rows, row);
     match shape {
         Shape::Number(_) => {}
@@ -252,83 +286,30 @@ pub fn put_straight(
             let target = held_place(rows, table, store, place, level);
             put_read(number, target, base, follows, out);
         }
-        Shape::Minus(a) => put_minus(
-            number,
-            atom_at(rows, table, store, a, level),
-            base,
-            follows,
-            out,
-        ),
-        Shape::Not(a) => put_binary(
-            number,
-            Operator::Equal,
-            atom_at(rows, table, store, a, level),
-            Atom::Constant(0),
-            base,
-            follows,
-            out,
-        ),
-        Shape::Binary(operator, a, b) => put_operator(
-            rows,
-            table,
-            store,
-            operator,
-            a,
-            b,
-            level,
-            base,
-            follows,
-            out,
-        ),
+        Shape::Minus(operand) => {
+            let atom = atom_at(rows, table, store, operand, level);
+            put_minus(number, atom, base, follows, out);
+        }
+        Shape::Not(operand) => {
+            let zero = Atom::Constant(0);
+            let atom = atom_at(rows, table, store, operand, level);
+            put_binary(number, Operator::Equal, atom, zero, base, follows, out);
+        }
+        Shape::Binary(operator, left, right) => {
+            put_operator(rows, table, operator, left, right, at, out)
+        }
         Shape::And(_, _) => {}
         Shape::Or(_, _) => {}
         Shape::Comma(_, _) => {}
         Shape::Conditional(_, _, _) => {}
-        Shape::Assign(place, value) => put_assignment(
-            rows,
-            table,
-            store,
-            place,
-            value,
-            level,
-            base,
-            follows,
-            out,
-        ),
-        Shape::Compound(operator, place, value) => put_operation(
-            rows,
-            table,
-            store,
-            operator,
-            place,
-            atom_at(rows, table, store, value, level),
-            level,
-            base,
-            follows,
-            out,
-        ),
-        Shape::Prefix(operator, place) => put_operation(
-            rows,
-            table,
-            store,
-            operator,
-            place,
-            Atom::Constant(1),
-            level,
-            base,
-            follows,
-            out,
-        ),
-        Shape::Postfix(operator, place) => put_step(
-            rows,
-            table,
-            store,
-            operator,
-            place,
-            level,
-            base,
-            follows,
-            out,
-        ),
+        Shape::Assign(place, value) => put_assignment(rows, table, place, value, at, out),
+        Shape::Compound(operator, place, value) => {
+            let atom = atom_at(rows, table, store, value, level);
+            put_operation(rows, table, operator, place, atom, at, out);
+        }
+        Shape::Prefix(operator, place) => {
+            put_operation(rows, table, operator, place, Atom::Constant(1), at, out)
+        }
+        Shape::Postfix(operator, place) => put_step(rows, table, operator, place, at, out),
     }
 }

@@ -1,117 +1,62 @@
--- variable := atom operator atom: the words of six rows.
-use mathlib.Core.Path.{ap, _∙_}
+-- variable := atom operator atom: the rows up to its first operand, and an atom.
 use Prim.Native.Nat.{_+_}
-use native.Mathlib.Omega.{arith}
-use borrow.Author.Needs.{sfits-of}
-use lib.IntN.{pos}
-use mir.Syntax.{w32}
-use mir.Facts.{toZ-ofZ, toZ-pos}
-use Rattle.leaves.proofs.Words.{worded, pick-most, operator-most, binary-words}
+use Rattle.leaves.specs.Chain.{put-next, reworded}
+use Rattle.leaves.proofs.Words.{operator-most, atom-put, operand-put, binary-words}
 use borrow.Author.Needs.{needs}
 use Rattle.leaves.proofs.assignments.put_binary.Statement.{statement}
 use Rattle.leaves.proofs.assignments.put_binary.Tie as tie
 
-add-behind : tie.Need-add-behind
-add-behind c = search needs
-
-behind-requires : tie.Need-behind-requires
-behind-requires c κs = search needs
-
-cast-next : tie.Need-cast-next
-cast-next c = omega (arith, c .before .pre, c .behind .ensures, pick-most (c .before .args .follows) (c .before .args .base + 6))
-
-add-b1 : tie.Need-add-b1
-add-b1 c = search needs
-
-cast-b1 : tie.Need-cast-b1
-cast-b1 c = search needs
-
-add-b2 : tie.Need-add-b2
-add-b2 c = search needs
-
-cast-b2 : tie.Need-cast-b2
-cast-b2 c = search needs
-
-add-b3 : tie.Need-add-b3
-add-b3 c = search needs
-
-cast-b3 : tie.Need-cast-b3
-cast-b3 c = search needs
-
-add-b4 : tie.Need-add-b4
-add-b4 c = search needs
-
-cast-b4 : tie.Need-cast-b4
-cast-b4 c = search needs
-
-add-b5 : tie.Need-add-b5
-add-b5 c = search needs
-
-cast-b5 : tie.Need-cast-b5
-cast-b5 c = search needs
-
-cast-n : tie.Need-cast-n
-cast-n c = search needs
-
 operator-number-requires : tie.Need-operator-number-requires
 operator-number-requires c κs = search needs
 
-add-operation : tie.Need-add-operation
-add-operation c = omega (arith, c .operator-number .ensures, operator-most (c .before .before .args .operator))
+add-kind : tie.Need-add-kind
+add-kind c = let low = operator-most (c .before .args .operator) in search needs
 
-cast-operation : tie.Need-cast-operation
-cast-operation c = omega (arith, c .operator-number .ensures, operator-most (c .before .before .args .operator))
+add-put-operand : tie.Need-add-put-operand
+add-put-operand c = search needs
 
-atom-kind-requires : tie.Need-atom-kind-requires
-atom-kind-requires c κs = search needs
+add-put-operand-2 : tie.Need-add-put-operand-2
+add-put-operand-2 c = search needs
 
-atom-value-requires : tie.Need-atom-value-requires
-atom-value-requires c κs = search needs
+put-operand-requires : tie.Need-put-operand-requires
+put-operand-requires c κs = let low = operator-most (c .before .before .args .operator) in search needs
 
-atom-kind-requires-2 : tie.Need-atom-kind-requires-2
-atom-kind-requires-2 c κs = search needs
+sub-put-atom : tie.Need-sub-put-atom
+sub-put-atom c = search needs
 
-atom-value-requires-2 : tie.Need-atom-value-requires-2
-atom-value-requires-2 c κs = search needs
+part-put-atom-start : tie.Need-part-put-atom-start
+part-put-atom-start c = search needs
 
-slice-aggregate-put : tie.Need-slice-aggregate-put
-slice-aggregate-put c = search needs
+part-put-atom-end : tie.Need-part-put-atom-end
+part-put-atom-end c = search needs
 
-put-requires : tie.Need-put-requires
-put-requires c κs = search needs
+put-atom-requires : tie.Need-put-atom-requires
+put-atom-requires c κs = search needs
 
 same-length : tie.Need-same-length
 same-length c = search needs
 
 returns : tie.Need-returns
-returns c = worded _ _ _ _ (c .before .put .ensures) (binary-words (c .before .before .before .before .before .before .before .before .before .before .args .number) (c .before .before .before .before .before .before .before .before .before .before .args .operator) (c .before .before .before .before .before .before .before .before .before .before .args .x) (c .before .before .before .before .before .before .before .before .before .before .args .y) (c .before .before .before .before .before .before .before .before .before .before .args .base) (c .before .before .before .before .before .before .before .before .before .before .args .follows) (toZ-pos w32 {n = c .before .before .before .before .before .before .before .before .before .before .args .base + 1} (omega (arith, c .before .before .before .before .before .before .before .before .before .before .pre))) (toZ-pos w32 {n = c .before .before .before .before .before .before .before .before .before .before .args .base + 2} (omega (arith, c .before .before .before .before .before .before .before .before .before .before .pre))) (toZ-pos w32 {n = c .before .before .before .before .before .before .before .before .before .before .args .base + 3} (omega (arith, c .before .before .before .before .before .before .before .before .before .before .pre))) (toZ-pos w32 {n = c .before .before .before .before .before .before .before .before .before .before .args .base + 4} (omega (arith, c .before .before .before .before .before .before .before .before .before .before .pre))) (toZ-pos w32 {n = c .before .before .before .before .before .before .before .before .before .before .args .base + 5} (omega (arith, c .before .before .before .before .before .before .before .before .before .before .pre))) (toZ-pos w32 {n = c .before .before .before .before .before .before .before .before .before .before .args .number} (omega (arith, c .before .before .before .before .before .before .before .before .before .before .pre))) (toZ-pos w32 {n = 6 + c .before .before .before .before .before .before .before .before .operator-number .result} (omega (arith, c .before .before .before .before .before .before .before .before .operator-number .ensures, operator-most (c .before .before .before .before .before .before .before .before .before .before .args .operator))) ∙ ap (λ k. pos (6 + k)) (c .before .before .before .before .before .before .before .before .operator-number .ensures)) (toZ-pos w32 {n = c .before .before .before .before .before .before .before .before .before .behind .result} (omega (arith, c .before .before .before .before .before .before .before .before .before .before .pre, c .before .before .before .before .before .before .before .before .before .behind .ensures, pick-most (c .before .before .before .before .before .before .before .before .before .before .args .follows) (c .before .before .before .before .before .before .before .before .before .before .args .base + 6))) ∙ ap pos (c .before .before .before .before .before .before .before .before .before .behind .ensures)) (toZ-ofZ {w = w32} (sfits-of (c .before .before .before .before .before .before .before .atom-kind .ok)) ∙ c .before .before .before .before .before .before .before .atom-kind .ensures) (toZ-ofZ {w = w32} (sfits-of (c .before .before .before .before .before .before .atom-value .ok)) ∙ c .before .before .before .before .before .before .atom-value .ensures) (toZ-ofZ {w = w32} (sfits-of (c .before .before .before .before .before .atom-kind2 .ok)) ∙ c .before .before .before .before .before .atom-kind2 .ensures) (toZ-ofZ {w = w32} (sfits-of (c .before .before .before .before .atom-value2 .ok)) ∙ c .before .before .before .before .atom-value2 .ensures))
+returns c =
+    let start = c .before .before .before .before .before .before .before in
+    let base = start .args .base in
+    let operator = c .before .before .before .before .before .before .operator-number in
+    let left = operand-put _ _ (start .args .number) (6 + operator .result) (base + 4) (base + 5) 6 base (start .args .follows) (start .args .left) (c .before .before .before .before .put-operand .ensures) in
+    let right = atom-put _ _ (start .args .right) (c .before .put-atom .ensures) in
+    reworded _ (put-next left right) (binary-words base (start .args .follows) (start .args .number) (start .args .operator) (start .args .left) (start .args .right) (operator .ensures))
 
 pub put-binary-spec : {M : Type 1} → statement M
 put-binary-spec =
     tie.close
     (tie.spec
-    add-behind
-    behind-requires
-    cast-next
-    add-b1
-    cast-b1
-    add-b2
-    cast-b2
-    add-b3
-    cast-b3
-    add-b4
-    cast-b4
-    add-b5
-    cast-b5
-    cast-n
     operator-number-requires
-    add-operation
-    cast-operation
-    atom-kind-requires
-    atom-value-requires
-    atom-kind-requires-2
-    atom-value-requires-2
-    slice-aggregate-put
-    put-requires
+    add-kind
+    add-put-operand
+    add-put-operand-2
+    put-operand-requires
+    sub-put-atom
+    part-put-atom-start
+    part-put-atom-end
+    put-atom-requires
     same-length
     returns)

@@ -1,93 +1,22 @@
--- variable := array[atom]: the words of five rows.
-use mathlib.Core.Path.{ap, _∙_}
-use Prim.Native.Nat.{_+_}
-use native.Mathlib.Omega.{arith}
-use borrow.Author.Needs.{sfits-of}
-use lib.IntN.{pos}
-use mir.Syntax.{w32}
-use mir.Facts.{toZ-ofZ, toZ-pos}
-use Rattle.leaves.proofs.Words.{worded, pick-most, fetch-words}
+-- variable := array[atom]: the rows up to its index are all.
+use Rattle.leaves.proofs.Words.{worded, fetch-words}
 use borrow.Author.Needs.{needs}
 use Rattle.leaves.proofs.assignments.put_fetch.Statement.{statement}
 use Rattle.leaves.proofs.assignments.put_fetch.Tie as tie
 
-add-behind : tie.Need-add-behind
-add-behind c = search needs
+add-put-operand : tie.Need-add-put-operand
+add-put-operand c = search needs
 
-behind-requires : tie.Need-behind-requires
-behind-requires c κs = search needs
-
-cast-next : tie.Need-cast-next
-cast-next c = omega (arith, c .before .pre, c .behind .ensures, pick-most (c .before .args .follows) (c .before .args .base + 5))
-
-add-b1 : tie.Need-add-b1
-add-b1 c = search needs
-
-cast-b1 : tie.Need-cast-b1
-cast-b1 c = search needs
-
-add-b2 : tie.Need-add-b2
-add-b2 c = search needs
-
-cast-b2 : tie.Need-cast-b2
-cast-b2 c = search needs
-
-add-b3 : tie.Need-add-b3
-add-b3 c = search needs
-
-cast-b3 : tie.Need-cast-b3
-cast-b3 c = search needs
-
-add-b4 : tie.Need-add-b4
-add-b4 c = search needs
-
-cast-b4 : tie.Need-cast-b4
-cast-b4 c = search needs
-
-cast-n : tie.Need-cast-n
-cast-n c = search needs
-
-cast-a : tie.Need-cast-a
-cast-a c = search needs
-
-atom-kind-requires : tie.Need-atom-kind-requires
-atom-kind-requires c κs = search needs
-
-atom-value-requires : tie.Need-atom-value-requires
-atom-value-requires c κs = search needs
-
-slice-aggregate-put : tie.Need-slice-aggregate-put
-slice-aggregate-put c = search needs
-
-put-requires : tie.Need-put-requires
-put-requires c κs = search needs
+put-operand-requires : tie.Need-put-operand-requires
+put-operand-requires c κs = search needs
 
 same-length : tie.Need-same-length
 same-length c = search needs
 
 returns : tie.Need-returns
-returns c = worded _ _ _ _ (c .before .put .ensures) (fetch-words (c .before .before .before .before .before .before .before .args .number) (c .before .before .before .before .before .before .before .args .array) (c .before .before .before .before .before .before .before .args .index) (c .before .before .before .before .before .before .before .args .base) (c .before .before .before .before .before .before .before .args .follows) (toZ-pos w32 {n = c .before .before .before .before .before .before .before .args .base + 1} (omega (arith, c .before .before .before .before .before .before .before .pre))) (toZ-pos w32 {n = c .before .before .before .before .before .before .before .args .base + 2} (omega (arith, c .before .before .before .before .before .before .before .pre))) (toZ-pos w32 {n = c .before .before .before .before .before .before .before .args .base + 3} (omega (arith, c .before .before .before .before .before .before .before .pre))) (toZ-pos w32 {n = c .before .before .before .before .before .before .before .args .base + 4} (omega (arith, c .before .before .before .before .before .before .before .pre))) (toZ-pos w32 {n = c .before .before .before .before .before .before .before .args .number} (omega (arith, c .before .before .before .before .before .before .before .pre))) (toZ-pos w32 {n = c .before .before .before .before .before .before .before .args .array} (omega (arith, c .before .before .before .before .before .before .before .pre))) (toZ-pos w32 {n = c .before .before .before .before .before .before .behind .result} (omega (arith, c .before .before .before .before .before .before .before .pre, c .before .before .before .before .before .before .behind .ensures, pick-most (c .before .before .before .before .before .before .before .args .follows) (c .before .before .before .before .before .before .before .args .base + 5))) ∙ ap pos (c .before .before .before .before .before .before .behind .ensures)) (toZ-ofZ {w = w32} (sfits-of (c .before .before .before .before .before .atom-kind .ok)) ∙ c .before .before .before .before .before .atom-kind .ensures) (toZ-ofZ {w = w32} (sfits-of (c .before .before .before .before .atom-value .ok)) ∙ c .before .before .before .before .atom-value .ensures))
+returns c =
+    let start = c .before .before .before in
+    worded _ _ _ _ (c .before .put-operand .ensures) (fetch-words (start .args .base) (start .args .follows) (start .args .number) (start .args .array) (start .args .index))
 
 pub put-fetch-spec : {M : Type 1} → statement M
-put-fetch-spec =
-    tie.close
-    (tie.spec
-    add-behind
-    behind-requires
-    cast-next
-    add-b1
-    cast-b1
-    add-b2
-    cast-b2
-    add-b3
-    cast-b3
-    add-b4
-    cast-b4
-    cast-n
-    cast-a
-    atom-kind-requires
-    atom-value-requires
-    slice-aggregate-put
-    put-requires
-    same-length
-    returns)
+put-fetch-spec = tie.close (tie.spec add-put-operand put-operand-requires same-length returns)

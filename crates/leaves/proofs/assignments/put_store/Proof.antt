@@ -1,97 +1,69 @@
--- array[atom] := atom: the words of five rows.
-use mathlib.Core.Path.{ap, _∙_}
-use Prim.Native.Nat.{_+_}
-use native.Mathlib.Omega.{arith}
-use borrow.Author.Needs.{sfits-of}
-use lib.IntN.{pos}
-use mir.Syntax.{w32}
-use mir.Facts.{toZ-ofZ, toZ-pos}
-use Rattle.leaves.proofs.Words.{worded, pick-most, store-words}
+-- array[atom] := atom: the rows that head it, and two atoms.
+use mathlib.Core.Path.{refl}
+use Rattle.leaves.specs.Chain.{put-next, reworded}
+use Rattle.leaves.proofs.Words.{rows-put, atom-put, store-words}
 use borrow.Author.Needs.{needs}
 use Rattle.leaves.proofs.assignments.put_store.Statement.{statement}
 use Rattle.leaves.proofs.assignments.put_store.Tie as tie
 
-add-behind : tie.Need-add-behind
-add-behind c = search needs
+add-put-target : tie.Need-add-put-target
+add-put-target c = search needs
 
-behind-requires : tie.Need-behind-requires
-behind-requires c κs = search needs
+add-put-target-2 : tie.Need-add-put-target-2
+add-put-target-2 c = search needs
 
-cast-next : tie.Need-cast-next
-cast-next c = omega (arith, c .before .pre, c .behind .ensures, pick-most (c .before .args .follows) (c .before .args .base + 5))
+put-target-requires : tie.Need-put-target-requires
+put-target-requires c κs = search needs
 
-add-b1 : tie.Need-add-b1
-add-b1 c = search needs
+sub-put-atom : tie.Need-sub-put-atom
+sub-put-atom c = search needs
 
-cast-b1 : tie.Need-cast-b1
-cast-b1 c = search needs
+part-put-atom-start : tie.Need-part-put-atom-start
+part-put-atom-start c = search needs
 
-add-b2 : tie.Need-add-b2
-add-b2 c = search needs
+part-put-atom-end : tie.Need-part-put-atom-end
+part-put-atom-end c = search needs
 
-cast-b2 : tie.Need-cast-b2
-cast-b2 c = search needs
+put-atom-requires : tie.Need-put-atom-requires
+put-atom-requires c κs = search needs
 
-add-b3 : tie.Need-add-b3
-add-b3 c = search needs
+sub-put-atom-2 : tie.Need-sub-put-atom-2
+sub-put-atom-2 c = search needs
 
-cast-b3 : tie.Need-cast-b3
-cast-b3 c = search needs
+part-put-atom-start-2 : tie.Need-part-put-atom-start-2
+part-put-atom-start-2 c = search needs
 
-add-b4 : tie.Need-add-b4
-add-b4 c = search needs
+part-put-atom-end-2 : tie.Need-part-put-atom-end-2
+part-put-atom-end-2 c = search needs
 
-cast-b4 : tie.Need-cast-b4
-cast-b4 c = search needs
-
-cast-a : tie.Need-cast-a
-cast-a c = search needs
-
-atom-kind-requires : tie.Need-atom-kind-requires
-atom-kind-requires c κs = search needs
-
-atom-value-requires : tie.Need-atom-value-requires
-atom-value-requires c κs = search needs
-
-atom-kind-requires-2 : tie.Need-atom-kind-requires-2
-atom-kind-requires-2 c κs = search needs
-
-atom-value-requires-2 : tie.Need-atom-value-requires-2
-atom-value-requires-2 c κs = search needs
-
-slice-aggregate-put : tie.Need-slice-aggregate-put
-slice-aggregate-put c = search needs
-
-put-requires : tie.Need-put-requires
-put-requires c κs = search needs
+put-atom-requires-2 : tie.Need-put-atom-requires-2
+put-atom-requires-2 c κs = search needs
 
 same-length : tie.Need-same-length
 same-length c = search needs
 
 returns : tie.Need-returns
-returns c = worded _ _ _ _ (c .before .put .ensures) (store-words (c .before .before .before .before .before .before .before .before .before .args .array) (c .before .before .before .before .before .before .before .before .before .args .index) (c .before .before .before .before .before .before .before .before .before .args .x) (c .before .before .before .before .before .before .before .before .before .args .base) (c .before .before .before .before .before .before .before .before .before .args .follows) (toZ-pos w32 {n = c .before .before .before .before .before .before .before .before .before .args .base + 1} (omega (arith, c .before .before .before .before .before .before .before .before .before .pre))) (toZ-pos w32 {n = c .before .before .before .before .before .before .before .before .before .args .base + 2} (omega (arith, c .before .before .before .before .before .before .before .before .before .pre))) (toZ-pos w32 {n = c .before .before .before .before .before .before .before .before .before .args .base + 3} (omega (arith, c .before .before .before .before .before .before .before .before .before .pre))) (toZ-pos w32 {n = c .before .before .before .before .before .before .before .before .before .args .base + 4} (omega (arith, c .before .before .before .before .before .before .before .before .before .pre))) (toZ-pos w32 {n = c .before .before .before .before .before .before .before .before .before .args .array} (omega (arith, c .before .before .before .before .before .before .before .before .before .pre))) (toZ-pos w32 {n = c .before .before .before .before .before .before .before .before .behind .result} (omega (arith, c .before .before .before .before .before .before .before .before .before .pre, c .before .before .before .before .before .before .before .before .behind .ensures, pick-most (c .before .before .before .before .before .before .before .before .before .args .follows) (c .before .before .before .before .before .before .before .before .before .args .base + 5))) ∙ ap pos (c .before .before .before .before .before .before .before .before .behind .ensures)) (toZ-ofZ {w = w32} (sfits-of (c .before .before .before .before .before .before .before .atom-kind .ok)) ∙ c .before .before .before .before .before .before .before .atom-kind .ensures) (toZ-ofZ {w = w32} (sfits-of (c .before .before .before .before .before .before .atom-value .ok)) ∙ c .before .before .before .before .before .before .atom-value .ensures) (toZ-ofZ {w = w32} (sfits-of (c .before .before .before .before .before .atom-kind2 .ok)) ∙ c .before .before .before .before .before .atom-kind2 .ensures) (toZ-ofZ {w = w32} (sfits-of (c .before .before .before .before .atom-value2 .ok)) ∙ c .before .before .before .before .atom-value2 .ensures))
+returns c =
+    let start = c .before .before .before .before .before .before .before .before .before in
+    let head = rows-put 3 _ _ _ (c .before .before .before .before .before .before .before .put-target .ensures) refl in
+    let index = atom-put _ _ (start .args .index) (c .before .before .before .before .put-atom .ensures) in
+    let value = atom-put _ _ (start .args .value) (c .before .put-atom2 .ensures) in
+    reworded _ (put-next (put-next head index) value) (store-words (start .args .base) (start .args .follows) (start .args .array) (start .args .index) (start .args .value))
 
 pub put-store-spec : {M : Type 1} → statement M
 put-store-spec =
     tie.close
     (tie.spec
-    add-behind
-    behind-requires
-    cast-next
-    add-b1
-    cast-b1
-    add-b2
-    cast-b2
-    add-b3
-    cast-b3
-    add-b4
-    cast-b4
-    cast-a
-    atom-kind-requires
-    atom-value-requires
-    atom-kind-requires-2
-    atom-value-requires-2
-    slice-aggregate-put
-    put-requires
+    add-put-target
+    add-put-target-2
+    put-target-requires
+    sub-put-atom
+    part-put-atom-start
+    part-put-atom-end
+    put-atom-requires
+    sub-put-atom-2
+    part-put-atom-start-2
+    part-put-atom-end-2
+    put-atom-requires-2
     same-length
     returns)

@@ -1,15 +1,14 @@
--- The test of a loop: the words of five rows.
-use mathlib.Core.Path.{ap, _∙_}
+-- The test of a loop: an if, an empty block, and a block of a goto.
 use Prim.Native.Nat.{_+_}
-use native.Mathlib.Omega.{arith}
-use borrow.Author.Needs.{sfits-of}
-use lib.IntN.{pos}
-use mir.Syntax.{w32}
-use mir.Facts.{toZ-ofZ, toZ-pos}
-use Rattle.leaves.proofs.Words.{worded, pick-most, exit-words}
+use mathlib.Core.Path.{refl}
+use Rattle.leaves.specs.Chain.{put-next, reworded}
+use Rattle.leaves.proofs.Words.{pick-most, rows-put, if-put, exit-words}
 use borrow.Author.Needs.{needs}
 use Rattle.leaves.proofs.control.put_exit.Statement.{statement}
 use Rattle.leaves.proofs.control.put_exit.Tie as tie
+
+add-put-if : tie.Need-add-put-if
+add-put-if c = search needs
 
 add-behind : tie.Need-add-behind
 add-behind c = search needs
@@ -17,73 +16,63 @@ add-behind c = search needs
 behind-requires : tie.Need-behind-requires
 behind-requires c κs = search needs
 
-cast-next : tie.Need-cast-next
-cast-next c = omega (arith, c .before .pre, c .behind .ensures, pick-most (c .before .args .follows) (c .before .args .base + 5))
+put-if-requires : tie.Need-put-if-requires
+put-if-requires c κs = let low = pick-most (c .before .before .args .follows) (c .before .before .args .base + 5) in search needs
 
-add-b1 : tie.Need-add-b1
-add-b1 c = search needs
+sub-put-block : tie.Need-sub-put-block
+sub-put-block c = search needs
 
-cast-b1 : tie.Need-cast-b1
-cast-b1 c = search needs
+part-put-block-start : tie.Need-part-put-block-start
+part-put-block-start c = search needs
 
-add-b2 : tie.Need-add-b2
-add-b2 c = search needs
+part-put-block-end : tie.Need-part-put-block-end
+part-put-block-end c = search needs
 
-cast-b2 : tie.Need-cast-b2
-cast-b2 c = search needs
+put-block-requires : tie.Need-put-block-requires
+put-block-requires c κs = search needs
 
-add-b3 : tie.Need-add-b3
-add-b3 c = search needs
+add-put-goto-block : tie.Need-add-put-goto-block
+add-put-goto-block c = search needs
 
-cast-b3 : tie.Need-cast-b3
-cast-b3 c = search needs
+sub-put-goto-block : tie.Need-sub-put-goto-block
+sub-put-goto-block c = search needs
 
-add-b4 : tie.Need-add-b4
-add-b4 c = search needs
+part-put-goto-block-start : tie.Need-part-put-goto-block-start
+part-put-goto-block-start c = search needs
 
-cast-b4 : tie.Need-cast-b4
-cast-b4 c = search needs
+part-put-goto-block-end : tie.Need-part-put-goto-block-end
+part-put-goto-block-end c = search needs
 
-cast-n : tie.Need-cast-n
-cast-n c = search needs
-
-atom-kind-requires : tie.Need-atom-kind-requires
-atom-kind-requires c κs = search needs
-
-atom-value-requires : tie.Need-atom-value-requires
-atom-value-requires c κs = search needs
-
-slice-aggregate-put : tie.Need-slice-aggregate-put
-slice-aggregate-put c = search needs
-
-put-requires : tie.Need-put-requires
-put-requires c κs = search needs
+put-goto-block-requires : tie.Need-put-goto-block-requires
+put-goto-block-requires c κs = search needs
 
 same-length : tie.Need-same-length
 same-length c = search needs
 
 returns : tie.Need-returns
-returns c = worded _ _ _ _ (c .before .put .ensures) (exit-words (c .before .before .before .before .before .before .before .args .number) (c .before .before .before .before .before .before .before .args .test) (c .before .before .before .before .before .before .before .args .base) (c .before .before .before .before .before .before .before .args .follows) (toZ-pos w32 {n = c .before .before .before .before .before .before .before .args .base + 1} (omega (arith, c .before .before .before .before .before .before .before .pre))) (toZ-pos w32 {n = c .before .before .before .before .before .before .before .args .base + 2} (omega (arith, c .before .before .before .before .before .before .before .pre))) (toZ-pos w32 {n = c .before .before .before .before .before .before .before .args .base + 3} (omega (arith, c .before .before .before .before .before .before .before .pre))) (toZ-pos w32 {n = c .before .before .before .before .before .before .before .args .base + 4} (omega (arith, c .before .before .before .before .before .before .before .pre))) (toZ-pos w32 {n = c .before .before .before .before .before .before .before .args .number} (omega (arith, c .before .before .before .before .before .before .before .pre))) (toZ-pos w32 {n = c .before .before .before .before .before .before .behind .result} (omega (arith, c .before .before .before .before .before .before .before .pre, c .before .before .before .before .before .before .behind .ensures, pick-most (c .before .before .before .before .before .before .before .args .follows) (c .before .before .before .before .before .before .before .args .base + 5))) ∙ ap pos (c .before .before .before .before .before .before .behind .ensures)) (toZ-ofZ {w = w32} (sfits-of (c .before .before .before .before .before .atom-kind .ok)) ∙ c .before .before .before .before .before .atom-kind .ensures) (toZ-ofZ {w = w32} (sfits-of (c .before .before .before .before .atom-value .ok)) ∙ c .before .before .before .before .atom-value .ensures))
+returns c =
+    let start = c .before .before .before .before .before .before .before .before .before .before in
+    let test = if-put _ _ _ _ _ (start .args .test) (c .before .before .before .before .before .before .before .put-if .ensures) in
+    let on-true = rows-put 1 _ _ _ (c .before .before .before .before .put-block .ensures) refl in
+    let on-false = rows-put 2 _ _ _ (c .before .put-goto-block .ensures) refl in
+    reworded _ (put-next (put-next test on-true) on-false) (exit-words (start .args .base) (start .args .follows) (start .args .number) (start .args .test) (c .before .before .before .before .before .before .before .before .before .behind .ensures))
 
 pub put-exit-spec : {M : Type 1} → statement M
 put-exit-spec =
     tie.close
     (tie.spec
+    add-put-if
     add-behind
     behind-requires
-    cast-next
-    add-b1
-    cast-b1
-    add-b2
-    cast-b2
-    add-b3
-    cast-b3
-    add-b4
-    cast-b4
-    cast-n
-    atom-kind-requires
-    atom-value-requires
-    slice-aggregate-put
-    put-requires
+    put-if-requires
+    sub-put-block
+    part-put-block-start
+    part-put-block-end
+    put-block-requires
+    add-put-goto-block
+    sub-put-goto-block
+    part-put-goto-block-start
+    part-put-goto-block-end
+    put-goto-block-requires
     same-length
     returns)

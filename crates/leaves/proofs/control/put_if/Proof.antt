@@ -1,64 +1,54 @@
--- The words of two rows.
-use mathlib.Core.Path.{_∙_}
+-- The row of an if, and its atom.
 use Prim.Native.Nat.{_+_}
-use native.Mathlib.Omega.{arith}
-use borrow.Author.Needs.{sfits-of}
-use mir.Syntax.{w32}
-use mir.Facts.{toZ-ofZ, toZ-pos}
-use Rattle.leaves.proofs.Words.{worded, atom-words}
+use mathlib.Core.Path.{refl}
+use Rattle.leaves.specs.Chain.{put-next, reworded}
+use Rattle.leaves.proofs.Words.{rows-put, atom-put, atom-words}
 use borrow.Author.Needs.{needs}
 use Rattle.leaves.proofs.control.put_if.Statement.{statement}
 use Rattle.leaves.proofs.control.put_if.Tie as tie
 
-add-b1 : tie.Need-add-b1
-add-b1 c = search needs
+add-put-row : tie.Need-add-put-row
+add-put-row c = search needs
 
-cast-b1 : tie.Need-cast-b1
-cast-b1 c = search needs
+add-put-row-2 : tie.Need-add-put-row-2
+add-put-row-2 c = search needs
 
-add-b2 : tie.Need-add-b2
-add-b2 c = search needs
+put-row-requires : tie.Need-put-row-requires
+put-row-requires c κs = search needs
 
-cast-b2 : tie.Need-cast-b2
-cast-b2 c = search needs
+sub-put-atom : tie.Need-sub-put-atom
+sub-put-atom c = search needs
 
-cast-c : tie.Need-cast-c
-cast-c c = search needs
+part-put-atom-start : tie.Need-part-put-atom-start
+part-put-atom-start c = search needs
 
-cast-n : tie.Need-cast-n
-cast-n c = search needs
+part-put-atom-end : tie.Need-part-put-atom-end
+part-put-atom-end c = search needs
 
-atom-kind-requires : tie.Need-atom-kind-requires
-atom-kind-requires c κs = search needs
-
-atom-value-requires : tie.Need-atom-value-requires
-atom-value-requires c κs = search needs
-
-slice-aggregate-put : tie.Need-slice-aggregate-put
-slice-aggregate-put c = search needs
-
-put-requires : tie.Need-put-requires
-put-requires c κs = search needs
+put-atom-requires : tie.Need-put-atom-requires
+put-atom-requires c κs = search needs
 
 same-length : tie.Need-same-length
 same-length c = search needs
 
 returns : tie.Need-returns
-returns c = worded _ _ _ _ (c .before .put .ensures) (let a = (toZ-pos w32 {n = c .before .before .before .before .before .before .args .base + 1} (omega (arith, c .before .before .before .before .before .before .pre))) in let b = (toZ-pos w32 {n = c .before .before .before .before .before .before .args .base + 2} (omega (arith, c .before .before .before .before .before .before .pre))) in let s = (toZ-pos w32 {n = c .before .before .before .before .before .before .args .second} (omega (arith, c .before .before .before .before .before .before .pre))) in let n = (toZ-pos w32 {n = c .before .before .before .before .before .before .args .next} (omega (arith, c .before .before .before .before .before .before .pre))) in let w = atom-words (c .before .before .before .before .before .before .args .test) (c .before .before .before .before .before .before .args .base + 1) (toZ-ofZ {w = w32} (sfits-of (c .before .before .before .before .before .atom-kind .ok)) ∙ c .before .before .before .before .before .atom-kind .ensures) (toZ-ofZ {w = w32} (sfits-of (c .before .before .before .before .atom-value .ok)) ∙ c .before .before .before .before .atom-value .ensures) in rw (a, b, s, n, w))
+returns c =
+    let start = c .before .before .before .before .before .before in
+    let own-row = rows-put 1 _ _ _ (c .before .before .before .before .put-row .ensures) refl in
+    let test = atom-put _ _ (start .args .test) (c .before .put-atom .ensures) in
+    let words = atom-words (start .args .test) (start .args .base + 1) in
+    reworded _ (put-next own-row test) (rw words)
 
 pub put-if-spec : {M : Type 1} → statement M
 put-if-spec =
     tie.close
     (tie.spec
-    add-b1
-    cast-b1
-    add-b2
-    cast-b2
-    cast-c
-    cast-n
-    atom-kind-requires
-    atom-value-requires
-    slice-aggregate-put
-    put-requires
+    add-put-row
+    add-put-row-2
+    put-row-requires
+    sub-put-atom
+    part-put-atom-start
+    part-put-atom-end
+    put-atom-requires
     same-length
     returns)

@@ -1,78 +1,74 @@
--- The jump of a case: the words of five rows.
-use Prim.Native.Nat.{_+_}
-use native.Mathlib.Omega.{arith}
-use mir.Syntax.{w32}
-use mir.Facts.{toZ-pos}
-use Rattle.leaves.proofs.Words.{worded, jump-words}
+-- The end of a case's test: an if, a block of a goto, and an empty block.
+use mathlib.Core.Path.{refl}
+use Rattle.leaves.specs.declared.Atom.the-variants.{Variable}
+use Rattle.leaves.specs.Chain.{put-next, reworded}
+use Rattle.leaves.proofs.Words.{rows-put, if-put, jump-words}
 use borrow.Author.Needs.{needs}
 use Rattle.leaves.proofs.control.put_jump.Statement.{statement}
 use Rattle.leaves.proofs.control.put_jump.Tie as tie
 
-add-next : tie.Need-add-next
-add-next c = search needs
+add-put-if : tie.Need-add-put-if
+add-put-if c = search needs
 
-cast-next : tie.Need-cast-next
-cast-next c = search needs
+add-put-if-2 : tie.Need-add-put-if-2
+add-put-if-2 c = search needs
 
-add-b1 : tie.Need-add-b1
-add-b1 c = search needs
+put-if-requires : tie.Need-put-if-requires
+put-if-requires c κs = search needs
 
-cast-b1 : tie.Need-cast-b1
-cast-b1 c = search needs
+add-put-goto-block : tie.Need-add-put-goto-block
+add-put-goto-block c = search needs
 
-add-b2 : tie.Need-add-b2
-add-b2 c = search needs
+sub-put-goto-block : tie.Need-sub-put-goto-block
+sub-put-goto-block c = search needs
 
-cast-b2 : tie.Need-cast-b2
-cast-b2 c = search needs
+part-put-goto-block-start : tie.Need-part-put-goto-block-start
+part-put-goto-block-start c = search needs
 
-add-b3 : tie.Need-add-b3
-add-b3 c = search needs
+part-put-goto-block-end : tie.Need-part-put-goto-block-end
+part-put-goto-block-end c = search needs
 
-cast-b3 : tie.Need-cast-b3
-cast-b3 c = search needs
+put-goto-block-requires : tie.Need-put-goto-block-requires
+put-goto-block-requires c κs = search needs
 
-add-b4 : tie.Need-add-b4
-add-b4 c = search needs
+sub-put-block : tie.Need-sub-put-block
+sub-put-block c = search needs
 
-cast-b4 : tie.Need-cast-b4
-cast-b4 c = search needs
+part-put-block-start : tie.Need-part-put-block-start
+part-put-block-start c = search needs
 
-cast-n : tie.Need-cast-n
-cast-n c = search needs
+part-put-block-end : tie.Need-part-put-block-end
+part-put-block-end c = search needs
 
-cast-t : tie.Need-cast-t
-cast-t c = search needs
-
-slice-aggregate-put : tie.Need-slice-aggregate-put
-slice-aggregate-put c = search needs
-
-put-requires : tie.Need-put-requires
-put-requires c κs = search needs
+put-block-requires : tie.Need-put-block-requires
+put-block-requires c κs = search needs
 
 same-length : tie.Need-same-length
 same-length c = search needs
 
 returns : tie.Need-returns
-returns c = worded _ _ _ _ (c .before .put .ensures) (jump-words (c .before .before .before .before .args .number) (c .before .before .before .before .args .target) (c .before .before .before .before .args .base) (toZ-pos w32 {n = c .before .before .before .before .args .base + 1} (omega (arith, c .before .before .before .before .pre))) (toZ-pos w32 {n = c .before .before .before .before .args .base + 2} (omega (arith, c .before .before .before .before .pre))) (toZ-pos w32 {n = c .before .before .before .before .args .base + 3} (omega (arith, c .before .before .before .before .pre))) (toZ-pos w32 {n = c .before .before .before .before .args .base + 4} (omega (arith, c .before .before .before .before .pre))) (toZ-pos w32 {n = c .before .before .before .before .args .number} (omega (arith, c .before .before .before .before .pre))) (toZ-pos w32 {n = c .before .before .before .before .args .target} (omega (arith, c .before .before .before .before .pre))) (toZ-pos w32 {n = c .before .before .before .before .args .base + 5} (omega (arith, c .before .before .before .before .pre))))
+returns c =
+    let start = c .before .before .before .before .before .before .before .before .before in
+    let test = if-put _ _ _ _ _ (Variable (start .args .number)) (c .before .before .before .before .before .before .before .put-if .ensures) in
+    let on-true = rows-put 2 _ _ _ (c .before .before .before .before .put-goto-block .ensures) refl in
+    let on-false = rows-put 1 _ _ _ (c .before .put-block .ensures) refl in
+    reworded _ (put-next (put-next test on-true) on-false) (jump-words (start .args .number) (start .args .target) (start .args .base))
 
 pub put-jump-spec : {M : Type 1} → statement M
 put-jump-spec =
     tie.close
     (tie.spec
-    add-next
-    cast-next
-    add-b1
-    cast-b1
-    add-b2
-    cast-b2
-    add-b3
-    cast-b3
-    add-b4
-    cast-b4
-    cast-n
-    cast-t
-    slice-aggregate-put
-    put-requires
+    add-put-if
+    add-put-if-2
+    put-if-requires
+    add-put-goto-block
+    sub-put-goto-block
+    part-put-goto-block-start
+    part-put-goto-block-end
+    put-goto-block-requires
+    sub-put-block
+    part-put-block-start
+    part-put-block-end
+    put-block-requires
     same-length
     returns)

@@ -26,13 +26,13 @@ same-length : tie.Need-same-length
 same-length c = search needs
 
 returns : tie.Need-returns
-returns c = recoded _ _ _ _ _ _ (c .before .put-copy .ensures) (ap (λ (p : KernelPlace). express (assign (placeTree p) (atomTree (c .before .before .before .before .before .before .args .x))) then none) (sym (c .before .before .before .before .place .given .1)))
+returns c = recoded _ _ _ _ _ _ (c .before .put-copy .ensures) (ap (λ (p : KernelPlace). express (assign (placeTree p) (atomTree (c .before .before .before .before .before .before .args .value))) then none) (sym (c .before .before .before .before .place .given .1)))
 
 same-length-2 : tie.Need-same-length-2
 same-length-2 c = search needs
 
 returns-2 : tie.Need-returns-2
-returns-2 c = recoded _ _ _ _ _ _ (c .before .put-store .ensures) (ap (λ (p : KernelPlace). express (assign (placeTree p) (atomTree (c .before .before .before .before .before .before .args .x))) then none) (sym (c .before .before .before .before .place2 .given .1)))
+returns-2 c = recoded _ _ _ _ _ _ (c .before .put-store .ensures) (ap (λ (p : KernelPlace). express (assign (placeTree p) (atomTree (c .before .before .before .before .before .before .args .value))) then none) (sym (c .before .before .before .before .place2 .given .1)))
 
 pub put-assign-spec : {M : Type 1} → statement M
 put-assign-spec =

@@ -20,19 +20,19 @@ taken-at-requires : tie.Need-taken-at-requires
 taken-at-requires c κs = whole-asks (c .before .before .pre .writing .measured) (c .before .before .pre .value-inside)
 
 add-above : tie.Need-add-above
-add-above c = omega (arith, c .before .before .before .pre .level-low, c .taken-at .ensures, taken-most (atomOf (expressionAt (c .before .before .before .args .rows .now) (c .before .before .before .args .value))))
+add-above c = omega (arith, c .before .before .before .before .pre .level-low, c .before .taken-at .ensures, taken-most (atomOf (expressionAt (c .before .before .before .before .args .rows .now) (c .before .before .before .before .args .value))))
 
 kernel-place-requires : tie.Need-kernel-place-requires
-kernel-place-requires c κs = (c .before .before .before .pre .writing, c .before .before .before .pre .place-inside, omega (arith, c .before .before .before .pre .level-low, c .taken-at .ensures, taken-most (atomOf (expressionAt (c .before .before .before .args .rows .now) (c .before .before .before .args .value)))))
+kernel-place-requires c κs = (c .before .before .before .before .pre .writing, c .before .before .before .before .pre .place-inside, omega (arith, c .before .before .before .before .pre .level-low, c .before .taken-at .ensures, taken-most (atomOf (expressionAt (c .before .before .before .before .args .rows .now) (c .before .before .before .before .args .value)))))
 
 put-assign-requires : tie.Need-put-assign-requires
-put-assign-requires c κs = (room-less _ (c .before .before .before .before .before .pre .room) (omega (arith, c .before .kernel-place .ensures .rows-are)), c .before .kernel-place .ensures .fits, c .before .before .before .atom-at .ensures .fits)
+put-assign-requires c κs = (room-less _ (c .before .before .before .before .before .before .pre .room) (omega (arith, c .before .kernel-place .ensures .rows-are)), c .before .kernel-place .ensures .fits, c .before .before .before .before .atom-at .ensures .fits)
 
 same-length : tie.Need-same-length
 same-length c = search needs
 
 returns : tie.Need-returns
-returns c = recoded _ _ _ _ _ _ (c .before .put-assign .ensures) (ap₂ (λ (p : Place) (x : Expression). express (assign p x) then none) (c .before .before .before .kernel-place .ensures .is ∙ ap (λ (n : ℕ). kernelPlace (c .before .before .before .before .before .before .before .args .store) (placeOf (expressionAt (c .before .before .before .before .before .before .before .args .rows .now) (c .before .before .before .before .before .before .before .args .place))) (c .before .before .before .before .before .before .before .args .level + n)) (c .before .before .before .before .taken-at .ensures)) (c .before .before .before .before .before .atom-at .ensures .is))
+returns c = recoded _ _ _ _ _ _ (c .before .put-assign .ensures) (ap₂ (λ (p : Place) (x : Expression). express (assign p x) then none) (c .before .before .before .kernel-place .ensures .is ∙ ap (λ (n : ℕ). kernelPlace (c .before .before .before .before .before .before .before .before .args .at .store) (placeOf (expressionAt (c .before .before .before .before .before .before .before .before .args .rows .now) (c .before .before .before .before .before .before .before .before .args .place))) (c .before .before .before .before .before .before .before .before .args .at .level + n)) (c .before .before .before .before .before .taken-at .ensures)) (c .before .before .before .before .before .before .atom-at .ensures .is))
 
 pub put-assignment-spec : {M : Type 1} → statement M
 put-assignment-spec =

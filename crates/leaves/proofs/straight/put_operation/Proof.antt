@@ -16,25 +16,25 @@ add-kernel-place : tie.Need-add-kernel-place
 add-kernel-place c = search needs
 
 kernel-place-requires : tie.Need-kernel-place-requires
-kernel-place-requires c κs = (c .before .pre .0 .writing, c .before .pre .0 .place-inside, omega (arith, c .before .pre .0 .level-low))
+kernel-place-requires c κs = (c .before .before .pre .0 .writing, c .before .before .pre .0 .place-inside, omega (arith, c .before .before .pre .0 .level-low))
 
 add-above : tie.Need-add-above
 add-above c = search needs
 
 place-taken-requires : tie.Need-place-taken-requires
-place-taken-requires c κs = (c .before .before .pre .0 .writing .measured, c .before .before .pre .0 .place-inside)
+place-taken-requires c κs = (c .before .before .before .before .pre .0 .writing .measured, c .before .before .before .before .pre .0 .place-inside)
 
 add-above-2 : tie.Need-add-above-2
-add-above-2 c = omega (arith, c .before .before .before .pre .0 .level-low, c .place-taken .ensures, place-taken-most (placeOf (expressionAt (c .before .before .before .args .rows .now) (c .before .before .before .args .place))), c .before .before .before .pre .0 .writing .small-store)
+add-above-2 c = omega (arith, c .before .before .before .before .before .pre .0 .level-low, c .place-taken .ensures, place-taken-most (placeOf (expressionAt (c .before .before .before .before .before .args .rows .now) (c .before .before .before .before .before .args .place))), c .before .before .before .before .before .pre .0 .writing .small-store)
 
 put-update-requires : tie.Need-put-update-requires
-put-update-requires c κs = (room-less _ (c .before .before .before .before .pre .0 .room) (omega (arith, c .before .before .kernel-place .ensures .rows-are)), c .before .before .kernel-place .ensures .fits, c .before .before .before .before .pre .1, omega (arith, c .before .before .before .before .pre .0 .level-low, c .before .before .before .before .pre .0 .writing .small-store), omega (arith, c .before .before .before .before .pre .0 .level-low, c .before .place-taken .ensures, place-taken-most (placeOf (expressionAt (c .before .before .before .before .args .rows .now) (c .before .before .before .before .args .place))), c .before .before .before .before .pre .0 .writing .small-store))
+put-update-requires c κs = (room-less _ (c .before .before .before .before .before .before .pre .0 .room) (omega (arith, c .before .before .before .kernel-place .ensures .rows-are)), c .before .before .before .kernel-place .ensures .fits, c .before .before .before .before .before .before .pre .1, omega (arith, c .before .before .before .before .before .before .pre .0 .level-low, c .before .before .before .before .before .before .pre .0 .writing .small-store), omega (arith, c .before .before .before .before .before .before .pre .0 .level-low, c .before .place-taken .ensures, place-taken-most (placeOf (expressionAt (c .before .before .before .before .before .before .args .rows .now) (c .before .before .before .before .before .before .args .place))), c .before .before .before .before .before .before .pre .0 .writing .small-store))
 
 same-length : tie.Need-same-length
 same-length c = search needs
 
 returns : tie.Need-returns
-returns c = recoded _ _ _ _ _ _ (c .before .put-update .ensures) (ap₂ (λ (q : Place) (u : ℕ). updateCode (c .before .before .before .before .before .before .args .store) (c .before .before .before .before .before .before .args .operator) q (atomTree (c .before .before .before .before .before .before .args .x)) (c .before .before .before .before .before .before .args .level) u) (c .before .before .before .before .kernel-place .ensures .is) (ap (λ (n : ℕ). c .before .before .before .before .before .before .args .level + 1 + n) (c .before .before .before .place-taken .ensures)))
+returns c = recoded _ _ _ _ _ _ (c .before .put-update .ensures) (ap₂ (λ (q : Place) (u : ℕ). updateCode (c .before .before .before .before .before .before .before .before .args .at .store) (c .before .before .before .before .before .before .before .before .args .operator) q (atomTree (c .before .before .before .before .before .before .before .before .args .operand)) (c .before .before .before .before .before .before .before .before .args .at .level) u) (c .before .before .before .before .before .kernel-place .ensures .is) (ap (λ (n : ℕ). c .before .before .before .before .before .before .before .before .args .at .level + 1 + n) (c .before .before .before .place-taken .ensures)))
 
 pub put-operation-spec : {M : Type 1} → statement M
 put-operation-spec =

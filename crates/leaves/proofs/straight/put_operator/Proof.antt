@@ -19,22 +19,22 @@ taken-at-requires : tie.Need-taken-at-requires
 taken-at-requires c κs = whole-asks (c .before .before .pre .writing .measured) (c .before .before .pre .right-inside)
 
 add-above : tie.Need-add-above
-add-above c = omega (arith, c .before .before .before .pre .level-low, c .taken-at .ensures, taken-most (atomOf (expressionAt (c .before .before .before .args .rows .now) (c .before .before .before .args .right))))
+add-above c = omega (arith, c .before .before .before .before .pre .level-low, c .before .taken-at .ensures, taken-most (atomOf (expressionAt (c .before .before .before .before .args .rows .now) (c .before .before .before .before .args .right))))
 
 atom-at-requires-2 : tie.Need-atom-at-requires-2
-atom-at-requires-2 c κs = (c .before .before .before .pre .writing, c .before .before .before .pre .left-inside, omega (arith, c .before .before .before .pre .level-low, c .taken-at .ensures, taken-most (atomOf (expressionAt (c .before .before .before .args .rows .now) (c .before .before .before .args .right)))))
+atom-at-requires-2 c κs = (c .before .before .before .before .pre .writing, c .before .before .before .before .pre .left-inside, omega (arith, c .before .before .before .before .pre .level-low, c .before .taken-at .ensures, taken-most (atomOf (expressionAt (c .before .before .before .before .args .rows .now) (c .before .before .before .before .args .right)))))
 
 add-put-binary : tie.Need-add-put-binary
 add-put-binary c = search needs
 
 put-binary-requires : tie.Need-put-binary-requires
-put-binary-requires c κs = (c .before .before .before .before .before .pre .room, omega (arith, c .before .before .before .before .before .pre .level-low, c .before .before .before .before .before .pre .writing .small-store), c .before .atom-at2 .ensures .fits, c .before .before .before .atom-at .ensures .fits)
+put-binary-requires c κs = (c .before .before .before .before .before .before .before .pre .room, omega (arith, c .before .before .before .before .before .before .before .pre .level-low, c .before .before .before .before .before .before .before .pre .writing .small-store), c .before .before .atom-at2 .ensures .fits, c .before .before .before .before .before .atom-at .ensures .fits)
 
 same-length : tie.Need-same-length
 same-length c = search needs
 
 returns : tie.Need-returns
-returns c = recoded _ _ _ _ _ _ (c .before .put-binary .ensures) (ap₂ (λ (x y : Expression). express (assign (variable (c .before .before .before .before .before .before .before .args .store + c .before .before .before .before .before .before .before .args .level)) (binary (c .before .before .before .before .before .before .before .args .operator) x y)) then none) (c .before .before .before .atom-at2 .ensures .is ∙ ap (λ (n : ℕ). atom (c .before .before .before .before .before .before .before .args .store) (c .before .before .before .before .before .before .before .args .level + n) (atomOf (expressionAt (c .before .before .before .before .before .before .before .args .rows .now) (c .before .before .before .before .before .before .before .args .left)))) (c .before .before .before .before .taken-at .ensures)) (c .before .before .before .before .before .atom-at .ensures .is))
+returns c = recoded _ _ _ _ _ _ (c .before .put-binary .ensures) (ap₂ (λ (x y : Expression). express (assign (variable (c .before .before .before .before .before .before .before .before .before .args .at .store + c .before .before .before .before .before .before .before .before .before .args .at .level)) (binary (c .before .before .before .before .before .before .before .before .before .args .operator) x y)) then none) (c .before .before .before .before .atom-at2 .ensures .is ∙ ap (λ (n : ℕ). atom (c .before .before .before .before .before .before .before .before .before .args .at .store) (c .before .before .before .before .before .before .before .before .before .args .at .level + n) (atomOf (expressionAt (c .before .before .before .before .before .before .before .before .before .args .rows .now) (c .before .before .before .before .before .before .before .before .before .args .left)))) (c .before .before .before .before .before .before .taken-at .ensures)) (c .before .before .before .before .before .before .before .atom-at .ensures .is))
 
 pub put-operator-spec : {M : Type 1} → statement M
 put-operator-spec =

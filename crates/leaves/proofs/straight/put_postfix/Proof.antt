@@ -1,4 +1,4 @@
--- A postfix operation, by the place: what two or three assignments in a row write.
+-- A postfix operation, by the place: two assignments in a row, or an element's update.
 use mathlib.Core.Path.{sym, ap, subst}
 use Prim.Native.Nat.{_+_}
 use native.Mathlib.Omega.{arith}
@@ -6,8 +6,8 @@ use lib.IntN.{pos}
 use Rattle.language.specs.Trees.{_⧺_}
 use Rattle.translation.specs.Translate.{postfixCode}
 use Rattle.leaves.specs.Atoms.{placeTree, PlaceFits, indexRows}
-use Rattle.leaves.specs.Chain.{wrote-put, wrote-next, put-reach, put-room, room-less}
-use Rattle.leaves.specs.LeafLaws.{recoded, copy-wrote, binary-wrote, fetch-wrote, store-wrote}
+use Rattle.leaves.specs.Chain.{wrote-put, wrote-next, put-room, room-less}
+use Rattle.leaves.specs.LeafLaws.{recoded, copy-wrote, binary-wrote}
 use Rattle.leaves.specs.declared.Atom.the-variants.{Constant, Variable}
 use Rattle.leaves.specs.declared.KernelPlace.{KernelPlace}
 use borrow.Author.Needs.{needs}
@@ -17,65 +17,45 @@ use Rattle.leaves.proofs.straight.put_postfix.Tie as tie
 add-old : tie.Need-add-old
 add-old c = search needs
 
+add-new : tie.Need-add-new
+add-new c = search needs
+
 enum-known-place : tie.Need-enum-known-place
 enum-known-place c = search needs
 
 put-copy-requires : tie.Need-put-copy-requires
-put-copy-requires c κs = (room-less 4 (c .before .before .before .before .pre .0) (omega (arith, ap indexRows (c .before .before .place .given .1))), c .before .before .before .before .pre .2, subst (λ (p : KernelPlace). PlaceFits p) (c .before .before .place .given .1) (c .before .before .before .before .pre .1))
+put-copy-requires c κs =
+    let start = c .before .before .before .before in
+    let low = subst (λ (p : KernelPlace). PlaceFits p) (c .before .before .place .given .1) (start .pre .1) in
+    (room-less 4 (start .pre .0) (omega (arith, ap indexRows (c .before .before .place .given .1))), start .pre .2, low)
+
+sub-rest : tie.Need-sub-rest
+sub-rest c = search needs
+
+part-rest-start : tie.Need-part-rest-start
+part-rest-start c = search needs
+
+part-rest-end : tie.Need-part-rest-end
+part-rest-end c = search needs
 
 add-put-binary : tie.Need-add-put-binary
 add-put-binary c = search needs
 
-sub-put-binary : tie.Need-sub-put-binary
-sub-put-binary c = search needs
-
-part-put-binary-start : tie.Need-part-put-binary-start
-part-put-binary-start c = search needs
-
-part-put-binary-end : tie.Need-part-put-binary-end
-part-put-binary-end c = search needs
-
 put-binary-requires : tie.Need-put-binary-requires
-put-binary-requires c κs = let w1 = copy-wrote _ _ _ _ _ (Variable (c .before .before .before .before .before .place .given .0 .0)) (c .before .before .put-copy .ensures) in (put-room 6 (wrote-put w1) (c .before .before .before .before .before .before .before .pre .0) (omega (arith, ap indexRows (c .before .before .before .before .before .place .given .1))), subst (λ (p : KernelPlace). PlaceFits p) (c .before .before .before .before .before .place .given .1) (c .before .before .before .before .before .before .before .pre .1), c .before .before .before .before .before .before .before .pre .2, tt)
+put-binary-requires c κs =
+    let start = c .before .before .before .before .before .before .before in
+    let low = subst (λ (p : KernelPlace). PlaceFits p) (c .before .before .before .before .before .place .given .1) (start .pre .1) in
+    let copied = copy-wrote _ _ _ _ _ (Variable (c .before .before .before .before .before .place .given .0 .0)) (c .before .before .put-copy .ensures) in
+    (put-room 6 (wrote-put copied) (start .pre .0) (omega (arith, ap indexRows (c .before .before .before .before .before .place .given .1))), low, start .pre .2, tt)
 
 enum-known-place-2 : tie.Need-enum-known-place-2
 enum-known-place-2 c = search needs
 
-add-new : tie.Need-add-new
-add-new c = search needs
-
-put-fetch-requires : tie.Need-put-fetch-requires
-put-fetch-requires c κs = let f = subst (λ (p : KernelPlace). PlaceFits p) (c .before .before .place2 .given .1) (c .before .before .before .before .pre .1) in (room-less 5 (c .before .before .before .before .pre .0) (omega (arith, ap indexRows (c .before .before .place2 .given .1))), c .before .before .before .before .pre .2, f .0, f .1)
-
-add-put-binary-2 : tie.Need-add-put-binary-2
-add-put-binary-2 c = search needs
-
-sub-put-binary-2 : tie.Need-sub-put-binary-2
-sub-put-binary-2 c = search needs
-
-part-put-binary-start-2 : tie.Need-part-put-binary-start-2
-part-put-binary-start-2 c = search needs
-
-part-put-binary-end-2 : tie.Need-part-put-binary-end-2
-part-put-binary-end-2 c = search needs
-
-put-binary-requires-2 : tie.Need-put-binary-requires-2
-put-binary-requires-2 c κs = let w1 = fetch-wrote _ _ _ _ _ _ (c .before .before .before .before .before .place2 .given .0 .1 .0) (c .before .before .put-fetch .ensures) in (put-room 6 (wrote-put w1) (c .before .before .before .before .before .before .before .pre .0) (omega (arith, ap indexRows (c .before .before .before .before .before .place2 .given .1))), c .before .before .before .before .before .before .before .pre .3, c .before .before .before .before .before .before .before .pre .2, tt)
-
-add-put-store : tie.Need-add-put-store
-add-put-store c = search needs
-
-sub-put-store : tie.Need-sub-put-store
-sub-put-store c = let w1 = fetch-wrote _ _ _ _ _ _ (c .before .before .before .before .before .before .before .place2 .given .0 .1 .0) (c .before .before .before .before .put-fetch .ensures) in let w2 = binary-wrote _ _ _ _ _ (c .before .before .before .before .before .before .before .before .before .args .operator) (Variable (c .before .before .before .before .before .before .before .before .before .args .store + c .before .before .before .before .before .before .before .before .before .args .level)) (Constant (pos 1)) (c .before .put-binary2 .ensures) in omega (arith, put-reach 5 (wrote-put (wrote-next w1 w2)) (c .before .before .before .before .before .before .before .before .before .pre .0) (omega (arith, ap indexRows (c .before .before .before .before .before .before .before .place2 .given .1))))
-
-part-put-store-start : tie.Need-part-put-store-start
-part-put-store-start c = let w1 = fetch-wrote _ _ _ _ _ _ (c .before .before .before .before .before .before .before .place2 .given .0 .1 .0) (c .before .before .before .before .put-fetch .ensures) in let w2 = binary-wrote _ _ _ _ _ (c .before .before .before .before .before .before .before .before .before .args .operator) (Variable (c .before .before .before .before .before .before .before .before .before .args .store + c .before .before .before .before .before .before .before .before .before .args .level)) (Constant (pos 1)) (c .before .put-binary2 .ensures) in omega (arith, put-reach 5 (wrote-put (wrote-next w1 w2)) (c .before .before .before .before .before .before .before .before .before .pre .0) (omega (arith, ap indexRows (c .before .before .before .before .before .before .before .place2 .given .1))))
-
-part-put-store-end : tie.Need-part-put-store-end
-part-put-store-end c = search needs
-
-put-store-requires : tie.Need-put-store-requires
-put-store-requires c κs = let f = subst (λ (p : KernelPlace). PlaceFits p) (c .before .before .before .before .before .before .before .before .place2 .given .1) (c .before .before .before .before .before .before .before .before .before .before .pre .1) in let w1 = fetch-wrote _ _ _ _ _ _ (c .before .before .before .before .before .before .before .before .place2 .given .0 .1 .0) (c .before .before .before .before .before .put-fetch .ensures) in let w2 = binary-wrote _ _ _ _ _ (c .before .before .before .before .before .before .before .before .before .before .args .operator) (Variable (c .before .before .before .before .before .before .before .before .before .before .args .store + c .before .before .before .before .before .before .before .before .before .before .args .level)) (Constant (pos 1)) (c .before .before .put-binary2 .ensures) in (put-room 5 (wrote-put (wrote-next w1 w2)) (c .before .before .before .before .before .before .before .before .before .before .pre .0) (omega (arith, ap indexRows (c .before .before .before .before .before .before .before .before .place2 .given .1))), f .0, f .1, c .before .before .before .before .before .before .before .before .before .before .pre .3)
+put-element-update-requires : tie.Need-put-element-update-requires
+put-element-update-requires c κs =
+    let start = c .before .before .before .before in
+    let low = subst (λ (p : KernelPlace). PlaceFits p) (c .before .before .place2 .given .1) (start .pre .1) in
+    (room-less 16 (start .pre .0) (omega (arith, ap indexRows (c .before .before .place2 .given .1))), low .0, low .1, tt, start .pre .2, start .pre .3)
 
 same-length : tie.Need-same-length
 same-length c = search needs
@@ -83,46 +63,34 @@ same-length c = search needs
 returns : tie.Need-returns
 unfolding _⧺_
 returns c =
-    let w1 = copy-wrote _ _ _ _ _ (Variable (c .before .before .before .before .before .before .before .place .given .0 .0)) (c .before .before .before .before .put-copy .ensures) in
-    let w2 = binary-wrote _ _ _ _ _ (c .before .before .before .before .before .before .before .before .before .args .operator) (Variable (c .before .before .before .before .before .before .before .before .before .args .store + c .before .before .before .before .before .before .before .before .before .args .level)) (Constant (pos 1)) (c .before .put-binary .ensures) in
-    recoded _ _ _ _ _ _ (wrote-next w1 w2 .table) (ap (λ (p : KernelPlace). postfixCode (c .before .before .before .before .before .before .before .before .before .args .store) (c .before .before .before .before .before .before .before .before .before .args .operator) (placeTree p) (c .before .before .before .before .before .before .before .before .before .args .level) (c .before .before .before .before .before .before .before .before .before .args .above)) (sym (c .before .before .before .before .before .before .before .place .given .1)))
+    let start = c .before .before .before .before .before .before .before .before .before in
+    let copied = copy-wrote _ _ _ _ _ (Variable (c .before .before .before .before .before .before .before .place .given .0 .0)) (c .before .before .before .before .put-copy .ensures) in
+    let computed = binary-wrote _ _ _ _ _ (start .args .operator) (Variable (start .args .store + start .args .level)) (Constant (pos 1)) (c .before .put-binary .ensures) in
+    recoded _ _ _ _ _ _ (wrote-next copied computed .table) (ap (λ (p : KernelPlace). postfixCode (start .args .store) (start .args .operator) (placeTree p) (start .args .level) (start .args .above)) (sym (c .before .before .before .before .before .before .before .place .given .1)))
 
 same-length-2 : tie.Need-same-length-2
 same-length-2 c = search needs
 
 returns-2 : tie.Need-returns-2
-unfolding _⧺_
 returns-2 c =
-    let w1 = fetch-wrote _ _ _ _ _ _ (c .before .before .before .before .before .before .before .before .before .before .place2 .given .0 .1 .0) (c .before .before .before .before .before .before .before .put-fetch .ensures) in
-    let w2 = binary-wrote _ _ _ _ _ (c .before .before .before .before .before .before .before .before .before .before .before .before .args .operator) (Variable (c .before .before .before .before .before .before .before .before .before .before .before .before .args .store + c .before .before .before .before .before .before .before .before .before .before .before .before .args .level)) (Constant (pos 1)) (c .before .before .before .before .put-binary2 .ensures) in
-    let w3 = store-wrote _ _ _ _ _ (c .before .before .before .before .before .before .before .before .before .before .place2 .given .0 .1 .0) (Variable (c .before .before .before .before .before .before .before .before .before .before .before .before .args .store + c .before .before .before .before .before .before .before .before .before .before .before .before .args .above)) (c .before .put-store .ensures) in
-    recoded _ _ _ _ _ _ (wrote-next (wrote-next w1 w2) w3 .table) (ap (λ (p : KernelPlace). postfixCode (c .before .before .before .before .before .before .before .before .before .before .before .before .args .store) (c .before .before .before .before .before .before .before .before .before .before .before .before .args .operator) (placeTree p) (c .before .before .before .before .before .before .before .before .before .before .before .before .args .level) (c .before .before .before .before .before .before .before .before .before .before .before .before .args .above)) (sym (c .before .before .before .before .before .before .before .before .before .before .place2 .given .1)))
+    let start = c .before .before .before .before .before .before in
+    recoded _ _ _ _ _ _ (c .before .put-element-update .ensures) (ap (λ (p : KernelPlace). postfixCode (start .args .store) (start .args .operator) (placeTree p) (start .args .level) (start .args .above)) (sym (c .before .before .before .before .place2 .given .1)))
 
 pub put-postfix-spec : {M : Type 1} → statement M
 put-postfix-spec =
     tie.close
     (tie.spec
     add-old
+    add-new
     enum-known-place
     put-copy-requires
+    sub-rest
+    part-rest-start
+    part-rest-end
     add-put-binary
-    sub-put-binary
-    part-put-binary-start
-    part-put-binary-end
     put-binary-requires
     enum-known-place-2
-    add-new
-    put-fetch-requires
-    add-put-binary-2
-    sub-put-binary-2
-    part-put-binary-start-2
-    part-put-binary-end-2
-    put-binary-requires-2
-    add-put-store
-    sub-put-store
-    part-put-store-start
-    part-put-store-end
-    put-store-requires
+    put-element-update-requires
     same-length
     returns
     same-length-2

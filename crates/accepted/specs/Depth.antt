@@ -15,9 +15,11 @@ use Rattle.language.specs.DecodeLaws.{listAt, partAt}
 use Rattle.language.specs.Sizes.{expressionDepth, placeDepth, partDepth, statementDepth, itemsDepth}
 use Rattle.structure.specs.Grammar.{between, link}
 use Rattle.structure.specs.Structured.{Leads, Structured, Depth, root, owned, beside, Shallow}
+use Rattle.structure.specs.StructuredLaws.{structured-tree}
+use Rattle.structure.specs.DepthLaws.{depth-inside}
 use Rattle.accepted.specs.Sorts.{between-true}
 use Rattle.accepted.specs.Expressions.{ExpressionRow, constant-row, variable-row, element-row, minus-row, not-row, binary-row, and-row, or-row, comma-row, conditional-row, assign-row, compound-row, prefix-row, postfix-row, placeAt}
-use Rattle.accepted.specs.Statements.{PartRow, absent-part, present-part, StatementRow, empty-row, express-row, block-row, ifThen-row, ifElse-row, while-row, doWhile-row, for-row, switch-row, case-row, default-row, break-row, continue-row, goto-row, label-row, ListRow, no-items, item, case-item, default-item, label-item, root-inside, root-row}
+use Rattle.accepted.specs.Statements.{PartRow, absent-part, present-part, StatementRow, empty-row, express-row, block-row, ifThen-row, ifElse-row, while-row, doWhile-row, for-row, switch-row, case-row, default-row, break-row, continue-row, goto-row, label-row, ListRow, no-items, item, case-item, default-item, label-item, root-row}
 
 module _ (form : Form) (header rows : List ℤ) (s : Structured form header rows) (shallow : Shallow form rows) where
   abbrev limit : ℕ
@@ -27,10 +29,8 @@ module _ (form : Form) (header rows : List ℤ) (s : Structured form header rows
   abbrev Fits : ℕ → ℕ → Type 0
   Fits depth tree = depth + tree ≤ limit + 1
 
-  depth-inside : {row depth : ℕ} → Depth rows row depth → row < rowCount rows
-  depth-inside root = root-inside form header rows s
-  depth-inside (owned h l d) = l .inside
-  depth-inside (beside l d) = l .inside
+  inside : {row depth : ℕ} → Depth rows row depth → row < rowCount rows
+  inside = depth-inside rows (structured-tree form header rows s)
 
   -- the row that a field links is one deeper
   below : {row depth : ℕ} → Depth rows row depth → (field : ℕ) → between 1 4 field ≡ true → Leads rows row field → Depth rows (link rows row field) (depth + 1)
@@ -40,14 +40,14 @@ module _ (form : Form) (header rows : List ℤ) (s : Structured form header rows
   below-any : {row depth : ℕ} → Depth rows row depth → (field : ℕ) → between 1 4 field ≡ true → 0 < link rows row field → Depth rows (link rows row field) (depth + 1)
   below-any {row} d field t p =
       let range = between-true 1 4 field t in
-      below d field t (s .forward row (depth-inside d) field (range .0) (omega arith) p)
+      below d field t (s .forward row (inside d) field (range .0) (omega arith) p)
 
   room : {row depth : ℕ} → Depth rows row depth → depth + 1 ≤ limit + 1
   room d = omega (arith, shallow _ _ d)
 
   -- a list's next item is as deep
   next : (row depth : ℕ) → Depth rows row depth → 0 < link rows row 5 → Depth rows (link rows row 5) depth
-  next row depth d p = beside (s .forward row (depth-inside d) 5 (omega arith) (omega arith) p) d
+  next row depth d p = beside (s .forward row (inside d) 5 (omega arith) (omega arith) p) d
 
   deep-place : (row depth : ℕ) → expressionAt rows row ≡ read (placeAt rows row) → Fits depth (expressionDepth (expressionAt rows row)) → Fits depth (placeDepth (placeAt rows row))
   unfolding expressionDepth

@@ -1,7 +1,7 @@
 -- Endings: in a source tree every break, continue and search for a mark finds its end inside the tree: a loop or switch takes a break, a
 -- loop a continue, a switch's own list has the mark that it seeks. By recursion on the tree.
-use mathlib.Core.Path.{_≡_, refl, sym}
-use mathlib.Core.Bool.{Bool, true, false, _||_}
+use mathlib.Core.Path.{_≡_, refl}
+use mathlib.Core.Bool.{Bool, true, false, _||_, false≢true}
 use lib.IntN.{ℤ, pos}
 use Rattle.words.specs.Word.{pick}
 use Rattle.words.specs.Layout.{Layout}
@@ -11,7 +11,6 @@ use Rattle.computation.specs.Run.{State, ok, Limit, roundsFrom, run}
 use Rattle.language.specs.Trees.{Part, absent, present, Mark, case, default, sameMark, has, Statement, empty, express, block, ifThen, ifElse, while, doWhile, for, switch, break, continue, goto, Items, none, _then_, _here_}
 use Rattle.language.specs.Meaning.{Signal, next, breaking, continuing, seeking, entersStatement, entersMark, target, afterSwitch, afterBody, afterTest, enter, ifTrue, value, valueOf, evaluate, rounds, perform, items, exec}
 use Rattle.language.specs.WellFormed.{Placed, PlacedItems}
-use Rattle.structure.specs.SearchLaws.{clash}
 use Rattle.accepted.specs.Gives.{Gives, Any, any, gives-weaker, gives-then, Leaves, gives-iterate, entered, chosen}
 
 -- How a statement may end: the next item follows, or a break or a continue where one may stand.
@@ -145,7 +144,7 @@ module _ (L : Layout) (limit : Limit) where
     items-end : (is : Items) (inSwitch mayBreak mayContinue : Bool) → PlacedItems inSwitch mayBreak mayContinue is → (signal : Signal) → Arrives is mayBreak mayContinue signal
         → (σ : State) → Gives (Allowed mayBreak mayContinue) (run limit (items L is signal) σ)
     items-end none i b c p signal (ended allowed) σ = allowed
-    items-end none i b c p _ (sought e) σ = clash (sym e)
+    items-end none i b c p _ (sought e) σ = absurd (false≢true e)
     items-end (s then is) i b c p signal arrives σ =
         gives-then (Arrives is b c) (Allowed b c) (run limit (pick (entersStatement signal) (enter (perform L s)) (ret signal)) σ) (λ after. run limit (items L is after))
         (at-statement s (λ τ. statement-ends s b c (p .0) τ) arrives σ) (λ after τ arrived. items-end is i b c (p .1) after arrived τ)
@@ -162,5 +161,5 @@ module _ (L : Layout) (limit : Limit) where
     where
       nothing-else : (signal : Signal) → Allowed false false signal → signal ≡ next
       nothing-else signal goes-on = refl
-      nothing-else signal (breaks e) = clash (sym e)
-      nothing-else signal (continues e) = clash (sym e)
+      nothing-else signal (breaks e) = absurd (false≢true e)
+      nothing-else signal (continues e) = absurd (false≢true e)

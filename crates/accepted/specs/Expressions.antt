@@ -1,7 +1,7 @@
 -- Expressions: how the expressions of a structured table lie on its rows: each row's expression is made of those at its links. What is true
 -- of every expression of a table is shown by recursion on `ExpressionRow`.
 use mathlib.Core.Path.{_≡_, refl, sym}
-use mathlib.Core.Bool.{true}
+use mathlib.Core.Bool.{true, false≢true}
 use mathlib.Core.List.{List}
 use mathlib.Core.Logic.{⊎-elim}
 use Prim.Native.Nat.{ℕ, zero, suc, _+_, _≤_, _<_}
@@ -20,7 +20,6 @@ use Rattle.language.specs.Decode.{placeOf, expressionAt}
 use Rattle.language.specs.DecodeLaws.{Whole, at-constant, at-variable, at-element, at-minus, at-not, at-binary, at-and, at-or, at-comma, at-conditional, at-assign, at-compound, at-prefix, at-postfix}
 use Rattle.structure.specs.Grammar.{expression, place, expressionRow, placeRow, between, sortAt, isExpression, isPlace, isRequired, link}
 use Rattle.structure.specs.Fields.{fits}
-use Rattle.structure.specs.SearchLaws.{clash}
 use Rattle.structure.specs.StructuredLaws.{structured-tree}
 use Rattle.structure.specs.Structured.{Leads, Structured}
 use Rattle.accepted.specs.Sorts.{sorts, sortIn, sort-is, place-kind}
@@ -159,21 +158,21 @@ module _ (form : Form) (header rows : List ℤ) (s : Structured form header rows
     expression-by (Postfix o) k t =
         let a = place-at k 1 refl in
         postfix-row k (a .leads) (reads a) (rw (a .same) (at-postfix rows whole-rows row o k (a .later))) (a-place a)
-    expression-by Empty k t = clash (sym t)
-    expression-by Express k t = clash (sym t)
-    expression-by Block k t = clash (sym t)
-    expression-by If k t = clash (sym t)
-    expression-by While k t = clash (sym t)
-    expression-by Do k t = clash (sym t)
-    expression-by For k t = clash (sym t)
-    expression-by Switch k t = clash (sym t)
-    expression-by Case k t = clash (sym t)
-    expression-by Default k t = clash (sym t)
-    expression-by Break k t = clash (sym t)
-    expression-by Continue k t = clash (sym t)
-    expression-by Goto k t = clash (sym t)
-    expression-by Label k t = clash (sym t)
-    expression-by Other k t = clash (sym t)
+    expression-by Empty k t = absurd (false≢true t)
+    expression-by Express k t = absurd (false≢true t)
+    expression-by Block k t = absurd (false≢true t)
+    expression-by If k t = absurd (false≢true t)
+    expression-by While k t = absurd (false≢true t)
+    expression-by Do k t = absurd (false≢true t)
+    expression-by For k t = absurd (false≢true t)
+    expression-by Switch k t = absurd (false≢true t)
+    expression-by Case k t = absurd (false≢true t)
+    expression-by Default k t = absurd (false≢true t)
+    expression-by Break k t = absurd (false≢true t)
+    expression-by Continue k t = absurd (false≢true t)
+    expression-by Goto k t = absurd (false≢true t)
+    expression-by Label k t = absurd (false≢true t)
+    expression-by Other k t = absurd (false≢true t)
 
   expression-rows : (links row : ℕ) → rowCount rows ≤ row + links → row < rowCount rows → isExpression rows row ≡ true → ExpressionRow rows row
   unfolding isExpression

@@ -20,6 +20,7 @@ use Rattle.language.specs.DecodeLaws.{Forward}
 use Rattle.structure.specs.Grammar.{variable, array, optionalItem, sortAt, between, isLink, isRequired, link}
 use Rattle.structure.specs.Fields.{fits, boundsOf, numberFits}
 use Rattle.structure.specs.Structured.{Leads, Structured}
+use Rattle.structure.specs.StructuredLaws.{required-is-link}
 use Rattle.accepted.specs.Sorts.{sortIn, sort-is, next-sort, either, between-true}
 
 -- The field of a kind is one of a, b, c, d and next, and its sort passes the test.
@@ -49,11 +50,6 @@ module _ (rows : List ℤ) (row sort field : ℕ) where
     pub same : link rows row field ≡ numberAt rows row field
     pub later : Forward row (numberAt rows row field)
     pub fit : 0 < link rows row field → fits rows sort (link rows row field) ≡ true
-
-required-link : (sort : ℕ) → isRequired sort ≡ true → isLink sort ≡ true
-unfolding isRequired isLink
-required-link sort e =
-    ⊎-elim (λ h. rw (eqb-true sort 5 h)) (λ h. ⊎-elim (λ h. rw (eqb-true sort 7 h)) (λ h. rw (eqb-true sort 8 h)) (either _ _ h)) (either _ _ e)
 
 module _ (form : Form) (header rows : List ℤ) (s : Structured form header rows) (row : ℕ) (inside : row < rowCount rows) where
   -- a link that is there leads to a later row
@@ -103,7 +99,7 @@ module _ (form : Form) (header rows : List ℤ) (s : Structured form header rows
   pub linked : {kind : Kind} → kindAt rows row ≡ kind → (sort field : ℕ) → isRequired sort ≡ true → holds (eqb sort) kind field ≡ true → Linked rows row sort field
   linked k sort field e t =
       let at = tested (eqb sort) k field t in
-      let may = may-link k sort field (required-link sort e) t in
+      let may = may-link k sort field (required-is-link sort e) t in
       let some = s .present row inside field (at .first) (at .last) (rw (← eqb-true sort (sortAt rows row field) (at .passes)) e) in
       record {
         leads = may .leads some;

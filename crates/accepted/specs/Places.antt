@@ -1,7 +1,7 @@
 -- Places: in the tree of a legal source program break, continue, case and default stand where they may. A row has one owner, so what a row
 -- stands inside of is what its owner is or stands inside of. By recursion on the rows.
 use mathlib.Core.Path.{_≡_, refl, sym, ap, _∙_, subst}
-use mathlib.Core.Bool.{Bool, true, false}
+use mathlib.Core.Bool.{Bool, true, false, true≢false}
 use mathlib.Core.List.{List}
 use mathlib.Core.Logic.{_⊎_, inl, inr, ⊎-elim}
 use Prim.Native.Nat.{ℕ, _+_, _*_, _<_}
@@ -17,7 +17,6 @@ use Rattle.language.specs.DecodeLaws.{listAt}
 use Rattle.language.specs.WellFormed.{Placed, PlacedItems}
 use Rattle.structure.specs.Grammar.{statementRow, inLanguage, link}
 use Rattle.structure.specs.LinkLaws.{linker-of}
-use Rattle.structure.specs.SearchLaws.{clash}
 use Rattle.structure.specs.StructuredLaws.{structured-tree}
 use Rattle.structure.specs.Structured.{Leads, Structured, Tree}
 use Rattle.source_check.specs.Places.{isLoop, isLoopOrSwitch, isMark}
@@ -77,7 +76,7 @@ module _ (header rows : List ℤ) (legal : Legal header rows) where
   -- a row hands its flag on to the row that a field links, unless it is such a row itself; next hands on whatever the row is
   handed : (kinds : ℕ → Bool) (flag : Bool) (row field : ℕ) → field < 6 → (field < 5 → kinds (numberAt rows row 0) ≡ false) → Flag kinds flag row
       → Leads rows row field → Flag kinds flag (link rows row field)
-  handed kinds flag row field k other f l i = ⊎-elim (λ own. clash (sym (own .1) ∙ other (own .0))) f (inside-from rows t kinds (link rows row field) row field i refl k l)
+  handed kinds flag row field k other f l i = ⊎-elim (λ own. absurd (true≢false (sym (own .1) ∙ other (own .0)))) f (inside-from rows t kinds (link rows row field) row field i refl k l)
 
   -- What stands around a row.
   record Around (mayBreak mayContinue : Bool) (row : ℕ) : Type 0 where
@@ -150,7 +149,7 @@ module _ (header rows : List ℤ) (legal : Legal header rows) where
 
   -- "52 goto, 53 label (kernel only)".
   not-in-source : {row : ℕ} {kind : Kind} → row < rowCount rows → kindAt rows row ≡ kind → sortIn kind 0 ≡ statementRow → inLanguage Source (statementNumber kind) ≡ false → ⊥
-  not-in-source {row} inside k e f = clash (sym (rw (number-of inside k e) at (s .known row inside)) ∙ f)
+  not-in-source {row} inside k e f = true≢false (sym (rw (number-of inside k e) at (s .known row inside)) ∙ f)
 
   mutual
     unfolding Placed PlacedItems sortIn sorts statementNumber inLanguage

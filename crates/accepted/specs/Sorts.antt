@@ -1,7 +1,7 @@
 -- Sorts: the table of kinds by kind. The checks go by kind numbers, trees and runs by kinds: that the two tables agree is one computed
 -- test over the kind numbers.
 use mathlib.Core.Path.{_≡_, refl, sym, ap, _∙_}
-use mathlib.Core.Bool.{Bool, true, false, not, _||_}
+use mathlib.Core.Bool.{Bool, true, false, not, _||_, false≢true}
 use mathlib.Core.List.{List, [], _∷_}
 use mathlib.Core.Logic.{_⊎_, inl, inr, ⊎-elim}
 use Prim.Native.Nat.{ℕ, _≤_, _<_}
@@ -22,7 +22,7 @@ use Rattle.language.specs.DecodeLaws.{isStatement}
 use Rattle.structure.specs.Grammar.{unused, value, variable, array, label, expression, optionalExpression, place, branch, optionalBranch, optionalItem, expressionRow, placeRow, statementRow, grammar, sortOf, sortAt, between, inLanguage, isExpression}
 use Rattle.structure.specs.Grammar as grammar
 use Rattle.structure.specs.Search.{some}
-use Rattle.structure.specs.SearchLaws.{some-all, clash}
+use Rattle.structure.specs.SearchLaws.{some-all}
 
 -- What a row of the kind is, then what its fields a, b, c, d and next hold; all fields that are not listed are unused.
 unfoldable pub sorts : Kind → List ℕ
@@ -172,7 +172,7 @@ module _ (form : Form) (rows : List ℤ) (row : ℕ) (known : inLanguage form (n
 
   pub kind-known : kindAt rows row ≡ Other → ⊥
   unfolding sortIn sorts
-  kind-known e = clash (sym (rw (sort-is 0 (omega arith), e) at holds-tree))
+  kind-known e = false≢true (rw (sort-is 0 (omega arith), e) at holds-tree)
 
   pub expression-or-statement : (isExpression rows row ≡ true) ⊎ (grammar.isStatement rows row ≡ true)
   unfolding isExpression grammar.isStatement

@@ -1,7 +1,7 @@
 -- Statements: how the statements and lists of a structured table lie on its rows: each row's tree is made of those at its links. What is
 -- true of every statement of a table is shown by recursion on `StatementRow` and `ListRow`.
 use mathlib.Core.Path.{_≡_, refl, sym, _∙_}
-use mathlib.Core.Bool.{true}
+use mathlib.Core.Bool.{true, false≢true}
 use mathlib.Core.List.{List}
 use mathlib.Core.Logic.{⊎-elim}
 use Prim.Native.Nat.{ℕ, zero, suc, _+_, _≤_, _<_}
@@ -21,7 +21,6 @@ use Rattle.language.specs.DecodeLaws.{Whole, listAt, partAt, isStatement, state
 use Rattle.structure.specs.Grammar.{expression, optionalExpression, branch, optionalBranch, optionalItem, statementRow, sortOf, sortAt, isLink, isRequired, link}
 use Rattle.structure.specs.Grammar as grammar
 use Rattle.structure.specs.Fields.{fits}
-use Rattle.structure.specs.SearchLaws.{clash}
 use Rattle.structure.specs.StructuredLaws.{structured-tree}
 use Rattle.structure.specs.Structured.{Leads, Structured}
 use Rattle.accepted.specs.Sorts.{sorts, sortIn, sort-is, statement-kind}
@@ -199,21 +198,21 @@ module _ (form : Form) (header rows : List ℤ) (s : Structured form header rows
     statement-by Continue k t = continue-row k (at-continue rows whole row k)
     statement-by Goto k t = goto-row k (at-goto rows whole row k)
     statement-by Label k t = label-row k (rw (statement-at rows whole row, k))
-    statement-by Constant k t = clash (sym t)
-    statement-by Variable k t = clash (sym t)
-    statement-by Element k t = clash (sym t)
-    statement-by Minus k t = clash (sym t)
-    statement-by Not k t = clash (sym t)
-    statement-by (Binary o) k t = clash (sym t)
-    statement-by And k t = clash (sym t)
-    statement-by Or k t = clash (sym t)
-    statement-by Conditional k t = clash (sym t)
-    statement-by Comma k t = clash (sym t)
-    statement-by Assign k t = clash (sym t)
-    statement-by (Compound o) k t = clash (sym t)
-    statement-by (Prefix o) k t = clash (sym t)
-    statement-by (Postfix o) k t = clash (sym t)
-    statement-by Other k t = clash (sym t)
+    statement-by Constant k t = absurd (false≢true t)
+    statement-by Variable k t = absurd (false≢true t)
+    statement-by Element k t = absurd (false≢true t)
+    statement-by Minus k t = absurd (false≢true t)
+    statement-by Not k t = absurd (false≢true t)
+    statement-by (Binary o) k t = absurd (false≢true t)
+    statement-by And k t = absurd (false≢true t)
+    statement-by Or k t = absurd (false≢true t)
+    statement-by Conditional k t = absurd (false≢true t)
+    statement-by Comma k t = absurd (false≢true t)
+    statement-by Assign k t = absurd (false≢true t)
+    statement-by (Compound o) k t = absurd (false≢true t)
+    statement-by (Prefix o) k t = absurd (false≢true t)
+    statement-by (Postfix o) k t = absurd (false≢true t)
+    statement-by Other k t = absurd (false≢true t)
 
     list-by : 0 < row → sortAt rows row 0 ≡ statementRow → StatementRow rows row → ListRow rows row
     list-by p e held =

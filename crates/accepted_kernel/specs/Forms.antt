@@ -1,7 +1,7 @@
 -- Forms: the tree of a legal kernel program has kernel form. Lists are taken from the last rows on: each statement's lists begin at
 -- later rows.
 use mathlib.Core.Path.{_≡_, subst, refl, sym, ap, _∙_}
-use mathlib.Core.Bool.{true, false, not}
+use mathlib.Core.Bool.{true, false, not, true≢false}
 use mathlib.Core.List.{List}
 use mathlib.Core.Logic.{_⊎_, ⊎-elim}
 use Prim.Native.Nat.{ℕ, zero, suc, _+_, _≤_, _<_}
@@ -21,7 +21,6 @@ use Rattle.language.specs.Decode.{statementOf, statementAt}
 use Rattle.language.specs.DecodeLaws.{Whole, listAt, statement-at, at-empty, at-express, at-block, at-ifElse, at-while, at-goto, at-item, at-label}
 use Rattle.structure.specs.Grammar.{expression, branch, optionalBranch, optionalItem, statementRow, inLanguage, isLink, isRequired, isStatement, link}
 use Rattle.structure.specs.Fields.{fits}
-use Rattle.structure.specs.SearchLaws.{clash}
 use Rattle.structure.specs.NoteLaws.{above-zero}
 use Rattle.structure.specs.Structured.{Leads, Structured}
 use Rattle.structure.specs.Lists.{Step, once, on, before-step}
@@ -115,7 +114,7 @@ module _ (header rows : List ℤ) (legal : Legal header rows) where
     unfolding isLink sortIn sorts fits isBlock
     else-at k e =
         let c = may-link Kernel header rows s row n k optionalBranch 3 refl refl in
-        let there : 0 < link rows row 3 = rw (c .same) (above-zero _ (λ q. clash (sym (both (not (eqb (numberAt rows row 3) 0)) _ e .0) ∙ ap not (eq-eqb _ _ q)))) in
+        let there : 0 < link rows row 3 = rw (c .same) (above-zero _ (λ q. true≢false (sym (both (not (eqb (numberAt rows row 3) 0)) _ e .0) ∙ ap not (eq-eqb _ _ q)))) in
         branch-by 3 (omega arith) (c .leads there) (c .same) (eqb-true _ _ (both (isStatement rows (link rows row 3)) _ (c .fit there) .1)) e
 
     empty-form : numberAt rows row 0 ≡ 40 → KernelStatement ahead (statementAt rows row)
@@ -185,7 +184,7 @@ module _ (header rows : List ℤ) (legal : Legal header rows) where
 
   -- no case and no default
   not-in-kernel : (row : ℕ) {kind : Kind} → row < rowCount rows → kindAt rows row ≡ kind → sortIn kind 0 ≡ statementRow → inLanguage Kernel (statementNumber kind) ≡ false → ⊥
-  not-in-kernel row n k e f = clash (sym (s .known row n) ∙ ap (inLanguage Kernel) (number-of row n k e) ∙ f)
+  not-in-kernel row n k e f = true≢false (sym (s .known row n) ∙ ap (inLanguage Kernel) (number-of row n k e) ∙ f)
 
   -- what the lists of later blocks give
   abbrev Lists : ℕ → Type 0

@@ -1,7 +1,7 @@
 -- Jumps: in a kernel tree every jump of a run finds its label. A statement's run comes to the next item, or is on its way to a label
 -- that stands ahead; a list takes it there, or hands it on to a list around.
-use mathlib.Core.Path.{_≡_, refl, sym}
-use mathlib.Core.Bool.{Bool, true, false, _||_}
+use mathlib.Core.Path.{_≡_, refl}
+use mathlib.Core.Bool.{Bool, true, false, _||_, false≢true}
 use Prim.Native.Nat.{ℕ}
 use lib.Dec.{eqb}
 use lib.IntN.{pos}
@@ -12,7 +12,6 @@ use Rattle.computation.specs.Computation.{Turn, again, leave, Computation, ret,
 use Rattle.computation.specs.Run.{State, ok, Limit, roundsFrom, run}
 use Rattle.language.specs.Trees.{label, has, sameMark, Statement, block, Items, none, _then_, _here_, _⧺_}
 use Rattle.language.specs.Meaning.{Signal, next, seeking, entersStatement, entersMark, enter, ifTrue, value, evaluate, afterBody, afterTest, perform, items, exec}
-use Rattle.structure.specs.SearchLaws.{clash}
 use Rattle.accepted.specs.Gives.{Gives, Any, any, gives-weaker, gives-then, Leaves, gives-iterate, entered, chosen}
 use Rattle.translation.specs.KernelForm.{KernelStatement, kernel-empty, kernel-assign, kernel-block, kernel-if, kernel-while, kernel-goto, KernelItems, kernel-none, kernel-then, kernel-label}
 
@@ -90,4 +89,4 @@ module _ (L : Layout) (limit : Limit) where
     where
       ends : (signal : Signal) → Lands none signal → signal ≡ next
       ends signal goes-on = refl
-      ends signal (jumps e) = clash (sym e)
+      ends signal (jumps e) = absurd (false≢true e)

@@ -9,7 +9,7 @@ use lib.Dec.{eqb}
 use lib.ListN.{length, drop, getD, drop-of-length-le}
 use lib.Seq.{drop-cons}
 use borrow.Author.Tests.{eq-eqb, ne-eqb}
-use Rattle.text_form.specs.NumberLaws.{by-cases}
+use Rattle.words.specs.Laws.{by-cases}
 use Rattle.command_request.specs.Requests.{sameBytes}
 
 pub other-length : (xs ys : List ℕ) → (length xs ≡ length ys → ⊥) → false ≡ sameBytes xs ys

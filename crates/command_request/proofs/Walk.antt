@@ -13,19 +13,14 @@ use Rattle.text_form.specs.Number.{numberOf}
 use Rattle.text_form.specs.Line.{fieldsOf, numbersOf}
 use Rattle.text_form.specs.Text.{Parsed, parsed, malformed}
 use Rattle.words.specs.Over.{over}
-use Rattle.text_form.specs.NumberLaws.{by-cases}
+use Rattle.words.specs.Laws.{by-cases}
 use Rattle.text_form.specs.Reader.{numbersIn, Holds}
 use Rattle.words.specs.OverLaws.{part, back-in, part-is, length-over, over-none, over-next}
-use Rattle.text_form.proofs.Rows.{behind}
+use Rattle.text_form.proofs.Rows.{behind, behind-nil}
 use Rattle.command_request.specs.StoreFile.{piecesOf, filled, withWord, wordsFrom, storeIn, countAtStart, Stored}
 use Rattle.command_request.proofs.Pieces.{Ends, ends-from, ends-inside, ends-opens, parting-ends, word-ends, number-line}
 
 -- ---- words, and then those that are left
-
-behind-nil : (read : Parsed (List ℤ)) → read ≡ behind [] read
-unfolding behind
-behind-nil (parsed words) = refl
-behind-nil (malformed number) = refl
 
 behind-bad : (before : List ℤ) (number : ℕ) (read : Parsed (List ℤ)) → behind before (withWord number none read) ≡ malformed number
 unfolding behind withWord

@@ -1,6 +1,6 @@
 -- The rows of a statement of kernel form pass the kernel's tests. By the clauses of the form.
 use mathlib.Core.Path.{_≡_}
-use mathlib.Core.Bool.{true}
+use mathlib.Core.Bool.{true, or-true}
 use mathlib.Core.List.{List}
 use Prim.Native.Nat.{ℕ, _<_}
 use native.Mathlib.Omega.{arith}
@@ -11,7 +11,7 @@ use Rattle.words.specs.declared.Operator.{Operator}
 use Rattle.language.specs.Trees.{Expression, read, minus, binary, assign, Place, variable, element, Statement, block, Items}
 use Rattle.translation.specs.KernelForm.{IsAtom, constant-atom, variable-atom, Assigns, assigns-atom, assigns-minus, assigns-operation, assigns-element, assigns-to-element, KernelStatement, kernel-empty, kernel-assign, kernel-block, kernel-if, kernel-while, kernel-goto}
 use Rattle.kernel_check.specs.Statements.{isAtom, isAtomMinus, isAtomOperation, isAtomElement, fitsVariable, isAssignment, isBlock, isKernelIf, isKernelWhile, isKernelExpression, isKernelStatement}
-use Rattle.emission_legal.specs.EmittedRows.{between-binary, or-true}
+use Rattle.emission_legal.specs.EmittedRows.{between-binary}
 use Rattle.emission.specs.Emitted.{Row, EmittedExpression, constant-at, read-at, minus-at, binary-at, assign-at, EmittedPlace, variable-at, element-at, EmittedStatement, empty-at, express-at, block-at, if-at, while-at, goto-at}
 
 -- ---- forms

@@ -1,6 +1,6 @@
 -- Emitted rows: each row of an emitted table has a kind of the kernel and fields that suit it. By induction over the emitted tree.
 use mathlib.Core.Path.{_≡_, refl, ap}
-use mathlib.Core.Bool.{Bool, true, false, _||_}
+use mathlib.Core.Bool.{true, false, or-true}
 use mathlib.Core.List.{List, []}
 use Prim.Native.Nat.{ℕ, _+_, _<_}
 use native.Mathlib.Omega.{arith}
@@ -57,10 +57,6 @@ between-binary LessOrEqual = refl
 between-binary GreaterOrEqual = refl
 between-binary Equal = refl
 between-binary NotEqual = refl
-
-pub or-true : (a : Bool) → (a || true) ≡ true
-or-true true = refl
-or-true false = refl
 
 known-binary : (o : Operator) → inLanguage Kernel (6 + operatorNumber o) ≡ true
 unfolding inLanguage

@@ -1,6 +1,6 @@
 -- Emitted tables are structured: what document 01 demands of the rows of both forms.
 use mathlib.Core.Path.{_≡_}
-use mathlib.Core.Bool.{true, false}
+use mathlib.Core.Bool.{true, false, or-true}
 use mathlib.Core.List.{List}
 use Prim.Native.Nat.{ℕ, _+_, _≤_, _<_}
 use native.Mathlib.Omega.{arith}
@@ -26,7 +26,7 @@ use Rattle.emission.specs.Emitted.{Row, EmittedStatement, block-at, emitted}
 use Rattle.emission.specs.KernelKinds.{a-block}
 use Rattle.emission_legal.specs.FormKinds.{items-kinds}
 use Rattle.emission_legal.specs.Suits.{RowLegal, suits-absent}
-use Rattle.emission_legal.specs.EmittedRows.{or-true, legal-statement}
+use Rattle.emission_legal.specs.EmittedRows.{legal-statement}
 use Rattle.emission_legal.specs.EmittedOnce.{linked-once}
 
 block-row : {rows : List ℤ} {contents : Items} {base next : ℕ} → EmittedStatement rows (block contents) base next → Row rows base 42 (listLink false contents (base + 1)) 0 0 0 next

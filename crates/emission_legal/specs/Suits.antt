@@ -1,7 +1,7 @@
 -- Fields that suit their sorts: what the structure of a table asks of one field, said of the field's sort and number alone; and of a
 -- row, from its kind and its numbers.
 use mathlib.Core.Path.{_≡_, refl, sym, ap, subst, _∙_}
-use mathlib.Core.Bool.{Bool, true, false}
+use mathlib.Core.Bool.{Bool, true, false, false≢true}
 use mathlib.Core.List.{List}
 use Prim.Native.Nat.{ℕ, zero, suc, _≤_, _<_}
 use native.Mathlib.Omega.{arith}
@@ -16,9 +16,6 @@ use Rattle.structure.specs.GrammarLaws.{kind-links-none}
 use Rattle.structure.specs.Structured.{Leads}
 use Rattle.structure.specs.declared.Bounds.{Bounds}
 use Rattle.emission.specs.Emitted.{Row}
-
-no-bit : {A : Type 0} → false ≡ true → A
-no-bit e = absurd (let z : _≡_ {A = ℕ} 0 1 = cc in omega arith)
 
 -- ---- one field
 
@@ -82,10 +79,10 @@ module _ (bounds : Bounds) (rows : List ℤ) (row : ℕ) where
   suits-unused =
       record {
         zero-where-unused = λ q. refl;
-        there-where-required = λ q. no-bit q;
-        forward = λ q h. no-bit q;
-        inside = λ q h. no-bit q;
-        fitting = λ q h. no-bit q;
+        there-where-required = λ q. absurd (false≢true q);
+        forward = λ q h. absurd (false≢true q);
+        inside = λ q h. absurd (false≢true q);
+        fitting = λ q h. absurd (false≢true q);
         named = refl;
       }
 
@@ -94,10 +91,10 @@ module _ (bounds : Bounds) (rows : List ℤ) (row : ℕ) where
   suits-value number =
       record {
         zero-where-unused = λ q. absurd (omega arith);
-        there-where-required = λ q. no-bit q;
-        forward = λ q h. no-bit q;
-        inside = λ q h. no-bit q;
-        fitting = λ q h. no-bit q;
+        there-where-required = λ q. absurd (false≢true q);
+        forward = λ q h. absurd (false≢true q);
+        inside = λ q h. absurd (false≢true q);
+        fitting = λ q h. absurd (false≢true q);
         named = refl;
       }
 
@@ -109,10 +106,10 @@ module _ (bounds : Bounds) (rows : List ℤ) (row : ℕ) where
       let linking : isLink sort ≡ false = rw (lt-leb 5 sort (omega arith)) in
       record {
         zero-where-unused = λ q. absurd (omega arith);
-        there-where-required = λ q. no-bit (sym required ∙ q);
-        forward = λ q h. no-bit (sym linking ∙ q);
-        inside = λ q h. no-bit (sym linking ∙ q);
-        fitting = λ q h. no-bit (sym linking ∙ q);
+        there-where-required = λ q. absurd (false≢true (sym required ∙ q));
+        forward = λ q h. absurd (false≢true (sym linking ∙ q));
+        inside = λ q h. absurd (false≢true (sym linking ∙ q));
+        fitting = λ q h. absurd (false≢true (sym linking ∙ q));
         named = fit;
       }
 
@@ -136,7 +133,7 @@ module _ (bounds : Bounds) (rows : List ℤ) (row : ℕ) where
   suits-absent =
       record {
         zero-where-unused = λ q. absurd (omega arith);
-        there-where-required = λ q. no-bit q;
+        there-where-required = λ q. absurd (false≢true q);
         forward = λ q h. absurd (omega arith);
         inside = λ q h. absurd (omega arith);
         fitting = λ q h. absurd (omega arith);

@@ -1,7 +1,7 @@
 -- Among: a match on the numbers of some kinds alone: each arm is a line of the table of kinds, and what is left is on no line of
 -- these kinds. `these` tells the kinds.
 use mathlib.Core.Path.{_≡_, refl, sym, ap, _∙_}
-use mathlib.Core.Bool.{Bool, true, false}
+use mathlib.Core.Bool.{Bool, true, false, true≢false}
 use mathlib.Core.List.{List, [], _∷_}
 use Prim.Native.Nat.{ℕ}
 use lib.Dec.{eqb}
@@ -11,7 +11,7 @@ use Rattle.words.specs.Kinds.{kinds, kindIn, kindOf}
 use Rattle.words.specs.declared.Kind.{Kind}
 use Rattle.words.specs.declared.Kind.the-variants.{Other}
 use Rattle.evaluator.specs.Kinds.{kindAmong}
-use Rattle.evaluator.proofs.Tags.{clash, tag}
+use Rattle.evaluator.proofs.Tags.{tag}
 
 module _ (these : Kind → Bool) where
   -- an arm: the kind that the table has at the arm's number
@@ -57,7 +57,7 @@ module _ (these : Kind → Bool) where
   -- a kind that the match found is the row's
   found : (b : Bool) (k j : Kind) → pick b k Other ≡ j → eqb (tag j) (tag Other) ≡ false → k ≡ j
   found true k j e d = e
-  found false k j e d = clash (sym (ap (λ (i : Kind). eqb (tag i) (tag Other)) e ∙ d))
+  found false k j e d = absurd (true≢false (ap (λ (i : Kind). eqb (tag i) (tag Other)) e ∙ d))
 
   pub kept : {k r j : Kind} → r ≡ kindAmong these k → r ≡ j → eqb (tag j) (tag Other) ≡ false → k ≡ j
   unfolding kindAmong

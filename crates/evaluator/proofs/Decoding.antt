@@ -10,14 +10,14 @@ use lib.Signed.{mag, ltZ, nonNeg}
 use mir.Syntax.{w32, w64}
 use mir.Val.{SFits, Fits, toZ, ofZ}
 use mir.Facts.{toZ-ofZ}
-use borrow.Author.Tests.{ltb-true, ltb-false, lt-ltb, le-ltb}
+use borrow.Author.Tests.{lt-ltb, le-ltb}
 use Rattle.words.specs.Word.{isWord, natural, pick}
 use lib.ListN.{getD, set}
 use Rattle.words.specs.Arithmetic.{Outcome, value, apply, element}
 use Rattle.words.specs.declared.Operator.{Operator}
 use Rattle.language.specs.Meaning.{update, oldValue, newValue}
 use Rattle.words.specs.Answers.{computed, located}
-use Rattle.words.specs.Laws.{back, element-inside}
+use Rattle.words.specs.Laws.{back, below-least-word, above-greatest-word, between-words, element-inside}
 use Rattle.words.specs.declared.FaultSort.{FaultSort}
 use Rattle.words.specs.declared.FaultSort.the-variants.{Overflow, ZeroDivisor, Index}
 use Rattle.words.specs.declared.Computed.{Computed}
@@ -56,29 +56,17 @@ pub operand-other : (z : ℤ) → 2 ^ 31 ≤ mag z → operandOf z ≡ Halted
 unfolding operandOf isWord
 operand-other z h = rw (le-ltb _ _ h)
 
-above : (z : ℤ) → ltZ (pos 2147483647) z ≡ true → 2 ^ 31 ≤ mag z
-above (pos n) e = omega (arith, ltb-true 2147483647 n e)
-above (negsuc n) e = absurd (let w : _≡_ {A = ℕ} 0 1 = cc in omega arith)
-
-below : (z : ℤ) → ltZ z (negsuc 2147483647) ≡ true → 2 ^ 31 ≤ mag z
-below (pos n) e = absurd (let w : _≡_ {A = ℕ} 0 1 = cc in omega arith)
-below (negsuc n) e = omega (arith, ltb-true 2147483647 n e)
-
-between : (z : ℤ) → ltZ (pos 2147483647) z ≡ false → ltZ z (negsuc 2147483647) ≡ false → mag z < 2 ^ 31
-between (pos n) e g = omega (arith, ltb-false 2147483647 n e)
-between (negsuc n) e g = omega (arith, ltb-false 2147483647 n g)
-
 -- the tests of `operand`
 module _ (z : ℤ) (h : SFits w64 z) where
   pub operand-above : ltZ (pos 2147483647) (handed z) ≡ true → Halted ≡ operandOf z
-  operand-above e = sym (operand-other z (above z (rw (toZ-ofZ {z = z} h) at e)))
+  operand-above e = sym (operand-other z (above-greatest-word z (rw (toZ-ofZ {z = z} h) at e)))
 
   pub operand-below : ltZ (handed z) (negsuc 2147483647) ≡ true → Halted ≡ operandOf z
-  operand-below e = sym (operand-other z (below z (rw (toZ-ofZ {z = z} h) at e)))
+  operand-below e = sym (operand-other z (below-least-word z (rw (toZ-ofZ {z = z} h) at e)))
 
   module _ (e : ltZ (pos 2147483647) (handed z) ≡ false) (g : ltZ (handed z) (negsuc 2147483647) ≡ false) where
     pub operand-fits : SFits w32 (handed z)
-    operand-fits = record { sfits = between (handed z) e g }
+    operand-fits = record { sfits = between-words (handed z) g e }
 
     pub operand-is : Value (toZ w32 (ofZ w32 (handed z))) ≡ operandOf z
     operand-is =

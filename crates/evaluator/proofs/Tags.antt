@@ -1,12 +1,11 @@
 -- Tags: which number and which tags a kind has, for the code's tests of both.
 use mathlib.Core.Path.{_≡_, refl, sym, ap, _∙_}
-use mathlib.Core.Bool.{Bool, true, false, not, _||_, _&&_}
+use mathlib.Core.Bool.{Bool, true, false, not, _||_, _&&_, false≢true}
 use mathlib.Core.List.{List, [], _∷_}
 use mathlib.Core.Logic.{⊎-elim}
 use types.Run.{OneOf}
 use denote.Enum.Declared.{tagOf}
 use Prim.Native.Nat.{ℕ}
-use native.Mathlib.Omega.{arith}
 use lib.Dec.{eqb}
 use lib.IntN.{ℤ, pos}
 use borrow.Author.Tests.{eq-eqb, eqb-true}
@@ -14,7 +13,7 @@ use Rattle.words.proofs.Kind as declared
 use Rattle.words.specs.Word.{pick}
 use Rattle.words.specs.Table.{wordAt, numberAt}
 use Rattle.words.specs.Kinds.{kinds, kindIn, kindOf, kindAt}
-use Rattle.words.specs.Laws.{both}
+use Rattle.words.specs.Laws.{both, or-right}
 use Rattle.words.specs.declared.Kind.{Kind}
 use Rattle.words.specs.declared.Kind.the-variants.{Constant, Variable, Element, Minus, Not, Binary, And, Or, Conditional, Comma, Assign, Compound, Prefix, Postfix, Empty, Express, Block, If, While, Do, For, Switch, Case, Default, Break, Continue, Goto, Label, Other}
 use Rattle.language.specs.Trees.{Expression, constant}
@@ -23,18 +22,11 @@ use Rattle.language.specs.DecodeLaws.{Whole, expression-at}
 use Rattle.language.specs.Sound.{isPlace}
 use Rattle.evaluator.specs.Kinds.{isExpression, kindAmong}
 
-pub clash : {A : Type 0} → false ≡ true → A
-clash e = absurd (let z : _≡_ {A = ℕ} 0 1 = cc in omega arith)
-
 -- ---- an arm that several variants share: the tag is one of theirs
 
 abbrev member : ℕ → List ℕ → Bool
 member x [] = false
 member x (k ∷ ks) = eqb x k || member x ks
-
-or-right : (a b : Bool) → b ≡ true → (a || b) ≡ true
-or-right true b e = refl
-or-right false b e = e
 
 one-of : (k : ℕ) (ks : List ℕ) (x : ℕ) → OneOf (k ∷ ks) x → member x (k ∷ ks) ≡ true
 one-of k [] x e = rw (eq-eqb x k e)
@@ -42,7 +34,7 @@ one-of k (l ∷ ks) x h = ⊎-elim (λ e. rw (eq-eqb x k e)) (λ g. or-right (eq
 
 pub excluded : (ks : List ℕ) (x : ℕ) → OneOf ks x → member x ks ≡ false → ⊥
 excluded [] x h m = h
-excluded (k ∷ ks) x h m = clash (sym m ∙ one-of k ks x h)
+excluded (k ∷ ks) x h m = false≢true (sym m ∙ one-of k ks x h)
 
 abbrev pub tag : Kind → ℕ
 tag k = tagOf declared.the-type k
@@ -96,11 +88,11 @@ module _ (wanted m : ℕ) where
 
   forced : (a b : Bool) → (not a || b) ≡ true → a ≡ true → b ≡ true
   forced true b e t = e
-  forced false b e t = clash t
+  forced false b e t = absurd (false≢true t)
 
   pub alone : (ks : List (ℕ × Kind)) (n : ℕ) → only ks ≡ true → eqb (tag Other) wanted ≡ false → eqb (tag (kindIn ks n)) wanted ≡ true → n ≡ m
   unfolding kindIn
-  alone [] n o d t = clash (sym d ∙ t)
+  alone [] n o d t = absurd (false≢true (sym d ∙ t))
   alone (k ∷ ks) n o d t = go (eqb n (k .0)) refl t (λ u. alone ks n (parts .1) d u)
     where
       parts : ((not (eqb (tag (k .1)) wanted) || eqb (k .0) m) ≡ true) × (only ks ≡ true)
@@ -129,35 +121,35 @@ number-element rows row n p e = rw (← p, e)
 
 -- a place is a variable or an element
 pub place-cases : {A : Type 0} (k : Kind) → isPlace k ≡ true → (k ≡ Variable → A) → (k ≡ Element → A) → A
-place-cases Constant e f g = clash e
+place-cases Constant e f g = absurd (false≢true e)
 place-cases Variable e f g = f refl
 place-cases Element e f g = g refl
-place-cases Minus e f g = clash e
-place-cases Not e f g = clash e
-place-cases (Binary o) e f g = clash e
-place-cases And e f g = clash e
-place-cases Or e f g = clash e
-place-cases Conditional e f g = clash e
-place-cases Comma e f g = clash e
-place-cases Assign e f g = clash e
-place-cases (Compound o) e f g = clash e
-place-cases (Prefix o) e f g = clash e
-place-cases (Postfix o) e f g = clash e
-place-cases Empty e f g = clash e
-place-cases Express e f g = clash e
-place-cases Block e f g = clash e
-place-cases If e f g = clash e
-place-cases While e f g = clash e
-place-cases Do e f g = clash e
-place-cases For e f g = clash e
-place-cases Switch e f g = clash e
-place-cases Case e f g = clash e
-place-cases Default e f g = clash e
-place-cases Break e f g = clash e
-place-cases Continue e f g = clash e
-place-cases Goto e f g = clash e
-place-cases Label e f g = clash e
-place-cases Other e f g = clash e
+place-cases Minus e f g = absurd (false≢true e)
+place-cases Not e f g = absurd (false≢true e)
+place-cases (Binary o) e f g = absurd (false≢true e)
+place-cases And e f g = absurd (false≢true e)
+place-cases Or e f g = absurd (false≢true e)
+place-cases Conditional e f g = absurd (false≢true e)
+place-cases Comma e f g = absurd (false≢true e)
+place-cases Assign e f g = absurd (false≢true e)
+place-cases (Compound o) e f g = absurd (false≢true e)
+place-cases (Prefix o) e f g = absurd (false≢true e)
+place-cases (Postfix o) e f g = absurd (false≢true e)
+place-cases Empty e f g = absurd (false≢true e)
+place-cases Express e f g = absurd (false≢true e)
+place-cases Block e f g = absurd (false≢true e)
+place-cases If e f g = absurd (false≢true e)
+place-cases While e f g = absurd (false≢true e)
+place-cases Do e f g = absurd (false≢true e)
+place-cases For e f g = absurd (false≢true e)
+place-cases Switch e f g = absurd (false≢true e)
+place-cases Case e f g = absurd (false≢true e)
+place-cases Default e f g = absurd (false≢true e)
+place-cases Break e f g = absurd (false≢true e)
+place-cases Continue e f g = absurd (false≢true e)
+place-cases Goto e f g = absurd (false≢true e)
+place-cases Label e f g = absurd (false≢true e)
+place-cases Other e f g = absurd (false≢true e)
 
 pub place-variable-kind : (rows : List ℤ) (row n : ℕ) → n ≡ numberAt rows row 0 → isPlace (kindAt rows row) ≡ true → (n ≡ 3 → ⊥) → kindAt rows row ≡ Variable
 place-variable-kind rows row n p e q = place-cases (kindAt rows row) e (λ k. k) (λ k. absurd (q (p ∙ element-number rows row k)))

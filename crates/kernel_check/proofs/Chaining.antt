@@ -1,6 +1,6 @@
 -- One row more in the chains: a goto or label becomes the head of its number's chain, and what was the head follows it.
 use mathlib.Core.Path.{_≡_, subst, sym, _∙_}
-use mathlib.Core.Bool.{Bool, false}
+use mathlib.Core.Bool.{Bool, false, true≢false}
 use mathlib.Core.List.{List}
 use Prim.Native.Nat.{ℕ, _+_, _≤_, _<_}
 use native.Mathlib.Omega.{arith}
@@ -11,7 +11,6 @@ use lib.ListN.{getD, set, length-set, replicate, length-replicate, getD-replicat
 use lib.Seq.{getD-set-same, getD-set-other}
 use Rattle.words.specs.Table.{rowCount, numberAt}
 use Rattle.structure.specs.Grammar.{between}
-use Rattle.structure.specs.SearchLaws.{clash}
 use Rattle.kernel_check.specs.Passes.{Jump, NextJump, Heads, Chain}
 
 -- a later row, or the row itself
@@ -67,7 +66,7 @@ module _ (rows : List ℤ) (row : ℕ) where
 
 -- no goto and no label
 pub no-jump : (rows : List ℤ) (row : ℕ) (test : Bool) → test ≡ between 52 53 (numberAt rows row 0) → test ≡ false → (number : ℕ) → Jump rows number row → ⊥
-no-jump rows row test e f number j = clash (sym (j .jump) ∙ sym e ∙ f)
+no-jump rows row test e f number j = true≢false (sym (j .jump) ∙ sym e ∙ f)
 
 -- ---- no row is chained yet: each chain ends past the table
 

@@ -1,6 +1,6 @@
 -- The rows that break cause 13: what a goto or a label comes to, and the lowest of them so far.
 use mathlib.Core.Path.{_≡_, subst, refl, sym, ap, _∙_}
-use mathlib.Core.Bool.{Bool, true, false, not, _&&_, _||_}
+use mathlib.Core.Bool.{Bool, true, false, not, _&&_, _||_, or-false, true≢false, false≢true}
 use mathlib.Core.List.{List}
 use Prim.Native.Nat.{ℕ, zero, suc, _+_, _-_, _≤_, _<_}
 use native.Mathlib.Nat.{add-zero, add-suc}
@@ -15,7 +15,7 @@ use Rattle.words.specs.Word.{pick}
 use Rattle.words.specs.Table.{rowCount, numberAt}
 use Rattle.structure.specs.Grammar.{between}
 use Rattle.structure.specs.Search.{some, lowestRow}
-use Rattle.structure.specs.SearchLaws.{clash, lowest-at, all-lowestRow}
+use Rattle.structure.specs.SearchLaws.{lowest-at, all-lowestRow}
 use Rattle.structure.specs.declared.Found.the-variants.{At, Nothing}
 use Rattle.kernel_check.specs.Labels.{isLabel, repeatedLabel, labelAhead, gotoWithoutLabel, labelFault}
 use Rattle.kernel_check.specs.LabelLaws.{test-label}
@@ -61,14 +61,10 @@ seen-skip rows number from next j n =
 
 -- ---- what a goto or a label comes to
 
-or-false : (b : Bool) → b ≡ (b || false)
-or-false true = refl
-or-false false = refl
-
 module _ (rows : List ℤ) (number row : ℕ) (j : Jump rows number row) where
   pub fault-label : numberAt rows row 0 ≡ 53 → some (isLabel rows number) 0 row ≡ labelFault rows row
   unfolding labelFault repeatedLabel gotoWithoutLabel
-  fault-label k = rw (k, j .number-is) (or-false _)
+  fault-label k = rw (k, j .number-is) (sym (or-false _))
 
   goto-kind : (numberAt rows row 0 ≡ 53 → ⊥) → numberAt rows row 0 ≡ 52
   goto-kind n = go (leb 52 (numberAt rows row 0)) (leb (numberAt rows row 0) 53) refl refl (j .jump)
@@ -78,8 +74,8 @@ module _ (rows : List ℤ) (number row : ℕ) (j : Jump rows number row) where
           let least : 52 ≤ numberAt rows row 0 = leb-true _ _ p in
           let most : numberAt rows row 0 < 53 = lt-of-le-ne (leb-true _ _ q) n in
           omega arith
-      go true false p q e = clash (sym e)
-      go false b p q e = clash (sym e)
+      go true false p q e = absurd (false≢true e)
+      go false b p q e = absurd (false≢true e)
 
   pub fault-goto : (numberAt rows row 0 ≡ 53 → ⊥) → not (labelAhead row rows number row) ≡ labelFault rows row
   unfolding labelFault repeatedLabel gotoWithoutLabel
@@ -97,7 +93,7 @@ fault-jump rows row n e = go (eqb (numberAt rows row 0) 53) (eqb (numberAt rows 
         → ((a && some (isLabel rows (numberAt rows row 1)) 0 row) || (b && not (labelAhead row rows (numberAt rows row 1) row))) ≡ true → Jump rows (numberAt rows row 1) row
     go true b p q e = by 53 (eqb-true _ _ p) refl
     go false true p q e = by 52 (eqb-true _ _ q) refl
-    go false false p q e = clash (sym e)
+    go false false p q e = absurd (false≢true e)
 
 -- ---- the lowest so far
 
@@ -147,7 +143,7 @@ module _ (rows : List ℤ) (number found : ℕ) where
   lowest-row row false n t l = record { most = l .most; least = λ other m p e. by other m p e (ℕ-discrete other row); is = l .is }
     where
       by : (other : ℕ) → other < rowCount rows → Passed rows number (row + 1) other → labelFault rows other ≡ true → Dec (other ≡ row) → found ≤ other
-      by other m p e (yes q) = clash (sym e ∙ ap (labelFault rows) q ∙ sym t)
+      by other m p e (yes q) = absurd (true≢false (sym e ∙ ap (labelFault rows) q ∙ sym t))
       by other m p e (no q) = l .least other m (passed row other p q) e
 
 -- ---- all numbers

@@ -1,6 +1,6 @@
 -- Marks of the lists that have labels with a number; and that a mark answers the search for a label behind a row.
 use mathlib.Core.Path.{_≡_, refl, sym, ap, _∙_}
-use mathlib.Core.Bool.{Bool, true, false}
+use mathlib.Core.Bool.{Bool, true, false, true≢false}
 use mathlib.Core.List.{List}
 use Prim.Native.Nat.{ℕ, _+_, _≤_, _<_}
 use native.Mathlib.Omega.{arith}
@@ -10,7 +10,6 @@ use lib.IntN.{ℤ}
 use lib.ListN.{getD, set, length-set, replicate, length-replicate, getD-replicate}
 use lib.Seq.{getD-set-same, getD-set-other}
 use Rattle.words.specs.Table.{rowCount}
-use Rattle.structure.specs.SearchLaws.{clash}
 use Rattle.structure.specs.Structured.{Tree}
 use Rattle.structure.specs.Lists.{before-later, before-inside}
 use Rattle.kernel_check.specs.Labels.{isLabel, labelBehind}
@@ -52,7 +51,7 @@ module _ (rows : List ℤ) (number : ℕ) where
     marked-none row test e f m = record { labels = m .labels; latest = λ other n h l. m .latest other n (go other h l) l }
       where
         go : (other : ℕ) → other < row + 1 → Label rows number other → other < row
-        go other h l = lt-of-le-ne (omega arith) (λ (q : other ≡ row). clash (sym (label-test rows number other l) ∙ ap (isLabel rows number) q ∙ sym e ∙ f))
+        go other h l = lt-of-le-ne (omega arith) (λ (q : other ≡ row). true≢false (sym (label-test rows number other l) ∙ ap (isLabel rows number) q ∙ sym e ∙ f))
 
     module _ (t : Tree rows) where
       pub marked-set : (row first : ℕ) (test : Bool) → row < rowCount rows → first ≡ noteAt First rows row → test ≡ isLabel rows number row → test ≡ true
@@ -101,4 +100,4 @@ module _ (rows : List ℤ) (number : ℕ) where
             (same-list rows t row mark h (own .inside) (sym (own .list))) (test-label rows number mark (sym e)))
         mark-some false h e = sym (refuted _ (λ f.
             let z = search-behind rows t number (rowCount rows) row n f in
-            clash (sym (late (z .item) (before-first rows t (z .before)) (before-inside (z .before)) (z .is) .label) ∙ sym e)))
+            true≢false (sym (late (z .item) (before-first rows t (z .before)) (before-inside (z .before)) (z .is) .label) ∙ sym e)))

@@ -1,6 +1,6 @@
 -- Accepts: "The kernel check accepts the legal kernel programs and no others."
 use mathlib.Core.Path.{_≡_, refl, sym, ap, _∙_}
-use mathlib.Core.Bool.{Bool, true, false, not, _&&_, _||_}
+use mathlib.Core.Bool.{Bool, true, false, not, _&&_, _||_, true≢false, false≢true}
 use mathlib.Core.List.{List}
 use Prim.Native.Nat.{ℕ, _≤_, _<_}
 use native.Mathlib.Omega.{arith}
@@ -19,7 +19,7 @@ use Rattle.structure.specs.Grammar.{grammar, sortOf, sortAt, isLink, isStatemen
 use Rattle.structure.specs.Refusal.{at, structuralRefusal}
 use Rattle.structure.specs.RefusalLaws.{next-accepts, accepts-next, at-accepts, accepts-at}
 use Rattle.structure.specs.Search.{some}
-use Rattle.structure.specs.SearchLaws.{clash, some-all, all-some, lowestRow-all, all-lowestRow}
+use Rattle.structure.specs.SearchLaws.{some-all, all-some, lowestRow-all, all-lowestRow}
 use Rattle.structure.specs.Structured.{Structured, Tree}
 use Rattle.structure.specs.StructuredLaws.{accepted-structured, structured-accepted, structured-tree}
 use Rattle.kernel_check.specs.LabelLaws.{label-test, test-label, label-inside, search-ahead, ahead-search}
@@ -54,8 +54,8 @@ module _ (header rows : List ℤ) (s : Structured Kernel header rows) where
           let least : 52 ≤ numberAt rows row 0 = leb-true _ _ p in
           let most : numberAt rows row 0 < 53 = lt-of-le-ne (leb-true _ _ q) k in
           label-numbers row 52 n (omega arith) refl
-      go true false p q e d = clash (sym e)
-      go false b p q e d = clash (sym e)
+      go true false p q e d = absurd (false≢true e)
+      go false b p q e d = absurd (false≢true e)
 
 -- ---- cause 12
 
@@ -75,7 +75,7 @@ module _ (rows : List ℤ) (row : ℕ) where
 -- ---- cause 13
 
 neither : (a b : Bool) → (a || b) ≡ false → (a ≡ false) × (b ≡ false)
-neither true b e = clash e
+neither true b e = absurd (true≢false e)
 neither false b e = (refl, e)
 
 module _ (rows : List ℤ) (row : ℕ) where
@@ -96,7 +96,7 @@ module _ (rows : List ℤ) (row : ℕ) where
   unfolding repeatedLabel
   unrepeated number other e l k h =
       let none : some (isLabel rows number) 0 row ≡ false = rw (l .label, l .number-is) at e in
-      clash (sym (label-test rows number other k) ∙ some-all (isLabel rows number) row 0 none other (omega arith) (omega arith))
+      true≢false (sym (label-test rows number other k) ∙ some-all (isLabel rows number) row 0 none other (omega arith) (omega arith))
 
   repeats : ((number other : ℕ) → Label rows number row → Label rows number other → row ≡ other) → repeatedLabel rows row ≡ false
   unfolding repeatedLabel

@@ -1,6 +1,6 @@
 -- Laws of labels: in a tree of rows the search of cause 13 finds a label exactly where one is ahead.
 use mathlib.Core.Path.{_≡_, refl, sym, ap, _∙_}
-use mathlib.Core.Bool.{Bool, true, false}
+use mathlib.Core.Bool.{Bool, true, false, true≢false, false≢true}
 use mathlib.Core.List.{List}
 use Prim.Native.Nat.{ℕ, zero, suc, _+_, _*_, _/_, _≤_, _<_}
 use native.Mathlib.Omega.{arith}
@@ -13,7 +13,6 @@ use Rattle.words.specs.Word.{natural, pick}
 use Rattle.words.specs.Table.{rowCount, wordAt, numberAt}
 use Rattle.words.specs.Laws.{both}
 use Rattle.structure.specs.Grammar.{link}
-use Rattle.structure.specs.SearchLaws.{clash}
 use Rattle.structure.specs.NoteLaws.{above-zero}
 use Rattle.structure.specs.Structured.{Leads, Tree}
 use Rattle.structure.specs.Lists.{Before, adjacent, Step, once, on, before-later, before-inside, before-before, before-step}
@@ -59,14 +58,14 @@ module _ (rows : List ℤ) (t : Tree rows) (number : ℕ) where
 
   pub search-behind : (items row : ℕ) → row < rowCount rows → labelBehind items rows number row ≡ true → Behind row
   unfolding labelBehind
-  search-behind zero row n e = clash (sym e)
+  search-behind zero row n e = absurd (false≢true e)
   search-behind (suc items) row n e =
       go (eqb (link rows row 5) 0) (isLabel rows number (link rows row 5)) refl refl e (search-behind items (link rows row 5))
     where
       go : (absent here : Bool) → eqb (link rows row 5) 0 ≡ absent → isLabel rows number (link rows row 5) ≡ here
           → pick absent false (pick here true (labelBehind items rows number (link rows row 5))) ≡ true
           → (link rows row 5 < rowCount rows → labelBehind items rows number (link rows row 5) ≡ true → Behind (link rows row 5)) → Behind row
-      go true here a h e r = clash (sym e)
+      go true here a h e r = absurd (false≢true e)
       go false here a h e r = next here h e
         where
           leads : Leads rows row 5
@@ -132,14 +131,14 @@ module _ (rows : List ℤ) (t : Tree rows) (number : ℕ) where
 
     pub search-ahead : (levels row : ℕ) → row < rowCount rows → labelAhead levels rows number row ≡ true → Ahead rows number row
     unfolding labelAhead
-    search-ahead zero row n e = clash (sym e)
+    search-ahead zero row n e = absurd (false≢true e)
     search-ahead (suc levels) row n e =
         go (labelBehind (rowCount rows) rows number row) refl e (ℕ-discrete row 0) (search-ahead levels (ownerAt rows row))
       where
         go : (here : Bool) → labelBehind (rowCount rows) rows number row ≡ here → pick here true (labelAhead levels rows number (ownerAt rows row)) ≡ true → Dec (row ≡ 0)
             → (ownerAt rows row < rowCount rows → labelAhead levels rows number (ownerAt rows row) ≡ true → Ahead rows number (ownerAt rows row)) → Ahead rows number row
         go true b e d r = let z = search-behind (rowCount rows) row n b in behind (z .before) (z .is)
-        go false b e (yes q) r = clash (sym e ∙ (rw (q, owner-root rows t) (root-ahead levels)))
+        go false b e (yes q) r = absurd (true≢false (sym e ∙ (rw (q, owner-root rows t) (root-ahead levels))))
         go false b e (no q) r =
             let o = owner-of-row rows t lone row (above-zero row q) n in
             outward o (r (let below = owner-earlier rows t o in omega arith) e)
@@ -152,7 +151,7 @@ module _ (rows : List ℤ) (t : Tree rows) (number : ℕ) where
     ahead-search (behind {row} {item} b l) = go (ℕ-discrete row 0)
       where
         go : Dec (row ≡ 0) → labelAhead row rows number row ≡ true
-        go (yes q) = clash (sym (behind-search (rowCount rows) row item (let i = before-inside b in omega arith) b l) ∙ rw q (root-behind (rowCount rows)))
+        go (yes q) = absurd (true≢false (sym (behind-search (rowCount rows) row item (let i = before-inside b in omega arith) b l) ∙ rw q (root-behind (rowCount rows))))
         go (no q) =
             let i = before-inside b in
             let later = before-later b in

@@ -1,6 +1,6 @@
 // Chains: the gotos and labels of one label number, in order. A number past the table ends a chain.
-use super::notes::narrow;
 use structure::grammar::between;
+use structure::row_number::narrow;
 use words::table::number_at;
 ghost use Prim.Native.Nat.{_+_, _/_, _<_};
 ghost use lib.ListN.{length};

@@ -1,11 +1,11 @@
 // Cause 13, one label number at a time: its labels mark their lists, and from each of its gotos a climb looks for a marked list.
 use super::Note;
 use super::chains::chain_rows;
-use super::notes::narrow;
-use super::notes::wide;
 use super::notes::write_notes;
 use super::statements::number_or_zero;
 use structure::Found;
+use structure::row_number::narrow;
+use structure::row_number::wide;
 use words::table::number_at;
 ghost use mathlib.Core.Path.{_≡_};
 ghost use Prim.Native.Nat.{_+_, _*_, _/_, _<_};

@@ -1,26 +1,14 @@
 // Notes that each row gets from the row that links it: the first row of its list, and its owner.
 use super::Note;
 use structure::grammar::link;
+use structure::row_number::narrow;
+use structure::row_number::wide;
 ghost use mathlib.Core.Path.{_≡_};
 ghost use Prim.Native.Nat.{_+_, _*_, _/_, _%_, _<_, _≤_};
 ghost use lib.ListN.{length, getD};
 ghost use Rattle.structure.specs.Passes.{written, Notes};
 ghost use Rattle.structure.specs.Structured.{Tree};
 ghost use Rattle.kernel_check.specs.Passes.{handed, noteAt};
-
-// A row number in 16 bits, and back.
-pub fn narrow(row: usize) -> u16
-    requires { ⌜ row < 65536 ⌝ }
-    ensures { λ r. ⌜ r ≡ row ⌝ }
-{
-    row as u16
-}
-
-pub fn wide(row: u16) -> usize
-    ensures { λ r. ⌜ r ≡ row ⌝ }
-{
-    row as usize
-}
 
 // What a row hands to the row that its field links.
 fn hand(which: Note, rows: &[i32], row: usize, field: usize, own: usize) -> usize

@@ -1,6 +1,6 @@
 -- Laws of decode: a row's tree by its kind, where its links lead to later rows.
 use mathlib.Core.Path.{_≡_, refl, sym, _∙_, ap, ap₂, fun-ext}
-use mathlib.Core.Bool.{Bool, true, false}
+use mathlib.Core.Bool.{Bool, true, false, false≢true}
 use mathlib.Core.List.{List}
 use Prim.Native.Nat.{ℕ, zero, suc, _+_, _*_, _≤_, _<_}
 use native.Mathlib.Omega.{arith}
@@ -74,25 +74,22 @@ isStatement Goto = true
 isStatement Label = false
 isStatement Other = false
 
-no-statement : {A : Type 0} → false ≡ true → A
-no-statement e = absurd (let z : _≡_ {A = ℕ} 0 1 = cc in omega arith)
-
 items-statement : (k : Kind) (word : ℕ → ℤ) (s : Statement) (is : Items) → isStatement k ≡ true → itemsOf k word s is ≡ s then is
 unfolding itemsOf
-items-statement Constant word s is e = no-statement e
-items-statement Variable word s is e = no-statement e
-items-statement Element word s is e = no-statement e
-items-statement Minus word s is e = no-statement e
-items-statement Not word s is e = no-statement e
-items-statement (Binary o) word s is e = no-statement e
-items-statement And word s is e = no-statement e
-items-statement Or word s is e = no-statement e
-items-statement Conditional word s is e = no-statement e
-items-statement Comma word s is e = no-statement e
-items-statement Assign word s is e = no-statement e
-items-statement (Compound o) word s is e = no-statement e
-items-statement (Prefix o) word s is e = no-statement e
-items-statement (Postfix o) word s is e = no-statement e
+items-statement Constant word s is e = absurd (false≢true e)
+items-statement Variable word s is e = absurd (false≢true e)
+items-statement Element word s is e = absurd (false≢true e)
+items-statement Minus word s is e = absurd (false≢true e)
+items-statement Not word s is e = absurd (false≢true e)
+items-statement (Binary o) word s is e = absurd (false≢true e)
+items-statement And word s is e = absurd (false≢true e)
+items-statement Or word s is e = absurd (false≢true e)
+items-statement Conditional word s is e = absurd (false≢true e)
+items-statement Comma word s is e = absurd (false≢true e)
+items-statement Assign word s is e = absurd (false≢true e)
+items-statement (Compound o) word s is e = absurd (false≢true e)
+items-statement (Prefix o) word s is e = absurd (false≢true e)
+items-statement (Postfix o) word s is e = absurd (false≢true e)
 items-statement Empty word s is e = refl
 items-statement Express word s is e = refl
 items-statement Block word s is e = refl
@@ -101,13 +98,13 @@ items-statement While word s is e = refl
 items-statement Do word s is e = refl
 items-statement For word s is e = refl
 items-statement Switch word s is e = refl
-items-statement Case word s is e = no-statement e
-items-statement Default word s is e = no-statement e
+items-statement Case word s is e = absurd (false≢true e)
+items-statement Default word s is e = absurd (false≢true e)
 items-statement Break word s is e = refl
 items-statement Continue word s is e = refl
 items-statement Goto word s is e = refl
-items-statement Label word s is e = no-statement e
-items-statement Other word s is e = no-statement e
+items-statement Label word s is e = absurd (false≢true e)
+items-statement Other word s is e = absurd (false≢true e)
 
 if-some : (l : ℕ) (e : Expression) (s t : Statement) → 0 < l → ifOf l e s t ≡ ifElse e s t
 if-some zero e s t h = absurd (omega arith)

@@ -125,7 +125,8 @@ entersMark breaking m = false
 entersMark continuing m = false
 entersMark (seeking n) m = sameMark n m
 
--- "Switch: go to the case of equal value, else to default, else past the switch".
+-- "Switch: go to the case of equal value, else to default, else past the switch": a switch in which no mark is gone to ends like one that
+-- a break leaves.
 abbrev pub target : ℤ → Items → Signal
 target v is = pick (has (case v) is) (seeking (case v)) (pick (has default is) (seeking default) breaking)
 

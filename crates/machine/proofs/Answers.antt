@@ -1,6 +1,6 @@
 -- Answers: laws of the answers of statements and rounds: what the numbers say, how they are handed on, and that steps left never rise.
 use mathlib.Core.Path.{_≡_, refl, sym, ap, _∙_}
-use mathlib.Core.Bool.{Bool, true, false}
+use mathlib.Core.Bool.{Bool, true, false, true≢false}
 use mathlib.Core.List.{List, [], _∷_}
 use Prim.Native.Nat.{ℕ, zero, suc, _-_, _^_, _≤_, _<_}
 use native.Mathlib.Omega.{arith}
@@ -29,9 +29,6 @@ use Rattle.machine.specs.Flows.{passingOf, flowOf, flowRest, ran, turnBy
 use Rattle.machine.specs.declared.Flow.{Flow}
 use Rattle.machine.specs.declared.Flow.the-variants.{Next, Break, Continue, Goto, Halted}
 use Rattle.machine.proofs.Flow as declared
-
-clash : {A : Type 0} → false ≡ true → A
-clash e = absurd (let z : _≡_ {A = ℕ} 0 1 = cc in omega arith)
 
 -- ---- what the numbers say
 
@@ -100,7 +97,7 @@ negative-label (negsuc n) e = refl
 label-goto : (z : ℤ) → ltZ z (pos 0) ≡ false → passingOf z ≡ Goto (natural z)
 unfolding passingOf sameWord
 label-goto (pos n) e = refl
-label-goto (negsuc n) e = clash (sym e)
+label-goto (negsuc n) e = absurd (true≢false e)
 
 module _ (z : ℤ) (h : mag z < 2 ^ 31) where
   pub jump-negative : ltZ (toZ w32 (ofZ w32 z)) (pos 0) ≡ true → (n : ℕ) (s : List ℤ) → ran (negsuc 3) n s ≡ gives (seeking (label (natural z))) n s

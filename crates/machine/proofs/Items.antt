@@ -1,6 +1,6 @@
 -- Items: the items of a list by the rows that hold them: the item at a row, the list behind it, and the search for a mark.
 use mathlib.Core.Path.{_≡_, refl, sym, ap, _∙_}
-use mathlib.Core.Bool.{Bool, true, false, _||_}
+use mathlib.Core.Bool.{Bool, true, false, _||_, false≢true}
 use mathlib.Core.List.{List}
 use Prim.Native.Nat.{ℕ, zero, suc, _+_, _*_, _-_, _^_, _<_, _≤_}
 use native.Mathlib.Omega.{arith}
@@ -21,7 +21,7 @@ use Rattle.language.specs.Decode.{later, statementOf, itemsOf, statementAt, ite
 use Rattle.language.specs.DecodeLaws.{Forward, listAt, statement-at, items-at}
 use Rattle.language.specs.Meaning.{Signal, next, seeking, items, exec}
 use Rattle.evaluator.proofs.Decoding.{handed}
-use Rattle.evaluator.proofs.Tags.{clash, tag, alone}
+use Rattle.evaluator.proofs.Tags.{tag, alone}
 use Rattle.machine.specs.Flows.{flowOf, ran}
 use Rattle.machine.specs.Lists.{marks, from, startOf, InTable, Finds, Starts, Resumes, continued}
 use Rattle.machine.specs.declared.Flow.the-variants.{Next as FlowNext, Break as FlowBreak, Continue as FlowContinue, Goto as FlowGoto, Halted}
@@ -246,7 +246,7 @@ module _ {rows : List ℤ} {row : ℕ} (item : InTable rows row) {n : ℕ} (p : 
     where
       by : (b : Bool) → eqb n 49 ≡ b → b ≡ marks default (itemsAt rows row)
       by true e = sym (default-is item (number-default rows row n p (eqb-true n 49 e)))
-      by false e = sym (default-not item (λ k. clash (sym e ∙ eq-eqb n 49 (p ∙ default-number rows row k))))
+      by false e = sym (default-not item (λ k. false≢true (sym e ∙ eq-eqb n 49 (p ∙ default-number rows row k))))
 
 -- ---- what the searches give
 

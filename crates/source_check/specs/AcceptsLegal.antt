@@ -1,6 +1,6 @@
 -- The check accepts the legal source programs and no others.
 use mathlib.Core.Path.{_≡_, sym, ap, _∙_}
-use mathlib.Core.Bool.{true, false}
+use mathlib.Core.Bool.{true, false, true≢false}
 use mathlib.Core.List.{List}
 use mathlib.Core.Logic.{_↔_}
 use Prim.Native.Nat.{ℕ, _<_}
@@ -10,11 +10,11 @@ use lib.Dec.{leb}
 use lib.IntN.{ℤ, pos}
 use borrow.Author.Tests.{leb-true}
 use Rattle.words.specs.Table.{rowCount, wordAt, numberAt}
-use Rattle.words.specs.Laws.{both, natural-pos}
+use Rattle.words.specs.Laws.{by-cases, both, natural-pos}
 use Rattle.words.specs.declared.Form.the-variants.{Source}
 use Rattle.words.specs.declared.Verdict.the-variants.{Accepted}
 use Rattle.structure.specs.Grammar.{grammar, sortOf, sortAt}
-use Rattle.structure.specs.SearchLaws.{clash, lowestRow-all, all-lowestRow}
+use Rattle.structure.specs.SearchLaws.{lowestRow-all, all-lowestRow}
 use Rattle.structure.specs.DepthLaws.{none-deep-shallow, shallow-none-deep}
 use Rattle.structure.specs.Refusal.{at, _next_, structuralRefusal}
 use Rattle.structure.specs.RefusalLaws.{next-accepts, accepts-next, at-accepts, accepts-at}
@@ -25,7 +25,7 @@ use Rattle.source_check.specs.Places.{isMark, misplaced}
 use Rattle.source_check.specs.Marks.{repeated}
 use Rattle.source_check.specs.Refusal.{laterRefusal, refusal}
 use Rattle.source_check.specs.Legal.{Distinct, Legal}
-use Rattle.source_check.specs.PlaceLaws.{by-test, misplaced-placed, placed-misplaced}
+use Rattle.source_check.specs.PlaceLaws.{misplaced-placed, placed-misplaced}
 use Rattle.source_check.specs.DistinctLaws.{Repeats, repeated-by, repeats}
 
 module _ (header rows : List ℤ) (s : Structured Source header rows) where
@@ -39,7 +39,7 @@ module _ (header rows : List ℤ) (s : Structured Source header rows) where
 
   -- row 0 is a block, and no mark
   mark-not-root : (mark : ℕ) → isMark (numberAt rows mark 0) ≡ true → mark ≡ 0 → ⊥
-  mark-not-root mark k q = clash (sym k ∙ ap (λ (x : ℕ). isMark (numberAt rows x 0)) q ∙ ap isMark (s .block))
+  mark-not-root mark k q = true≢false (sym k ∙ ap (λ (x : ℕ). isMark (numberAt rows x 0)) q ∙ ap isMark (s .block))
 
   -- ---- cause 8
 
@@ -53,10 +53,10 @@ module _ (header rows : List ℤ) (s : Structured Source header rows) where
       }
     where
       differ : (row : ℕ) → row < rowCount rows → repeated rows row ≡ false → (mark : ℕ) → isMark (numberAt rows row 0) ≡ true → Repeats rows tree row mark → ⊥
-      differ row n e mark k r = clash (sym (repeated-by rows tree row mark n k r (mark-not-root mark (ap isMark (r .kind) ∙ k))) ∙ e)
+      differ row n e mark k r = true≢false (sym (repeated-by rows tree row mark n k r (mark-not-root mark (ap isMark (r .kind) ∙ k))) ∙ e)
 
   distinct-once : (row : ℕ) → row < rowCount rows → Distinct rows row → repeated rows row ≡ false
-  distinct-once row n d = by-test (repeated rows row) (λ e. absurd (never e)) (λ e. e)
+  distinct-once row n d = by-cases (repeated rows row) (λ e. absurd (never e)) (λ e. e)
     where
       never : repeated rows row ≡ true → ⊥
       never e =

@@ -1,7 +1,7 @@
 -- Laws of distinct marks: a search back through the marks of a list meets exactly the marks before a row, so cause 8 is document 01's
 -- "second equal case, or second default, in one switch".
 use mathlib.Core.Path.{_≡_, subst, refl, sym, ap, _∙_}
-use mathlib.Core.Bool.{true, false}
+use mathlib.Core.Bool.{true, false, false≢true}
 use mathlib.Core.List.{List}
 use Prim.Native.Nat.{ℕ, zero, suc, _<_}
 use native.Mathlib.Omega.{arith}
@@ -11,16 +11,14 @@ use lib.IntN.{ℤ}
 use borrow.Author.Tests.{eqb-true, eqb-false, eq-eqb, ne-eqb}
 use Rattle.words.specs.Word.{pick}
 use Rattle.words.specs.Table.{rowCount, wordAt, numberAt}
-use Rattle.words.specs.Laws.{both, sameWord-refl, sameWord-equal}
+use Rattle.words.specs.Laws.{by-cases, both, sameWord-refl, sameWord-equal}
 use Rattle.structure.specs.Grammar.{link}
-use Rattle.structure.specs.SearchLaws.{clash}
 use Rattle.structure.specs.LinkLaws.{by-owner}
 use Rattle.structure.specs.Structured.{Leads, Tree}
 use Rattle.structure.specs.Lists.{Before, adjacent, further, before-later, before-before}
 use Rattle.source_check.specs.Places.{isMark, handed, noteAt}
 use Rattle.source_check.specs.Marks.{sameMark, equalAmong, repeated}
 use Rattle.source_check.specs.MarkLaws.{noteAt-root, noteAt-link, mark-inside, equal-here, equal-on}
-use Rattle.source_check.specs.PlaceLaws.{by-test}
 use Rattle.source_check.specs.declared.Note.the-variants.{MarkBefore}
 
 -- ---- marks before a row
@@ -49,7 +47,7 @@ module _ (rows : List ℤ) (t : Tree rows) where
   before-met (adjacent {item} leads) k p = subst (λ (x : ℕ). Met rows x item) (sym (next-of item leads ∙ rw k)) (this p)
   before-met (further {item} {row} b leads) k p =
       let met = before-met b k p in
-      by-test (isMark (numberAt rows row 0))
+      by-cases (isMark (numberAt rows row 0))
       (λ m. subst (λ (x : ℕ). Met rows x item) (sym (next-of row leads ∙ rw m)) (back (λ q. let l = before-later b in omega arith) met))
       (λ m. subst (λ (x : ℕ). Met rows x item) (sym (next-of row leads ∙ rw m)) met)
 
@@ -59,7 +57,7 @@ module _ (rows : List ℤ) (t : Tree rows) where
       by-owner rows t (λ (row : ℕ). (noteAt MarkBefore rows row ≡ 0 → ⊥) → Before rows (noteAt MarkBefore rows row) row)
       (λ p. absurd (p (noteAt-root MarkBefore rows)))
       (λ owner field h leads above p.
-      by-test (eqb field 5)
+      by-cases (eqb field 5)
       (λ f. subst (λ (x : ℕ). Leads rows owner x → (noteAt MarkBefore rows (link rows owner x) ≡ 0 → ⊥) → Before rows (noteAt MarkBefore rows (link rows owner x)) (link rows owner x))
       (sym (eqb-true field 5 f)) (after owner above) leads p)
       (λ f. absurd (p (part-of owner field h f leads))))
@@ -68,7 +66,7 @@ module _ (rows : List ℤ) (t : Tree rows) where
           → (noteAt MarkBefore rows (link rows row 5) ≡ 0 → ⊥) → Before rows (noteAt MarkBefore rows (link rows row 5)) (link rows row 5)
       after row above leads p =
           let is = next-of row leads in
-          by-test (isMark (numberAt rows row 0))
+          by-cases (isMark (numberAt rows row 0))
           (λ m. subst (λ (x : ℕ). Before rows x (link rows row 5)) (sym (is ∙ rw m)) (adjacent leads))
           (λ m. let same : noteAt MarkBefore rows (link rows row 5) ≡ noteAt MarkBefore rows row = is ∙ rw m in
           subst (λ (x : ℕ). Before rows x (link rows row 5)) (sym same) (further (above (λ q. p (same ∙ q))) leads))
@@ -77,13 +75,13 @@ module _ (rows : List ℤ) (t : Tree rows) where
   met-before : {last mark : ℕ} → Met rows last mark → (row : ℕ) → Before rows last row → last < rowCount rows → Before rows mark row
   met-before (this p) row b n = b
   met-before (back {last} {mark} p m) row b n =
-      by-test (eqb (noteAt MarkBefore rows last) 0)
+      by-cases (eqb (noteAt MarkBefore rows last) 0)
       (λ z. absurd (none-met m (eqb-true _ _ z)))
       (λ z. met-before m row (before-before (noted-before last n (eqb-false _ _ z)) b) (mark-inside rows t last (noteAt MarkBefore rows last) n refl))
 
   noted-met-before : (row mark : ℕ) → row < rowCount rows → Met rows (noteAt MarkBefore rows row) mark → Before rows mark row
   noted-met-before row mark n met =
-      by-test (eqb (noteAt MarkBefore rows row) 0)
+      by-cases (eqb (noteAt MarkBefore rows row) 0)
       (λ z. absurd (none-met met (eqb-true _ _ z)))
       (λ z. met-before met row (noted-before row n (eqb-false _ _ z)) (mark-inside rows t row (noteAt MarkBefore rows row) n refl))
 
@@ -93,7 +91,7 @@ module _ (rows : List ℤ) (t : Tree rows) where
     met-equal : {last mark : ℕ} → Met rows last mark → last < rowCount rows → sameMark rows mark row ≡ true → equalAmong last rows last row ≡ true
     met-equal (this {mark} p) n s = equal-here rows t row mark p s
     met-equal (back {last} {mark} p m) n s =
-        by-test (sameMark rows last row)
+        by-cases (sameMark rows last row)
         (λ e. equal-here rows t row last p e)
         (λ e. equal-on rows t row last (noteAt MarkBefore rows last) p n refl e ∙ met-equal m (mark-inside rows t last (noteAt MarkBefore rows last) n refl) s)
 
@@ -104,14 +102,14 @@ module _ (rows : List ℤ) (t : Tree rows) where
 
     equal-met : (marks last : ℕ) → equalAmong marks rows last row ≡ true → Equal last
     unfolding equalAmong
-    equal-met zero last e = clash (sym e)
+    equal-met zero last e = absurd (false≢true e)
     equal-met (suc marks) last e = go (ℕ-discrete last 0) e (equal-met marks (noteAt MarkBefore rows last))
       where
         go : Dec (last ≡ 0) → pick (eqb last 0) false (pick (sameMark rows last row) true (equalAmong marks rows (noteAt MarkBefore rows last) row)) ≡ true
             → (equalAmong marks rows (noteAt MarkBefore rows last) row ≡ true → Equal (noteAt MarkBefore rows last)) → Equal last
-        go (yes q) e rest = clash (sym (rw (eq-eqb _ _ q) at e))
+        go (yes q) e rest = absurd (false≢true (rw (eq-eqb _ _ q) at e))
         go (no q) e rest =
-            by-test (sameMark rows last row)
+            by-cases (sameMark rows last row)
             (λ s. record { mark = last; met = this q; same = s })
             (λ s. let r = rest (rw (ne-eqb _ _ q, s) at e) in record { mark = r .mark; met = back q (r .met); same = r .same })
 

@@ -2,7 +2,7 @@
 -- A child that was absent is on no way down, so writing it leaves all ways; equal marks of a list have equal keys and one root; the nodes of
 -- a way stand before the row in its list.
 use mathlib.Core.Path.{_≡_, subst, refl, sym, ap, _∙_}
-use mathlib.Core.Bool.{true, false}
+use mathlib.Core.Bool.{true, false, true≢false}
 use mathlib.Core.List.{List}
 use Prim.Native.Nat.{ℕ, zero, suc, _+_, _*_, _/_, _%_, _<_, _≤_}
 use native.Mathlib.Omega.{arith}
@@ -16,15 +16,13 @@ use lib.Signed.{mag}
 use borrow.Author.Tests.{ltb-true, ltb-false, eqb-true, eqb-false, eq-eqb, ne-eqb}
 use Rattle.words.specs.Word.{pick}
 use Rattle.words.specs.Table.{rowCount, wordAt, numberAt}
-use Rattle.words.specs.Laws.{both, sameWord-equal}
-use Rattle.structure.specs.SearchLaws.{clash}
+use Rattle.words.specs.Laws.{by-cases, both, sameWord-equal}
 use Rattle.structure.specs.Grammar.{link}
 use Rattle.structure.specs.Structured.{Tree}
 use Rattle.source_check.specs.Places.{isMark, noteAt}
 use Rattle.source_check.specs.Marks.{sameMark, equalAmong, repeated}
 use Rattle.structure.specs.Lists.{Before, adjacent, further, before-later, before-before}
 use Rattle.source_check.specs.MarkTree.{rootBy, Begins, itself, earlier, Roots, NodeBefore, keyAt, child, Leading, stay, down, Reached, Children, InTree, HoldsMarks, Free, Taken}
-use Rattle.source_check.specs.PlaceLaws.{by-test}
 use Rattle.source_check.specs.DistinctLaws.{noted-before, repeated-by}
 use Rattle.source_check.specs.declared.Note.the-variants.{MarkBefore}
 
@@ -57,9 +55,9 @@ module _ (rows : List ℤ) (t : Tree rows) where
   in-order (suc most) a (adjacent leads) h k = absurd (let n = next-least a in omega arith)
   in-order (suc most) {first} a (further {row} b leads) h k =
       let later = leads .later in
-      by-test (ltb first row)
+      by-cases (ltb first row)
       (λ e. further (in-order most a b (ltb-true _ _ e) (omega arith)) leads)
-      (λ e. by-test (eqb first row)
+      (λ e. by-cases (eqb first row)
       (λ q. subst (λ (x : ℕ). Before rows x (link rows row 5)) (sym (eqb-true _ _ q)) (adjacent leads))
       (λ q.
       let n = next-least (in-order most b a (lt-of-le-ne (ltb-false _ _ e) (λ (x : row ≡ first). eqb-false _ _ q (sym x))) (omega arith)) in
@@ -160,7 +158,7 @@ module _ (rows : List ℤ) (t : Tree rows) (roots : List ℕ) (r : Roots rows (r
     unfolding repeated
     none-repeated =
         let search = none-equal (noteAt MarkBefore rows row) (noteAt MarkBefore rows row) (λ p. (noted-lower rows t row n p, sym (r .shared row n p))) in
-        by-test (isMark (numberAt rows row 0)) (λ k. rw k search) (λ k. rw k)
+        by-cases (isMark (numberAt rows row 0)) (λ k. rw k search) (λ k. rw k)
 
 -- ---- trees
 
@@ -191,7 +189,7 @@ module _ (rows : List ℤ) (t : Tree rows) (roots : List ℕ) (r : Roots rows (r
       record {
         holds-marks = record {
           nodes = later;
-          reached = below-next (InTree rows roots children) row (p .reached) (λ m. clash (sym m ∙ k));
+          reached = below-next (InTree rows roots children) row (p .reached) (λ m. absurd (true≢false (sym m ∙ k)));
         };
         new = rw k;
       }
@@ -211,7 +209,7 @@ module _ (rows : List ℤ) (t : Tree rows) (roots : List ℕ) (r : Roots rows (r
   module _ (place : ℕ) (k : isMark (numberAt rows row 0) ≡ true) (free : Free rows children (getD roots row 0) row place) where
     all-differ : (mark : ℕ) → mark < row → getD roots mark 0 ≡ getD roots row 0 → sameMark rows mark row ≡ false
     all-differ mark h root =
-        by-test (sameMark rows mark row)
+        by-cases (sameMark rows mark row)
         (λ e.
         let same = same-mark-parts rows mark row e in
         free .differ mark (rw (root, same-key rows mark row (same .1)) at (p .reached mark h (ap isMark (same .0) ∙ k))))
@@ -267,7 +265,7 @@ module _ {rows : List ℤ} (t : Tree rows) {children : List ℕ} {root row node 
 
   module _ (other : sameMark rows node row ≡ false) where
     past : (mark rest : ℕ) → Leading children root (keyAt rows row) mark rest → sameMark rows mark row ≡ true → (child children node key ≡ 0 → ⊥) × Leading children (child children node key) (key / 2) mark rest
-    past mark rest way same = leading-past (s .below mark rest way same) (λ q. clash (sym same ∙ ap (λ (x : ℕ). sameMark rows x row) q ∙ other))
+    past mark rest way same = leading-past (s .below mark rest way same) (λ q. true≢false (sym same ∙ ap (λ (x : ℕ). sameMark rows x row) q ∙ other))
 
     -- where the child is absent, the row may take its place
     pub searched-free : child children node key ≡ 0 → 2 * node + key % 2 < length children → Free rows children root row (2 * node + key % 2)
@@ -281,7 +279,7 @@ module _ {rows : List ℤ} (t : Tree rows) {children : List ℕ} {root row node 
           absent = z;
           reaches = record { rest = key / 2; leads = rw here at (leading-on way (λ q. omega arith)) };
           differ = λ mark reached.
-              by-test (sameMark rows mark row) (λ same. absurd (past mark (reached .rest) (reached .leads) same .0 z)) (λ e. e);
+              by-cases (sameMark rows mark row) (λ same. absurd (past mark (reached .rest) (reached .leads) same .0 z)) (λ e. e);
         }
 
     module _ (nodes : Children rows row children) (below : ℕ) (is : below ≡ child children node key) (present : below ≡ 0 → ⊥) where

@@ -1,7 +1,7 @@
 -- Laws of places: the notes say what a row stands inside, so cause 7 is document 01's sentence on break, continue, case and default.
 -- Notes and relations both go along the links: each row by the row that links it.
 use mathlib.Core.Path.{_≡_, subst, refl, sym, ap, _∙_}
-use mathlib.Core.Bool.{Bool, true, false, _&&_}
+use mathlib.Core.Bool.{Bool, true, false, _&&_, true≢false}
 use mathlib.Core.List.{List}
 use Prim.Native.Nat.{ℕ, _<_}
 use native.Mathlib.Omega.{arith}
@@ -11,8 +11,8 @@ use lib.IntN.{ℤ}
 use borrow.Author.Tests.{eqb-true, eqb-false, eq-eqb, ne-eqb}
 use Rattle.words.specs.Word.{pick}
 use Rattle.words.specs.Table.{rowCount, numberAt}
+use Rattle.words.specs.Laws.{by-cases}
 use Rattle.structure.specs.Grammar.{link}
-use Rattle.structure.specs.SearchLaws.{clash}
 use Rattle.structure.specs.LinkLaws.{by-owner}
 use Rattle.structure.specs.Structured.{Leads, Tree}
 use Rattle.source_check.specs.Places.{isLoop, isLoopOrSwitch, isMark, handed, noteAt, outOfPlace, misplaced}
@@ -21,11 +21,6 @@ use Rattle.source_check.specs.MarkLaws.{noteAt-root, noteAt-link}
 use Rattle.source_check.specs.declared.Note.{Note}
 use Rattle.source_check.specs.declared.Note.the-variants.{InLoop, InLoopOrSwitch}
 use Rattle.source_check.specs.declared.Note.the-variants as note
-
--- a case for each value of a test
-pub by-test : {A : Type 0} (test : Bool) → (test ≡ true → A) → (test ≡ false → A) → A
-by-test true holds fails = holds refl
-by-test false holds fails = fails refl
 
 module _ (rows : List ℤ) (t : Tree rows) where
   -- ---- inside a loop, inside a loop or switch
@@ -58,12 +53,12 @@ module _ (rows : List ℤ) (t : Tree rows) where
     noted-inside : (row : ℕ) → row < rowCount rows → eqb (noteAt which rows row) 0 ≡ false → Inside rows kinds row
     noted-inside =
         by-owner rows t (λ (row : ℕ). eqb (noteAt which rows row) 0 ≡ false → Inside rows kinds row)
-        (λ e. clash (sym (eq-eqb _ _ (noteAt-root which rows)) ∙ e))
+        (λ e. absurd (true≢false (sym (eq-eqb _ _ (noteAt-root which rows)) ∙ e)))
         (λ owner field h leads above e.
         let is = note-of owner field h leads in
-        by-test (eqb field 5)
+        by-cases (eqb field 5)
         (λ q. along h leads (above (rw (is, q) at e)))
-        (λ q. by-test (kinds (numberAt rows owner 0))
+        (λ q. by-cases (kinds (numberAt rows owner 0))
         (λ k. part (let n = eqb-false field 5 q in lt-of-le-ne (omega arith) n) leads k)
         (λ k. along h leads (above (rw (is, q, k) at e)))))
 
@@ -88,14 +83,14 @@ module _ (rows : List ℤ) (t : Tree rows) where
   noted-item : (row : ℕ) → row < rowCount rows → eqb (noteAt note.SwitchItem rows row) 0 ≡ false → SwitchItem rows row
   noted-item =
       by-owner rows t (λ (row : ℕ). eqb (noteAt note.SwitchItem rows row) 0 ≡ false → SwitchItem rows row)
-      (λ e. clash (sym (eq-eqb _ _ (noteAt-root note.SwitchItem rows)) ∙ e))
+      (λ e. absurd (true≢false (sym (eq-eqb _ _ (noteAt-root note.SwitchItem rows)) ∙ e)))
       (λ owner field h leads above e.
       let is = item-of owner field h leads in
-      by-test (eqb field 5)
+      by-cases (eqb field 5)
       (λ q. next-item owner field leads q (above (rw (is, q) at e)))
-      (λ q. by-test (eqb (numberAt rows owner 0) 47)
-      (λ k. by-test (eqb field 2) (λ f. first-item owner field leads k f) (λ f. clash (rw (is, q, k, f) at e)))
-      (λ k. clash (rw (is, q, k) at e))))
+      (λ q. by-cases (eqb (numberAt rows owner 0) 47)
+      (λ k. by-cases (eqb field 2) (λ f. first-item owner field leads k f) (λ f. absurd (true≢false (rw (is, q, k, f) at e))))
+      (λ k. absurd (true≢false (rw (is, q, k) at e)))))
 
   -- ---- cause 7
 
@@ -109,15 +104,15 @@ module _ (rows : List ℤ) (t : Tree rows) where
       }
     where
       mark-other : (row : ℕ) → isMark (numberAt rows row 0) ≡ true → (kind : ℕ) → isMark kind ≡ false → eqb (numberAt rows row 0) kind ≡ false
-      mark-other row k kind other = ne-eqb (numberAt rows row 0) kind (λ q. clash (sym k ∙ ap isMark q ∙ other))
+      mark-other row k kind other = ne-eqb (numberAt rows row 0) kind (λ q. true≢false (sym k ∙ ap isMark q ∙ other))
 
   pub placed-misplaced : (row : ℕ) → Placed rows row → misplaced rows row ≡ false
   unfolding misplaced outOfPlace
   placed-misplaced row p =
-      by-test (eqb (numberAt rows row 0) 50)
+      by-cases (eqb (numberAt rows row 0) 50)
       (λ k. rw (k, inside-noted InLoopOrSwitch isLoopOrSwitch loop-or-switch-around (p .break-inside (eqb-true _ _ k))))
-      (λ a. by-test (eqb (numberAt rows row 0) 51)
+      (λ a. by-cases (eqb (numberAt rows row 0) 51)
       (λ k. rw (a, k, inside-noted InLoop isLoop loop-around (p .continue-inside (eqb-true _ _ k))))
-      (λ b. by-test (isMark (numberAt rows row 0))
+      (λ b. by-cases (isMark (numberAt rows row 0))
       (λ k. rw (a, b, k, item-noted (p .mark-inside k)))
       (λ c. rw (a, b, c))))

@@ -2,6 +2,7 @@
 use super::Note;
 use structure::grammar::between;
 use structure::grammar::link;
+use structure::row_number::narrow;
 use words::table::number_at;
 ghost use mathlib.Core.Path.{_≡_};
 ghost use mathlib.Core.Bool.{_&&_};
@@ -12,20 +13,6 @@ ghost use Rattle.words.specs.Word.{pick};
 ghost use Rattle.structure.specs.Structured.{Tree};
 ghost use Rattle.structure.specs.Passes.{written, Notes};
 ghost use Rattle.source_check.specs.Places.{handed, noteAt};
-
-// A row number in 16 bits, and back.
-pub fn narrow(row: usize) -> u16
-    requires { ⌜ row < 65536 ⌝ }
-    ensures { λ r. ⌜ r ≡ row ⌝ }
-{
-    row as u16
-}
-
-pub fn wide(row: u16) -> usize
-    ensures { λ r. ⌜ r ≡ row ⌝ }
-{
-    row as usize
-}
 
 // Inside a row: as its part, or where the row stands inside already.
 fn inside(around: bool, field: usize, own: u16) -> u16

@@ -9,7 +9,7 @@ use Rattle.words.specs.Word.{pick}
 use Rattle.words.specs.Table.{rowCount, numberAt}
 use Rattle.words.specs.Layout.{layoutOf, storeSize, storeWords}
 use Rattle.words.specs.declared.Form.{Form}
-use Rattle.structure.specs.Grammar.{unused, variable, array, label, optionalExpression, place, optionalItem, sortAt, inLanguage, isExpression, isPlace, isStatement, isLink, isRequired}
+use Rattle.structure.specs.Grammar.{unused, variable, array, label, expression, optionalExpression, place, optionalItem, sortAt, inLanguage, isExpression, isPlace, isStatement, isLink, isRequired}
 use Rattle.structure.specs.declared.Bounds.{Bounds}
 
 -- Cause 3: "kind not in the language, or unused field not 0". Field 0 is the kind.
@@ -21,7 +21,7 @@ foreign form rows row field =
 -- A row is of the sort that a link asks for; "a branch or body" has next 0.
 unfoldable pub fits : List ℤ → ℕ → ℕ → Bool
 fits rows sort row =
-    pick (leb sort optionalExpression) (isExpression rows row)
+    pick (eqb sort expression || eqb sort optionalExpression) (isExpression rows row)
     (pick (eqb sort place) (isPlace rows row)
     (pick (eqb sort optionalItem) (isStatement rows row)
     (isStatement rows row && eqb (numberAt rows row 5) 0)))

@@ -1,6 +1,6 @@
 -- Laws of searches: what a search finds; and what a loop that searches upward may say at each turn.
 use mathlib.Core.Path.{_≡_, subst, refl, sym, ap, _∙_}
-use mathlib.Core.Bool.{Bool, true, false}
+use mathlib.Core.Bool.{Bool, true, false, true≢false}
 use mathlib.Core.List.{List}
 use Prim.Native.Nat.{ℕ, zero, suc, _+_, _-_, _≤_, _<_}
 use native.Mathlib.Omega.{arith}
@@ -12,9 +12,6 @@ use Rattle.words.specs.Table.{rowCount}
 use Rattle.structure.specs.Search.{lowest, some, lowestRow, someField}
 use Rattle.structure.specs.declared.Found.{Found}
 use Rattle.structure.specs.declared.Found.the-variants.{At, Nothing}
-
-pub clash : {A : Type 0} → true ≡ false → A
-clash e = absurd (let z : _≡_ {A = ℕ} 0 1 = cc in omega arith)
 
 pub not-found : {A : Type 0} (j : ℕ) → At j ≡ Nothing → A
 not-found j e = absurd (let z : _≡_ {A = ℕ} 0 1 = cc in omega arith)
@@ -113,7 +110,7 @@ none-here true j r e = not-found j e
 none-here false j r e = (refl, e)
 
 false-here : (b r : Bool) → pick b true r ≡ false → (b ≡ false) × (r ≡ false)
-false-here true r e = clash e
+false-here true r e = absurd (true≢false e)
 false-here false r e = (refl, e)
 
 pub lowest-all : (p : ℕ → Bool) (d j : ℕ) → lowest p j d ≡ Nothing → (i : ℕ) → j ≤ i → i < j + d → p i ≡ false

@@ -1,6 +1,6 @@
 -- Laws of structure: the causes 1 to 6 accept exactly the structured tables, whose rows make a tree. Each cause by itself, then the chain.
 use mathlib.Core.Path.{_≡_, refl, sym, ap, _∙_}
-use mathlib.Core.Bool.{Bool, true, false, not, _&&_}
+use mathlib.Core.Bool.{Bool, true, false, not, _&&_, true≢false}
 use mathlib.Core.List.{List}
 use Prim.Native.Nat.{ℕ, zero, suc, _≤_, _<_}
 use native.Mathlib.Omega.{arith}
@@ -17,7 +17,7 @@ use Rattle.words.specs.declared.Form.{Form}
 use Rattle.words.specs.declared.Verdict.the-variants.{Accepted}
 use Rattle.structure.specs.Grammar.{unused, variable, array, label, expression, place, branch, sortOf, sortAt, between, inLanguage, isLink, isRequired, link}
 use Rattle.structure.specs.Search.{lowestRow, someField}
-use Rattle.structure.specs.SearchLaws.{clash, lowestRow-all, all-lowestRow, someField-all, all-someField}
+use Rattle.structure.specs.SearchLaws.{lowestRow-all, all-lowestRow, someField-all, all-someField}
 use Rattle.structure.specs.Fields.{foreign, fits, leadsRight, mislinked, boundsOf, numberFits, outside}
 use Rattle.structure.specs.Links.{linkCount, loneBlock, notOnce}
 use Rattle.structure.specs.GrammarLaws.{kind-no-link, kind-no-number, kind-links-none}
@@ -79,7 +79,7 @@ required-is-link sort e = go (ℕ-discrete sort expression) (ℕ-discrete sort p
     go (yes p) b c = rw p
     go (no p) (yes q) c = rw q
     go (no p) (no q) (yes r) = rw r
-    go (no p) (no q) (no r) = clash (sym e ∙ rw (ne-eqb sort expression p, ne-eqb sort place q, ne-eqb sort branch r))
+    go (no p) (no q) (no r) = absurd (true≢false (sym e ∙ rw (ne-eqb sort expression p, ne-eqb sort place q, ne-eqb sort branch r)))
 
 module _ (rows : List ℤ) (row field : ℕ) where
   -- a link that is there
@@ -115,7 +115,7 @@ module _ (rows : List ℤ) (row field : ℕ) where
   unfolding mislinked
   right-present e r =
       let l = required-is-link (sortAt rows row field) r in
-      rw (is-link l) (above-zero (numberAt rows row field) (λ q. clash (sym r ∙ (rw (l, eq-eqb _ _ q) at e))))
+      rw (is-link l) (above-zero (numberAt rows row field) (λ q. true≢false (sym r ∙ (rw (l, eq-eqb _ _ q) at e))))
 
   link-right : (isRequired (sortAt rows row field) ≡ true → 0 < link rows row field) → (0 < link rows row field → Leads rows row field)
       → (0 < link rows row field → fits rows (sortAt rows row field) (link rows row field) ≡ true) → mislinked rows row field ≡ false
@@ -144,7 +144,7 @@ kind-linked rows row = rw (kind-no-link (numberAt rows row 0))
 no-number-fits : (bounds : Bounds) (sort number : ℕ) → between variable label sort ≡ false → numberFits bounds sort number ≡ true
 unfolding numberFits
 no-number-fits bounds sort number e =
-    let other : (s : ℕ) → between variable label s ≡ true → eqb sort s ≡ false = λ s h. ne-eqb sort s (λ q. clash (sym h ∙ ap (between variable label) (sym q) ∙ e)) in
+    let other : (s : ℕ) → between variable label s ≡ true → eqb sort s ≡ false = λ s h. ne-eqb sort s (λ q. true≢false (sym h ∙ ap (between variable label) (sym q) ∙ e)) in
     rw (other variable refl, other array refl, other label refl)
 
 kind-inside : (bounds : Bounds) (rows : List ℤ) (row : ℕ) → outside bounds rows row 0 ≡ false

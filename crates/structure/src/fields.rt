@@ -1,6 +1,7 @@
 // The causes that lie in one field of a row: 3, 4 and 6. Each test is true where the field breaks the cause.
 use super::Bounds;
 use super::grammar::ARRAY;
+use super::grammar::EXPRESSION;
 use super::grammar::LABEL;
 use super::grammar::OPTIONAL_EXPRESSION;
 use super::grammar::OPTIONAL_ITEM;
@@ -47,7 +48,10 @@ fn fits(rows: &[i32], sort: u8, row: usize) -> bool
     requires { ⌜ 6 * row + 5 < length (now rows) ⌝ }
     ensures { λ r. ⌜ r ≡ fitsOf (now (rows .entry)) sort row ⌝ }
 {
-    if sort <= OPTIONAL_EXPRESSION {
+    if sort == EXPRESSION {
+        return is_expression(rows, row);
+    }
+    if sort == OPTIONAL_EXPRESSION {
         return is_expression(rows, row);
     }
     if sort == PLACE {

@@ -11,8 +11,6 @@ ghost use Rattle.structure.specs.Grammar.{sortOf, sortAt, between as bet
 // Fields without a link. "Values, variable, array and label numbers may be 0."
 pub const UNUSED: u8 = 0;
 
-pub const VALUE: u8 = 1;
-
 pub const VARIABLE: u8 = 2;
 
 pub const ARRAY: u8 = 3;
@@ -27,8 +25,6 @@ pub const PLACE: u8 = 7;
 
 pub const BRANCH: u8 = 8;
 
-pub const OPTIONAL_BRANCH: u8 = 9;
-
 pub const OPTIONAL_ITEM: u8 = 10;
 // What a row is.
 pub const EXPRESSION_ROW: u8 = 11;
@@ -37,10 +33,9 @@ pub const PLACE_ROW: u8 = 12;
 
 pub const STATEMENT_ROW: u8 = 13;
 
-pub const NO_KIND: u8 = 0;
-
-// The table's row of a kind: a hexadecimal digit each for what the row is, then a, b, c, d and next, by the numbers above. A `match`,
-// since the compiler keeps it as a table of the program; a constant array is copied to the stack at each look.
+// The table's row of a kind: a hexadecimal digit each for what the row is, then a, b, c, d and next, by the numbers above, with 1 for a
+// value and 9 for an optional branch. A `match`, since the compiler keeps it as a table of the program; a constant array is copied to the
+// stack at each look.
 fn row_of(kind: usize) -> u32
     ensures { λ r. ⌜ r ≡ packedRow kind ⌝ }
 {

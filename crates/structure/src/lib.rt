@@ -4,6 +4,7 @@ pub mod depth; // depth.rt: cause 9, by a walk down the links
 pub mod fields; // fields.rt: the causes that lie in one field of a row: 3, 4 and 6
 pub mod grammar; // grammar.rt: the table of kinds
 pub mod links; // links.rt: how often each row is linked, and cause 5
+pub mod row_number; // row_number.rt: a row number in 16 bits, and back
 
 // The causes that are looked for row by row: 3, 4, 5 and 6.
 pub enum Cause {

@@ -11,10 +11,11 @@ use lib.IntN.{ℤ, pos, negsuc}
 use lib.Signed.{mag}
 use lib.ListN.{length, drop, getD, drop-of-length-le}
 use lib.Seq.{drop-cons}
-use borrow.Author.Tests.{lt-ltb, le-ltb, le-leb, lt-leb, leb-true, leb-false, eq-eqb, ne-eqb}
+use borrow.Author.Tests.{le-ltb, le-leb, lt-leb, leb-true, leb-false, eq-eqb, ne-eqb}
 use Rattle.words.specs.Word.{isWord}
+use Rattle.words.specs.Laws.{by-cases}
 use Rattle.text_form.specs.Number.{isDigit, decimal, natural, word, positive, negative, numberOf}
-use Rattle.text_form.specs.NumberLaws.{by-cases, decimal-digit, decimal-other}
+use Rattle.text_form.specs.NumberLaws.{decimal-digit, decimal-other, word-is}
 use Rattle.text_form.specs.Reader.{atMost}
 
 -- ---- the walk
@@ -92,10 +93,6 @@ natural-zero (byte ∷ []) h k e = absurd (k refl)
 natural-zero (byte ∷ (next ∷ bytes)) h k e = rw (eq-eqb byte 48 e)
 
 -- ---- words
-
-word-is : (z : ℤ) → mag z < 2 ^ 31 → word z ≡ some z
-unfolding word isWord
-word-is z h = rw (lt-ltb (mag z) (2 ^ 31) h)
 
 word-not : (z : ℤ) → 2 ^ 31 ≤ mag z → word z ≡ none
 unfolding word isWord

@@ -11,7 +11,7 @@ use borrow.Author.Tests.{ltb-true, ltb-false}
 use Rattle.text_form.specs.Line.{ended, linesOf, fieldsOf, numbersOf}
 use Rattle.text_form.specs.Text.{rowLine, Parsed, parsed, malformed, rowsFrom}
 use Rattle.words.specs.Over.{over}
-use Rattle.text_form.specs.NumberLaws.{by-cases}
+use Rattle.words.specs.Laws.{by-cases}
 use Rattle.text_form.specs.TextLaws.{not-parsed}
 use Rattle.text_form.specs.Reader.{isFound, numbersIn, Holds, wordsIn, HoldsRows}
 use Rattle.words.specs.OverLaws.{part, back-in, part-is, length-over, over-none, over-next}

@@ -12,9 +12,10 @@ use lib.ListN.{length, take, drop, getD, length-drop, length-append, drop-of-len
 use lib.Seq.{drop-cons, drop-drop, take-all}
 use borrow.Author.Tests.{eq-eqb, ne-eqb, eqb-true, eqb-false, le-leb, lt-leb, ltb-true, ltb-false}
 use Rattle.words.specs.Word.{pick}
+use Rattle.words.specs.Laws.{by-cases}
 use Rattle.text_form.specs.Number.{numberOf}
 use Rattle.text_form.specs.Line.{fieldsOf, together, numbersOf}
-use Rattle.text_form.specs.NumberLaws.{by-cases, Free}
+use Rattle.text_form.specs.NumberLaws.{Free}
 use Rattle.text_form.specs.LineLaws.{fields-last, fields-more}
 use Rattle.text_form.specs.Reader.{pieceEnd, sizeOf}
 

@@ -135,7 +135,7 @@ unfoldable pub behind : List ℤ → Parsed (List ℤ) → Parsed (List ℤ)
 behind before (parsed others) = parsed (before ++ others)
 behind before (malformed line) = malformed line
 
-behind-nil : (read : Parsed (List ℤ)) → read ≡ behind [] read
+pub behind-nil : (read : Parsed (List ℤ)) → read ≡ behind [] read
 unfolding behind
 behind-nil (parsed words) = refl
 behind-nil (malformed line) = refl

@@ -15,9 +15,9 @@ use Rattle.text_form.specs.declared.ReadAnswer.the-variants.{Read}
 use Rattle.text_form.specs.declared.WriteAnswer.the-variants.{Written}
 use Rattle.text_form.specs.Text.{textBytes, Parsed, parsed, malformed, Program, parse}
 use Rattle.words.specs.Over.{over}
+use Rattle.words.specs.Laws.{by-cases}
 use Rattle.words.specs.OverLaws.{take-over}
 use Rattle.text_form.specs.Answers.{finished, refused, unless, causeOf, readRefused, readProgram, tablesHold, readParsed, readResult, Reads, writeBytes, writeResult, Writes}
-use Rattle.text_form.specs.NumberLaws.{by-cases}
 use Rattle.text_form.specs.TextLaws.{IsText, text-reads}
 
 -- ---- the causes

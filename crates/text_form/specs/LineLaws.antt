@@ -10,9 +10,10 @@ use lib.IntN.{ℤ}
 use lib.Signed.{mag}
 use lib.ListN.{length, length-map}
 use borrow.Author.Tests.{ne-eqb, eqb-true}
+use Rattle.words.specs.Laws.{by-cases}
 use Rattle.text_form.specs.Number.{numberBytes, numberOf}
 use Rattle.text_form.specs.Line.{parted, lineBytes, longerField, fieldsOf, Line, ended, unended, longerLine, linesOf, together, numbersOf, lineNumbers}
-use Rattle.text_form.specs.NumberLaws.{by-cases, not-some, Free, free-append, number-free, IsNumber, number-reads, number-shows}
+use Rattle.text_form.specs.NumberLaws.{not-some, Free, free-append, number-free, IsNumber, number-reads, number-shows}
 
 -- ---- what the separators part
 

@@ -1,7 +1,7 @@
 -- Laws of numbers: the bytes that are read as a number are those it is written with, and no others.
 -- Digits are followed from the front: those behind digits of a number that is not 0 only lengthen its digits.
 use mathlib.Core.Path.{_≡_, refl, sym, ap, _∙_}
-use mathlib.Core.Bool.{Bool, true, false}
+use mathlib.Core.Bool.{true, false}
 use mathlib.Core.List.{List, [], _∷_, _++_, append-assoc, append-nil}
 use mathlib.Core.Option.{Option, none, some}
 use Prim.Native.Nat.{ℕ, zero, suc, _+_, _*_, _-_, _/_, _%_, _^_, _≤_, _<_}
@@ -12,11 +12,8 @@ use lib.Signed.{mag}
 use lib.ListN.{length, getD, length-append}
 use borrow.Author.Tests.{ltb-true, ltb-false, lt-ltb, le-ltb, le-leb, leb-true, ne-eqb, eqb-true, eqb-false}
 use Rattle.words.specs.Word.{isWord}
+use Rattle.words.specs.Laws.{by-cases}
 use Rattle.text_form.specs.Number.{digitsWithin, digits, numberBytes, isDigit, decimal, natural, word, positive, negative, numberOf}
-
-pub by-cases : {G : Type 0} (test : Bool) → (test ≡ true → G) → (test ≡ false → G) → G
-by-cases true f g = f refl
-by-cases false f g = g refl
 
 pub not-some : {A G : Type 0} {a : A} → none ≡ some a → G
 not-some {a = a} e = absurd (let z : _≡_ {A = ℕ} 0 1 = cc in omega arith)
@@ -154,7 +151,7 @@ natural-shows : (n : ℕ) → natural (digits n) ≡ some n
 natural-shows zero = natural-zero
 natural-shows (suc n) = natural-is (digits (suc n)) (omega (arith, length-some (suc n))) (λ e. omega (arith, head-digits (suc n) (omega arith))) ∙ digits-shows (suc n)
 
-word-is : (z : ℤ) → mag z < 2 ^ 31 → word z ≡ some z
+pub word-is : (z : ℤ) → mag z < 2 ^ 31 → word z ≡ some z
 unfolding word isWord
 word-is z h = rw (lt-ltb (mag z) (2 ^ 31) h)
 

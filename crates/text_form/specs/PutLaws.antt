@@ -12,7 +12,8 @@ use borrow.Rule.Slice.PartMut.{same-len-mid}
 use borrow.Author.Tests.{ltb-true, ltb-false}
 use Rattle.text_form.specs.Number.{digits, numberBytes}
 use Rattle.words.specs.Over.{over}
-use Rattle.text_form.specs.NumberLaws.{by-cases, digits-one, length-one, length-more}
+use Rattle.words.specs.Laws.{by-cases}
+use Rattle.text_form.specs.NumberLaws.{digits-one, length-one, length-more}
 use Rattle.text_form.specs.Writer.{Put}
 use Rattle.words.specs.OverLaws.{part, back-in, part-is, length-over, over-fits, over-none, over-set, over-next}
 

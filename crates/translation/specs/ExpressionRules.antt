@@ -9,6 +9,7 @@ use lib.ListN.{getD}
 use Rattle.words.specs.Word.{sameWord}
 use Rattle.words.specs.Layout.{arrayBase, arrayLength}
 use Rattle.words.specs.Arithmetic.{Outcome, value, isTrue, truth, bit, logicalNot, apply, minus as minusWord, element as elementWord}
+use Rattle.words.specs.Laws.{by-cases}
 use Rattle.words.specs.declared.Operator.{Operator}
 use Rattle.words.specs.declared.Operator.the-variants.{Equal, NotEqual}
 use Rattle.computation.specs.Computation.{Computation, ret, _>>=_, load, save, settle, _>>_}
@@ -19,7 +20,7 @@ use Rattle.translation.specs.Translate.{Atom, number, top, taken, tempor
 use Rattle.translation.specs.TranslateSize.{copyRows}
 use Rattle.translation.specs.Stack.{Stack, _▹_, depth}
 use Rattle.translation.specs.RunThen.{runThen}
-use Rattle.translation.specs.Related.{Frame, Related, Alike, alike-stop, by-cases, by-outcome, related-step, related-ran, related-less, related-load, related-save, related-push, related-top, related-pop, related-skip, related-over}
+use Rattle.translation.specs.Related.{Frame, Related, Alike, alike-stop, by-outcome, related-step, related-ran, related-less, related-load, related-save, related-push, related-top, related-pop, related-skip, related-over}
 use Rattle.translation.specs.Held.{Holds, holds-number, holds-top, holds-still, holds-depth, source, kernel, kernel-append, see, release, Kept, kept-still, keep, Aims, aims-variable, aims-element, aims-inside, aims-release, see-place, aims-under}
 
 -- == 0 and != 0 give the truth of a value.

@@ -1,7 +1,6 @@
 -- When a source run and a kernel run go alike: a relation of their states, kept by every step and store, and of their results. A
 -- source step brings `rate` credits and a kernel step takes one, so the bound on counts falls out.
 use mathlib.Core.Path.{_≡_, refl, _∙_}
-use mathlib.Core.Bool.{Bool, true, false}
 use mathlib.Core.List.{List, [], _∷_}
 use Prim.Native.Nat.{ℕ, zero, suc, _+_, _*_, _≤_, _<_}
 use native.Mathlib.Omega.{arith}
@@ -117,10 +116,6 @@ pub alike-stop : {fr : Frame} {A B : Type 0} {R : A → B → State → State �
 alike-stop u ws h n = alike-fault (related-end (related-ran {y = 0} u ws (omega arith) n))
 
 -- ---- cases
-
-pub by-cases : {G : Type 0} (b : Bool) → (b ≡ true → G) → (b ≡ false → G) → G
-by-cases true y n = y refl
-by-cases false y n = n refl
 
 pub by-outcome : {A G : Type 0} (o : Outcome A) → ((a : A) → o ≡ value a → G) → ((sort : FaultSort) → o ≡ faulty sort → G) → G
 by-outcome (value a) y n = y a refl

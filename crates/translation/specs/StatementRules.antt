@@ -8,6 +8,7 @@ use lib.IntN.{ℤ, pos}
 use borrow.Author.Tests.{eq-eqb, ne-eqb}
 use Rattle.words.specs.Word.{sameWord}
 use Rattle.words.specs.Arithmetic.{isTrue, bit, apply}
+use Rattle.words.specs.Laws.{by-cases}
 use Rattle.computation.specs.Computation.{Computation, Turn, again, leave, ret, _>>=_, loop, _>>_}
 use Rattle.computation.specs.Run.{State, Result}
 use Rattle.language.specs.Trees.{Mark, case, default, label, sameMark, has, Statement, empty, block, goto, Items, none, _then_, _here_, _⧺_}
@@ -16,7 +17,7 @@ use Rattle.translation.specs.Translate.{Atom, taken, atom, choosing, orE
 use Rattle.translation.specs.TranslateSize.{cases}
 use Rattle.translation.specs.Stack.{Stack, bottom, depth}
 use Rattle.translation.specs.RunThen.{runThen}
-use Rattle.translation.specs.Related.{Frame, Related, Alike, alike-loop, by-cases, related-step, related-ran, related-less, related-push, related-top, related-pop}
+use Rattle.translation.specs.Related.{Frame, Related, Alike, alike-loop, related-step, related-ran, related-less, related-push, related-top, related-pop}
 use Rattle.translation.specs.Held.{Holds, holds-depth, source, kernel, kernel-append, see, release}
 use Rattle.translation.specs.ExpressionRules.{Goes}
 use Rattle.translation.specs.PassedCode.{has-neither, passes, plain-tests, Apart, apart-below, apart-above, label-least, label-absent}

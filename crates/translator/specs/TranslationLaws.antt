@@ -1,6 +1,6 @@
 -- Laws of the translation's answer: which of three it is; a translation that was made stands at the start of both tables.
 use mathlib.Core.Path.{_≡_, refl, sym, ap, _∙_}
-use mathlib.Core.Bool.{Bool, true, false, _&&_}
+use mathlib.Core.Bool.{Bool, true, false, _&&_, and-false}
 use mathlib.Core.List.{List}
 use Prim.Native.Nat.{ℕ, _-_, _≤_, _<_}
 use native.Mathlib.Omega.{arith}
@@ -18,10 +18,6 @@ use Rattle.source_check.specs.Refusal.{refusal as sourceRefusal}
 use Rattle.fate.specs.KernelForms.{kernelHeaderOf, kernelRowsOf}
 use Rattle.translator.specs.declared.TranslateAnswer.the-variants.{Translated, Refused}
 use Rattle.translator.specs.Translation.{TranslateResult, answerAndTables, written, translateAfter, translateResult}
-
-and-false : (b : Bool) → (b && false) ≡ false
-and-false true = refl
-and-false false = refl
 
 -- an answer with counts is no refusal
 no-refusal : {G : Type 0} {headerWords rowWords : ℕ} {refusal : Refusal} → Translated headerWords rowWords ≡ Refused refusal → G

@@ -1,6 +1,6 @@
 -- A text within the limits: it is read into tables of 34 and 768 words, and what is printed is what its program gives.
-use mathlib.Core.Path.{_≡_, refl, sym, ap, _∙_}
-use mathlib.Core.Bool.{Bool, true, false, _&&_}
+use mathlib.Core.Path.{_≡_, sym, ap, _∙_}
+use mathlib.Core.Bool.{_&&_}
 use mathlib.Core.List.{List, [], _∷_}
 use mathlib.Core.Option.{Option, none, some}
 use Prim.Native.Nat.{ℕ, _-_, _*_, _≤_, _<_}
@@ -10,7 +10,7 @@ use lib.IntN.{ℤ}
 use lib.ListN.{length, take}
 use borrow.Author.Tests.{leb-true, le-leb, lt-leb}
 use Rattle.words.specs.Layout.{headerFits, countFits, layoutOf, storeSize}
-use Rattle.words.specs.Laws.{headerFits-facts}
+use Rattle.words.specs.Laws.{both, by-cases, headerFits-facts}
 use Rattle.words.specs.declared.Form.the-variants.{Source}
 use Rattle.words.specs.declared.Refusal.{Refusal}
 use Rattle.text_form.specs.Line.{fieldsOf, numbersOf}
@@ -19,7 +19,7 @@ use Rattle.words.specs.Over.{over}
 use Rattle.words.specs.OverLaws.{written-part}
 use Rattle.text_form.specs.Answers.{finished, unless, readResult, Reads}
 use Rattle.text_form.specs.declared.ReadAnswer.the-variants.{Read, Refused}
-use Rattle.text_form.specs.NumberLaws.{by-cases, not-some}
+use Rattle.text_form.specs.NumberLaws.{not-some}
 use Rattle.text_form.specs.AnswerLaws.{Passes, read-passing, refused-finished}
 use Rattle.text_form.specs.Reader.{numbersIn, HasLines}
 use Rattle.text_form.specs.ReaderLaws.{line-exactly, lent-line, scratch-part}
@@ -49,10 +49,6 @@ record Small (header : List ℤ) (rowWords : ℕ) : Type 0 where
   passes : Passes Source header rowWords
   few-words : storeSize (layoutOf Source header) ≤ mostWords
   few-rows : rowWords ≤ 6 * mostRows
-
-both : (a b : Bool) → (a && b) ≡ true → (a ≡ true) × (b ≡ true)
-both true b e = (refl, e)
-both false b e = absurd (let z : _≡_ {A = ℕ} 0 1 = cc in omega arith)
 
 no-cause-small : (header : List ℤ) (rowWords : ℕ) → trialCause header rowWords ≡ none → Small header rowWords
 unfolding trialCause unless

@@ -10,10 +10,10 @@ use lib.Signed.{mag, ltZ, nonNeg, quotZ, remZ, mag-rem}
 use mir.Syntax.{w32, w64}
 use mir.Val.{SFits, Fits, toZ, ofZ}
 use mir.Facts.{toZ-ofZ, fits-natAbs, sfits-widen}
-use borrow.Author.Tests.{ltb-true, ltb-false, eq-eqb, ne-eqb}
+use borrow.Author.Tests.{ltb-true, eq-eqb, ne-eqb}
 use Rattle.words.specs.Word.{isWord, sameWord, natural}
 use Rattle.words.specs.Arithmetic.{Outcome, value, fault, inWord, isTrue, bit, minus, dividing, apply}
-use Rattle.words.specs.Laws.{back, sameWord-bits, inWord-fits, inWord-overflows}
+use Rattle.words.specs.Laws.{back, sameWord-bits, below-least-word, above-greatest-word, between-words, inWord-fits, inWord-overflows}
 use Rattle.words.specs.declared.FaultSort.the-variants.{Overflow, ZeroDivisor}
 use Rattle.words.specs.declared.Operator.the-variants.{Divide, Remainder}
 use Rattle.words.specs.declared.Operator.{Operator}
@@ -112,28 +112,16 @@ module _ (operation : ℤ → ℤ → ℤ) (holds : Holds64 operation) {x y : �
 
 -- ---- narrow: a 64-bit result, if it is a word
 
-below : (z : ℤ) → ltZ z (negsuc 2147483647) ≡ true → 2 ^ 31 ≤ mag z
-below (pos n) e = absurd (let w : _≡_ {A = ℕ} 0 1 = cc in omega arith)
-below (negsuc n) e = omega (arith, ltb-true 2147483647 n e)
-
-above : (z : ℤ) → ltZ (pos 2147483647) z ≡ true → 2 ^ 31 ≤ mag z
-above (pos n) e = omega (arith, ltb-true 2147483647 n e)
-above (negsuc n) e = absurd (let w : _≡_ {A = ℕ} 0 1 = cc in omega arith)
-
-between : (z : ℤ) → ltZ z (negsuc 2147483647) ≡ false → ltZ (pos 2147483647) z ≡ false → mag z < 2 ^ 31
-between (pos n) e g = omega (arith, ltb-false 2147483647 n g)
-between (negsuc n) e g = omega (arith, ltb-false 2147483647 n e)
-
 module _ {z : ℤ} (h : SFits w64 z) where
   pub narrow-below : ltZ (toZ w64 (ofZ w64 z)) (negsuc 2147483647) ≡ true → fault Overflow ≡ inWord z
-  narrow-below e = sym (inWord-overflows z (below z (rw (toZ-ofZ {z = z} h) at e)))
+  narrow-below e = sym (inWord-overflows z (below-least-word z (rw (toZ-ofZ {z = z} h) at e)))
 
   pub narrow-above : ltZ (pos 2147483647) (toZ w64 (ofZ w64 z)) ≡ true → fault Overflow ≡ inWord z
-  narrow-above e = sym (inWord-overflows z (above z (rw (toZ-ofZ {z = z} h) at e)))
+  narrow-above e = sym (inWord-overflows z (above-greatest-word z (rw (toZ-ofZ {z = z} h) at e)))
 
   module _ (e : ltZ (toZ w64 (ofZ w64 z)) (negsuc 2147483647) ≡ false) (g : ltZ (pos 2147483647) (toZ w64 (ofZ w64 z)) ≡ false) where
     pub narrow-fits : SFits w32 (toZ w64 (ofZ w64 z))
-    narrow-fits = record { sfits = between (toZ w64 (ofZ w64 z)) e g }
+    narrow-fits = record { sfits = between-words (toZ w64 (ofZ w64 z)) e g }
 
     pub narrow-is : value (again (toZ w64 (ofZ w64 z))) ≡ inWord z
     narrow-is =

@@ -31,11 +31,3 @@ abbrev pub endingName : Ending → List ℕ
 endingName Plain = 101 ∷ 110 ∷ 100 ∷ 101 ∷ 100 ∷ []
 endingName Spent = 115 ∷ 112 ∷ 101 ∷ 110 ∷ 116 ∷ []
 endingName (Fault sort) = faultName sort
-
--- The same as a number, for callers in other languages: 0 ended, 1 spent, 2 overflow, 3 zero, 4 index.
-abbrev pub endingNumber : Ending → ℕ
-endingNumber Plain = 0
-endingNumber Spent = 1
-endingNumber (Fault Overflow) = 2
-endingNumber (Fault ZeroDivisor) = 3
-endingNumber (Fault Index) = 4

@@ -1,18 +1,18 @@
--- Laws: what follows from the definitions of words, arithmetic and layouts.
+-- Laws: what follows from the definitions of words, arithmetic and layouts; and the laws of tests that the crates share.
 use mathlib.Core.Path.{_≡_, refl, sym, ap, _∙_}
-use mathlib.Core.Bool.{Bool, true, false, not, _&&_}
+use mathlib.Core.Bool.{Bool, true, false, not, _&&_, _||_, false≢true}
 use mathlib.Core.List.{List, [], _∷_}
 use Prim.Native.Nat.{ℕ, zero, suc, _+_, _*_, _-_, _/_, _%_, _^_, _≤_, _<_}
 use native.Mathlib.Numerals.{add-one}
 use native.Mathlib.Omega.{arith}
 use lib.Dec.{ltb, leb, eqb}
 use lib.IntN.{ℤ, pos, negsuc, negℤ, ℤ-discrete}
-use lib.Signed.{mag, remZ, mag-rem}
+use lib.Signed.{mag, ltZ, remZ, mag-rem}
 use lib.ListN.{length, getD, take, drop, length-map, length-drop}
 use mir.Syntax.{w32}
 use mir.Val.{toZ, ofZ}
 use mir.Facts.{toZ-ofZ}
-use borrow.Author.Tests.{ltb-true, leb-true, eqb-true, lt-ltb, le-ltb, le-leb, eq-eqb, ne-eqb}
+use borrow.Author.Tests.{ltb-true, ltb-false, leb-true, eqb-true, lt-ltb, le-ltb, le-leb, eq-eqb, ne-eqb}
 use Rattle.words.specs.Word.{isWord, sameWord, natural, pick}
 use Rattle.words.specs.Arithmetic.{Outcome, value, fault, inWord, isTrue, bit, truth, logicalNot, minus, dividing, apply, element}
 use Rattle.words.specs.Layout.{Layout, leading, rowLimit, temporariesOf, layoutOf, sum, storeSize, zeros, arrayLength, arrayBase, allWithin, headerFits, countFits}
@@ -21,6 +21,21 @@ use Rattle.words.specs.declared.Form.the-variants.{Source, Kernel}
 use Rattle.words.specs.declared.Form.{Form}
 use Rattle.words.specs.declared.Operator.the-variants.{Add, Subtract, Multiply, Divide, Remainder, Less, Greater, LessOrEqual, GreaterOrEqual, Equal, NotEqual}
 use Rattle.words.specs.declared.Operator.{Operator}
+
+-- ---- tests
+
+-- a case for each value of a test
+pub by-cases : {A : Type 0} (test : Bool) → (test ≡ true → A) → (test ≡ false → A) → A
+by-cases true holds fails = holds refl
+by-cases false holds fails = fails refl
+
+pub both : (a b : Bool) → (a && b) ≡ true → (a ≡ true) × (b ≡ true)
+both true b e = (refl, e)
+both false b e = absurd (false≢true e)
+
+pub or-right : (a b : Bool) → b ≡ true → (a || b) ≡ true
+or-right true b e = refl
+or-right false b e = e
 
 -- ---- words and their bits
 
@@ -54,6 +69,20 @@ sameWord-bits x y h k = go (ℤ-discrete x y)
     go : Dec (x ≡ y) → eqb (ofZ w32 x) (ofZ w32 y) ≡ sameWord x y
     go (yes q) = eq-eqb (ofZ w32 x) (ofZ w32 y) (ap (ofZ w32) q) ∙ sym (sameWord-refl y) ∙ ap (λ (z : ℤ). sameWord z y) (sym q)
     go (no q) = ne-eqb (ofZ w32 x) (ofZ w32 y) (λ e. q (sym (back x h) ∙ ap (toZ w32) e ∙ back y k)) ∙ sym (sameWord-differ x y q)
+
+-- ---- the least and the greatest word
+
+pub below-least-word : (z : ℤ) → ltZ z (negsuc 2147483647) ≡ true → 2 ^ 31 ≤ mag z
+below-least-word (pos n) e = absurd (false≢true e)
+below-least-word (negsuc n) e = omega (arith, ltb-true 2147483647 n e)
+
+pub above-greatest-word : (z : ℤ) → ltZ (pos 2147483647) z ≡ true → 2 ^ 31 ≤ mag z
+above-greatest-word (pos n) e = omega (arith, ltb-true 2147483647 n e)
+above-greatest-word (negsuc n) e = absurd (false≢true e)
+
+pub between-words : (z : ℤ) → ltZ z (negsuc 2147483647) ≡ false → ltZ (pos 2147483647) z ≡ false → mag z < 2 ^ 31
+between-words (pos n) e g = omega (arith, ltb-false 2147483647 n g)
+between-words (negsuc n) e g = omega (arith, ltb-false 2147483647 n e)
 
 -- ---- numbers that words name
 
@@ -161,10 +190,6 @@ rowLimit-most Source = omega arith
 rowLimit-most Kernel = omega arith
 
 -- ---- headers
-
-pub both : (a b : Bool) → (a && b) ≡ true → (a ≡ true) × (b ≡ true)
-both true b e = (refl, e)
-both false b e = absurd (let z : _≡_ {A = ℕ} 0 1 = cc in omega arith)
 
 within-each : (most : ℕ) (ns : List ℕ) → allWithin most ns ≡ true → (i : ℕ) → i < length ns → (1 ≤ getD ns i 0) × (getD ns i 0 ≤ most)
 unfolding allWithin

@@ -1,5 +1,5 @@
 -- `fits` makes its definition's tests in order.
-use borrow.Author.Tests.{le-leb, lt-leb, eq-eqb, ne-eqb}
+use borrow.Author.Tests.{eq-eqb, ne-eqb}
 use Rattle.structure.specs.Fields.{fits}
 use borrow.Author.Needs.{needs}
 use Rattle.structure.proofs.fields.fits.Statement.{statement}
@@ -11,23 +11,31 @@ is-expression-requires c κs = search needs
 returns : tie.Need-returns
 unfolding fits
 returns c =
-    rw (le-leb _ _ (c .before .if1 .taken)) (c .is-expression .ensures)
+    rw (eq-eqb _ _ (c .before .if1 .taken)) (c .is-expression .ensures)
 
-is-place-requires : tie.Need-is-place-requires
-is-place-requires c κs = search needs
+is-expression-requires-2 : tie.Need-is-expression-requires-2
+is-expression-requires-2 c κs = search needs
 
 returns-2 : tie.Need-returns-2
 unfolding fits
 returns-2 c =
-    rw (lt-leb _ _ (c .before .before .if1 .left), eq-eqb _ _ (c .before .if2 .taken)) (c .is-place .ensures)
+    rw (ne-eqb _ _ (c .before .before .if1 .left), eq-eqb _ _ (c .before .if2 .taken)) (c .is-expression2 .ensures)
 
-is-statement-requires : tie.Need-is-statement-requires
-is-statement-requires c κs = search needs
+is-place-requires : tie.Need-is-place-requires
+is-place-requires c κs = search needs
 
 returns-3 : tie.Need-returns-3
 unfolding fits
 returns-3 c =
-    rw (lt-leb _ _ (c .before .before .before .if1 .left), ne-eqb _ _ (c .before .before .if2 .left), eq-eqb _ _ (c .before .if3 .taken)) (c .is-statement .ensures)
+    rw (ne-eqb _ _ (c .before .before .before .if1 .left), ne-eqb _ _ (c .before .before .if2 .left), eq-eqb _ _ (c .before .if3 .taken)) (c .is-place .ensures)
+
+is-statement-requires : tie.Need-is-statement-requires
+is-statement-requires c κs = search needs
+
+returns-4 : tie.Need-returns-4
+unfolding fits
+returns-4 c =
+    rw (ne-eqb _ _ (c .before .before .before .before .if1 .left), ne-eqb _ _ (c .before .before .before .if2 .left), ne-eqb _ _ (c .before .before .if3 .left), eq-eqb _ _ (c .before .if4 .taken)) (c .is-statement .ensures)
 
 is-statement-requires-2 : tie.Need-is-statement-requires-2
 is-statement-requires-2 c κs = search needs
@@ -35,15 +43,15 @@ is-statement-requires-2 c κs = search needs
 number-at-requires : tie.Need-number-at-requires
 number-at-requires c κs = search needs
 
-returns-4 : tie.Need-returns-4
-unfolding fits
-returns-4 c =
-    rw (lt-leb _ _ (c .before .before .before .before .before .if1 .left), ne-eqb _ _ (c .before .before .before .before .if2 .left), ne-eqb _ _ (c .before .before .before .if3 .left), ← c .before .before .is-statement2 .ensures, c .before .if4 .taken, ← c .number-at .ensures)
-
 returns-5 : tie.Need-returns-5
 unfolding fits
 returns-5 c =
-    rw (lt-leb _ _ (c .before .before .before .before .if1 .left), ne-eqb _ _ (c .before .before .before .if2 .left), ne-eqb _ _ (c .before .before .if3 .left), ← c .before .is-statement2 .ensures, c .if4 .left)
+    rw (ne-eqb _ _ (c .before .before .before .before .before .before .if1 .left), ne-eqb _ _ (c .before .before .before .before .before .if2 .left), ne-eqb _ _ (c .before .before .before .before .if3 .left), ne-eqb _ _ (c .before .before .before .if4 .left), ← c .before .before .is-statement2 .ensures, c .before .if5 .taken, ← c .number-at .ensures)
+
+returns-6 : tie.Need-returns-6
+unfolding fits
+returns-6 c =
+    rw (ne-eqb _ _ (c .before .before .before .before .before .if1 .left), ne-eqb _ _ (c .before .before .before .before .if2 .left), ne-eqb _ _ (c .before .before .before .if3 .left), ne-eqb _ _ (c .before .before .if4 .left), ← c .before .is-statement2 .ensures, c .if5 .left)
 
 pub fits-spec : {M : Type 1} → statement M
 fits-spec =
@@ -51,11 +59,13 @@ fits-spec =
     (tie.spec
     is-expression-requires
     returns
-    is-place-requires
+    is-expression-requires-2
     returns-2
-    is-statement-requires
+    is-place-requires
     returns-3
+    is-statement-requires
+    returns-4
     is-statement-requires-2
     number-at-requires
-    returns-4
-    returns-5)
+    returns-5
+    returns-6)

@@ -1,6 +1,6 @@
 -- `is_foreign` makes its definition's tests, the word before its sort.
-use mathlib.Core.Bool.{Bool, true, false, not, _&&_}
-use mathlib.Core.Path.{_≡_, refl, ap, _∙_}
+use mathlib.Core.Bool.{not, and-false, and-true}
+use mathlib.Core.Path.{sym, ap, _∙_}
 use denote.Ref.{now}
 use lib.Dec.{eqb}
 use borrow.Author.Tests.{eq-eqb, ne-eqb}
@@ -10,14 +10,6 @@ use Rattle.structure.specs.Fields.{foreign}
 use borrow.Author.Needs.{needs}
 use Rattle.structure.proofs.fields.is_foreign.Statement.{statement}
 use Rattle.structure.proofs.fields.is_foreign.Tie as tie
-
-and-false : (b : Bool) → false ≡ (b && false)
-and-false true = refl
-and-false false = refl
-
-and-true : (b : Bool) → b ≡ (b && true)
-and-true true = refl
-and-true false = refl
 
 number-at-requires : tie.Need-number-at-requires
 number-at-requires c κs = search needs
@@ -37,7 +29,7 @@ returns-2 : tie.Need-returns-2
 unfolding foreign
 returns-2 c =
     let start = c .before .before .before in
-    rw (ne-eqb _ _ (c .before .if1 .left), ← c .before .before .number-at .ensures, eq-eqb _ _ (c .if2 .taken)) (and-false (eqb (sortAt (now (start .args .rows)) (start .args .row) (start .args .field)) unused))
+    rw (ne-eqb _ _ (c .before .if1 .left), ← c .before .before .number-at .ensures, eq-eqb _ _ (c .if2 .taken)) (sym (and-false (eqb (sortAt (now (start .args .rows)) (start .args .row) (start .args .field)) unused)))
 
 sort-at-requires : tie.Need-sort-at-requires
 sort-at-requires c κs = search needs
@@ -45,7 +37,7 @@ sort-at-requires c κs = search needs
 returns-3 : tie.Need-returns-3
 unfolding foreign
 returns-3 c =
-    rw (ne-eqb _ _ (c .before .before .if1 .left), ← c .before .before .before .number-at .ensures, ne-eqb _ _ (c .before .if2 .left), ← c .sort-at .ensures) (and-true _)
+    rw (ne-eqb _ _ (c .before .before .if1 .left), ← c .before .before .before .number-at .ensures, ne-eqb _ _ (c .before .if2 .left), ← c .sort-at .ensures) (sym (and-true _))
 
 pub is-foreign-spec : {M : Type 1} → statement M
 is-foreign-spec =

@@ -1,7 +1,7 @@
-use native.Mathlib.Omega.{arith}
 -- `positive`: a value below 2147483648 is a word.
 use mathlib.Core.Path.{sym, ap, _∙_}
 use mathlib.Core.Option.{some}
+use native.Mathlib.Omega.{arith}
 use mir.Syntax.{w32}
 use mir.Facts.{toZ-pos}
 use Rattle.text_form.proofs.Decimal.{positive-none, positive-over, positive-is}

@@ -3,6 +3,7 @@ use mathlib.Core.Path.{_≡_, refl, ap}
 use mathlib.Core.Bool.{Bool, true, false, _||_}
 use Prim.Native.Nat.{ℕ, _<_}
 use native.Mathlib.Omega.{arith}
+use Rattle.words.specs.Laws.{or-right}
 use Rattle.language.specs.Trees.{Mark, sameMark, has, Statement, empty, express, block, ifThen, ifElse, while, doWhile, for, switch, break, continue, goto, Items, none, _then_, _here_, _⧺_}
 use Rattle.language.specs.Sizes.{statementRows}
 
@@ -21,10 +22,6 @@ append-append (s then xs) ys zs = ap (λ (x : Items). s then x) (append-append x
 append-append (m here xs) ys zs = ap (λ (x : Items). m here x) (append-append xs ys zs)
 
 -- ---- the marks that a list has
-
-or-right : (a b : Bool) → b ≡ true → (a || b) ≡ true
-or-right true b e = refl
-or-right false b e = e
 
 pub has-next : (m n : Mark) (xs : Items) → has m xs ≡ true → has m (n here xs) ≡ true
 unfolding has

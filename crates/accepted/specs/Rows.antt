@@ -17,7 +17,7 @@ use Rattle.words.specs.declared.Form.{Form}
 use Rattle.words.specs.declared.Kind.{Kind}
 use Rattle.language.specs.Trees.{read}
 use Rattle.language.specs.Decode.{expressionAt, statementOf, statementAt, itemsAt, decode}
-use Rattle.language.specs.DecodeLaws.{Whole, listAt, partAt, statement-at, at-item, at-case, at-default, at-label}
+use Rattle.language.specs.DecodeLaws.{Whole, listAt, partAt, statement-at, at-item, at-case, at-default, at-label, part-some}
 use Rattle.language.specs.Sizes.{expressionRows, placeRows, partRows, statementRows, itemsRows}
 use Rattle.structure.specs.Grammar.{expression, optionalExpression, place, branch, optionalBranch, optionalItem, statementRow, grammar, sortOf, sortAt, isExpression, isStatement, isLink, isRequired, link}
 use Rattle.structure.specs.Fields.{fits}
@@ -27,7 +27,7 @@ use Rattle.accepted.specs.Sorts.{sorts, sortIn, expression-or-statement,
 use Rattle.accepted.specs.Fields.{holds, noLink, MayLink, link-none, linked, may-link, next-link}
 use Rattle.accepted.specs.Sums.{totalFrom, along, brought, total-one, gathers}
 use Rattle.accepted.specs.Expressions.{ExpressionRow, constant-row, variable-row, element-row, minus-row, not-row, binary-row, and-row, or-row, comma-row, conditional-row, assign-row, compound-row, prefix-row, postfix-row, placeAt, whole-rows, place-expression, expression-row}
-use Rattle.accepted.specs.Statements.{StatementRow, empty-row, express-row, block-row, ifThen-row, ifElse-row, while-row, doWhile-row, for-row, switch-row, case-row, default-row, break-row, continue-row, goto-row, label-row, part-some, list-some, root-inside, statement-row}
+use Rattle.accepted.specs.Statements.{StatementRow, empty-row, express-row, block-row, ifThen-row, ifElse-row, while-row, doWhile-row, for-row, switch-row, case-row, default-row, break-row, continue-row, goto-row, label-row, list-some, root-inside, statement-row}
 
 unfoldable all : (ℕ → Bool) → ℕ → ℕ → Bool
 all test from zero = true

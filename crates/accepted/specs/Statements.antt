@@ -17,7 +17,7 @@ use Rattle.words.specs.declared.Kind.{Kind}
 use Rattle.words.specs.declared.Kind.the-variants.{Constant, Variable, Element, Minus, Not, Binary, And, Or, Conditional, Comma, Assign, Compound, Prefix, Postfix, Empty, Express, Block, If, While, Do, For, Switch, Case, Default, Break, Continue, Goto, Label, Other}
 use Rattle.language.specs.Trees.{Expression, absent, present, case, default, label, Statement, empty, express, block, ifThen, ifElse, while, doWhile, for, switch, break, continue, goto, none, _then_, _here_}
 use Rattle.language.specs.Decode.{expressionAt, statementOf, statementAt, itemsAt, decode}
-use Rattle.language.specs.DecodeLaws.{Whole, listAt, partAt, isStatement, statement-at, at-empty, at-express, at-block, at-ifThen, at-ifElse, at-while, at-doWhile, at-for, at-switch, at-break, at-continue, at-goto, at-item, at-case, at-default, at-label}
+use Rattle.language.specs.DecodeLaws.{Whole, listAt, partAt, isStatement, statement-at, at-empty, at-express, at-block, at-ifThen, at-ifElse, at-while, at-doWhile, at-for, at-switch, at-break, at-continue, at-goto, at-item, at-case, at-default, at-label, part-some}
 use Rattle.structure.specs.Grammar.{expression, optionalExpression, branch, optionalBranch, optionalItem, statementRow, sortOf, sortAt, isLink, isRequired, link}
 use Rattle.structure.specs.Grammar as grammar
 use Rattle.structure.specs.Fields.{fits}
@@ -83,10 +83,6 @@ module _ (rows : List ℤ) where
           → StatementRow l → ListRow (link rows l 5) → ListRow l
       label-item : {l : ℕ} → 0 < l → kindAt rows l ≡ Label → listAt rows l ≡ label (numberAt rows l 1) here listAt rows (link rows l 5)
           → StatementRow l → ListRow (link rows l 5) → ListRow l
-
-  pub part-some : (l : ℕ) → 0 < l → partAt rows l ≡ present (expressionAt rows l)
-  part-some zero p = absurd (omega arith)
-  part-some (suc l) p = refl
 
   pub list-some : (l : ℕ) → 0 < l → listAt rows l ≡ itemsAt rows l
   list-some zero p = absurd (omega arith)

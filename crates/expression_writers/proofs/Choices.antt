@@ -9,13 +9,12 @@ use Rattle.words.specs.Table.{rowCount}
 use Rattle.words.specs.declared.Operator.the-variants.{NotEqual}
 use Rattle.language.specs.Trees.{Expression, constant, binary, Items, none, _⧺_}
 use Rattle.language.specs.Decode.{expressionAt}
-use Rattle.language.specs.DecodeLaws.{partAt}
+use Rattle.language.specs.DecodeLaws.{partAt, part-some}
 use Rattle.translation.specs.Translate.{Atom as Held, number, top, atomOf, atom, temporary, assigning, choosing, copyCode, expressionCode}
 use Rattle.translation.specs.TranslateSize.{copyRows, partSize, expressionSize}
 use Rattle.measures.specs.Source.{Onward}
 use Rattle.measures.specs.Shapes.{shapeTree, ShapeAt}
 use Rattle.measures.specs.Operands.{isNumberAtom}
-use Rattle.measures.specs.MeasureLaws.{part-some}
 use Rattle.measures.specs.declared.Shape.{Shape}
 use Rattle.measures.specs.declared.Shape.the-variants.{And, Or, Conditional}
 use Rattle.leaves.specs.Atoms.{atomTree, AtomFits, isNumber}

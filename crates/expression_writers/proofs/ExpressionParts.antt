@@ -12,13 +12,13 @@ use Rattle.words.specs.Table.{rowCount}
 use Rattle.words.specs.Over.{over}
 use Rattle.language.specs.Trees.{_⧺_}
 use Rattle.language.specs.Decode.{expressionAt}
-use Rattle.language.specs.DecodeLaws.{partAt}
+use Rattle.language.specs.DecodeLaws.{partAt, part-some}
 use Rattle.translation.specs.TranslateSize.{partSize}
 use Rattle.emission.specs.Emission.{emitItems}
 use Rattle.measures.specs.Source.{Source, OptionalOnward}
 use Rattle.measures.specs.Operands.{aboveFirst}
 use Rattle.measures.specs.Parts.{OperandsAt}
-use Rattle.measures.specs.MeasureLaws.{part-some, size-parts}
+use Rattle.measures.specs.MeasureLaws.{size-parts}
 use Rattle.measures.specs.declared.Operands.{Operands}
 use Rattle.measures.proofs.Parts.{above-most}
 use Rattle.leaves.specs.Room.{moreRows}

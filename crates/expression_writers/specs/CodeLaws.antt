@@ -92,7 +92,3 @@ branch-words xs ys base k end first more ex ey ef em =
     append-assoc (rowOf 42 (pos first) 0 0 0 0) (emitItems more xs (base + 1)) (emitItems false ys (base + (1 + k)))
     ∙ ap₂ (λ (n : ℕ) (l : List ℤ). rowOf 42 (pos n) 0 0 0 0 ++ l) ef both
     ∙ block-words (xs ⧺ ys) base (k + end) (rows-append xs ys ∙ ap₂ _+_ ex ey)
-
--- what a writer wrote, with its rows
-pub wrote-of : (is : Items) (base : ℕ) (l m : List ℤ) (follows more : Bool) (n : ℕ) → more ≡ follows → m ≡ over (emitItems more is base) l → itemsRows is ≡ n → Wrote follows is base n l m
-wrote-of is base l m follows more n e h s = record { table = h ∙ ap (λ (f : Bool). over (emitItems f is base) l) e; size = s }

@@ -42,6 +42,10 @@ abbrev pub partAt : List ℤ → ℕ → Part
 partAt rows zero = absent
 partAt rows (suc l) = present (expressionAt rows (suc l))
 
+pub part-some : (rows : List ℤ) (l : ℕ) → 0 < l → partAt rows l ≡ present (expressionAt rows l)
+part-some rows zero h = absurd (omega arith)
+part-some rows (suc l) h = refl
+
 -- The kinds of statements, marks apart.
 abbrev pub isStatement : Kind → Bool
 isStatement Constant = false

@@ -38,6 +38,11 @@ module _ (form : Form) (header rows store : List ℤ) where
   unfolding runProgram runUnder
   store-length b = store-keeps-length (steps b) (programOf form header rows) (start store)
 
+  -- "0 gives spent with count 0": the entry of row 0 falls due.
+  pub budget-zero : runProgram form header rows 0 store ≡ record { ending = Spent; count = 0; store = store }
+  unfolding run programOf runProgram runUnder
+  budget-zero = refl
+
   -- Spent, the whole budget is used.
   pub spent-uses-all : (b : ℕ) → (runProgram form header rows b store) .ending ≡ Spent → (runProgram form header rows b store) .count ≡ b
   unfolding runProgram runUnder

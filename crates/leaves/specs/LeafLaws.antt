@@ -10,7 +10,7 @@ use Rattle.language.specs.Trees.{read, binary, assign, Place, variable, element
 use Rattle.language.specs.Sizes.{expressionRows, itemsRows}
 use Rattle.translation.specs.Translate.{placeTaken, atomOf}
 use Rattle.emission.specs.Emission.{emitItems}
-use Rattle.measures.specs.ShapeLaws.{taken-most}
+use Rattle.translation.specs.TranslateBounds.{taken-most}
 use Rattle.words.specs.Over.{over}
 use Rattle.leaves.specs.Atoms.{atomTree}
 use Rattle.leaves.specs.Chain.{Wrote}

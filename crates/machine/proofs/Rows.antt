@@ -16,7 +16,7 @@ use Rattle.words.specs.declared.Kind.the-variants.{Constant, Variable, Element,
 use Rattle.computation.specs.Remaining.{Rest, gives, onward, spend}
 use Rattle.language.specs.Trees.{Expression, present, label, Statement, empty, express, block, ifThen, ifElse, while, doWhile, for, switch, Items}
 use Rattle.language.specs.Decode.{statementOf, expressionAt, statementAt}
-use Rattle.language.specs.DecodeLaws.{listAt, partAt, isStatement, statement-at, at-express, at-block, at-ifThen, at-ifElse, at-while, at-doWhile, at-for, at-switch, at-break, at-continue, at-goto}
+use Rattle.language.specs.DecodeLaws.{listAt, partAt, isStatement, statement-at, at-express, at-block, at-ifThen, at-ifElse, at-while, at-doWhile, at-for, at-switch, at-break, at-continue, at-goto, part-some}
 use Rattle.language.specs.Meaning.{Signal, next, breaking, continuing, seeking, perform, items, afterSwitch}
 use Rattle.language.specs.Sound.{OptionalLink}
 use Rattle.evaluator.specs.Bounds.{layoutFrom}
@@ -123,10 +123,6 @@ module _ (rows : List ℤ) (bounds : List ℕ) (n : ℕ) (s : List ℤ) where
   otherwise-some zero z = absurd (z refl)
   otherwise-some (suc c) z = refl
 
-part-present : (rows : List ℤ) (l : ℕ) → 0 < l → partAt rows l ≡ present (expressionAt rows l)
-part-present rows zero h = absurd (omega arith)
-part-present rows (suc l) h = refl
-
 module _ {rows : List ℤ} {bounds : List ℕ} {words row : ℕ} where
   module _ {kind : Kind} (here : Entered rows bounds words row kind) where
     abbrev whole : length rows ≡ 6 * rowCount rows
@@ -163,7 +159,7 @@ module _ {rows : List ℤ} {bounds : List ℕ} {words row : ℕ} where
   while-row here {a} {b} p q n s =
       let t : statementAt rows row ≡ while (expressionAt rows a) (statementAt rows b) =
       at-while rows (whole here) row (here .kind-is) (sound-row here .0 .later) (sound-row here .1 .later) ∙ rw (← p, ← q) in
-      known rows bounds row _ n s t ∙ enter-while (layoutFrom bounds) n s _ _ ∙ rw (part-present rows a (omega (arith, sound-row here .0 .later)))
+      known rows bounds row _ n s t ∙ enter-while (layoutFrom bounds) n s _ _ ∙ rw (part-some rows a (omega (arith, sound-row here .0 .later)))
 
   pub do-row : Entered rows bounds words row Do → {a b : ℕ} → a ≡ numberAt rows row 1 → b ≡ numberAt rows row 2 → (n : ℕ) (s : List ℤ)
       → spend (performAt rows bounds row) n s ≡ spend (doAt rows bounds a b) n s

@@ -6,7 +6,7 @@ use native.Mathlib.Omega.{arith}
 use lib.IntN.{ℤ}
 use Rattle.language.specs.Trees.{Statement, Items, none, _here_, Mark, case, default, label}
 use Rattle.language.specs.Decode.{expressionAt, statementAt, itemsAt}
-use Rattle.language.specs.DecodeLaws.{listAt, partAt}
+use Rattle.language.specs.DecodeLaws.{listAt, partAt, part-some}
 use Rattle.translation.specs.Translate.{atomOf, taken, labels, itemsLabels, expressionLevels, partLevels, statementLevels, itemsLevels}
 use Rattle.translation.specs.TranslateSize.{expressionSize, partSize, testSize, statementSize, itemsSize, cases}
 use Rattle.measures.specs.Source.{Onward, OptionalOnward}
@@ -17,7 +17,7 @@ use Rattle.measures.specs.declared.Item.the-variants as item
 use Rattle.measures.specs.declared.StatementMeasures.{StatementMeasures}
 use Rattle.measures.specs.declared.ListMeasures.{ListMeasures}
 use Rattle.measures.specs.ShapeLaws.{optional}
-use Rattle.measures.specs.MeasureLaws.{part-some, part-rows, part-levels, list-rows, list-levels, list-labels, list-cases, list-default, body-rows, body-levels, body-labels}
+use Rattle.measures.specs.MeasureLaws.{part-rows, part-levels, list-rows, list-levels, list-labels, list-cases, list-default, body-rows, body-levels, body-labels}
 use Rattle.measures.proofs.Parts.{limited-max, limited-twice}
 
 small : (n : ℕ) → n ≤ 2 → n ≡ limited n

@@ -6,10 +6,10 @@ use native.Mathlib.Omega.{arith}
 use lib.IntN.{ℤ}
 use Rattle.language.specs.Trees.{Expression, constant, read, minus, not, binary, and, or, comma, conditional, assign, compound, prefix, postfix, Part, absent, present}
 use Rattle.language.specs.Decode.{placeOf, expressionAt}
-use Rattle.language.specs.DecodeLaws.{partAt}
+use Rattle.language.specs.DecodeLaws.{partAt, part-some}
 use Rattle.translation.specs.Translate.{Atom, number, top, atomOf, taken, expressionLevels, partLevels}
 use Rattle.translation.specs.TranslateSize.{indexRows, copyRows, ownRows, expressionSize, partSize}
-use Rattle.translation.specs.TranslateBounds.{copy-most, index-most}
+use Rattle.translation.specs.TranslateBounds.{copy-most, index-most, taken-most}
 use Rattle.measures.specs.Source.{Onward, OptionalOnward}
 use Rattle.measures.specs.Shapes.{placeTree, shapeTree, ShapeAt, PlaceAt}
 use Rattle.measures.specs.Operands.{indexOf, firstOperand, secondOperand, thirdOperand, fourthOperand, aboveFirst, ownLevels, plainAtom}
@@ -20,8 +20,7 @@ use Rattle.measures.specs.declared.PlaceShape.the-variants.{Variable, El
 use Rattle.measures.specs.declared.Shape.{Shape}
 use Rattle.measures.specs.declared.Shape.the-variants.{Number, Read, Minus, Not, Binary, And, Or, Comma, Conditional, Assign, Compound, Prefix, Postfix}
 use Rattle.measures.specs.declared.Operands.{Operands}
-use Rattle.measures.specs.ShapeLaws.{taken-most}
-use Rattle.measures.specs.MeasureLaws.{part-some, part-rows, part-levels, size-parts, levels-parts}
+use Rattle.measures.specs.MeasureLaws.{part-rows, part-levels, size-parts, levels-parts}
 
 -- ---- places
 

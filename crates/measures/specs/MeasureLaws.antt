@@ -95,11 +95,6 @@ module _ (rows : List ℤ) (table : List ℕ) where
     pub body-labels : (link : ℕ) → Onward rows row link → slotAt table link 5 ≡ limited (labels (statementAt rows link))
     body-labels link o = at-some table link 5 (omega (arith, o .later)) ∙ link-measured link m o .statement .labels-are
 
--- an expression that is there
-pub part-some : (rows : List ℤ) (link : ℕ) → 0 < link → partAt rows link ≡ present (expressionAt rows link)
-part-some rows zero h = absurd (omega arith)
-part-some rows (suc link) h = refl
-
 -- ---- an expression's measures, from those of its operands
 
 pub size-parts : (e : Expression) → expressionSize e ≡ partSize (firstOperand e) + partSize (secondOperand e) + partSize (thirdOperand e) + partSize (fourthOperand e) + ownRows e

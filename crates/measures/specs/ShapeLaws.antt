@@ -6,7 +6,6 @@ use native.Mathlib.Omega.{arith}
 use lib.IntN.{ℤ}
 use Rattle.language.specs.Trees.{Statement}
 use Rattle.language.specs.Decode.{statementAt}
-use Rattle.translation.specs.Translate.{Atom, number, top, taken}
 use Rattle.measures.specs.Source.{Onward, OptionalOnward}
 use Rattle.measures.specs.Shapes.{lineTree, ShapeAt, PlaceAt, LineAt, ItemAt}
 use Rattle.measures.specs.declared.PlaceShape.{PlaceShape}
@@ -36,8 +35,3 @@ by-line f l e = e ∙ sym (ap f (l .is))
 
 pub optional : {rows : List ℤ} {row link : ℕ} → Onward rows row link → OptionalOnward rows row link
 optional o h = o
-
--- an atom takes a temporary or none
-pub taken-most : (held : Atom) → taken held ≤ 1
-taken-most (number v) = omega arith
-taken-most top = omega arith

@@ -13,7 +13,7 @@ pub copy-most : (h : Atom) → copyRows h ≤ 4
 copy-most (number v) = omega arith
 copy-most top = omega arith
 
-taken-most : (h : Atom) → taken h ≤ 1
+pub taken-most : (h : Atom) → taken h ≤ 1
 taken-most (number v) = omega arith
 taken-most top = omega arith
 

@@ -253,10 +253,6 @@ unfolding labels
 if-labels rows zero e s = omega arith
 if-labels rows (suc onFalse) e s = refl
 
-pub taken-most : (h : Atom) → taken h ≤ 1
-taken-most (constantAtom v) = omega arith
-taken-most top = omega arith
-
 -- ---- the three loops are one
 
 abbrev pub whileLoop : ℕ → ℕ → Loop

@@ -5,7 +5,7 @@ use native.Mathlib.Omega.{arith}
 use Rattle.language.specs.Trees.{Expression, Place, assign, express, none, _then_}
 use Rattle.language.specs.Decode.{placeOf, expressionAt}
 use Rattle.translation.specs.Translate.{atomOf, kernelPlace}
-use Rattle.measures.specs.ShapeLaws.{taken-most}
+use Rattle.translation.specs.TranslateBounds.{taken-most}
 use Rattle.measures.specs.MeasureLaws.{whole-asks}
 use Rattle.leaves.specs.Chain.{room-less}
 use Rattle.leaves.specs.LeafLaws.{recoded}

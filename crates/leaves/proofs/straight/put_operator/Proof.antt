@@ -5,7 +5,7 @@ use native.Mathlib.Omega.{arith}
 use Rattle.language.specs.Trees.{Expression, binary, assign, variable, express, none, _then_}
 use Rattle.language.specs.Decode.{expressionAt}
 use Rattle.translation.specs.Translate.{atomOf, atom}
-use Rattle.measures.specs.ShapeLaws.{taken-most}
+use Rattle.translation.specs.TranslateBounds.{taken-most}
 use Rattle.measures.specs.MeasureLaws.{whole-asks}
 use Rattle.leaves.specs.LeafLaws.{recoded}
 use borrow.Author.Needs.{needs}

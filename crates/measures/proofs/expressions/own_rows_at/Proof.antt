@@ -6,7 +6,8 @@ use Rattle.translation.specs.Translate.{atomOf}
 use Rattle.translation.specs.TranslateSize.{indexRows, ownRows}
 use Rattle.measures.specs.MeasureLaws.{link-asks}
 use Rattle.measures.proofs.Parts.{place-rows, copy-taken}
-use Rattle.measures.specs.ShapeLaws.{found, taken-most}
+use Rattle.translation.specs.TranslateBounds.{taken-most}
+use Rattle.measures.specs.ShapeLaws.{found}
 use borrow.Author.Needs.{needs}
 use Rattle.measures.proofs.expressions.own_rows_at.Statement.{statement}
 use Rattle.measures.proofs.expressions.own_rows_at.Tie as tie

@@ -5,7 +5,8 @@ use Rattle.language.specs.Decode.{expressionAt}
 use Rattle.translation.specs.Translate.{atomOf}
 use Rattle.measures.specs.Operands.{updateOwn}
 use Rattle.measures.specs.MeasureLaws.{link-asks}
-use Rattle.measures.specs.ShapeLaws.{placed, taken-most}
+use Rattle.translation.specs.TranslateBounds.{taken-most}
+use Rattle.measures.specs.ShapeLaws.{placed}
 use borrow.Author.Needs.{needs}
 use Rattle.measures.proofs.expressions.update_levels.Statement.{statement}
 use Rattle.measures.proofs.expressions.update_levels.Tie as tie

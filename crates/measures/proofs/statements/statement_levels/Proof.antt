@@ -7,7 +7,8 @@ use Rattle.translation.specs.Translate.{atomOf, statementLevels}
 use Rattle.measures.specs.Measures.{limited}
 use Rattle.measures.specs.MeasureLaws.{slot-asks, link-asks}
 use Rattle.measures.proofs.LineLaws.{levels-express, levels-block, levels-if, levels-while, levels-do, levels-for, levels-switch}
-use Rattle.measures.specs.ShapeLaws.{taken-most, lined, by-line, optional}
+use Rattle.translation.specs.TranslateBounds.{taken-most}
+use Rattle.measures.specs.ShapeLaws.{lined, by-line, optional}
 use borrow.Author.Needs.{needs}
 use Rattle.measures.proofs.statements.statement_levels.Statement.{statement}
 use Rattle.measures.proofs.statements.statement_levels.Tie as tie

@@ -9,7 +9,8 @@ use Rattle.writers.specs.Code.{exitsOf}
 use Rattle.leaves.specs.Chain.{Reach, back-in, room-less}
 use Rattle.writers.proofs.Sequence.{back-length, room-behind}
 use Rattle.writers.proofs.Tables.{default-low}
-use Rattle.writers.proofs.StatementLaws.{part-size, taken-most, switch-done}
+use Rattle.translation.specs.TranslateBounds.{taken-most}
+use Rattle.writers.proofs.StatementLaws.{part-size, switch-done}
 use Rattle.writers.proofs.switches.write_switch.Reads as reads
 use Rattle.writers.proofs.+conditionals-write_body+conditionals-write_if+loops-write_loop+loops-write_round+statements-write_block+statements-write_item+statements-write_list+statements-write_statement+switches-write_switch.Lts-switches-write_switch as lts
 use Rattle.writers.proofs.+conditionals-write_body+conditionals-write_if+loops-write_loop+loops-write_round+statements-write_block+statements-write_item+statements-write_list+statements-write_statement+switches-write_switch.Proof.Claims.{write-switch-claims, write-switch-at}

@@ -1,6 +1,6 @@
 // Writers: the code that writes the rows of a translation. The output table's part from the free row is lent on to each construct's
 // writer; the table of measures says beforehand how many rows each takes.
-pub mod conditionals; // conditionals.rt: the writers of an if and of its branches
+pub mod ifs; // ifs.rt: the writers of an if and of its branches
 pub mod lists; // lists.rt: what statements, items and lists take, by the table of measures
 pub mod loops; // loops.rt: the writers of loops and of their parts
 pub mod program; // program.rt: the writer of a program

@@ -1,7 +1,7 @@
 // The writers of statements, blocks and lists.
 use super::Exits;
 use super::Loop;
-use super::conditionals::write_if;
+use super::ifs::write_if;
 use super::lists::item_labels;
 use super::lists::item_size;
 use super::lists::list_size;

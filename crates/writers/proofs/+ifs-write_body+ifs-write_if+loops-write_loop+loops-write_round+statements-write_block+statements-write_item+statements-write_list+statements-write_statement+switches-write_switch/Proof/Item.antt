@@ -12,8 +12,8 @@ use Rattle.writers.specs.Items.{itemCode}
 use Rattle.writers.specs.Code.{exitsOf}
 use Rattle.writers.proofs.ListLaws.{item-is}
 use Rattle.writers.proofs.statements.write_item.Reads as reads
-use Rattle.writers.proofs.+conditionals-write_body+conditionals-write_if+loops-write_loop+loops-write_round+statements-write_block+statements-write_item+statements-write_list+statements-write_statement+switches-write_switch.Lts-statements-write_item as lts
-use Rattle.writers.proofs.+conditionals-write_body+conditionals-write_if+loops-write_loop+loops-write_round+statements-write_block+statements-write_item+statements-write_list+statements-write_statement+switches-write_switch.Proof.Claims.{write-item-claims, write-item-at}
+use Rattle.writers.proofs.+ifs-write_body+ifs-write_if+loops-write_loop+loops-write_round+statements-write_block+statements-write_item+statements-write_list+statements-write_statement+switches-write_switch.Lts-statements-write_item as lts
+use Rattle.writers.proofs.+ifs-write_body+ifs-write_if+loops-write_loop+loops-write_round+statements-write_block+statements-write_item+statements-write_list+statements-write_statement+switches-write_switch.Proof.Claims.{write-item-claims, write-item-at}
 
 pub item-at-requires : (t : ℕ) → lts.Need-item-at-requires (write-item-claims t) (write-item-at t) reads.Post
 item-at-requires t c κs =

@@ -17,8 +17,8 @@ use Rattle.leaves.specs.Chain.{room-less}
 use Rattle.writers.proofs.ListLaws.{above-less, optional-inside}
 use Rattle.writers.proofs.StatementLaws.{line-done, if-size, if-labels, while-size, do-size, for-size, while-code, do-code, for-code}
 use Rattle.writers.proofs.statements.write_statement.Reads as reads
-use Rattle.writers.proofs.+conditionals-write_body+conditionals-write_if+loops-write_loop+loops-write_round+statements-write_block+statements-write_item+statements-write_list+statements-write_statement+switches-write_switch.Lts-statements-write_statement as lts
-use Rattle.writers.proofs.+conditionals-write_body+conditionals-write_if+loops-write_loop+loops-write_round+statements-write_block+statements-write_item+statements-write_list+statements-write_statement+switches-write_switch.Proof.Claims.{write-statement-claims, write-statement-at}
+use Rattle.writers.proofs.+ifs-write_body+ifs-write_if+loops-write_loop+loops-write_round+statements-write_block+statements-write_item+statements-write_list+statements-write_statement+switches-write_switch.Lts-statements-write_statement as lts
+use Rattle.writers.proofs.+ifs-write_body+ifs-write_if+loops-write_loop+loops-write_round+statements-write_block+statements-write_item+statements-write_list+statements-write_statement+switches-write_switch.Proof.Claims.{write-statement-claims, write-statement-at}
 
 pub line-at-requires : (t : ℕ) → lts.Need-line-at-requires (write-statement-claims t) (write-statement-at t) reads.Post
 line-at-requires t c κs =

@@ -1,35 +1,35 @@
 -- The writers of statements and lists meet their contracts: what stands in the table is the emission of the code of the tree at the
 -- row. Each need is a law of the construct and what the calls left. A file for each member.
-use Rattle.writers.proofs.+conditionals-write_body+conditionals-write_if+loops-write_loop+loops-write_round+statements-write_block+statements-write_item+statements-write_list+statements-write_statement+switches-write_switch.{statement}
-use Rattle.writers.proofs.+conditionals-write_body+conditionals-write_if+loops-write_loop+loops-write_round+statements-write_block+statements-write_item+statements-write_list+statements-write_statement+switches-write_switch.Tie.{close}
+use Rattle.writers.proofs.+ifs-write_body+ifs-write_if+loops-write_loop+loops-write_round+statements-write_block+statements-write_item+statements-write_list+statements-write_statement+switches-write_switch.{statement}
+use Rattle.writers.proofs.+ifs-write_body+ifs-write_if+loops-write_loop+loops-write_round+statements-write_block+statements-write_item+statements-write_list+statements-write_statement+switches-write_switch.Tie.{close}
 use Rattle.writers.proofs.statements.write_block.Reads as write-block-reads
-use Rattle.writers.proofs.+conditionals-write_body+conditionals-write_if+loops-write_loop+loops-write_round+statements-write_block+statements-write_item+statements-write_list+statements-write_statement+switches-write_switch.Lts-statements-write_block as write-block-lts
-use Rattle.writers.proofs.+conditionals-write_body+conditionals-write_if+loops-write_loop+loops-write_round+statements-write_block+statements-write_item+statements-write_list+statements-write_statement+switches-write_switch.Proof.Block as write-block
-use Rattle.writers.proofs.conditionals.write_body.Reads as write-body-reads
-use Rattle.writers.proofs.+conditionals-write_body+conditionals-write_if+loops-write_loop+loops-write_round+statements-write_block+statements-write_item+statements-write_list+statements-write_statement+switches-write_switch.Lts-conditionals-write_body as write-body-lts
-use Rattle.writers.proofs.+conditionals-write_body+conditionals-write_if+loops-write_loop+loops-write_round+statements-write_block+statements-write_item+statements-write_list+statements-write_statement+switches-write_switch.Proof.Body as write-body
-use Rattle.writers.proofs.conditionals.write_if.Reads as write-if-reads
-use Rattle.writers.proofs.+conditionals-write_body+conditionals-write_if+loops-write_loop+loops-write_round+statements-write_block+statements-write_item+statements-write_list+statements-write_statement+switches-write_switch.Lts-conditionals-write_if as write-if-lts
-use Rattle.writers.proofs.+conditionals-write_body+conditionals-write_if+loops-write_loop+loops-write_round+statements-write_block+statements-write_item+statements-write_list+statements-write_statement+switches-write_switch.Proof.If as write-if
+use Rattle.writers.proofs.+ifs-write_body+ifs-write_if+loops-write_loop+loops-write_round+statements-write_block+statements-write_item+statements-write_list+statements-write_statement+switches-write_switch.Lts-statements-write_block as write-block-lts
+use Rattle.writers.proofs.+ifs-write_body+ifs-write_if+loops-write_loop+loops-write_round+statements-write_block+statements-write_item+statements-write_list+statements-write_statement+switches-write_switch.Proof.Block as write-block
+use Rattle.writers.proofs.ifs.write_body.Reads as write-body-reads
+use Rattle.writers.proofs.+ifs-write_body+ifs-write_if+loops-write_loop+loops-write_round+statements-write_block+statements-write_item+statements-write_list+statements-write_statement+switches-write_switch.Lts-ifs-write_body as write-body-lts
+use Rattle.writers.proofs.+ifs-write_body+ifs-write_if+loops-write_loop+loops-write_round+statements-write_block+statements-write_item+statements-write_list+statements-write_statement+switches-write_switch.Proof.Body as write-body
+use Rattle.writers.proofs.ifs.write_if.Reads as write-if-reads
+use Rattle.writers.proofs.+ifs-write_body+ifs-write_if+loops-write_loop+loops-write_round+statements-write_block+statements-write_item+statements-write_list+statements-write_statement+switches-write_switch.Lts-ifs-write_if as write-if-lts
+use Rattle.writers.proofs.+ifs-write_body+ifs-write_if+loops-write_loop+loops-write_round+statements-write_block+statements-write_item+statements-write_list+statements-write_statement+switches-write_switch.Proof.If as write-if
 use Rattle.writers.proofs.statements.write_item.Reads as write-item-reads
-use Rattle.writers.proofs.+conditionals-write_body+conditionals-write_if+loops-write_loop+loops-write_round+statements-write_block+statements-write_item+statements-write_list+statements-write_statement+switches-write_switch.Lts-statements-write_item as write-item-lts
-use Rattle.writers.proofs.+conditionals-write_body+conditionals-write_if+loops-write_loop+loops-write_round+statements-write_block+statements-write_item+statements-write_list+statements-write_statement+switches-write_switch.Proof.Item as write-item
+use Rattle.writers.proofs.+ifs-write_body+ifs-write_if+loops-write_loop+loops-write_round+statements-write_block+statements-write_item+statements-write_list+statements-write_statement+switches-write_switch.Lts-statements-write_item as write-item-lts
+use Rattle.writers.proofs.+ifs-write_body+ifs-write_if+loops-write_loop+loops-write_round+statements-write_block+statements-write_item+statements-write_list+statements-write_statement+switches-write_switch.Proof.Item as write-item
 use Rattle.writers.proofs.statements.write_list.Reads as write-list-reads
-use Rattle.writers.proofs.+conditionals-write_body+conditionals-write_if+loops-write_loop+loops-write_round+statements-write_block+statements-write_item+statements-write_list+statements-write_statement+switches-write_switch.Lts-statements-write_list as write-list-lts
-use Rattle.writers.proofs.+conditionals-write_body+conditionals-write_if+loops-write_loop+loops-write_round+statements-write_block+statements-write_item+statements-write_list+statements-write_statement+switches-write_switch.Proof.List as write-list
+use Rattle.writers.proofs.+ifs-write_body+ifs-write_if+loops-write_loop+loops-write_round+statements-write_block+statements-write_item+statements-write_list+statements-write_statement+switches-write_switch.Lts-statements-write_list as write-list-lts
+use Rattle.writers.proofs.+ifs-write_body+ifs-write_if+loops-write_loop+loops-write_round+statements-write_block+statements-write_item+statements-write_list+statements-write_statement+switches-write_switch.Proof.List as write-list
 use Rattle.writers.proofs.loops.write_loop.Reads as write-loop-reads
-use Rattle.writers.proofs.+conditionals-write_body+conditionals-write_if+loops-write_loop+loops-write_round+statements-write_block+statements-write_item+statements-write_list+statements-write_statement+switches-write_switch.Lts-loops-write_loop as write-loop-lts
-use Rattle.writers.proofs.+conditionals-write_body+conditionals-write_if+loops-write_loop+loops-write_round+statements-write_block+statements-write_item+statements-write_list+statements-write_statement+switches-write_switch.Proof.Loop as write-loop
+use Rattle.writers.proofs.+ifs-write_body+ifs-write_if+loops-write_loop+loops-write_round+statements-write_block+statements-write_item+statements-write_list+statements-write_statement+switches-write_switch.Lts-loops-write_loop as write-loop-lts
+use Rattle.writers.proofs.+ifs-write_body+ifs-write_if+loops-write_loop+loops-write_round+statements-write_block+statements-write_item+statements-write_list+statements-write_statement+switches-write_switch.Proof.Loop as write-loop
 use Rattle.writers.proofs.loops.write_round.Reads as write-round-reads
-use Rattle.writers.proofs.+conditionals-write_body+conditionals-write_if+loops-write_loop+loops-write_round+statements-write_block+statements-write_item+statements-write_list+statements-write_statement+switches-write_switch.Lts-loops-write_round as write-round-lts
-use Rattle.writers.proofs.+conditionals-write_body+conditionals-write_if+loops-write_loop+loops-write_round+statements-write_block+statements-write_item+statements-write_list+statements-write_statement+switches-write_switch.Proof.Round as write-round
+use Rattle.writers.proofs.+ifs-write_body+ifs-write_if+loops-write_loop+loops-write_round+statements-write_block+statements-write_item+statements-write_list+statements-write_statement+switches-write_switch.Lts-loops-write_round as write-round-lts
+use Rattle.writers.proofs.+ifs-write_body+ifs-write_if+loops-write_loop+loops-write_round+statements-write_block+statements-write_item+statements-write_list+statements-write_statement+switches-write_switch.Proof.Round as write-round
 use Rattle.writers.proofs.statements.write_statement.Reads as write-statement-reads
-use Rattle.writers.proofs.+conditionals-write_body+conditionals-write_if+loops-write_loop+loops-write_round+statements-write_block+statements-write_item+statements-write_list+statements-write_statement+switches-write_switch.Lts-statements-write_statement as write-statement-lts
-use Rattle.writers.proofs.+conditionals-write_body+conditionals-write_if+loops-write_loop+loops-write_round+statements-write_block+statements-write_item+statements-write_list+statements-write_statement+switches-write_switch.Proof.Statement as write-statement
+use Rattle.writers.proofs.+ifs-write_body+ifs-write_if+loops-write_loop+loops-write_round+statements-write_block+statements-write_item+statements-write_list+statements-write_statement+switches-write_switch.Lts-statements-write_statement as write-statement-lts
+use Rattle.writers.proofs.+ifs-write_body+ifs-write_if+loops-write_loop+loops-write_round+statements-write_block+statements-write_item+statements-write_list+statements-write_statement+switches-write_switch.Proof.Statement as write-statement
 use Rattle.writers.proofs.switches.write_switch.Reads as write-switch-reads
-use Rattle.writers.proofs.+conditionals-write_body+conditionals-write_if+loops-write_loop+loops-write_round+statements-write_block+statements-write_item+statements-write_list+statements-write_statement+switches-write_switch.Lts-switches-write_switch as write-switch-lts
-use Rattle.writers.proofs.+conditionals-write_body+conditionals-write_if+loops-write_loop+loops-write_round+statements-write_block+statements-write_item+statements-write_list+statements-write_statement+switches-write_switch.Proof.Switch as write-switch
-use Rattle.writers.proofs.+conditionals-write_body+conditionals-write_if+loops-write_loop+loops-write_round+statements-write_block+statements-write_item+statements-write_list+statements-write_statement+switches-write_switch.Proof.Claims.{μ-write-block, μ-write-body, μ-write-if, μ-write-item, μ-write-list, μ-write-loop, μ-write-round, μ-write-statement, μ-write-switch, write-block-claims, write-block-at, write-body-claims, write-body-at, write-if-claims, write-if-at, write-item-claims, write-item-at, write-list-claims, write-list-at, write-loop-claims, write-loop-at, write-round-claims, write-round-at, write-statement-claims, write-statement-at, write-switch-claims, write-switch-at}
+use Rattle.writers.proofs.+ifs-write_body+ifs-write_if+loops-write_loop+loops-write_round+statements-write_block+statements-write_item+statements-write_list+statements-write_statement+switches-write_switch.Lts-switches-write_switch as write-switch-lts
+use Rattle.writers.proofs.+ifs-write_body+ifs-write_if+loops-write_loop+loops-write_round+statements-write_block+statements-write_item+statements-write_list+statements-write_statement+switches-write_switch.Proof.Switch as write-switch
+use Rattle.writers.proofs.+ifs-write_body+ifs-write_if+loops-write_loop+loops-write_round+statements-write_block+statements-write_item+statements-write_list+statements-write_statement+switches-write_switch.Proof.Claims.{μ-write-block, μ-write-body, μ-write-if, μ-write-item, μ-write-list, μ-write-loop, μ-write-round, μ-write-statement, μ-write-switch, write-block-claims, write-block-at, write-body-claims, write-body-at, write-if-claims, write-if-at, write-item-claims, write-item-at, write-list-claims, write-list-at, write-loop-claims, write-loop-at, write-round-claims, write-round-at, write-statement-claims, write-statement-at, write-switch-claims, write-switch-at}
 pub mod Claims
 pub mod Block
 pub mod Body
@@ -41,8 +41,8 @@ pub mod Round
 pub mod Statement
 pub mod Switch
 
-pub +conditionals·write-body+conditionals·write-if+loops·write-loop+loops·write-round+statements·write-block+statements·write-item+statements·write-list+statements·write-statement+switches·write-switch-spec : {M : Type 1} → statement M
-+conditionals·write-body+conditionals·write-if+loops·write-loop+loops·write-round+statements·write-block+statements·write-item+statements·write-list+statements·write-statement+switches·write-switch-spec =
+pub +ifs·write-body+ifs·write-if+loops·write-loop+loops·write-round+statements·write-block+statements·write-item+statements·write-list+statements·write-statement+switches·write-switch-spec : {M : Type 1} → statement M
++ifs·write-body+ifs·write-if+loops·write-loop+loops·write-round+statements·write-block+statements·write-item+statements·write-list+statements·write-statement+switches·write-switch-spec =
     close μ-write-body μ-write-if μ-write-loop μ-write-round μ-write-block μ-write-item μ-write-list μ-write-statement μ-write-switch
     (λ t. write-body-lts.spec (write-body-claims t) (write-body-at t) write-body-reads.Post (write-body.put-block-requires t) (write-body.same-length t) (write-body.returns t) (write-body.add-put-block t) (write-body.put-block-requires-2 t) (write-body.add-write-statement t) (write-body.sub-write-statement t) (write-body.part-write-statement-start t) (write-body.part-write-statement-end t) (write-body.write-statement-requires t) (write-body.same-length-2 t) (write-body.returns-2 t))
     (λ t. write-if-lts.spec (write-if-claims t) (write-if-at t) write-if-reads.Post (write-if.operand-size-requires t) (write-if.add-n t) (write-if.add-m t) (write-if.statement-size-requires t) (write-if.add-m-2 t) (write-if.add-end t) (write-if.body-size-requires t) (write-if.add-end-2 t) (write-if.atom-at-requires t) (write-if.statement-labels-requires t) (write-if.add-other t) (write-if.write-expression-requires t) (write-if.add-put-if t) (write-if.add-put-if-2 t) (write-if.add-behind t) (write-if.behind-requires t) (write-if.mul-put-if t) (write-if.mul-put-if-2 t) (write-if.sub-put-if t) (write-if.part-put-if-start t) (write-if.part-put-if-end t) (write-if.put-if-requires t) (write-if.add-write-body t) (write-if.mul-write-body t) (write-if.mul-write-body-2 t) (write-if.sub-write-body t) (write-if.part-write-body-start t) (write-if.part-write-body-end t) (write-if.write-body-requires t) (write-if.add-write-body-2 t) (write-if.mul-write-body-3 t) (write-if.mul-write-body-4 t) (write-if.sub-write-body-2 t) (write-if.part-write-body-start-2 t) (write-if.part-write-body-end-2 t) (write-if.write-body-requires-2 t) (write-if.same-length t) (write-if.returns t))

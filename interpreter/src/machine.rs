@@ -318,8 +318,8 @@ fn operate(kind: i32, left: i32, right: i32) -> Result<i32, Stop> {
         DIVIDE if right == 0 => Err(Stop::Fault(Fault::Zero)),
         DIVIDE => left.checked_div(right).ok_or(OVERFLOW),
         REMAINDER if right == 0 => Err(Stop::Fault(Fault::Zero)),
-        // A remainder by -1 is 0 for every dividend.
-        REMAINDER => Ok(left.wrapping_rem(right)),
+        // As the division: least % -1 overflows.
+        REMAINDER => left.checked_rem(right).ok_or(OVERFLOW),
         LESS => Ok((left < right) as i32),
         GREATER => Ok((left > right) as i32),
         LESS_EQUAL => Ok((left <= right) as i32),

@@ -5,7 +5,7 @@ use Rattle.words.specs.Word.{isWord, sameWord, natural}
 use Rattle.words.specs.Table.{wordAt, numberAt}
 use Rattle.words.specs.Kinds.{kinds, kindIn, kindOf, kindAt}
 use Rattle.words.specs.Layout.{layoutOf, sum, arrayLength, arrayBase}
-use Rattle.words.specs.Arithmetic.{inWord, isTrue, bit, truth, logicalNot, minus, dividing, apply, element}
+use Rattle.words.specs.Arithmetic.{inWord, isTrue, bit, truth, logicalNot, minus, dividing, remainderBy, apply, element}
 use Rattle.words.specs.declared.Form.the-variants.{Source}
 use Rattle.computation.specs.Run.{run}
 use Rattle.language.specs.Trees.{sameMark, has}
@@ -23,5 +23,5 @@ abbrev pub expected : Rule → Finished
 expected rule = rule .comes-to
 
 pub rules-hold : map runs table ≡ map expected table
-unfolding isWord sameWord natural wordAt numberAt kinds kindIn kindOf kindAt layoutOf sum arrayLength arrayBase inWord isTrue bit truth logicalNot minus dividing apply element run sameMark has expressionOf expressionBy expressionAt statementOf itemsOf treesOf treesBy statementAt itemsAt decode evaluate perform programOf runUnder runProgram
+unfolding isWord sameWord natural wordAt numberAt kinds kindIn kindOf kindAt layoutOf sum arrayLength arrayBase inWord isTrue bit truth logicalNot minus dividing remainderBy apply element run sameMark has expressionOf expressionBy expressionAt statementOf itemsOf treesOf treesBy statementAt itemsAt decode evaluate perform programOf runUnder runProgram
 rules-hold = refl

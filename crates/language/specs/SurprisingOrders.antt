@@ -229,7 +229,69 @@ remainder-by-minus-one = record {
       ++ constant (negsuc 0);
   store = pos 4 ∷ [];
   budget = 100;
+  comes-to = record { ending = Fault Overflow; count = 6; store = pos 4 ∷ [] };
+}
+
+-- v0 = -2147483647 % -1;
+abbrev pub remainder-of-least-but-one : Rule
+remainder-of-least-but-one = record {
+  header = pos 1 ∷ [];
+  rows = row 42 1 0 0 0 0
+      ++ row 41 2 0 0 0 0
+      ++ row 21 3 4 0 0 0
+      ++ row 2 0 0 0 0 0
+      ++ row 10 5 6 0 0 0
+      ++ constant (negsuc 2147483646)
+      ++ constant (negsuc 0);
+  store = pos 4 ∷ [];
+  budget = 100;
   comes-to = record { ending = Plain; count = 7; store = pos 0 ∷ [] };
+}
+
+-- v0 = -2147483648 % 1;
+abbrev pub remainder-of-least-by-one : Rule
+remainder-of-least-by-one = record {
+  header = pos 1 ∷ [];
+  rows = row 42 1 0 0 0 0
+      ++ row 41 2 0 0 0 0
+      ++ row 21 3 4 0 0 0
+      ++ row 2 0 0 0 0 0
+      ++ row 10 5 6 0 0 0
+      ++ constant (negsuc 2147483647)
+      ++ constant (pos 1);
+  store = pos 4 ∷ [];
+  budget = 100;
+  comes-to = record { ending = Plain; count = 7; store = pos 0 ∷ [] };
+}
+
+-- v0 = -2147483648: v0 %= -1;
+abbrev pub remainder-assigned-by-minus-one : Rule
+remainder-assigned-by-minus-one = record {
+  header = pos 1 ∷ [];
+  rows = row 42 1 0 0 0 0
+      ++ row 41 2 0 0 0 0
+      ++ row 26 3 4 0 0 0
+      ++ row 2 0 0 0 0 0
+      ++ constant (negsuc 0);
+  store = negsuc 2147483647 ∷ [];
+  budget = 100;
+  comes-to = record { ending = Fault Overflow; count = 5; store = negsuc 2147483647 ∷ [] };
+}
+
+-- a[0] = -2147483648: a[v0++] %= -1;
+abbrev pub element-remainder-by-minus-one : Rule
+element-remainder-by-minus-one = record {
+  header = pos 1 ∷ pos 2 ∷ [];
+  rows = row 42 1 0 0 0 0
+      ++ row 41 2 0 0 0 0
+      ++ row 26 3 6 0 0 0
+      ++ row 3 0 4 0 0 0
+      ++ row 29 5 0 0 0 0
+      ++ row 2 0 0 0 0 0
+      ++ constant (negsuc 0);
+  store = pos 0 ∷ negsuc 2147483647 ∷ pos 5 ∷ [];
+  budget = 100;
+  comes-to = record { ending = Fault Overflow; count = 7; store = pos 1 ∷ negsuc 2147483647 ∷ pos 5 ∷ [] };
 }
 
 -- v0 = 1; v1 = v0++ / 0;

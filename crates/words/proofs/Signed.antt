@@ -1,8 +1,8 @@
 -- Signed words as the code tests them: bits, casts, 64-bit results, quotients, remainders and comparisons. Assumes nothing.
 use mathlib.Core.Path.{_≡_, refl, sym, ap, ap₂, _∙_}
-use mathlib.Core.Bool.{Bool, true, false, not, cond}
+use mathlib.Core.Bool.{Bool, true, false, not, cond, false≢true}
 use Prim.Native.Nat.{ℕ, zero, suc, _+_, _-_, _*_, _^_, _/_, _<_, _≤_}
-use native.Mathlib.Nat.{div-le-self, div-lt-self, mul-le-mul, mod-one}
+use native.Mathlib.Nat.{div-le-self, div-lt-self, mul-le-mul}
 use native.Mathlib.Omega.{arith}
 use lib.Dec.{T, ltb, eqb, eqb·suc-zero}
 use lib.IntN.{ℤ, pos, negsuc, natAbs, negℤ, _+ℤ_, _-ℤ_, _*ℤ_, +ℤ-idl}
@@ -10,9 +10,9 @@ use lib.Signed.{mag, ltZ, nonNeg, quotZ, remZ, mag-rem}
 use mir.Syntax.{w32, w64}
 use mir.Val.{SFits, Fits, toZ, ofZ}
 use mir.Facts.{toZ-ofZ, fits-natAbs, sfits-widen}
-use borrow.Author.Tests.{ltb-true, eq-eqb, ne-eqb}
+use borrow.Author.Tests.{lt-ltb, ltb-true, eqb-true, eq-eqb, ne-eqb, not-true, not-false}
 use Rattle.words.specs.Word.{isWord, sameWord, natural}
-use Rattle.words.specs.Arithmetic.{Outcome, value, fault, inWord, isTrue, bit, minus, dividing, apply}
+use Rattle.words.specs.Arithmetic.{Outcome, value, fault, inWord, isTrue, bit, minus, dividing, remainderBy, apply}
 use Rattle.words.specs.Laws.{back, sameWord-bits, below-least-word, above-greatest-word, between-words, inWord-fits, inWord-overflows}
 use Rattle.words.specs.declared.FaultSort.the-variants.{Overflow, ZeroDivisor}
 use Rattle.words.specs.declared.Operator.the-variants.{Divide, Remainder}
@@ -189,11 +189,27 @@ divisor : {y : ℤ} (q : Outcome ℤ) → SFits w32 y → (ofZ w32 y ≡ 0 → �
 unfolding dividing
 divisor q h n = rw (← true-bits h, ne-eqb _ _ n)
 
-remainder-one : (x : ℤ) → remZ x (negsuc 0) ≡ pos 0
-remainder-one (pos a) = ap pos (mod-one a)
-remainder-one (negsuc a) = ap (λ (k : ℕ). negℤ (pos k)) (mod-one (suc a))
-
 module _ {x y : ℤ} (h : SFits w32 x) (k : SFits w32 y) where
+  quotient-is-word : (ofZ w32 x ≡ 2147483648 → ofZ w32 y ≡ 4294967295 → ⊥) → false ≡ not (isWord (quotZ x y))
+  unfolding isWord
+  quotient-is-word m = rw (lt-ltb (mag (quotZ x y)) (2 ^ 31) (quotient-word x y (h .sfits) (λ e g. m (ap (ofZ w32) e) (ap (ofZ w32) g))))
+
+  -- the test of the quotient: where the left operand is the least word, and where it is not
+  pub overflows-by-minus-one : ofZ w32 x ≡ 2147483648 → eqb (ofZ w32 y) 4294967295 ≡ not (isWord (quotZ x y))
+  unfolding isWord
+  overflows-by-minus-one e = go (eqb (ofZ w32 y) 4294967295) refl
+    where
+      go : (t : Bool) → eqb (ofZ w32 y) 4294967295 ≡ t → t ≡ not (isWord (quotZ x y))
+      go true t = rw (of-bits x 2147483648 h e, of-bits y 4294967295 k (eqb-true (ofZ w32 y) 4294967295 t))
+      go false t = quotient-is-word (λ _ g. false≢true (sym t ∙ eq-eqb (ofZ w32 y) 4294967295 g))
+
+  pub overflows-not : (ofZ w32 x ≡ 2147483648 → ⊥) → false ≡ not (isWord (quotZ x y))
+  overflows-not n = quotient-is-word (λ e _. n e)
+
+  -- what the test told, of operands handed on to it
+  pub quotient-told : {result test : Bool} → result ≡ not (isWord (quotZ (again x) (again y))) → result ≡ test → not (isWord (quotZ x y)) ≡ test
+  quotient-told e t = rw (toZ-ofZ {z = x} h, toZ-ofZ {z = y} k) at (sym e ∙ t)
+
   pub divide-zero : ofZ w32 y ≡ 0 → fault ZeroDivisor ≡ apply Divide x y
   unfolding apply
   divide-zero = zero-divisor _ k
@@ -202,24 +218,19 @@ module _ {x y : ℤ} (h : SFits w32 x) (k : SFits w32 y) where
   unfolding apply
   remainder-zero = zero-divisor _ k
 
-  pub divide-least : ofZ w32 x ≡ 2147483648 → ofZ w32 y ≡ 4294967295 → fault Overflow ≡ apply Divide x y
-  unfolding apply dividing isTrue inWord isWord
-  divide-least e g = rw (of-bits x 2147483648 h e, of-bits y 4294967295 k g)
-
-  pub remainder-minus-one : ofZ w32 y ≡ 4294967295 → value (pos 0) ≡ apply Remainder x y
-  unfolding apply dividing isTrue
-  remainder-minus-one e = rw (of-bits y 4294967295 k e, remainder-one x)
-
   module _ (n : ofZ w32 y ≡ 0 → ⊥) where
-    pub remainder-is : value (again (remZ (again x) (again y))) ≡ apply Remainder x y
-    unfolding apply
-    remainder-is =
-        rw (toZ-ofZ {z = x} h, toZ-ofZ {z = y} k)
-        (ap value (toZ-ofZ (record { sfits = omega (arith, mag-rem x y, h .sfits) })) ∙ sym (divisor _ k n))
+    pub divide-overflows : not (isWord (quotZ x y)) ≡ true → fault Overflow ≡ apply Divide x y
+    unfolding apply inWord
+    divide-overflows t = rw (divisor (inWord (quotZ x y)) k n, not-true (isWord (quotZ x y)) t)
 
-    module _ (m : ofZ w32 x ≡ 2147483648 → ofZ w32 y ≡ 4294967295 → ⊥) where
+    pub remainder-overflows : not (isWord (quotZ x y)) ≡ true → fault Overflow ≡ apply Remainder x y
+    unfolding apply remainderBy
+    remainder-overflows t = rw (divisor (remainderBy x y) k n, not-true (isWord (quotZ x y)) t)
+
+    module _ (t : not (isWord (quotZ x y)) ≡ false) where
       quotient-fits : SFits w32 (quotZ x y)
-      quotient-fits = record { sfits = quotient-word x y (h .sfits) (λ e g. m (ap (ofZ w32) e) (ap (ofZ w32) g)) }
+      unfolding isWord
+      quotient-fits = record { sfits = ltb-true (mag (quotZ x y)) (2 ^ 31) (not-false _ t) }
 
       -- what the code asks at a quotient and at a remainder
       pub divide-fits : (0 < ofZ w32 y) × SFits w32 (quotZ (again x) (again y))
@@ -230,6 +241,12 @@ module _ {x y : ℤ} (h : SFits w32 x) (k : SFits w32 y) where
       divide-is =
           rw (toZ-ofZ {z = x} h, toZ-ofZ {z = y} k)
           (ap value (toZ-ofZ quotient-fits) ∙ sym (inWord-fits (quotZ x y) (quotient-fits .sfits)) ∙ sym (divisor _ k n))
+
+      pub remainder-is : value (again (remZ (again x) (again y))) ≡ apply Remainder x y
+      unfolding apply remainderBy
+      remainder-is =
+          rw (toZ-ofZ {z = x} h, toZ-ofZ {z = y} k, not-false (isWord (quotZ x y)) t)
+          (ap value (toZ-ofZ (record { sfits = omega (arith, mag-rem x y, h .sfits) })) ∙ sym (divisor _ k n))
 
 -- ---- every operator, on words handed on to the function for it
 

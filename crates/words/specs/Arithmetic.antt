@@ -44,14 +44,18 @@ minus v = inWord (negℤ v)
 unfoldable pub dividing : ℤ → Outcome ℤ → Outcome ℤ
 dividing divisor quotient = pick (isTrue divisor) quotient (fault ZeroDivisor)
 
--- "Division truncates toward zero; the remainder takes the dividend's sign. A remainder by −1 is 0 for every dividend."
--- (`quotZ` and `remZ` are the quotient rounded toward zero and its remainder; the quotient of −2147483648 by −1 is no word.)
+-- "ISO C 2011 leaves a % b undefined: a / b can't be represented": a remainder whose quotient is no word.
+unfoldable pub remainderBy : ℤ → ℤ → Outcome ℤ
+remainderBy left right = pick (isWord (quotZ left right)) (value (remZ left right)) (fault Overflow)
+
+-- "Division truncates toward zero; the remainder takes the dividend's sign." Change 4: "−2147483648 % −1 is an overflow fault, as the
+-- division is; any other dividend gives 0." (`quotZ` and `remZ` are the quotient rounded toward zero and its remainder.)
 unfoldable pub apply : Operator → ℤ → ℤ → Outcome ℤ
 apply Add left right = inWord (left +ℤ right)
 apply Subtract left right = inWord (left -ℤ right)
 apply Multiply left right = inWord (left *ℤ right)
 apply Divide left right = dividing right (inWord (quotZ left right))
-apply Remainder left right = dividing right (value (remZ left right))
+apply Remainder left right = dividing right (remainderBy left right)
 apply Less left right = value (bit (ltZ left right))
 apply Greater left right = value (bit (ltZ right left))
 apply LessOrEqual left right = value (bit (leZ left right))

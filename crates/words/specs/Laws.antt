@@ -7,14 +7,14 @@ use native.Mathlib.Numerals.{add-one}
 use native.Mathlib.Omega.{arith}
 use lib.Dec.{ltb, leb, eqb}
 use lib.IntN.{ℤ, pos, negsuc, negℤ, ℤ-discrete}
-use lib.Signed.{mag, ltZ, remZ, mag-rem}
+use lib.Signed.{mag, ltZ, quotZ, remZ, mag-rem}
 use lib.ListN.{length, getD, take, drop, length-map, length-drop}
 use mir.Syntax.{w32}
 use mir.Val.{toZ, ofZ}
 use mir.Facts.{toZ-ofZ}
 use borrow.Author.Tests.{ltb-true, ltb-false, leb-true, eqb-true, lt-ltb, le-ltb, le-leb, eq-eqb, ne-eqb}
 use Rattle.words.specs.Word.{isWord, sameWord, natural, pick}
-use Rattle.words.specs.Arithmetic.{Outcome, value, fault, inWord, isTrue, bit, truth, logicalNot, minus, dividing, apply, element}
+use Rattle.words.specs.Arithmetic.{Outcome, value, fault, inWord, isTrue, bit, truth, logicalNot, minus, dividing, remainderBy, apply, element}
 use Rattle.words.specs.Layout.{Layout, leading, rowLimit, temporariesOf, layoutOf, sum, storeSize, zeros, arrayLength, arrayBase, allWithin, headerFits, countFits}
 use Rattle.words.specs.declared.FaultSort.the-variants.{Overflow, ZeroDivisor, Index}
 use Rattle.words.specs.declared.Form.the-variants.{Source, Kernel}
@@ -142,6 +142,15 @@ divided divisor quotient z e = go (isTrue divisor) e
     go true e = e
     go false e = absurd (let w : _≡_ {A = ℕ} 0 1 = cc in omega arith)
 
+-- a remainder that is a value is the remainder
+remained : (left right z : ℤ) → remainderBy left right ≡ value z → value (remZ left right) ≡ value z
+unfolding remainderBy
+remained left right z e = go (isWord (quotZ left right)) e
+  where
+    go : (b : Bool) → pick b (value (remZ left right)) (fault Overflow) ≡ value z → value (remZ left right) ≡ value z
+    go true e = e
+    go false e = absurd (let w : _≡_ {A = ℕ} 0 1 = cc in omega arith)
+
 same-value : (w z : ℤ) → mag w < 2 ^ 31 → value w ≡ value z → mag z < 2 ^ 31
 same-value w z h e = let same : w ≡ z = cc in rw (← same) h
 
@@ -151,7 +160,7 @@ apply-word Add left right z h e = inWord-word _ z e
 apply-word Subtract left right z h e = inWord-word _ z e
 apply-word Multiply left right z h e = inWord-word _ z e
 apply-word Divide left right z h e = inWord-word _ z (divided right _ z e)
-apply-word Remainder left right z h e = same-value (remZ left right) z (omega (arith, mag-rem left right)) (divided right _ z e)
+apply-word Remainder left right z h e = same-value (remZ left right) z (omega (arith, mag-rem left right)) (remained left right z (divided right _ z e))
 apply-word Less left right z h e = same-value _ z (bit-word _) e
 apply-word Greater left right z h e = same-value _ z (bit-word _) e
 apply-word LessOrEqual left right z h e = same-value _ z (bit-word _) e

@@ -5,7 +5,10 @@ use super::Located;
 use super::Operator;
 use super::table::natural;
 ghost use mathlib.Core.Path.{_≡_};
+ghost use mathlib.Core.Bool.{not};
 ghost use Prim.Native.Nat.{_+_, _<_};
+ghost use lib.Signed.{quotZ};
+ghost use Rattle.words.specs.Word.{isWord};
 ghost use Rattle.words.specs.Arithmetic.{inWord, apply as applyOf, minus as minusOf, element as elementOf, bit as bitOf, isTrue, logicalNot};
 ghost use Rattle.words.specs.Answers.{computed, located};
 ghost use Rattle.words.specs.declared.Operator.the-variants.{Add, Subtract, Multiply, Divide, Remainder};
@@ -41,30 +44,37 @@ pub fn multiply(left: i32, right: i32) -> Computed
     narrow((left as i64) * (right as i64))
 }
 
-// The one quotient that 32 bits do not hold is that of the least word by -1.
+// Whether the quotient is no word. The only one is that of the least word by -1.
+fn quotient_overflows(left: i32, right: i32) -> bool
+    ensures { λ r. ⌜ r ≡ not (isWord (quotZ left right)) ⌝ }
+{
+    if left == -2147483648 {
+        return right == -1;
+    }
+    false
+}
+
 pub fn divide(left: i32, right: i32) -> Computed
     ensures { λ r. ⌜ computed r ≡ applyOf Divide left right ⌝ }
 {
     if right == 0 {
         return Computed::Fails(FaultSort::ZeroDivisor);
     }
-    if left == -2147483648 {
-        if right == -1 {
-            return Computed::Fails(FaultSort::Overflow);
-        }
+    if quotient_overflows(left, right) {
+        return Computed::Fails(FaultSort::Overflow);
     }
     Computed::Value(left / right)
 }
 
-// A remainder by -1 is 0; it is not left to the operation, which is undefined at the least word.
+// The remainder is defined where the quotient is a word.
 pub fn remainder(left: i32, right: i32) -> Computed
     ensures { λ r. ⌜ computed r ≡ applyOf Remainder left right ⌝ }
 {
     if right == 0 {
         return Computed::Fails(FaultSort::ZeroDivisor);
     }
-    if right == -1 {
-        return Computed::Value(0);
+    if quotient_overflows(left, right) {
+        return Computed::Fails(FaultSort::Overflow);
     }
     Computed::Value(left % right)
 }

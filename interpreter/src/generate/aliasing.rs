@@ -130,20 +130,21 @@ impl Maker<'_> {
         let least = || constant(i32::MIN);
         if self.tame() {
             return match self.random.below(5) {
-                0 => binary(REMAINDER, least(), constant(-1)),
+                0 => binary(REMAINDER, constant(i32::MIN + 1), constant(-1)),
                 1 => binary(SUBTRACT, constant(i32::MAX), constant(i32::MAX)),
                 2 => binary(COMMA, least(), self.leaf()),
                 3 => binary(DIVIDE, least(), constant(i32::MIN)),
                 _ => binary(GREATER, constant(i32::MAX), self.expression(level)),
             };
         }
-        match self.random.below(7) {
+        match self.random.below(8) {
             0 => binary(DIVIDE, least(), constant(-1)),
             1 => unary(MINUS, least()),
             2 => binary(ADD, constant(i32::MAX), self.expression(level)),
             3 => binary(SUBTRACT, least(), self.expression(level)),
             4 => binary(DIVIDE, self.expression(level), constant(0)),
             5 => binary(REMAINDER, least(), constant(0)),
+            6 => binary(REMAINDER, least(), constant(-1)),
             _ => binary(MULTIPLY, constant(65_536), constant(32_767)),
         }
     }

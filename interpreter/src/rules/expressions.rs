@@ -16,7 +16,11 @@ fn arithmetic(r: &mut Vec<Rule>) {
     let least = || n(i32::MIN);
     value_rule(r, "least / -1", &[0], &[], binary(DIVIDE, least(), n(-1)), "overflow 5");
     let rest = binary(REMAINDER, least(), n(-1));
-    value_rule(r, "least % -1", &[1], &[3], set(v(0), rest), "ended 7 0");
+    value_rule(r, "least % -1", &[1], &[3], set(v(0), rest), "overflow 6 3");
+    let rest = binary(REMAINDER, n(i32::MIN + 1), n(-1));
+    value_rule(r, "least + 1, % -1", &[1], &[3], set(v(0), rest), "ended 7 0");
+    let rest = binary(REMAINDER, least(), n(1));
+    value_rule(r, "least % 1", &[1], &[3], set(v(0), rest), "ended 7 0");
     value_rule(r, "least % 0", &[0], &[], binary(REMAINDER, least(), n(0)), "zero 5");
     value_rule(r, "0 / 0", &[0], &[], binary(DIVIDE, n(0), n(0)), "zero 5");
     value_rule(r, "-(least)", &[0], &[], unary(MINUS, least()), "overflow 4");
@@ -94,6 +98,11 @@ fn effects(r: &mut Vec<Rule>) {
     value_rule(r, "v0 -= (v0 = 8)", &[1], &[5], subtract, "ended 7 0");
     let rest = binary(REMAINDER_ASSIGN, v(0), unary(PRE_INCREMENT, v(0)));
     value_rule(r, "v0 %= ++v0", &[1], &[5], rest, "ended 6 0");
+    let rest = binary(REMAINDER_ASSIGN, v(0), n(-1));
+    value_rule(r, "v0 %= -1 at the bottom", &[1], &[i32::MIN], rest, "overflow 5 -2147483648");
+    let rest = binary(REMAINDER_ASSIGN, a(post(v(0))), n(-1));
+    let least = [0, i32::MIN, 5, 6];
+    value_rule(r, "a[v0++] %= -1", &[1, 3], &least, rest, "overflow 7 1 -2147483648 5 6");
     let put = set(a(a(n(0))), set(a(n(0)), n(2)));
     value_rule(r, "a[a[0]] = (a[0] = 2)", &[0, 3], &[1, 0, 0], put, "ended 10 2 0 2");
     let step = unary(PRE_INCREMENT, a(post(v(0))));

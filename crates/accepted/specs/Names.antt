@@ -13,13 +13,14 @@ use Rattle.words.specs.declared.Form.the-variants.{Source}
 use Rattle.language.specs.Trees.{read}
 use Rattle.language.specs.Decode.{expressionAt, statementAt, decode}
 use Rattle.language.specs.DecodeLaws.{listAt, partAt}
+use Rattle.language.specs.Program.{contents}
 use Rattle.language.specs.WellFormed.{NamedExpression, NamedPlace, NamedPart, NamedStatement, NamedItems}
 use Rattle.structure.specs.Grammar.{link}
 use Rattle.structure.specs.Structured.{Structured}
 use Rattle.accepted.specs.Sorts.{sorts, sortIn}
 use Rattle.accepted.specs.Fields.{NamesVariable, stays, names-variable, names-array}
 use Rattle.accepted.specs.Expressions.{ExpressionRow, constant-row, variable-row, element-row, minus-row, not-row, binary-row, and-row, or-row, comma-row, conditional-row, assign-row, compound-row, prefix-row, postfix-row, placeAt}
-use Rattle.accepted.specs.Statements.{PartRow, absent-part, present-part, StatementRow, empty-row, express-row, block-row, ifThen-row, ifElse-row, while-row, doWhile-row, for-row, switch-row, case-row, default-row, break-row, continue-row, goto-row, label-row, ListRow, no-items, item, case-item, default-item, label-item, root-inside, program-list, program-block}
+use Rattle.accepted.specs.Statements.{PartRow, absent-part, present-part, StatementRow, empty-row, express-row, block-row, ifThen-row, ifElse-row, while-row, doWhile-row, for-row, switch-row, case-row, default-row, break-row, continue-row, goto-row, label-row, ListRow, no-items, item, case-item, default-item, label-item, root-inside, program-list, program-contents, program-block}
 
 -- `Names` is what the header's variable numbers satisfy.
 module _ (form : Form) (header rows : List ℤ) (s : Structured form header rows)
@@ -82,8 +83,8 @@ module _ (form : Form) (header rows : List ℤ) (s : Structured form header rows
     named-list {l} (default-item p k e x y) inside = rw e (named-list y (stays form header rows s l (inside p) 5 refl))
     named-list {l} (label-item p k e x y) inside = rw e (named-list y (stays form header rows s l (inside p) 5 refl))
 
-  pub named-contents : NamedItems Names arrays (listAt rows (link rows 0 1))
-  named-contents = named-list (program-list form header rows s) (stays form header rows s 0 (root-inside form header rows s) 1 refl)
+  pub named-contents : NamedItems Names arrays (contents rows)
+  named-contents = rw (program-contents form header rows s) (named-list (program-list form header rows s) (stays form header rows s 0 (root-inside form header rows s) 1 refl))
 
 -- "Variable, array or label number outside" is refused: every number in the tree names a variable of the header, and every array number an array.
 pub structured-named : (form : Form) (header rows : List ℤ) → Structured form header rows

@@ -14,6 +14,7 @@ use Rattle.words.specs.declared.Kind.{Kind}
 use Rattle.words.specs.declared.Kind.the-variants.{Block, Switch}
 use Rattle.language.specs.Decode.{statementAt, decode}
 use Rattle.language.specs.DecodeLaws.{listAt}
+use Rattle.language.specs.Program.{contents}
 use Rattle.language.specs.WellFormed.{Placed, PlacedItems}
 use Rattle.structure.specs.Grammar.{statementRow, inLanguage, link}
 use Rattle.structure.specs.LinkLaws.{linker-of}
@@ -180,7 +181,7 @@ module _ (header rows : List ℤ) (legal : Legal header rows) where
     placed-list (label-item p k e x y) w b c a = absurd (not-in-source (a p .around .inside) k refl refl)
 
   -- nothing stands around the program
-  pub placed-contents : PlacedItems false false false (listAt rows (link rows 0 1))
+  pub placed-contents : PlacedItems false false false (contents rows)
   unfolding Placed decode
   placed-contents =
       rw (program-block Source header rows s) at

@@ -9,14 +9,13 @@ use Rattle.words.specs.Table.{rowCount}
 use Rattle.words.specs.Layout.{layoutOf, storeWords}
 use Rattle.words.specs.declared.Form.the-variants.{Source}
 use Rattle.computation.specs.Run.{Limit, start}
+use Rattle.language.specs.Trees.{block}
 use Rattle.language.specs.Decode.{decode}
-use Rattle.language.specs.DecodeLaws.{listAt}
 use Rattle.language.specs.Meaning.{next}
-use Rattle.language.specs.Program.{programOf, runUnder}
+use Rattle.language.specs.Program.{contents, programOf, runUnder}
 use Rattle.language.specs.Sizes.{statementRows, statementDepth}
 use Rattle.language.specs.Sound.{Sound}
 use Rattle.language.specs.WellFormed.{SourceTree}
-use Rattle.structure.specs.Grammar.{link}
 use Rattle.source_check.specs.Legal.{Legal}
 use Rattle.accepted.specs.Statements.{program-block}
 use Rattle.accepted.specs.Names.{named-contents, source-variable}
@@ -34,24 +33,24 @@ module _ (header rows : List ℤ) (legal : Legal header rows) where
   pub legal-sound : Sound rows (layoutOf Source header) (storeWords Source header)
   legal-sound = structured-sound Source header rows (legal .structured)
 
-  -- Its tree is a block, its numbers are in range, its jumps in place.
-  pub legal-tree : SourceTree (layoutOf Source header) (decode rows)
-  legal-tree =
-      let s = legal .structured in
-      record {
-        contents = listAt rows (link rows 0 1);
-        is-block = program-block Source header rows s;
-        named = named-contents Source header rows s (λ i. i < layoutOf Source header .variables) (source-variable header);
-        placed = placed-contents header rows legal;
-      }
+  -- Its tree is the block of its items.
+  pub legal-block : decode rows ≡ block (contents rows)
+  legal-block = program-block Source header rows (legal .structured)
+
+  -- Their numbers are in range, their jumps in place.
+  pub legal-tree : SourceTree (layoutOf Source header) (contents rows)
+  legal-tree = record {
+    named = named-contents Source header rows (legal .structured) (λ i. i < layoutOf Source header .variables) (source-variable header);
+    placed = placed-contents header rows legal;
+  }
 
   -- Its tree has as many rows as the table.
-  pub legal-rows : statementRows (decode rows) ≡ rowCount rows
-  legal-rows = structured-rows Source header rows (legal .structured)
+  pub legal-rows : statementRows (block (contents rows)) ≡ rowCount rows
+  legal-rows = rw legal-block at (structured-rows Source header rows (legal .structured))
 
   -- "The limit is 64."
-  pub legal-depth : statementDepth (decode rows) ≤ 64
-  legal-depth = structured-depth Source header rows (legal .structured) (legal .shallow)
+  pub legal-depth : statementDepth (block (contents rows)) ≤ 64
+  legal-depth = rw legal-block at (structured-depth Source header rows (legal .structured) (legal .shallow))
 
   -- Its constants and case values are words of the table.
   pub legal-worded : ((i : ℕ) → mag (getD rows i (pos 0)) < 2 ^ 31) → Worded (decode rows)
@@ -61,5 +60,4 @@ module _ (header rows : List ℤ) (legal : Legal header rows) where
   -- says no less than document 01's "ends plainly".
   pub legal-ends-normally : (limit : Limit) (store : List ℤ) → Gives (λ signal. signal ≡ next) (runUnder limit Source header rows store)
   unfolding runUnder programOf
-  legal-ends-normally limit store =
-      rw (program-block Source header rows (legal .structured)) (program-ends (layoutOf Source header) limit (listAt rows (link rows 0 1)) (placed-contents header rows legal) (start store))
+  legal-ends-normally limit store = rw legal-block (program-ends (layoutOf Source header) limit (contents rows) (placed-contents header rows legal) (start store))

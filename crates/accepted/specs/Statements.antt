@@ -18,6 +18,7 @@ use Rattle.words.specs.declared.Kind.the-variants.{Constant, Variable, Element,
 use Rattle.language.specs.Trees.{Expression, absent, present, case, default, label, Statement, empty, express, block, ifThen, ifElse, while, doWhile, for, switch, break, continue, goto, none, _then_, _here_}
 use Rattle.language.specs.Decode.{expressionAt, statementOf, statementAt, itemsAt, decode}
 use Rattle.language.specs.DecodeLaws.{Whole, listAt, partAt, isStatement, statement-at, at-empty, at-express, at-block, at-ifThen, at-ifElse, at-while, at-doWhile, at-for, at-switch, at-break, at-continue, at-goto, at-item, at-case, at-default, at-label, part-some}
+use Rattle.language.specs.Program.{contents}
 use Rattle.structure.specs.Grammar.{expression, optionalExpression, branch, optionalBranch, optionalItem, statementRow, sortOf, sortAt, isLink, isRequired, link}
 use Rattle.structure.specs.Grammar as grammar
 use Rattle.structure.specs.Fields.{fits}
@@ -256,6 +257,10 @@ module _ (form : Form) (header rows : List ℤ) (s : Structured form header rows
   pub program-list : ListRow rows (link rows 0 1)
   program-list = items 0 root-inside (λ l later there t. held-rows (rowCount rows) l (omega arith) there t) root-link
 
-  pub program-block : decode rows ≡ block (listAt rows (link rows 0 1))
-  unfolding decode
-  program-block = rw (root-link .same) (at-block rows whole 0 root-kind (root-link .later))
+  pub program-contents : contents rows ≡ listAt rows (link rows 0 1)
+  unfolding contents
+  program-contents = rw (root-link .same)
+
+  pub program-block : decode rows ≡ block (contents rows)
+  unfolding decode contents
+  program-block = at-block rows whole 0 root-kind (root-link .later)

@@ -14,7 +14,7 @@ use Rattle.structure.specs.Grammar.{link}
 use Rattle.structure.specs.Structured.{Structured}
 use Rattle.accepted.specs.Worded.{ValuedExpression, ValuedPlace, ValuedPart, ValuedStatement, ValuedItems, IsWord, Worded}
 use Rattle.accepted.specs.Expressions.{ExpressionRow, constant-row, variable-row, element-row, minus-row, not-row, binary-row, and-row, or-row, comma-row, conditional-row, assign-row, compound-row, prefix-row, postfix-row, placeAt}
-use Rattle.accepted.specs.Statements.{PartRow, absent-part, present-part, StatementRow, empty-row, express-row, block-row, ifThen-row, ifElse-row, while-row, doWhile-row, for-row, switch-row, case-row, default-row, break-row, continue-row, goto-row, label-row, ListRow, no-items, item, case-item, default-item, label-item, program-list, program-block}
+use Rattle.accepted.specs.Statements.{PartRow, absent-part, present-part, StatementRow, empty-row, express-row, block-row, ifThen-row, ifElse-row, while-row, doWhile-row, for-row, switch-row, case-row, default-row, break-row, continue-row, goto-row, label-row, ListRow, no-items, item, case-item, default-item, label-item, program-list, program-contents, program-block}
 
 module _ (rows : List ℤ) (Value : ℤ → Type 0) (values : (i : ℕ) → Value (getD rows i (pos 0))) where
   -- an operand that is a place
@@ -74,7 +74,7 @@ module _ (rows : List ℤ) (Value : ℤ → Type 0) (values : (i : ℕ) → Valu
 pub structured-valued : (form : Form) (header rows : List ℤ) → Structured form header rows
     → (Value : ℤ → Type 0) → ((i : ℕ) → Value (getD rows i (pos 0))) → ValuedStatement Value (decode rows)
 unfolding ValuedStatement
-structured-valued form header rows s Value values = rw (program-block form header rows s) (valued-list rows Value values (program-list form header rows s))
+structured-valued form header rows s Value values = rw (program-block form header rows s, program-contents form header rows s) (valued-list rows Value values (program-list form header rows s))
 
 pub structured-worded : (form : Form) (header rows : List ℤ) → Structured form header rows → ((i : ℕ) → mag (getD rows i (pos 0)) < 2 ^ 31) → Worded (decode rows)
 structured-worded form header rows s = structured-valued form header rows s IsWord

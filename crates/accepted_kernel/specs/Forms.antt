@@ -19,6 +19,7 @@ use Rattle.words.specs.declared.Kind.the-variants.{Block, If}
 use Rattle.language.specs.Trees.{block, Items, none, _then_, _here_, _⧺_}
 use Rattle.language.specs.Decode.{statementOf, statementAt}
 use Rattle.language.specs.DecodeLaws.{Whole, listAt, statement-at, at-empty, at-express, at-block, at-ifElse, at-while, at-goto, at-item, at-label}
+use Rattle.language.specs.Program.{contents}
 use Rattle.structure.specs.Grammar.{expression, branch, optionalBranch, optionalItem, statementRow, inLanguage, isLink, isRequired, isStatement, link}
 use Rattle.structure.specs.Fields.{fits}
 use Rattle.structure.specs.NoteLaws.{above-zero}
@@ -33,7 +34,7 @@ use Rattle.kernel_check.specs.Statements.{isAtom, isBlock, isKernelIf, isKernel
 use Rattle.accepted.specs.Sorts.{sorts, sortIn, statementNumber, number-is, either, statement-kind}
 use Rattle.accepted.specs.Fields.{holds, Linked, MayLink, linked, may-link, next-link}
 use Rattle.accepted.specs.Expressions.{whole-rows}
-use Rattle.accepted.specs.Statements.{list-some}
+use Rattle.accepted.specs.Statements.{list-some, program-contents}
 use Rattle.accepted_kernel.specs.Assignments.{atom-at, assignment-at}
 use Rattle.accepted_kernel.specs.Labels.{Covers, covers-item, covers-branch}
 
@@ -237,9 +238,9 @@ module _ (header rows : List ℤ) (legal : Legal header rows) where
       next-there (on leads b) = leads .later
   root-covers number (outward o a) = absurd (let e = owner-earlier rows (structured-tree Kernel header rows s) o in omega arith)
 
-  pub contents-form : KernelItems none (listAt rows (link rows 0 1))
+  pub contents-form : KernelItems none (contents rows)
   unfolding kindAt kindOf kindIn kinds
   contents-form =
       let some = structured-tree Kernel header rows s .some-rows in
       let block-kind : kindAt rows 0 ≡ Block = rw (s .block) in
-      list-form (rowCount rows) (link rows 0 1) none 0 (λ p. omega arith) (begins-in 0 some block-kind) root-covers
+      rw (program-contents Kernel header rows s) (list-form (rowCount rows) (link rows 0 1) none 0 (λ p. omega arith) (begins-in 0 some block-kind) root-covers)

@@ -9,12 +9,10 @@ use Rattle.words.specs.declared.Form.the-variants.{Kernel}
 use Rattle.computation.specs.Run.{Limit, start}
 use Rattle.language.specs.Trees.{block, none}
 use Rattle.language.specs.Decode.{decode}
-use Rattle.language.specs.DecodeLaws.{listAt}
 use Rattle.language.specs.Meaning.{next}
-use Rattle.language.specs.Program.{programOf, runUnder}
+use Rattle.language.specs.Program.{contents, programOf, runUnder}
 use Rattle.language.specs.Sizes.{statementRows, statementDepth}
 use Rattle.language.specs.Sound.{Sound}
-use Rattle.structure.specs.Grammar.{link}
 use Rattle.translation.specs.KernelForm.{KernelItems}
 use Rattle.kernel_check.specs.Legal.{Legal}
 use Rattle.accepted.specs.Gives.{Gives}
@@ -30,21 +28,21 @@ module _ (header rows : List ℤ) (legal : Legal header rows) where
   pub legal-sound : Sound rows (layoutOf Kernel header) (storeWords Kernel header)
   legal-sound = structured-sound Kernel header rows (legal .structured)
 
-  -- Its tree is a block of kernel form.
-  pub legal-block : decode rows ≡ block (listAt rows (link rows 0 1))
+  -- Its tree is the block of its items, which have kernel form.
+  pub legal-block : decode rows ≡ block (contents rows)
   legal-block = program-block Kernel header rows (legal .structured)
 
-  pub legal-form : KernelItems none (listAt rows (link rows 0 1))
+  pub legal-form : KernelItems none (contents rows)
   legal-form = contents-form header rows legal
 
   -- Its tree has as many rows as the table. "Depth up to 512."
-  pub legal-rows : statementRows (decode rows) ≡ rowCount rows
-  legal-rows = structured-rows Kernel header rows (legal .structured)
+  pub legal-rows : statementRows (block (contents rows)) ≡ rowCount rows
+  legal-rows = rw legal-block at (structured-rows Kernel header rows (legal .structured))
 
-  pub legal-depth : statementDepth (decode rows) ≤ 512
-  legal-depth = structured-depth Kernel header rows (legal .structured) (legal .shallow)
+  pub legal-depth : statementDepth (block (contents rows)) ≤ 512
+  legal-depth = rw legal-block at (structured-depth Kernel header rows (legal .structured) (legal .shallow))
 
   -- "Goto: the run goes on at its label": a run that comes to its end is not on its way to a label, under any limit and from any store.
   pub legal-jumps : (limit : Limit) (store : List ℤ) → Gives (λ signal. signal ≡ next) (runUnder limit Kernel header rows store)
   unfolding runUnder programOf
-  legal-jumps limit store = rw legal-block (program-lands (layoutOf Kernel header) limit (listAt rows (link rows 0 1)) legal-form (start store))
+  legal-jumps limit store = rw legal-block (program-lands (layoutOf Kernel header) limit (contents rows) legal-form (start store))

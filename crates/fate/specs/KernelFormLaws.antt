@@ -15,10 +15,10 @@ use Rattle.words.specs.declared.Ending.the-variants.{Spent}
 use Rattle.computation.specs.Run.{Result, ok, stopped, spent, fault, steps, run, start, final, endingOf, Settled}
 use Rattle.computation.specs.RunLaws.{store-keeps-length}
 use Rattle.computation.specs.Unlimited.{Ends}
-use Rattle.language.specs.Trees.{Statement}
+use Rattle.language.specs.Trees.{block, Items}
 use Rattle.language.specs.Decode.{decode}
 use Rattle.language.specs.Meaning.{Signal, exec}
-use Rattle.language.specs.Program.{finished, programOf, runUnder, runProgram}
+use Rattle.language.specs.Program.{contents, finished, programOf, runUnder, runProgram}
 use Rattle.language.specs.Sizes.{statementRows, statementDepth}
 use Rattle.language.specs.WellFormed.{SourceTree}
 use Rattle.translation.specs.Translate.{translate, temporaries}
@@ -30,7 +30,7 @@ use Rattle.emission_legal.specs.EmittedLegal.{translated-legal, translated-deco
 use Rattle.source_check.specs.Legal.{Legal}
 use Rattle.source_check.specs.AcceptsLegal.{accepts-legal as source-accepts}
 use Rattle.kernel_check.specs.Accepts.{accepts-legal as kernel-accepts}
-use Rattle.accepted.specs.Source.{legal-tree, legal-rows, legal-depth}
+use Rattle.accepted.specs.Source.{legal-block, legal-tree, legal-rows, legal-depth}
 use Rattle.fate.specs.Fate.{SourceEnds, KernelEnds, SharedFate}
 use Rattle.fate.specs.KernelForms.{kernelHeaderOf, kernelRowsOf, KernelFormOf, HasKernelForm}
 
@@ -50,22 +50,22 @@ module _ (header rows : List ℤ) (legal : Legal header rows) where
   abbrev L : Layout
   L = layoutOf Source header
 
-  abbrev program : Statement
-  program = decode rows
+  abbrev program : Items
+  program = contents rows
 
   tree : SourceTree L program
   tree = legal-tree header rows legal
 
-  source-rows : statementRows program ≡ rowCount rows
+  source-rows : statementRows (block program) ≡ rowCount rows
   source-rows = legal-rows header rows legal
 
   few-source-rows : rowCount rows ≤ 2048
   few-source-rows = let c = countFits-facts Source (length rows) (legal .structured .count-fits) in omega (arith, c .most)
 
-  few : statementRows program ≤ 2048
+  few : statementRows (block program) ≤ 2048
   few = omega (arith, source-rows, few-source-rows)
 
-  shallow : statementDepth program ≤ 64
+  shallow : statementDepth (block program) ≤ 64
   shallow = legal-depth header rows legal
 
   -- ---- the kernel's tables say the translation
@@ -78,27 +78,27 @@ module _ (header rows : List ℤ) (legal : Legal header rows) where
   unfolding kernelHeaderOf
   kernel-temporaries = header-temporaries L (temporaries program)
 
-  kernel-tree : decode (kernelRowsOf header rows) ≡ translate L program
+  kernel-tree : decode (kernelRowsOf header rows) ≡ block (translate L program)
   unfolding kernelRowsOf
   kernel-tree = translated-decodes header program (legal .structured .header-fits) tree few shallow
 
-  kernel-rows : rowCount (kernelRowsOf header rows) ≡ statementRows (translate L program)
+  kernel-rows : rowCount (kernelRowsOf header rows) ≡ statementRows (block (translate L program))
   unfolding kernelRowsOf
-  kernel-rows = let l = length-emit (translate L program) in omega arith
+  kernel-rows = let l = length-emit (block (translate L program)) in omega arith
 
   module _ (store temporaryWords : List ℤ) (all-words : length store ≡ storeSize L) (enough : length temporaryWords ≡ temporariesOf Kernel (kernelHeaderOf header rows)) where
     trees : TreesShareFate L program store temporaryWords
     trees = translation-preserves L program store temporaryWords tree all-words (omega (arith, kernel-temporaries))
 
     abbrev source : ℕ → Result Signal
-    source b = run (steps b) (exec L program) (start store)
+    source b = run (steps b) (exec L (block program)) (start store)
 
     abbrev kernel : ℕ → Result Signal
-    kernel d = run (steps d) (exec L (translate L program)) (start (store ++ temporaryWords))
+    kernel d = run (steps d) (exec L (block (translate L program))) (start (store ++ temporaryWords))
 
     source-run : (b : ℕ) → runProgram Source header rows b store ≡ finished (source b)
     unfolding runProgram runUnder programOf
-    source-run b = refl
+    source-run b = rw (legal-block header rows legal)
 
     kernel-run : (d : ℕ) → runProgram Kernel (kernelHeaderOf header rows) (kernelRowsOf header rows) d (store ++ temporaryWords) ≡ finished (kernel d)
     unfolding runProgram runUnder programOf
@@ -110,16 +110,16 @@ module _ (header rows : List ℤ) (legal : Legal header rows) where
     kernel-settled : (d : ℕ) → ((runProgram Kernel (kernelHeaderOf header rows) (kernelRowsOf header rows) d (store ++ temporaryWords)) .ending ≡ Spent → ⊥) → Settled (kernel d)
     kernel-settled d e = ends-settled (kernel d) (rw (kernel-run d) at e)
 
-    source-ends : SourceEnds header rows (kernelHeaderOf header rows) (kernelRowsOf header rows) store temporaryWords → Ends (exec L program) (start store)
+    source-ends : SourceEnds header rows (kernelHeaderOf header rows) (kernelRowsOf header rows) store temporaryWords → Ends (exec L (block program)) (start store)
     source-ends e = record { budget = e .budget; settled = source-settled (e .budget) (e .ends) }
 
-    ends-source : Ends (exec L program) (start store) → SourceEnds header rows (kernelHeaderOf header rows) (kernelRowsOf header rows) store temporaryWords
+    ends-source : Ends (exec L (block program)) (start store) → SourceEnds header rows (kernelHeaderOf header rows) (kernelRowsOf header rows) store temporaryWords
     ends-source e = record { budget = e .budget; ends = rw (source-run (e .budget)) (settled-ends (source (e .budget)) (e .settled)) }
 
-    kernel-ends : KernelEnds header rows (kernelHeaderOf header rows) (kernelRowsOf header rows) store temporaryWords → Ends (exec L (translate L program)) (start (store ++ temporaryWords))
+    kernel-ends : KernelEnds header rows (kernelHeaderOf header rows) (kernelRowsOf header rows) store temporaryWords → Ends (exec L (block (translate L program))) (start (store ++ temporaryWords))
     kernel-ends e = record { budget = e .budget; settled = kernel-settled (e .budget) (e .ends) }
 
-    ends-kernel : Ends (exec L (translate L program)) (start (store ++ temporaryWords)) → KernelEnds header rows (kernelHeaderOf header rows) (kernelRowsOf header rows) store temporaryWords
+    ends-kernel : Ends (exec L (block (translate L program))) (start (store ++ temporaryWords)) → KernelEnds header rows (kernelHeaderOf header rows) (kernelRowsOf header rows) store temporaryWords
     ends-kernel e = record { budget = e .budget; ends = rw (kernel-run (e .budget)) (settled-ends (kernel (e .budget)) (e .settled)) }
 
     shared-fate : SharedFate header rows (kernelHeaderOf header rows) (kernelRowsOf header rows) store temporaryWords
@@ -130,9 +130,9 @@ module _ (header rows : List ℤ) (legal : Legal header rows) where
       count-bound = λ b d s t. rw (source-run b, kernel-run d, kernel-rows) (trees .same-state b d (source-settled b s) (kernel-settled d t) .few-steps);
     }
       where
-        cells : (b d : ℕ) → SameWords (statementRows (translate L program)) (length temporaryWords) (final (source b)) (final (kernel d))
+        cells : (b d : ℕ) → SameWords (statementRows (block (translate L program))) (length temporaryWords) (final (source b)) (final (kernel d))
             → take (length store) ((runProgram Kernel (kernelHeaderOf header rows) (kernelRowsOf header rows) d (store ++ temporaryWords)) .store) ≡ (runProgram Source header rows b store) .store
-        cells b d w = rw (source-run b, kernel-run d, w .same-words) (take-at ((final (source b)) .store) (w .left) (length store) (store-keeps-length (steps b) (exec L program) (start store)))
+        cells b d w = rw (source-run b, kernel-run d, w .same-words) (take-at ((final (source b)) .store) (w .left) (length store) (store-keeps-length (steps b) (exec L (block program)) (start store)))
 
   kernel-form-of : KernelFormOf header rows
   unfolding kernelHeaderOf kernelRowsOf

@@ -7,7 +7,8 @@ use Rattle.words.specs.Table.{rowCount}
 use Rattle.words.specs.Layout.{layoutOf, temporariesOf}
 use Rattle.words.specs.declared.Form.the-variants.{Source, Kernel}
 use Rattle.words.specs.declared.Verdict.the-variants.{Accepted}
-use Rattle.language.specs.Decode.{decode}
+use Rattle.language.specs.Trees.{block}
+use Rattle.language.specs.Program.{contents}
 use Rattle.translation.specs.Translate.{translate, temporaries, kernelHeader}
 use Rattle.emission.specs.Emission.{emit}
 use Rattle.source_check.specs.Refusal.{refusal as sourceRefusal}
@@ -16,10 +17,10 @@ use Rattle.fate.specs.Fate.{ShareFate}
 
 -- The rewriting of docs/REWRITING.md, written out: V, T, the array lengths; and the rows of the translation.
 unfoldable pub kernelHeaderOf : List ℤ → List ℤ → List ℤ
-kernelHeaderOf header rows = kernelHeader (layoutOf Source header) (temporaries (decode rows))
+kernelHeaderOf header rows = kernelHeader (layoutOf Source header) (temporaries (contents rows))
 
 unfoldable pub kernelRowsOf : List ℤ → List ℤ → List ℤ
-kernelRowsOf header rows = emit (translate (layoutOf Source header) (decode rows))
+kernelRowsOf header rows = emit (block (translate (layoutOf Source header) (contents rows)))
 
 pub record KernelFormOf (header rows : List ℤ) : Type 0 where
   -- Demand 2: "The translation of an accepted program is a legal kernel program."

@@ -5,7 +5,7 @@ pub mod Trees
 pub mod Decode
 -- Meaning: what trees do, one clause a kind, under the sentence of document 01 that it states.
 pub mod Meaning
--- Programs: the run of a table of rows.
+-- Programs: the items of a table of rows, and its run.
 pub mod Program
 -- Rules: what a rule on the shelf is; document 01's starred rules; orders that surprise; both as one table, and the theorem that they hold.
 pub mod Rule

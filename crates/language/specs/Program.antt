@@ -1,14 +1,21 @@
--- Programs: the run of a table of rows.
+-- Programs: the items of a table of rows, and its run.
 use mathlib.Core.List.{List}
 use Prim.Native.Nat.{ℕ}
 use lib.IntN.{ℤ}
+use Rattle.words.specs.Table.{numberAt}
 use Rattle.words.specs.Layout.{layoutOf}
 use Rattle.words.specs.declared.Form.{Form}
 use Rattle.words.specs.declared.Ending.{Ending}
 use Rattle.computation.specs.Computation.{Computation}
 use Rattle.computation.specs.Run.{Result, Limit, steps, run, start, final, endingOf}
+use Rattle.language.specs.Trees.{Items}
 use Rattle.language.specs.Decode.{decode}
+use Rattle.language.specs.DecodeLaws.{listAt}
 use Rattle.language.specs.Meaning.{Signal, exec}
+
+-- A program is its items: "Row 0 is a block", and its list begins at field a.
+unfoldable pub contents : List ℤ → Items
+contents rows = listAt rows (numberAt rows 0 1)
 
 -- How a run ended, the steps that it made, and the store that it left.
 pub record Finished : Type 0 where

@@ -82,9 +82,7 @@ unfoldable mutual
   PlacedItems inSwitch mayBreak mayContinue (s then is) = Placed mayBreak mayContinue s × PlacedItems inSwitch mayBreak mayContinue is
   PlacedItems inSwitch mayBreak mayContinue (m here is) = (markAllowed inSwitch m ≡ true) × PlacedItems inSwitch mayBreak mayContinue is
 
--- A source program's tree: a block, its numbers in range, its jumps in place.
-pub record SourceTree (L : Layout) (program : Statement) : Type 0 where
-  pub contents : Items
-  pub is-block : program ≡ block contents
-  pub named : NamedItems (λ i. i < L .variables) (length (L .lengths)) contents
-  pub placed : PlacedItems false false false contents
+-- The items of a source program: their numbers in range, their jumps in place.
+pub record SourceTree (L : Layout) (program : Items) : Type 0 where
+  pub named : NamedItems (λ i. i < L .variables) (length (L .lengths)) program
+  pub placed : PlacedItems false false false program

@@ -78,15 +78,13 @@ pub data KernelName (L : Layout) (T : ℕ) : ℕ → Type 0 where
   name-variable : {i : ℕ} → i < L .variables → KernelName L T i
   name-temporary : {t : ℕ} → t < T → KernelName L T (storeSize L + t)
 
--- A kernel program's tree, with T temporaries.
-pub record KernelTree (L : Layout) (T : ℕ) (program : Statement) : Type 0 where
-  pub contents : Items
-  pub is-block : program ≡ block contents
-  pub form : KernelItems none contents
+-- The items of a kernel program, with T temporaries.
+pub record KernelTree (L : Layout) (T : ℕ) (program : Items) : Type 0 where
+  pub form : KernelItems none program
   -- "A label number stands once".
-  pub labels-once : (l : ℕ) → itemsTimes l contents ≤ 1
-  pub named : NamedItems (KernelName L T) (length (L .lengths)) contents
+  pub labels-once : (l : ℕ) → itemsTimes l program ≤ 1
+  pub named : NamedItems (KernelName L T) (length (L .lengths)) program
   -- "T temporaries (0 to 8,192)"; "Up to 40,980 rows, depth up to 512."
   pub few-temporaries : T ≤ 8192
-  pub few-rows : statementRows program ≤ 40980
-  pub shallow : statementDepth program ≤ 512
+  pub few-rows : statementRows (block program) ≤ 40980
+  pub shallow : statementDepth (block program) ≤ 512

@@ -210,24 +210,10 @@ module _ (S : ℕ) where
 
 -- ---- the program
 
--- "Row 0 is a block".
-abbrev pub contentsOf : Statement → Items
-contentsOf (block is) = is
-contentsOf empty = none
-contentsOf (express e) = none
-contentsOf (ifThen e onTrue) = none
-contentsOf (ifElse e onTrue onFalse) = none
-contentsOf (while e body) = none
-contentsOf (doWhile body e) = none
-contentsOf (for first test action body) = none
-contentsOf (switch e is) = none
-contentsOf break = none
-contentsOf continue = none
-contentsOf (goto l) = none
-
--- The translation of a program. Its labels begin at 1; no break or continue stands outside a loop or switch, so label 0 is not used.
-unfoldable pub translate : Layout → Statement → Statement
-translate L program = block (itemsCode (storeSize L) (contentsOf program) (exits 0 0) 1)
+-- The translation of a program, which is the items of its block; so is what it gives. Its labels begin at 1; no break or continue
+-- stands outside a loop or switch, so label 0 is not used.
+unfoldable pub translate : Layout → Items → Items
+translate L program = itemsCode (storeSize L) program (exits 0 0) 1
 
 -- ---- temporaries
 
@@ -282,8 +268,8 @@ unfoldable mutual
   itemsLevels (m here is) = itemsLevels is
 
 -- T: the deepest level of the program, counted from 1.
-unfoldable pub temporaries : Statement → ℕ
-temporaries program = itemsLevels (contentsOf program)
+unfoldable pub temporaries : Items → ℕ
+temporaries program = itemsLevels program
 
 -- "The kernel header adds T temporaries": V, T, the array lengths.
 unfoldable pub kernelHeader : Layout → ℕ → List ℤ

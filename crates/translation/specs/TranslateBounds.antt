@@ -5,7 +5,7 @@ use native.Mathlib.Omega.{arith}
 use Rattle.words.specs.Layout.{Layout}
 use Rattle.language.specs.Trees.{Expression, constant, read, minus, not, binary, and, or, comma, conditional, assign, compound, prefix, postfix, Place, variable, element, Part, absent, present, case, default, label, Statement, empty, express, block, ifThen, ifElse, while, doWhile, for, switch, break, continue, goto, Items, none, _then_, _here_}
 use Rattle.language.specs.Sizes.{expressionRows, placeRows, partRows, statementRows, itemsRows}
-use Rattle.translation.specs.Translate.{Atom, number, top, taken, atomOf, labels, itemsLabels, contentsOf, translate, expressionLevels, indexLevels, updateLevels, partLevels, statementLevels, itemsLevels, temporaries}
+use Rattle.translation.specs.Translate.{Atom, number, top, taken, atomOf, labels, itemsLabels, translate, expressionLevels, indexLevels, updateLevels, partLevels, statementLevels, itemsLevels, temporaries}
 use Rattle.translation.specs.TranslateRows.{translation-rows}
 use Rattle.translation.specs.TranslateSize.{indexRows, copyRows, expressionSize, indexSize, partSize, testSize, cases, statementSize, itemsSize}
 
@@ -101,24 +101,10 @@ mutual
   items-most (default here is) = omega (arith, items-most is)
   items-most (label l here is) = omega (arith, items-most is)
 
-contents-rows : (program : Statement) → itemsRows (contentsOf program) + 1 ≤ statementRows program
-unfolding statementRows
-contents-rows (block is) = omega arith
-contents-rows empty = omega arith
-contents-rows (express e) = omega arith
-contents-rows (ifThen e onTrue) = omega arith
-contents-rows (ifElse e onTrue onFalse) = omega arith
-contents-rows (while e body) = omega arith
-contents-rows (doWhile body e) = omega arith
-contents-rows (for first test action body) = omega arith
-contents-rows (switch e is) = omega arith
-contents-rows break = omega arith
-contents-rows continue = omega arith
-contents-rows (goto l) = omega arith
-
 -- "At most 20×n+20 kernel rows".
-pub rows-bound : (L : Layout) (program : Statement) → statementRows (translate L program) ≤ 20 * statementRows program + 20
-rows-bound L program = omega (arith, translation-rows L program, items-most (contentsOf program), contents-rows program)
+pub rows-bound : (L : Layout) (program : Items) → statementRows (block (translate L program)) ≤ 20 * statementRows (block program) + 20
+unfolding statementRows
+rows-bound L program = omega (arith, translation-rows L program, items-most program)
 
 -- ---- temporaries
 
@@ -175,9 +161,9 @@ mutual
   items-levels-most (m here is) = omega (arith, items-levels-most is)
 
 -- "At most 4×n temporaries": at most n.
-pub temporaries-bound : (program : Statement) → temporaries program ≤ statementRows program
-unfolding temporaries
-temporaries-bound program = omega (arith, items-levels-most (contentsOf program), contents-rows program)
+pub temporaries-bound : (program : Items) → temporaries program ≤ statementRows (block program)
+unfolding temporaries statementRows
+temporaries-bound program = omega (arith, items-levels-most program)
 
 -- ---- labels
 
@@ -203,5 +189,6 @@ mutual
   items-labels-most (s then is) = omega (arith, labels-most s, items-labels-most is)
   items-labels-most (m here is) = omega (arith, items-labels-most is)
 
-pub labels-bound : (program : Statement) → itemsLabels (contentsOf program) ≤ 2 * statementRows program
-labels-bound program = omega (arith, items-labels-most (contentsOf program), contents-rows program)
+pub labels-bound : (program : Items) → itemsLabels program ≤ 2 * statementRows (block program)
+unfolding statementRows
+labels-bound program = omega (arith, items-labels-most program)

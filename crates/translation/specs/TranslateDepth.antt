@@ -7,7 +7,7 @@ use Rattle.words.specs.Layout.{Layout, storeSize}
 use Rattle.words.specs.declared.Operator.{Operator}
 use Rattle.language.specs.Trees.{Expression, constant, read, minus, not, binary, and, or, comma, conditional, assign, compound, prefix, postfix, Place, variable, element, Part, absent, present, Mark, case, default, label, Statement, empty, express, block, ifThen, ifElse, while, doWhile, for, switch, break, continue, goto, Items, none, _then_, _here_, _⧺_}
 use Rattle.language.specs.Sizes.{expressionDepth, placeDepth, partDepth, statementDepth, itemsDepth}
-use Rattle.translation.specs.Translate.{Atom, number, top, taken, placeTaken, atomOf, atom, copyCode, kernelPlace, updateCode, postfixCode, expressionCode, indexCode, partCode, orEmpty, testCode, loopCode, caseTests, labels, Exits, exits, statementCode, itemsCode, contentsOf, translate}
+use Rattle.translation.specs.Translate.{Atom, number, top, taken, placeTaken, atomOf, atom, copyCode, kernelPlace, updateCode, postfixCode, expressionCode, indexCode, partCode, orEmpty, testCode, loopCode, caseTests, labels, Exits, exits, statementCode, itemsCode, translate}
 
 -- A bound on the depth of a list. (A record, so that the list is determined.)
 record Deep (d : ℕ) (xs : Items) : Type 0 where
@@ -178,22 +178,7 @@ module _ (S : ℕ) where
     deep-items (s then is) x l d h = deep-append (deep-statement s x l d (omega arith)) (deep-items is x (l + labels s) d (omega arith))
     deep-items (m here is) x l d h = deep-label (omega arith) (deep-items is x (l + 1) d (omega arith))
 
-contents-depth : (program : Statement) → itemsDepth (contentsOf program) + 1 ≤ statementDepth program
-unfolding itemsDepth
-contents-depth (block is) = omega arith
-contents-depth empty = omega arith
-contents-depth (express e) = omega arith
-contents-depth (ifThen e onTrue) = omega arith
-contents-depth (ifElse e onTrue onFalse) = omega arith
-contents-depth (while e body) = omega arith
-contents-depth (doWhile body e) = omega arith
-contents-depth (for first test action body) = omega arith
-contents-depth (switch e is) = omega arith
-contents-depth break = omega arith
-contents-depth continue = omega arith
-contents-depth (goto l) = omega arith
-
 -- So a source of depth 64 has a kernel of depth 129 at most.
-pub depth-bound : (L : Layout) (program : Statement) → statementDepth (translate L program) ≤ 2 * statementDepth program + 1
+pub depth-bound : (L : Layout) (program : Items) → statementDepth (block (translate L program)) ≤ 2 * statementDepth (block program) + 1
 unfolding itemsDepth translate
-depth-bound L program = omega (arith, deep-items (storeSize L) (contentsOf program) (exits 0 0) 1 (itemsDepth (contentsOf program) * 2 + 2) (omega arith) .most, contents-depth program)
+depth-bound L program = omega (arith, deep-items (storeSize L) program (exits 0 0) 1 (itemsDepth program * 2 + 2) (omega arith) .most)

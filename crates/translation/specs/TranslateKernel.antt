@@ -11,10 +11,10 @@ use Rattle.words.specs.Word.{natural}
 use Rattle.words.specs.Layout.{Layout, storeSize, layoutOf, temporariesOf, headerFits}
 use Rattle.words.specs.Laws.{headerFits-facts, facts-headerFits}
 use Rattle.words.specs.declared.Form.the-variants.{Source, Kernel}
-use Rattle.language.specs.Trees.{Statement, none}
+use Rattle.language.specs.Trees.{block, Items, none}
 use Rattle.language.specs.Sizes.{statementRows, statementDepth}
 use Rattle.language.specs.WellFormed.{SourceTree}
-use Rattle.translation.specs.Translate.{exits, translate, itemsCode, contentsOf, temporaries, kernelHeader}
+use Rattle.translation.specs.Translate.{exits, translate, temporaries, kernelHeader}
 use Rattle.translation.specs.KernelForm.{KernelTree, KernelName, name-variable, name-temporary}
 use Rattle.translation.specs.TranslateForm.{form-items}
 use Rattle.translation.specs.TranslateLabels.{labels-distinct}
@@ -23,17 +23,15 @@ use Rattle.translation.specs.TranslateBounds.{rows-bound, temporaries-bo
 use Rattle.translation.specs.TranslateDepth.{depth-bound}
 
 -- Every translation is a kernel program.
-pub translation-is-kernel : (L : Layout) (program : Statement) → SourceTree L program → statementRows program ≤ 2048 → statementDepth program ≤ 64 → KernelTree L (temporaries program) (translate L program)
+pub translation-is-kernel : (L : Layout) (program : Items) → SourceTree L program → statementRows (block program) ≤ 2048 → statementDepth (block program) ≤ 64 → KernelTree L (temporaries program) (translate L program)
 unfolding translate temporaries
 translation-is-kernel L program tree few shallow =
     let few-labels = labels-bound program in
     record {
-      contents = itemsCode (storeSize L) (contentsOf program) (exits 0 0) 1;
-      is-block = refl;
-      form = form-items (storeSize L) (contentsOf program) (exits 0 0) 1 none false false false (rw (tree .is-block) (tree .placed)) (omega arith) (omega arith) (λ e. absurd (let z : _≡_ {A = ℕ} 0 1 = cc in omega arith)) (λ e. absurd (let z : _≡_ {A = ℕ} 0 1 = cc in omega arith));
-      labels-once = λ l. labels-distinct (storeSize L) l (contentsOf program) (exits 0 0) 1;
-      named = named-items (KernelName L (temporaries program)) (length (L .lengths)) (storeSize L) (temporaries program) (λ t h. name-temporary h) (contentsOf program) (exits 0 0) 1
-          (more-names (λ i. i < L .variables) (KernelName L (temporaries program)) (length (L .lengths)) (λ i h. name-variable h) (contentsOf program) (rw (tree .is-block) (tree .named))) (omega arith);
+      form = form-items (storeSize L) program (exits 0 0) 1 none false false false (tree .placed) (omega arith) (omega arith) (λ e. absurd (let z : _≡_ {A = ℕ} 0 1 = cc in omega arith)) (λ e. absurd (let z : _≡_ {A = ℕ} 0 1 = cc in omega arith));
+      labels-once = λ l. labels-distinct (storeSize L) l program (exits 0 0) 1;
+      named = named-items (KernelName L (temporaries program)) (length (L .lengths)) (storeSize L) (temporaries program) (λ t h. name-temporary h) program (exits 0 0) 1
+          (more-names (λ i. i < L .variables) (KernelName L (temporaries program)) (length (L .lengths)) (λ i h. name-variable h) program (tree .named)) (omega arith);
       few-temporaries = omega (arith, temporaries-bound program);
       few-rows = omega (arith, rows-bound L program);
       shallow = omega (arith, depth-bound L program);

@@ -16,17 +16,17 @@ use Rattle.words.specs.declared.FaultSort.{FaultSort}
 use Rattle.computation.specs.Run.{State, start, spent, fault, Result, ok, stopped, Limit, steps, rounds, run, final, endingOf, Settled}
 use Rattle.computation.specs.RunLaws.{budget-rounds, rounds-budget}
 use Rattle.computation.specs.Unlimited.{Ends}
-use Rattle.language.specs.Trees.{Statement, block, Items}
+use Rattle.language.specs.Trees.{block, Items}
 use Rattle.language.specs.Meaning.{Signal, next, perform, exec}
 use Rattle.language.specs.Sizes.{statementRows}
-use Rattle.language.specs.WellFormed.{SourceTree, PlacedItems}
-use Rattle.translation.specs.Translate.{exits, translate, temporaries, itemsLevels}
+use Rattle.language.specs.WellFormed.{SourceTree}
+use Rattle.translation.specs.Translate.{exits, translate, temporaries}
 use Rattle.translation.specs.TranslateRows.{translation-rows}
 use Rattle.translation.specs.Stack.{bottom}
 use Rattle.translation.specs.RunThen.{runThen, runThen-run}
 use Rattle.translation.specs.Related.{Frame, Related, Alike, alike-ok, alike-spent, alike-fault, related-ran, related-step}
 use Rattle.translation.specs.StatementRules.{leads-next}
-use Rattle.translation.specs.StatementPreserves.{ItemsInRange, items-run}
+use Rattle.translation.specs.StatementPreserves.{items-run}
 
 -- ---- what is shown
 
@@ -45,23 +45,23 @@ pub data SameEnd (rows T : ℕ) : Result Signal → Result Signal → Type 0 whe
   neither : {σ κ : State} → SameEnd rows T (stopped spent σ) (stopped spent κ)
 
 -- The two runs under a limit, from a store of S words and any content of the temporaries.
-abbrev pub sourceRun : Layout → Statement → List ℤ → Limit → Result Signal
-sourceRun L program store limit = run limit (exec L program) (start store)
+abbrev pub sourceRun : Layout → Items → List ℤ → Limit → Result Signal
+sourceRun L program store limit = run limit (exec L (block program)) (start store)
 
-abbrev pub kernelRun : Layout → Statement → List ℤ → List ℤ → Limit → Result Signal
-kernelRun L program store temporaryWords limit = run limit (exec L (translate L program)) (start (store ++ temporaryWords))
+abbrev pub kernelRun : Layout → Items → List ℤ → List ℤ → Limit → Result Signal
+kernelRun L program store temporaryWords limit = run limit (exec L (block (translate L program))) (start (store ++ temporaryWords))
 
 -- Demand 3 for a program, a store and temporaries.
-pub record SharedFate (L : Layout) (program : Statement) (store temporaryWords : List ℤ) : Type 0 where
+pub record SharedFate (L : Layout) (program : Items) (store temporaryWords : List ℤ) : Type 0 where
   -- With no limit on steps, the source's run ends exactly when the kernel's does.
-  pub ends-together : Ends (exec L program) (start store) ↔ Ends (exec L (translate L program)) (start (store ++ temporaryWords))
+  pub ends-together : Ends (exec L (block program)) (start store) ↔ Ends (exec L (block (translate L program))) (start (store ++ temporaryWords))
   -- For any two budgets that are enough: the same ending, equal words, and a bound on the kernel's count.
   pub same-ending : (b d : ℕ) → Settled (sourceRun L program store (steps b)) → Settled (kernelRun L program store temporaryWords (steps d))
       → endingOf (kernelRun L program store temporaryWords (steps d)) ≡ endingOf (sourceRun L program store (steps b))
   pub same-state : (b d : ℕ) → Settled (sourceRun L program store (steps b)) → Settled (kernelRun L program store temporaryWords (steps d))
-      → SameWords (statementRows (translate L program)) (length temporaryWords) (final (sourceRun L program store (steps b))) (final (kernelRun L program store temporaryWords (steps d)))
+      → SameWords (statementRows (block (translate L program))) (length temporaryWords) (final (sourceRun L program store (steps b))) (final (kernelRun L program store temporaryWords (steps d)))
   -- The kernel's rows times the source's count is a budget that is enough.
-  pub enough : (b d : ℕ) → Settled (sourceRun L program store (steps b)) → statementRows (translate L program) * (final (sourceRun L program store (steps b))) .count ≤ d
+  pub enough : (b d : ℕ) → Settled (sourceRun L program store (steps b)) → statementRows (block (translate L program)) * (final (sourceRun L program store (steps b))) .count ≤ d
       → Settled (kernelRun L program store temporaryWords (steps d))
 
 -- ---- proof
@@ -98,62 +98,54 @@ same-end (alike-ok (ended n)) = both-plain (related-words n)
 same-end alike-spent = neither
 same-end (alike-fault n) = both-fault (related-words n)
 
-module _ (L : Layout) (contents : Items) (store temporaryWords : List ℤ) (in-range : ItemsInRange L contents) (in-place : PlacedItems false false false contents)
-    (all-words : length store ≡ storeSize L) (enough : itemsLevels contents ≤ length temporaryWords) where
+module _ (L : Layout) (program : Items) (store temporaryWords : List ℤ) (tree : SourceTree L program) (all-words : length store ≡ storeSize L) (enough : temporaries program ≤ length temporaryWords) where
+  abbrev Rows : ℕ
+  Rows = statementRows (block (translate L program))
+
   frame : ℕ → Frame
   unfolding storeSize
   frame c = record {
     layout = L;
     words = storeSize L;
     temporaries = length temporaryWords;
-    rate = statementRows (translate L (block contents));
+    rate = Rows;
     rounds = c;
     variables-inside = omega arith;
     arrays-inside = array-in-store L;
   }
 
-  alike-rounds : (c : ℕ) → SameEnd (statementRows (translate L (block contents))) (length temporaryWords) (sourceRun L (block contents) store (rounds c)) (kernelRun L (block contents) store temporaryWords (rounds c))
-  unfolding runThen perform translate frame
-  alike-rounds c =
+  -- The relation under `rounds c`, for every c: runs that do not end are cut off together.
+  pub runs-alike : (c : ℕ) → SameEnd Rows (length temporaryWords) (sourceRun L program store (rounds c)) (kernelRun L program store temporaryWords (rounds c))
+  unfolding runThen perform translate temporaries frame
+  runs-alike c =
       let fr = frame c in
-      let size = translation-rows L (block contents) in
+      let size = translation-rows L program in
       let at-start : Related fr bottom 0 (start store) (start (store ++ temporaryWords)) = record { spare = temporaryWords; stores = refl; source-words = all-words; kernel-words = omega arith; cost = omega arith } in
-      same-end {fr = fr} (rw (← runThen-run c (exec L (block contents)) (start store), ← runThen-run c (exec L (translate L (block contents))) (start (store ++ temporaryWords)))
-      (items-run fr contents (exits 0 0) 1 false false false (omega arith) in-range in-place enough (omega arith) .runs next next leads-next 0 _ _ _ _
+      same-end {fr = fr} (rw (← runThen-run c (exec L (block program)) (start store), ← runThen-run c (exec L (block (translate L program))) (start (store ++ temporaryWords)))
+      (items-run fr program (exits 0 0) 1 false false false (omega arith) (tree .named) (tree .placed) enough (omega arith) .runs next next leads-next 0 _ _ _ _
       (related-ran _ _ (omega arith) (related-step {y = 1} (omega arith) at-start)) (λ t u τ ν w m. alike-ok (ended m))))
-
--- The relation under `rounds c`, for every c: runs that do not end are cut off together.
-pub runs-alike : (L : Layout) (program : Statement) (store temporaryWords : List ℤ) → SourceTree L program → length store ≡ storeSize L → temporaries program ≤ length temporaryWords
-    → (c : ℕ) → SameEnd (statementRows (translate L program)) (length temporaryWords) (sourceRun L program store (rounds c)) (kernelRun L program store temporaryWords (rounds c))
-unfolding temporaries
-runs-alike L program store temporaryWords tree all-words enough c =
-    rw (tree .is-block) (alike-rounds L (tree .contents) store temporaryWords (tree .named) (tree .placed) all-words (rw (tree .is-block) at enough) c)
-
-module _ (L : Layout) (program : Statement) (store temporaryWords : List ℤ) (tree : SourceTree L program) (all-words : length store ≡ storeSize L) (enough : temporaries program ≤ length temporaryWords) where
-  abbrev Rows : ℕ
-  Rows = statementRows (translate L program)
 
   same-limits : (b d : ℕ) → Settled (sourceRun L program store (steps b)) → Settled (kernelRun L program store temporaryWords (steps d))
       → SameEnd Rows (length temporaryWords) (sourceRun L program store (steps b)) (kernelRun L program store temporaryWords (steps d))
   same-limits b d s t =
-      rw (← budget-rounds (exec L program) (start store) b (suc (b + d)) (omega arith) s, ← budget-rounds (exec L (translate L program)) (start (store ++ temporaryWords)) d (suc (b + d)) (omega arith) t)
-      (runs-alike L program store temporaryWords tree all-words enough (suc (b + d)))
+      rw (← budget-rounds (exec L (block program)) (start store) b (suc (b + d)) (omega arith) s, ← budget-rounds (exec L (block (translate L program))) (start (store ++ temporaryWords)) d (suc (b + d)) (omega arith) t)
+      (runs-alike (suc (b + d)))
 
   kernel-enough : (b d : ℕ) → Settled (sourceRun L program store (steps b)) → Rows * (final (sourceRun L program store (steps b))) .count ≤ d → Settled (kernelRun L program store temporaryWords (steps d))
   kernel-enough b d s most =
       let a : SameEnd Rows (length temporaryWords) (sourceRun L program store (steps b)) (kernelRun L program store temporaryWords (rounds (suc b)))
-      = rw (← budget-rounds (exec L program) (start store) b (suc b) (omega arith) s) (runs-alike L program store temporaryWords tree all-words enough (suc b)) in
-      rw (rounds-budget (exec L (translate L program)) (start (store ++ temporaryWords)) (suc b) d (there a s) (le-trans (words a s .few-steps) most)) (there a s)
+      = rw (← budget-rounds (exec L (block program)) (start store) b (suc b) (omega arith) s) (runs-alike (suc b)) in
+      rw (rounds-budget (exec L (block (translate L program))) (start (store ++ temporaryWords)) (suc b) d (there a s) (le-trans (words a s .few-steps) most)) (there a s)
 
-  source-ends : Ends (exec L (translate L program)) (start (store ++ temporaryWords)) → Ends (exec L program) (start store)
+  source-ends : Ends (exec L (block (translate L program))) (start (store ++ temporaryWords)) → Ends (exec L (block program)) (start store)
   source-ends e =
       let c = suc (e .budget) in
-      let k : Settled (kernelRun L program store temporaryWords (rounds c)) = rw (budget-rounds (exec L (translate L program)) (start (store ++ temporaryWords)) (e .budget) c (omega arith) (e .settled)) (e .settled) in
-      let s : Settled (sourceRun L program store (rounds c)) = back (runs-alike L program store temporaryWords tree all-words enough c) k in
+      let k : Settled (kernelRun L program store temporaryWords (rounds c)) = rw (budget-rounds (exec L (block (translate L program))) (start (store ++ temporaryWords)) (e .budget) c (omega arith) (e .settled)) (e .settled) in
+      let s : Settled (sourceRun L program store (rounds c)) = back (runs-alike c) k in
       let b = (final (sourceRun L program store (rounds c))) .count in
-      record { budget = b; settled = rw (rounds-budget (exec L program) (start store) c b s (omega arith)) s }
+      record { budget = b; settled = rw (rounds-budget (exec L (block program)) (start store) c b s (omega arith)) s }
 
-  kernel-ends : Ends (exec L program) (start store) → Ends (exec L (translate L program)) (start (store ++ temporaryWords))
+  kernel-ends : Ends (exec L (block program)) (start store) → Ends (exec L (block (translate L program))) (start (store ++ temporaryWords))
   kernel-ends e =
       let d = Rows * (final (sourceRun L program store (steps (e .budget)))) .count in
       record { budget = d; settled = kernel-enough (e .budget) d (e .settled) (omega arith) }

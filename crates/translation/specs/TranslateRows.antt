@@ -9,7 +9,7 @@ use Rattle.words.specs.declared.Operator.{Operator}
 use Rattle.language.specs.Trees.{Expression, constant, read, minus, not, binary, and, or, comma, conditional, assign, compound, prefix, postfix, Place, variable, element, Part, absent, present, case, default, label, Statement, empty, express, block, ifThen, ifElse, while, doWhile, for, switch, break, continue, goto, Items, none, _then_, _here_, _⧺_}
 use Rattle.language.specs.Sizes.{expressionRows, placeRows, statementRows, itemsRows}
 use Rattle.language.specs.TreeLaws.{statement-some}
-use Rattle.translation.specs.Translate.{Atom, number, top, atomOf, taken, placeTaken, atom, copyCode, kernelPlace, updateCode, postfixCode, expressionCode, indexCode, partCode, orEmpty, testCode, caseTests, labels, Exits, exits, statementCode, itemsCode, contentsOf, translate}
+use Rattle.translation.specs.Translate.{Atom, number, top, atomOf, taken, placeTaken, atom, copyCode, kernelPlace, updateCode, postfixCode, expressionCode, indexCode, partCode, orEmpty, testCode, caseTests, labels, Exits, exits, statementCode, itemsCode, translate}
 use Rattle.translation.specs.TranslateSize.{indexRows, copyRows, expressionSize, indexSize, partSize, testSize, cases, statementSize, itemsSize}
 
 pub rows-append : (xs ys : Items) → itemsRows (xs ⧺ ys) ≡ itemsRows xs + itemsRows ys
@@ -113,6 +113,6 @@ module _ (S : ℕ) where
     rows-items (m here is) x l = omega (arith, rows-items is x (l + 1))
 
 -- The rows of a translation.
-pub translation-rows : (L : Layout) (program : Statement) → statementRows (translate L program) ≡ 1 + itemsSize (contentsOf program)
+pub translation-rows : (L : Layout) (program : Items) → statementRows (block (translate L program)) ≡ 1 + itemsSize program
 unfolding itemsRows translate
-translation-rows L program = omega (arith, rows-items (storeSize L) (contentsOf program) (exits 0 0) 1)
+translation-rows L program = omega (arith, rows-items (storeSize L) program (exits 0 0) 1)

@@ -14,8 +14,9 @@ use Rattle.words.specs.Laws.{headerFits-facts, countFits-facts}
 use Rattle.words.specs.declared.Form.the-variants.{Source as SourceForm}
 use Rattle.words.specs.declared.Kind.the-variants.{Block}
 use Rattle.words.specs.declared.Verdict.the-variants.{Accepted}
-use Rattle.language.specs.Decode.{decode}
-use Rattle.translation.specs.Translate.{contentsOf, temporaries, translate, kernelHeader}
+use Rattle.language.specs.Trees.{block}
+use Rattle.language.specs.Program.{contents}
+use Rattle.translation.specs.Translate.{temporaries, translate, kernelHeader}
 use Rattle.translation.specs.TranslateSize.{itemsSize}
 use Rattle.translation.specs.TranslateRows.{translation-rows}
 use Rattle.translation.specs.TranslateBounds.{rows-bound, temporaries-bound}
@@ -61,19 +62,19 @@ module _ (header rows : List ℤ) (accepted : sourceRefusal header rows ≡ Acce
   root = root-kind SourceForm header rows (legal .structured)
 
   -- "At most 20×n+20 kernel rows and at most 4×n temporaries."
-  size-low : 1 + itemsSize (contentsOf (decode rows)) ≤ 40980
+  size-low : 1 + itemsSize (contents rows) ≤ 40980
   size-low =
       let L = layoutOf SourceForm header in
-      omega (arith, rows-bound L (decode rows), translation-rows L (decode rows), legal-rows header rows legal, few-rows)
+      omega (arith, rows-bound L (contents rows), translation-rows L (contents rows), legal-rows header rows legal, few-rows)
 
-  levels-low : temporaries (decode rows) ≤ 2048
-  levels-low = omega (arith, temporaries-bound (decode rows), legal-rows header rows legal, few-rows)
+  levels-low : temporaries (contents rows) ≤ 2048
+  levels-low = omega (arith, temporaries-bound (contents rows), legal-rows header rows legal, few-rows)
 
   module _ {table : List ℕ} (m : Measured rows table) where
-    size-is : slot table 0 3 ≡ 1 + itemsSize (contentsOf (decode rows))
+    size-is : slot table 0 3 ≡ 1 + itemsSize (contents rows)
     size-is = program-rows m root (omega (arith, size-low))
 
-    levels-is : slot table 0 4 ≡ temporaries (decode rows)
+    levels-is : slot table 0 4 ≡ temporaries (contents rows)
     levels-is = program-levels m root (omega (arith, levels-low))
 
     -- What the writer of the rows asks of a table that holds the kernel rows.
@@ -99,12 +100,12 @@ module _ (header rows : List ℤ) (accepted : sourceRefusal header rows ≡ Acce
     unfolding kernelRowsOf
     row-words =
         let L = layoutOf SourceForm header in
-        omega (arith, size-is, translation-rows L (decode rows), length-emit (translate L (decode rows)))
+        omega (arith, size-is, translation-rows L (contents rows), length-emit (block (translate L (contents rows))))
 
-  pub rows-are : (S : ℕ) → S ≡ storeSize (layoutOf SourceForm header) → emit (kernelProgram S (decode rows)) ≡ kernelRowsOf header rows
+  pub rows-are : (S : ℕ) → S ≡ storeSize (layoutOf SourceForm header) → emit (kernelProgram S (contents rows)) ≡ kernelRowsOf header rows
   unfolding kernelRowsOf
-  rows-are S e = ap emit (ap (λ (n : ℕ). kernelProgram n (decode rows)) e ∙ is-translation (layoutOf SourceForm header) (decode rows))
+  rows-are S e = ap emit (ap (λ (n : ℕ). kernelProgram n (contents rows)) e ∙ is-translation (layoutOf SourceForm header) (contents rows))
 
   pub header-words : length header + 1 ≡ length (kernelHeaderOf header rows)
   unfolding kernelHeaderOf
-  header-words = sym (kernel-header-length header (temporaries (decode rows)) accepted-header)
+  header-words = sym (kernel-header-length header (temporaries (contents rows)) accepted-header)

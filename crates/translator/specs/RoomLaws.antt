@@ -12,7 +12,8 @@ use Rattle.words.specs.Layout.{layoutOf}
 use Rattle.words.specs.Laws.{headerFits-facts}
 use Rattle.words.specs.declared.Form.the-variants.{Source}
 use Rattle.words.specs.declared.Verdict.the-variants.{Accepted}
-use Rattle.language.specs.Decode.{decode}
+use Rattle.language.specs.Trees.{block}
+use Rattle.language.specs.Program.{contents}
 use Rattle.translation.specs.Translate.{translate}
 use Rattle.translation.specs.TranslateBounds.{rows-bound}
 use Rattle.emission.specs.EmissionLaws.{length-emit}
@@ -30,7 +31,7 @@ module _ (header rows : List ℤ) (accepted : sourceRefusal header rows ≡ Acce
   unfolding kernelRowsOf
   row-words-bound =
       let L = layoutOf Source header in
-      omega (arith, length-emit (translate L (decode rows)), rows-bound L (decode rows), legal-rows header rows (accepts-legal header rows .0 accepted))
+      omega (arith, length-emit (block (translate L (contents rows))), rows-bound L (contents rows), legal-rows header rows (accepts-legal header rows .0 accepted))
 
   -- V, T and up to 32 array lengths.
   pub header-words-bound : length (kernelHeaderOf header rows) ≤ 34

@@ -10,7 +10,7 @@ use Rattle.words.specs.Laws.{headerFits-facts, countFits-facts}
 use Rattle.words.specs.declared.Form.the-variants.{Source, Kernel}
 use Rattle.words.specs.declared.Refusal.{Refusal}
 use Rattle.words.specs.declared.Verdict.the-variants.{Accepted, Refused as CheckRefused}
-use Rattle.language.specs.Decode.{decode}
+use Rattle.language.specs.Program.{contents}
 use Rattle.translation.specs.Translate.{temporaries}
 use Rattle.translation.specs.TranslateKernel.{header-layout}
 use Rattle.fate.specs.KernelForms.{kernelHeaderOf, kernelRowsOf, KernelFormOf, HasKernelForm}
@@ -41,7 +41,7 @@ module _ {header rows : List ℤ} {room : ℕ} (t : Translates header rows room)
 
   kernel-words : storeWords Kernel kernelHeader ≡ storeSize (layoutOf Source header) + temporariesOf Kernel kernelHeader
   unfolding storeWords kernelHeaderOf
-  kernel-words = rw (header-layout (layoutOf Source header) (temporaries (decode rows)))
+  kernel-words = rw (header-layout (layoutOf Source header) (temporaries (contents rows)))
 
   kernel-fits : KernelFits kernelHeader kernelRows (storeSize (layoutOf Source header)) room
   kernel-fits = record {

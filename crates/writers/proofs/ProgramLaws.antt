@@ -1,5 +1,5 @@
 -- Programs: the block at row 0, and the labels of its code.
-use mathlib.Core.Path.{_≡_, sym, ap, subst, _∙_}
+use mathlib.Core.Path.{_≡_, ap, subst, _∙_}
 use mathlib.Core.Bool.{false}
 use mathlib.Core.List.{List, append-nil}
 use Prim.Native.Nat.{ℕ, zero, suc, _≤_, _<_}
@@ -10,8 +10,8 @@ use Rattle.words.specs.Kinds.{kindAt}
 use Rattle.words.specs.declared.Kind.{Kind}
 use Rattle.words.specs.declared.Kind.the-variants.{Block}
 use Rattle.language.specs.Trees.{Statement, empty, express, block, ifThen, ifElse, while, doWhile, for, switch, break, continue, goto, Items, none, _then_, _here_}
-use Rattle.language.specs.Decode.{decode}
-use Rattle.language.specs.DecodeLaws.{listAt, at-block}
+use Rattle.language.specs.DecodeLaws.{listAt}
+use Rattle.language.specs.Program.{contents}
 use Rattle.language.specs.Sound.{SoundRow, OptionalLink}
 use Rattle.translation.specs.Translate.{labels, itemsLabels, exits, itemsCode}
 use Rattle.translation.specs.TranslateSize.{statementSize, itemsSize}
@@ -44,10 +44,6 @@ mutual
   list-labels-small (m here is) = omega (arith, list-labels-small is)
 
 module _ (rows : List ℤ) (source : Source rows) (is-block : kindAt rows 0 ≡ Block) where
-  pub program-is : {list : ℕ} → list ≡ numberAt rows 0 1 → decode rows ≡ block (listAt rows list)
-  unfolding decode
-  program-is e = at-block rows (source .sound .whole) 0 is-block (λ h. h) ∙ ap (λ (list : ℕ). block (listAt rows list)) (sym e)
-
   link-inside : (list : ℕ) → list ≡ numberAt rows 0 1 → list < rowCount rows
   link-inside zero e = source .sound .some-rows
   link-inside (suc list) e =
@@ -59,8 +55,8 @@ module _ (rows : List ℤ) (source : Source rows) (is-block : kindAt rows 0 ≡ 
   program-inside {list} e = link-inside list e
 
   pub program-done : (S : ℕ) (l : List ℤ) {list : ℕ} {m : List ℤ} → list ≡ numberAt rows 0 1
-      → m ≡ over (emitItems false (block (itemsCode S (listAt rows list) (exits 0 0) 1) then none) 0) l → m ≡ over (emit (kernelProgram S (decode rows))) l
-  unfolding emit emitItems
+      → m ≡ over (emitItems false (block (itemsCode S (listAt rows list) (exits 0 0) 1) then none) 0) l → m ≡ over (emit (kernelProgram S (contents rows))) l
+  unfolding emit emitItems contents
   program-done S l {list} e t =
       t ∙ ap (λ ws. over ws l) (append-nil (emitStatement (block (itemsCode S (listAt rows list) (exits 0 0) 1)) 0 0))
-      ∙ ap (λ (program : Statement). over (emitStatement (kernelProgram S program) 0 0) l) (sym (program-is e))
+      ∙ ap (λ (i : ℕ). over (emitStatement (kernelProgram S (listAt rows i)) 0 0) l) e

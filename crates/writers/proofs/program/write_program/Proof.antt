@@ -2,10 +2,10 @@
 use mathlib.Core.Path.{ap}
 use native.Mathlib.Omega.{arith}
 use Rattle.language.specs.DecodeLaws.{listAt}
-use Rattle.translation.specs.Translate.{contentsOf}
+use Rattle.language.specs.Program.{contents}
 use Rattle.translation.specs.TranslateSize.{itemsSize}
 use Rattle.leaves.specs.Chain.{room-less}
-use Rattle.writers.proofs.ProgramLaws.{list-labels-small, program-is, program-inside, program-done}
+use Rattle.writers.proofs.ProgramLaws.{list-labels-small, program-inside, program-done}
 use borrow.Author.Needs.{needs}
 use Rattle.writers.proofs.program.write_program.Statement.{statement}
 use Rattle.writers.proofs.program.write_program.Tie as tie
@@ -14,13 +14,14 @@ number-at-requires : tie.Need-number-at-requires
 number-at-requires c κs = search needs
 
 write-block-requires : tie.Need-write-block-requires
+unfolding contents
 write-block-requires c κs =
     let start = c .before .before .before in
     let past-number-at = c .before .number-at in
     let asks = start .pre in
     let rows = start .args .rows .now in
     let source = asks .writing .measured .source in
-    let size = ap (λ program. itemsSize (contentsOf program)) (program-is rows source (asks .is-block) (past-number-at .ensures)) in (
+    let size = ap (λ list. itemsSize (listAt rows list)) (past-number-at .ensures) in (
       asks .writing,
       record {
         inside = program-inside rows source (asks .is-block) (past-number-at .ensures);

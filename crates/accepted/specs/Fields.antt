@@ -13,7 +13,7 @@ use borrow.Author.Tests.{ltb-true, leb-true, eqb-true, not-true}
 use Rattle.words.specs.Table.{rowCount, numberAt}
 use Rattle.words.specs.Kinds.{kindAt}
 use Rattle.words.specs.Layout.{layoutOf, storeSize, storeWords}
-use Rattle.words.specs.Laws.{both}
+use Rattle.words.specs.Laws.{both, either}
 use Rattle.words.specs.declared.Form.{Form}
 use Rattle.words.specs.declared.Kind.{Kind}
 use Rattle.language.specs.DecodeLaws.{Forward}
@@ -21,7 +21,7 @@ use Rattle.structure.specs.Grammar.{variable, array, optionalItem, sortAt, betw
 use Rattle.structure.specs.Fields.{fits, boundsOf, numberFits}
 use Rattle.structure.specs.Structured.{Leads, Structured}
 use Rattle.structure.specs.StructuredLaws.{required-is-link}
-use Rattle.accepted.specs.Sorts.{sortIn, sort-is, next-sort, either, between-true}
+use Rattle.accepted.specs.Sorts.{sortIn, sort-is, next-sort, between-true}
 
 -- The field of a kind is one of a, b, c, d and next, and its sort passes the test.
 abbrev pub holds : (ℕ → Bool) → Kind → ℕ → Bool

@@ -13,7 +13,7 @@ use borrow.Author.Tests.{leb-true, eqb-true, not-true, not-false}
 use Rattle.words.specs.Word.{pick}
 use Rattle.words.specs.Table.{numberAt}
 use Rattle.words.specs.Kinds.{kinds, kindIn, kindOf, kindAt}
-use Rattle.words.specs.Laws.{both}
+use Rattle.words.specs.Laws.{both, either}
 use Rattle.words.specs.declared.Form.{Form}
 use Rattle.words.specs.declared.Form.the-variants.{Source, Kernel}
 use Rattle.words.specs.declared.Kind.{Kind}
@@ -134,10 +134,6 @@ unfolding some sortOf grammar
 nexts-agree number h = none-fails (λ n. eqb (sortOf n 5) unused || eqb (sortOf n 5) optionalItem) 54 refl number h
 
 -- ---- numbers of the language
-
-pub either : (a b : Bool) → (a || b) ≡ true → (a ≡ true) ⊎ (b ≡ true)
-either true b e = inl refl
-either false b e = inr e
 
 pub between-true : (least most number : ℕ) → between least most number ≡ true → (least ≤ number) × (number ≤ most)
 between-true least most number e =

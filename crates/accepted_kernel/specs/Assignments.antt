@@ -13,7 +13,7 @@ use borrow.Author.Tests.{eqb-true, eq-eqb, ne-eqb}
 use Rattle.words.specs.Word.{pick}
 use Rattle.words.specs.Table.{rowCount, numberAt}
 use Rattle.words.specs.Kinds.{kinds, kindIn, kindOf, kindAt}
-use Rattle.words.specs.Laws.{both}
+use Rattle.words.specs.Laws.{both, either}
 use Rattle.words.specs.declared.Form.the-variants.{Kernel}
 use Rattle.words.specs.declared.Kind.{Kind}
 use Rattle.words.specs.declared.Kind.the-variants.{Binary, Assign}
@@ -27,7 +27,7 @@ use Rattle.structure.specs.SearchLaws.{from-on}
 use Rattle.structure.specs.Structured.{Structured}
 use Rattle.translation.specs.KernelForm.{IsAtom, constant-atom, variable-atom, Assigns, assigns-atom, assigns-minus, assigns-operation, assigns-element, assigns-to-element}
 use Rattle.kernel_check.specs.Statements.{isAtom, isAtomMinus, isAtomOperation, isAtomElement, fitsVariable, isAssignment}
-use Rattle.accepted.specs.Sorts.{sorts, sortIn, either, between-true}
+use Rattle.accepted.specs.Sorts.{sorts, sortIn, between-true}
 use Rattle.accepted.specs.Fields.{holds, Linked, linked}
 use Rattle.accepted.specs.Expressions.{whole-rows}
 

@@ -12,7 +12,7 @@ use lib.IntN.{ℤ}
 use borrow.Author.Tests.{eqb-true, eq-eqb}
 use Rattle.words.specs.Table.{rowCount, numberAt}
 use Rattle.words.specs.Kinds.{kinds, kindIn, kindOf, kindAt}
-use Rattle.words.specs.Laws.{both}
+use Rattle.words.specs.Laws.{both, either}
 use Rattle.words.specs.declared.Form.the-variants.{Kernel}
 use Rattle.words.specs.declared.Kind.{Kind}
 use Rattle.words.specs.declared.Kind.the-variants.{Block, If}
@@ -31,7 +31,7 @@ use Rattle.kernel_check.specs.Accepts.{structured-lone, structured-labels}
 use Rattle.kernel_check.specs.Legal.{Owner, part, beside, behind, outward, Legal}
 use Rattle.kernel_check.specs.ListLaws.{owner-earlier}
 use Rattle.kernel_check.specs.Statements.{isAtom, isBlock, isKernelIf, isKernelWhile, isKernelExpression, isKernelStatement}
-use Rattle.accepted.specs.Sorts.{sorts, sortIn, statementNumber, number-is, either, statement-kind}
+use Rattle.accepted.specs.Sorts.{sorts, sortIn, statementNumber, number-is, statement-kind}
 use Rattle.accepted.specs.Fields.{holds, Linked, MayLink, linked, may-link, next-link}
 use Rattle.accepted.specs.Expressions.{whole-rows}
 use Rattle.accepted.specs.Statements.{list-some, program-contents}

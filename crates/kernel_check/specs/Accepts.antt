@@ -1,6 +1,6 @@
 -- Accepts: "The kernel check accepts the legal kernel programs and no others."
 use mathlib.Core.Path.{_≡_, refl, sym, ap, _∙_}
-use mathlib.Core.Bool.{Bool, true, false, not, _&&_, _||_, true≢false, false≢true}
+use mathlib.Core.Bool.{Bool, true, false, not, _&&_, true≢false, false≢true}
 use mathlib.Core.List.{List}
 use Prim.Native.Nat.{ℕ, _≤_, _<_}
 use native.Mathlib.Omega.{arith}
@@ -11,6 +11,7 @@ use lib.IntN.{ℤ}
 use borrow.Author.Tests.{eq-eqb, ne-eqb, ltb-true, leb-true, not-false}
 use Rattle.words.specs.Word.{pick}
 use Rattle.words.specs.Table.{rowCount, numberAt}
+use Rattle.words.specs.Laws.{neither}
 use Rattle.words.specs.declared.Form.the-variants.{Kernel}
 use Rattle.words.specs.declared.Verdict.the-variants.{Accepted}
 use Rattle.structure.specs.DepthLaws.{none-deep-shallow, shallow-none-deep}
@@ -73,10 +74,6 @@ module _ (rows : List ℤ) (row : ℕ) where
       go false e = refl
 
 -- ---- cause 13
-
-neither : (a b : Bool) → (a || b) ≡ false → (a ≡ false) × (b ≡ false)
-neither true b e = absurd (true≢false e)
-neither false b e = (refl, e)
 
 module _ (rows : List ℤ) (row : ℕ) where
   fault-repeated : labelFault rows row ≡ false → repeatedLabel rows row ≡ false

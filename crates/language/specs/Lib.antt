@@ -5,6 +5,10 @@ pub mod Trees
 pub mod Decode
 -- Meaning: what trees do, one clause a kind, under the sentence of document 01 that it states.
 pub mod Meaning
+-- Write sets: which variables an expression can write; that the test for it is exact; that an expression leaves the others alone.
+pub mod Writes
+pub mod WriteLaws
+pub mod Untouched
 -- Programs: the items of a table of rows, and its run.
 pub mod Program
 -- Rules: what a rule on the shelf is; document 01's starred rules; orders that surprise; both as one table, and the theorem that they hold.

@@ -20,7 +20,7 @@ use Rattle.translation.specs.Translate.{Atom, number, top, taken, tempor
 use Rattle.translation.specs.TranslateSize.{copyRows}
 use Rattle.translation.specs.Stack.{Stack, _▹_, depth}
 use Rattle.translation.specs.RunThen.{runThen}
-use Rattle.translation.specs.Related.{Frame, Related, Alike, alike-stop, by-outcome, related-step, related-ran, related-less, related-load, related-save, related-push, related-top, related-pop, related-skip, related-over}
+use Rattle.translation.specs.Related.{Frame, Related, Alike, alike-stop, alike-logged, logs-temporary, related-logged, by-outcome, related-step, related-ran, related-less, related-load, related-save, related-push, related-top, related-pop, related-skip, related-over}
 use Rattle.translation.specs.Held.{Holds, holds-number, holds-top, holds-still, holds-depth, source, kernel, kernel-append, see, release, Kept, kept-still, keep, Aims, aims-variable, aims-element, aims-inside, aims-release, see-place, aims-under}
 
 -- == 0 and != 0 give the truth of a value.
@@ -81,8 +81,8 @@ module _ (fr : Frame) {C D : Type 0} {R : C → D → State → State → Type 0
     goes = λ x y σ κ f g n le k.
         rw kernel-append (p .goes y _ _ _ _ n λ o F' τ ν aims _ m.
         rw (see-place fr aims m, runThen) (by-outcome o
-        (λ i e. rw (e, runThen, related-load i (aims-inside fr aims i e) m) (k _ _ _ _ holds-top (related-push _ at room (aims-release fr aims (related-ran _ _ (omega arith) m)))))
-        (λ _ e. rw (e, runThen) (alike-stop _ _ (omega arith) m))));
+        (λ i e. rw (e, runThen, related-load i (aims-inside fr aims i e) m) (k _ _ _ _ holds-top (related-push _ at room (aims-release fr aims (related-ran _ (omega arith) m)))))
+        (λ _ e. rw (e, runThen) (alike-stop _ (omega arith) m))));
   }
 
   pub goes-minus : {m : Computation ℤ} {xs : Items} {h : Atom} → t < fr .temporaries → Goes fr R 0 F m xs h
@@ -92,8 +92,8 @@ module _ (fr : Frame) {C D : Type 0} {R : C → D → State → State → Type 0
     goes = λ x y σ κ f g n le k.
         rw kernel-append (p .goes y y _ _ _ _ n (omega arith) λ v F' τ ν holds m.
         rw (see fr at holds m, runThen) (by-outcome (minusWord v)
-        (λ v e. rw (e, runThen) (k _ _ _ _ holds-top (related-push v at room (release fr holds (related-ran _ _ (omega arith) m)))))
-        (λ _ e. rw (e, runThen) (alike-stop _ _ (omega arith) m))));
+        (λ v e. rw (e, runThen) (k _ _ _ _ holds-top (related-push v at room (release fr holds (related-ran _ (omega arith) m)))))
+        (λ _ e. rw (e, runThen) (alike-stop _ (omega arith) m))));
   }
 
   pub goes-not : {m : Computation ℤ} {xs : Items} {h : Atom} → t < fr .temporaries → Goes fr R 0 F m xs h
@@ -102,7 +102,7 @@ module _ (fr : Frame) {C D : Type 0} {R : C → D → State → State → Type 0
   goes-not room p = record {
     goes = λ x y σ κ f g n le k.
         rw kernel-append (p .goes y y _ _ _ _ n (omega arith) λ v F' τ ν holds m.
-        rw (see fr at holds m, runThen, zero-equal v, runThen) (k _ _ _ _ holds-top (related-push _ at room (release fr holds (related-ran _ _ (omega arith) m)))));
+        rw (see fr at holds m, runThen, zero-equal v, runThen) (k _ _ _ _ holds-top (related-push _ at room (release fr holds (related-ran _ (omega arith) m)))));
   }
 
   pub goes-binary : {a b : Computation ℤ} {xs ys : Items} {ha hb : Atom} (operator : Operator) → t < fr .temporaries → Goes fr R 0 F b ys hb → ((F' : Stack ℤ) → depth F' ≡ t + taken hb → Goes fr R 0 F' a xs ha)
@@ -114,8 +114,8 @@ module _ (fr : Frame) {C D : Type 0} {R : C → D → State → State → Type 0
         rw kernel-append (p .goes y y _ _ _ _ n (omega arith) λ right F' τ ν holds-right m.
         rw kernel-append (q F' (holds-depth at holds-right) .goes y y _ _ _ _ m (omega arith) λ left F'' τ ν holds-left m.
         rw (see fr at (holds-still holds-right) (release fr holds-left m), see fr (holds-depth at holds-right) holds-left m, runThen) (by-outcome (apply operator left right)
-        (λ v e. rw (e, runThen) (k _ _ _ _ holds-top (related-push v at room (release fr holds-right (release fr holds-left (related-ran _ _ (omega arith) m))))))
-        (λ _ e. rw (e, runThen) (alike-stop _ _ (omega arith) m)))));
+        (λ v e. rw (e, runThen) (k _ _ _ _ holds-top (related-push v at room (release fr holds-right (release fr holds-left (related-ran _ (omega arith) m))))))
+        (λ _ e. rw (e, runThen) (alike-stop _ (omega arith) m)))));
   }
 
   pub goes-and : {a b : Computation ℤ} {xs ys : Items} {ha hb : Atom} → t < fr .temporaries → Goes fr R 0 F a xs ha → Goes fr R 0 F b ys hb
@@ -127,9 +127,9 @@ module _ (fr : Frame) {C D : Type 0} {R : C → D → State → State → Type 0
     goes = λ x y σ κ f g n le k.
         rw kernel-append (p .goes y y _ _ _ _ n (omega arith) λ left F' τ ν holds m.
         rw (see fr at holds m, runThen) (by-cases (isTrue left)
-        (λ e. rw (e, runThen, kernel-append) (q .goes (x + 6) (x + 6) _ _ _ _ (release fr holds (related-ran _ _ (omega arith) m)) (omega arith) λ right F' τ ν holds m.
-        rw (see fr at holds m, runThen, zero-differs right, runThen) (k _ _ _ _ holds-top (related-push _ at room (release fr holds (related-ran _ _ (omega arith) m))))))
-        (λ e. rw (e, runThen) (k _ _ _ _ holds-top (related-push _ at room (release fr holds (related-ran _ _ (omega arith) m)))))));
+        (λ e. rw (e, runThen, kernel-append) (q .goes (x + 6) (x + 6) _ _ _ _ (release fr holds (related-ran _ (omega arith) m)) (omega arith) λ right F' τ ν holds m.
+        rw (see fr at holds m, runThen, zero-differs right, runThen) (k _ _ _ _ holds-top (related-push _ at room (release fr holds (related-ran _ (omega arith) m))))))
+        (λ e. rw (e, runThen) (k _ _ _ _ holds-top (related-push _ at room (release fr holds (related-ran _ (omega arith) m)))))));
   }
 
   pub goes-or : {a b : Computation ℤ} {xs ys : Items} {ha hb : Atom} → t < fr .temporaries → Goes fr R 0 F a xs ha → Goes fr R 0 F b ys hb
@@ -141,9 +141,9 @@ module _ (fr : Frame) {C D : Type 0} {R : C → D → State → State → Type 0
     goes = λ x y σ κ f g n le k.
         rw kernel-append (p .goes y y _ _ _ _ n (omega arith) λ left F' τ ν holds m.
         rw (see fr at holds m, runThen) (by-cases (isTrue left)
-        (λ e. rw (e, runThen) (k _ _ _ _ holds-top (related-push _ at room (release fr holds (related-ran _ _ (omega arith) m)))))
-        (λ e. rw (e, runThen, kernel-append) (q .goes (x + 6) (x + 6) _ _ _ _ (release fr holds (related-ran _ _ (omega arith) m)) (omega arith) λ right F' τ ν holds m.
-        rw (see fr at holds m, runThen, zero-differs right, runThen) (k _ _ _ _ holds-top (related-push _ at room (release fr holds (related-ran _ _ (omega arith) m))))))));
+        (λ e. rw (e, runThen) (k _ _ _ _ holds-top (related-push _ at room (release fr holds (related-ran _ (omega arith) m)))))
+        (λ e. rw (e, runThen, kernel-append) (q .goes (x + 6) (x + 6) _ _ _ _ (release fr holds (related-ran _ (omega arith) m)) (omega arith) λ right F' τ ν holds m.
+        rw (see fr at holds m, runThen, zero-differs right, runThen) (k _ _ _ _ holds-top (related-push _ at room (release fr holds (related-ran _ (omega arith) m))))))));
   }
 
   pub goes-comma : {a b : Computation ℤ} {xs ys : Items} {ha hb : Atom} → Goes fr R 0 F a xs ha → Goes fr R 0 F b ys hb → Goes fr R 0 F (do a; b) (xs ⧺ ys) hb
@@ -159,7 +159,7 @@ module _ (fr : Frame) {C D : Type 0} {R : C → D → State → State → Type 0
   goes-copy {h = h} room p = record { goes = λ x y σ κ f g n le k. rw kernel-append (p .goes y y _ _ _ _ n (omega arith) λ v F' τ ν holds m. copied h holds x y τ ν f g m le k) }
     where
       copied : (h : Atom) {v : ℤ} {F' : Stack ℤ} {ρ : State} → Holds F h v F' ρ → (x y : ℕ) (τ ν : State) (f : ℤ → State → Result C) (g : Signal → State → Result D) → Related fr F' y τ ν → x + copyRows h ≤ y → ValueFollows fr R F top x f g → Alike fr R (f v τ) (kernel fr (copyCode (fr .words) t h) next ν g)
-      copied (number v) holds-number x y τ ν f g m le k = k _ _ _ _ holds-top (related-push _ at room (related-ran _ _ (omega arith) m))
+      copied (number v) holds-number x y τ ν f g m le k = k _ _ _ _ holds-top (related-push _ at room (related-ran _ (omega arith) m))
       copied top holds-top x y τ ν f g m le k = k _ _ _ _ holds-top (related-less (omega arith) m)
 
   pub goes-conditional : {a b c : Computation ℤ} {xs ys zs : Items} {hc : Atom} {na nb : ℕ} → Goes fr R 0 F c zs hc → Goes fr R na F a xs top → Goes fr R nb F b ys top
@@ -169,8 +169,8 @@ module _ (fr : Frame) {C D : Type 0} {R : C → D → State → State → Type 0
     goes = λ x y σ κ f g n le k.
         rw kernel-append (p .goes y y _ _ _ _ n (omega arith) λ v F' τ ν holds m.
         rw (see fr at holds m, runThen) (by-cases (isTrue v)
-        (λ e. rw (e, runThen) (q .goes x (x + na) _ _ _ _ (release fr holds (related-ran _ _ (omega arith) m)) (omega arith) k))
-        (λ e. rw (e, runThen) (s .goes x (x + nb) _ _ _ _ (release fr holds (related-ran _ _ (omega arith) m)) (omega arith) k))));
+        (λ e. rw (e, runThen) (q .goes x (x + na) _ _ _ _ (release fr holds (related-ran _ (omega arith) m)) (omega arith) k))
+        (λ e. rw (e, runThen) (s .goes x (x + nb) _ _ _ _ (release fr holds (related-ran _ (omega arith) m)) (omega arith) k))));
   }
 
   pub goes-assign : {a : Computation ℕ} {b : Computation ℤ} {xs ys : Items} {h : Atom} {q : Place} {n k : ℕ} → Goes fr R 0 F b ys h → ((F' : Stack ℤ) → depth F' ≡ t + taken h → Points fr R F' a xs q n k)
@@ -181,8 +181,8 @@ module _ (fr : Frame) {C D : Type 0} {R : C → D → State → State → Type 0
         rw kernel-append (p .goes y y _ _ _ _ n (omega arith) λ v F' τ ν holds m.
         rw kernel-append (q F' (holds-depth at holds) .goes y _ _ _ _ (related-step (omega arith) m) λ o F'' τ ν aims _ m.
         rw (see fr at (holds-still holds) (aims-release fr aims m), see-place fr aims m, runThen) (by-outcome o
-        (λ i e. rw (e, runThen) (k _ _ _ _ (holds-still holds) (related-save i v (aims-inside fr aims i e) (aims-release fr aims (related-ran _ _ (omega arith) m)))))
-        (λ _ e. rw (e, runThen) (alike-stop _ _ (omega arith) m)))));
+        (λ i e. rw (e, runThen) (k _ _ _ _ (holds-still holds) (related-save i v (aims-inside fr aims i e) (aims-release fr aims (related-ran _ (omega arith) m)))))
+        (λ _ e. rw (e, runThen) (alike-stop _ (omega arith) m)))));
   }
 
   -- t is kept for the result, so the index stands above it, and above that an element's old value.
@@ -201,24 +201,24 @@ module _ (fr : Frame) {C D : Type 0} {R : C → D → State → State → Type 0
           → (x y : ℕ) (ν : State) (f : ℤ → State → Result C) (g : Signal → State → Result D) → Related fr G y τ ν → x + (14 + 2 * n) ≤ y → ValueFollows fr R F top x f g
           → Alike fr R (source fr (do position ← settle o; update operator position right newValue) τ f)
           (kernel fr (assigning (fr .words) (temporary (fr .words) u) (read q) (assigning (fr .words) (temporary (fr .words) t) (binary operator (read (temporary (fr .words) u)) (atom (fr .words) t h)) (assigning (fr .words) q (read (temporary (fr .words) t)) none))) next ν g)
-      through {right = right} {o = o} {τ = τ} kept aims above room x y ν f g m le k =
+      through {u = u} {right = right} {o = o} {τ = τ} kept aims above room x y ν f g m le k =
           rw (see-place fr aims m, runThen) (by-outcome o
           (λ i e. let old = getD (τ .store) i (pos 0) in
           let m2 = related-push old above room m in
           rw (e, runThen, related-load i (aims-inside fr aims i e) m, see fr at (kept .holds) (kept .pops (aims-release fr aims (related-pop m2))), related-top above m2, runThen) (by-outcome (apply operator old right)
           (λ v d. let under = aims-under fr v at aims (related-pop m2) in
           rw (d, runThen, related-top at (aims-release fr (under .2) (under .3)), see-place fr (under .2) (under .3), e, runThen)
-          (k _ _ _ _ holds-top (related-save i v (aims-inside fr aims i e) (aims-release fr (under .2) (related-ran _ _ (omega arith) (under .3))))))
-          (λ _ d. rw (d, runThen) (alike-stop _ _ (omega arith) m2))))
-          (λ _ e. rw (e, runThen) (alike-stop _ _ (omega arith) m)))
+          (k _ _ _ _ holds-top (related-save i v (aims-inside fr aims i e) (aims-release fr (under .2) (related-logged _ _ (omega arith) (logs-temporary t (logs-temporary u (m .logs))) (under .3))))))
+          (λ _ d. rw (d, runThen) (alike-logged _ _ (omega arith) (logs-temporary u (m .logs)) m2))))
+          (λ _ e. rw (e, runThen) (alike-stop _ (omega arith) m)))
 
       updated : {q : Place} {n u : ℕ} {w right : ℤ} {o : Outcome ℕ} {G : Stack ℤ} {τ : State} → Kept fr F h right w τ → Aims fr (F ▹ w) q o G n → depth G ≡ u → u + n ≤ fr .temporaries
           → (x y : ℕ) (ν : State) (f : ℤ → State → Result C) (g : Signal → State → Result D) → Related fr G y τ ν → x + (10 + 6 * n) ≤ y → ValueFollows fr R F top x f g
           → Alike fr R (source fr (do position ← settle o; update operator position right newValue) τ f) (kernel fr (updateCode (fr .words) operator q (atom (fr .words) t h) t u) next ν g)
       updated {right = right} {τ = τ} kept (aims-variable {i = i} inside) above room x y ν f g m le k =
           rw (see fr at (kept .holds) (kept .pops m), related-load i inside m, runThen) (by-outcome (apply operator (getD (τ .store) i (pos 0)) right)
-          (λ v e. rw (e, runThen, related-top at (related-over v at m)) (k _ _ _ _ holds-top (related-save i v inside (related-ran _ _ (omega arith) (related-over v at m)))))
-          (λ _ e. rw (e, runThen) (alike-stop _ _ (omega arith) m)))
+          (λ v e. rw (e, runThen, related-top at (related-over v at m)) (k _ _ _ _ holds-top (related-save i v inside (related-logged _ _ (omega arith) (logs-temporary t (m .logs)) (related-over v at m)))))
+          (λ _ e. rw (e, runThen) (alike-stop _ (omega arith) m)))
       updated kept (aims-element {σ = ρ} bounds level holds) above room x y ν f g m le k = through kept (aims-element {σ = ρ} bounds level holds) above (omega arith) x y ν f g m le k
 
   pub goes-prefix : {a : Computation ℕ} {xs : Items} {q : Place} {n k : ℕ} (operator : Operator) → t + 1 + k + n ≤ fr .temporaries → ((w : ℤ) → Points fr R (F ▹ w) a xs q n k)
@@ -240,16 +240,16 @@ module _ (fr : Frame) {C D : Type 0} {R : C → D → State → State → Type 0
           → (x y : ℕ) (ν : State) (f : ℤ → State → Result C) (g : Signal → State → Result D) → Related fr G y τ ν → x + (14 + 2 * n) ≤ y → ValueFollows fr R F top x f g
           → Alike fr R (source fr (do position ← settle o; update operator position (pos 1) oldValue) τ f)
           (kernel fr (assigning (fr .words) (temporary (fr .words) t) (read q) (assigning (fr .words) (temporary (fr .words) u) (binary operator (read (temporary (fr .words) t)) (constant (pos 1))) (assigning (fr .words) q (read (temporary (fr .words) u)) none))) next ν g)
-      through {o = o} {τ = τ} aims above room x y ν f g m le k =
+      through {u = u} {o = o} {τ = τ} aims above room x y ν f g m le k =
           rw (see-place fr aims m, runThen) (by-outcome o
           (λ i e. let old = getD (τ .store) i (pos 0) in
           let under = aims-under fr old at aims m in
           rw (e, runThen, related-load i (aims-inside fr aims i e) m, related-top at (aims-release fr (under .2) (under .3)), runThen) (by-outcome (apply operator old (pos 1))
           (λ v d. let m3 = related-push v (under .1 ∙ above) room (under .3) in
           rw (d, runThen, related-top (under .1 ∙ above) m3, see-place fr (under .2) (related-pop m3), e, runThen)
-          (k _ _ _ _ holds-top (related-save i v (aims-inside fr aims i e) (aims-release fr (under .2) (related-pop (related-ran _ _ (omega arith) m3))))))
-          (λ _ d. rw (d, runThen) (alike-stop _ _ (omega arith) (under .3)))))
-          (λ _ e. rw (e, runThen) (alike-stop _ _ (omega arith) m)))
+          (k _ _ _ _ holds-top (related-save i v (aims-inside fr aims i e) (aims-release fr (under .2) (related-pop (related-logged _ _ (omega arith) (logs-temporary u (logs-temporary t (m .logs))) m3))))))
+          (λ _ d. rw (d, runThen) (alike-logged _ _ (omega arith) (logs-temporary t (m .logs)) (under .3)))))
+          (λ _ e. rw (e, runThen) (alike-stop _ (omega arith) m)))
 
       updated : {q : Place} {n u : ℕ} {w : ℤ} {o : Outcome ℕ} {G : Stack ℤ} {τ : State} → Aims fr (F ▹ w) q o G n → depth G ≡ u → u + n ≤ fr .temporaries
           → (x y : ℕ) (ν : State) (f : ℤ → State → Result C) (g : Signal → State → Result D) → Related fr G y τ ν → x + (10 + 6 * n) ≤ y → ValueFollows fr R F top x f g
@@ -257,6 +257,6 @@ module _ (fr : Frame) {C D : Type 0} {R : C → D → State → State → Type 0
       updated {τ = τ} (aims-variable {i = i} inside) above room x y ν f g m le k =
           let old = getD (τ .store) i (pos 0) in
           rw (related-load i inside m, related-top at (related-over old at m), runThen) (by-outcome (apply operator old (pos 1))
-          (λ v e. rw (e, runThen) (k _ _ _ _ holds-top (related-save i v inside (related-ran _ _ (omega arith) (related-over old at m)))))
-          (λ _ e. rw (e, runThen) (alike-stop _ _ (omega arith) (related-over old at m))))
+          (λ v e. rw (e, runThen) (k _ _ _ _ holds-top (related-save i v inside (related-logged _ _ (omega arith) (logs-temporary t (m .logs)) (related-over old at m)))))
+          (λ _ e. rw (e, runThen) (alike-logged _ _ (omega arith) (logs-temporary t (m .logs)) (related-over old at m))))
       updated (aims-element {σ = ρ} bounds level holds) above room x y ν f g m le k = through (aims-element {σ = ρ} bounds level holds) above (omega arith) x y ν f g m le k

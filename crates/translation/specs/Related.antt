@@ -26,6 +26,16 @@ pub record Frame : Type 0 where
   pub variables-inside : layout .variables ≤ words
   pub arrays-inside : (array : ℕ) → array < length (layout .lengths) → arrayBase layout array + arrayLength layout array ≤ words
 
+-- The writes that both have made, the last first. The kernel's are the source's, in their order, each made within `rate` kernel steps to a
+-- source step; and among them others, to temporaries.
+pub data Logs (fr : Frame) : List Write → List Write → Type 0 where
+  logs-none : Logs fr [] []
+  logs-both : {i a b : ℕ} {v : ℤ} {ws vs : List Write} → i < fr .words → b ≤ fr .rate * a → Logs fr ws vs → Logs fr (record { place = i; value = v; when = a } ∷ ws) (record { place = i; value = v; when = b } ∷ vs)
+  logs-kernel : {i b : ℕ} {v : ℤ} {ws vs : List Write} → fr .words ≤ i → Logs fr ws vs → Logs fr ws (record { place = i; value = v; when = b } ∷ vs)
+
+pub logs-temporary : {fr : Frame} {b : ℕ} {v : ℤ} {ws vs : List Write} (t : ℕ) → Logs fr ws vs → Logs fr ws (record { place = fr .words + t; value = v; when = b } ∷ vs)
+logs-temporary {fr} t l = logs-kernel {i = fr .words + t} (omega arith) l
+
 -- The kernel's store is the source's, then the temporaries in use, then what is spare; and the kernel may take `credit` steps more.
 pub record Related (fr : Frame) (F : Stack ℤ) (credit : ℕ) (σ κ : State) : Type 0 where
   pub spare : List ℤ
@@ -33,24 +43,29 @@ pub record Related (fr : Frame) (F : Stack ℤ) (credit : ℕ) (σ κ : State) :
   pub source-words : length (σ .store) ≡ fr .words
   pub kernel-words : depth F + length spare ≡ fr .temporaries
   pub cost : κ .count + credit ≤ fr .rate * σ .count
+  pub logs : Logs fr (σ .writes) (κ .writes)
 
 -- Both runs end in the relation R, both are cut off, or both stop with one fault and related stores.
 pub data Alike (fr : Frame) {A B : Type 0} (R : A → B → State → State → Type 0) : Result A → Result B → Type 0 where
   alike-ok : {a : A} {b : B} {σ κ : State} → R a b σ κ → Alike fr R (ok a σ) (ok b κ)
-  alike-spent : {σ κ : State} → Alike fr R (stopped spent σ) (stopped spent κ)
+  alike-spent : {σ κ : State} → Logs fr (σ .writes) (κ .writes) → Alike fr R (stopped spent σ) (stopped spent κ)
   alike-fault : {sort : FaultSort} {σ κ : State} → Related fr bottom 0 σ κ → Alike fr R (stopped (fault sort) σ) (stopped (fault sort) κ)
 
 module _ {fr : Frame} {F : Stack ℤ} {x : ℕ} {σ κ : State} where
   -- a source step pays for `rate` kernel steps
   pub related-step : {y : ℕ} → y ≤ x + fr .rate → Related fr F x σ κ → Related fr F y (stepped σ) κ
-  related-step h n = record { spare = n .spare; stores = n .stores; source-words = n .source-words; kernel-words = n .kernel-words; cost = omega arith }
+  related-step h n = record { spare = n .spare; stores = n .stores; source-words = n .source-words; kernel-words = n .kernel-words; cost = omega arith; logs = n .logs }
 
   -- the kernel's count goes on, within the credit
-  pub related-ran : {y : ℕ} (u : ℕ) (ws : List Write) → u + y ≤ κ .count + x → Related fr F x σ κ → Related fr F y σ (record { store = κ .store; count = u; writes = ws })
-  related-ran u ws h n = record { spare = n .spare; stores = n .stores; source-words = n .source-words; kernel-words = n .kernel-words; cost = omega arith }
+  pub related-ran : {y : ℕ} (u : ℕ) → u + y ≤ κ .count + x → Related fr F x σ κ → Related fr F y σ (record { store = κ .store; count = u; writes = κ .writes })
+  related-ran u h n = record { spare = n .spare; stores = n .stores; source-words = n .source-words; kernel-words = n .kernel-words; cost = omega arith; logs = n .logs }
+
+  -- the same, with another log of the kernel's writes
+  pub related-logged : {y : ℕ} (u : ℕ) (ws : List Write) → u + y ≤ κ .count + x → Logs fr (σ .writes) ws → Related fr F x σ κ → Related fr F y σ (record { store = κ .store; count = u; writes = ws })
+  related-logged u ws h l n = record { spare = n .spare; stores = n .stores; source-words = n .source-words; kernel-words = n .kernel-words; cost = omega arith; logs = l }
 
   pub related-less : {y : ℕ} → y ≤ x → Related fr F x σ κ → Related fr F y σ κ
-  related-less h n = record { spare = n .spare; stores = n .stores; source-words = n .source-words; kernel-words = n .kernel-words; cost = omega arith }
+  related-less h n = record { spare = n .spare; stores = n .stores; source-words = n .source-words; kernel-words = n .kernel-words; cost = omega arith; logs = n .logs }
 
   pub related-load : (i : ℕ) → i < fr .words → Related fr F x σ κ → getD (κ .store) i (pos 0) ≡ getD (σ .store) i (pos 0)
   related-load i h n = rw (n .stores) (read-word (σ .store) F (n .spare) i (pos 0) (omega arith))
@@ -62,6 +77,7 @@ module _ {fr : Frame} {F : Stack ℤ} {x : ℕ} {σ κ : State} where
     source-words = length-set (σ .store) i v ∙ n .source-words;
     kernel-words = n .kernel-words;
     cost = n .cost;
+    logs = logs-both {a = σ .count} {b = κ .count} h (omega (arith, n .cost)) (n .logs);
   }
 
   -- a temporary written above those in use
@@ -76,13 +92,14 @@ module _ {fr : Frame} {F : Stack ℤ} {x : ℕ} {σ κ : State} where
         source-words = n .source-words;
         kernel-words = omega arith;
         cost = n .cost;
+        logs = logs-temporary (depth F) (n .logs);
       }
 
   pub related-top : {t : ℕ} {v : ℤ} → depth F ≡ t → Related fr (F ▹ v) x σ κ → getD (κ .store) (fr .words + t) (pos 0) ≡ v
   related-top {v = v} at n = rw (← at, n .stores, ← n .source-words, ← (add-zero (depth F))) (read-behind (σ .store) F (v ∷ n .spare) 0 (pos 0))
 
   pub related-pop : {v : ℤ} → Related fr (F ▹ v) x σ κ → Related fr F x σ κ
-  related-pop {v} n = record { spare = v ∷ n .spare; stores = n .stores; source-words = n .source-words; kernel-words = omega arith; cost = n .cost }
+  related-pop {v} n = record { spare = v ∷ n .spare; stores = n .stores; source-words = n .source-words; kernel-words = omega arith; cost = n .cost; logs = n .logs }
 
 -- one temporary more, whatever it holds
 pub related-skip : {fr : Frame} {F : Stack ℤ} {x : ℕ} {σ κ : State} → depth F < fr .temporaries → Related fr F x σ κ → (w : ℤ) × Related fr (F ▹ w) x σ κ
@@ -90,16 +107,17 @@ related-skip {fr} {F} {x} {σ} {κ} h n = go (n .spare) (n .stores) (n .kernel-w
   where
     go : (r : List ℤ) → κ .store ≡ laid (σ .store) F r → depth F + length r ≡ fr .temporaries → (w : ℤ) × Related fr (F ▹ w) x σ κ
     go [] e f = absurd (omega arith)
-    go (y ∷ r) e f = (y, record { spare = r; stores = e; source-words = n .source-words; kernel-words = omega arith; cost = n .cost })
+    go (y ∷ r) e f = (y, record { spare = r; stores = e; source-words = n .source-words; kernel-words = omega arith; cost = n .cost; logs = n .logs })
 
 -- the temporary under the top written over
 pub related-under : {fr : Frame} {F : Stack ℤ} {x t : ℕ} {σ κ : State} {u w : ℤ} (v : ℤ) → depth F ≡ t → Related fr (F ▹ u ▹ w) x σ κ → Related fr (F ▹ v ▹ w) x σ (written (fr .words + t) v κ)
-related-under {F = F} {σ = σ} {u = u} {w = w} v at n = record {
+related-under {fr = fr} {F = F} {t = t} {σ = σ} {u = u} {w = w} v at n = record {
   spare = n .spare;
   stores = rw (← at, n .stores, ← n .source-words, ← (add-zero (depth F))) (write-behind (σ .store) F (u ∷ w ∷ n .spare) 0 v);
   source-words = n .source-words;
   kernel-words = n .kernel-words;
   cost = n .cost;
+  logs = logs-temporary t (n .logs);
 }
 
 -- the top written over
@@ -111,9 +129,13 @@ related-end {F = bottom} n = related-less (omega arith) n
 related-end {F = F ▹ v} n = related-end (related-pop n)
 
 -- both stop with one fault, the kernel within its credit
-pub alike-stop : {fr : Frame} {A B : Type 0} {R : A → B → State → State → Type 0} {F : Stack ℤ} {x : ℕ} {σ κ : State} {sort : FaultSort} (u : ℕ) (ws : List Write) → u ≤ κ .count + x → Related fr F x σ κ
+pub alike-logged : {fr : Frame} {A B : Type 0} {R : A → B → State → State → Type 0} {F : Stack ℤ} {x : ℕ} {σ κ : State} {sort : FaultSort} (u : ℕ) (ws : List Write) → u ≤ κ .count + x → Logs fr (σ .writes) ws → Related fr F x σ κ
     → Alike fr R (stopped (fault sort) σ) (stopped (fault sort) (record { store = κ .store; count = u; writes = ws }))
-alike-stop u ws h n = alike-fault (related-end (related-ran {y = 0} u ws (omega arith) n))
+alike-logged u ws h l n = alike-fault (related-end (related-logged {y = 0} u ws (omega arith) l n))
+
+pub alike-stop : {fr : Frame} {A B : Type 0} {R : A → B → State → State → Type 0} {F : Stack ℤ} {x : ℕ} {σ κ : State} {sort : FaultSort} (u : ℕ) → u ≤ κ .count + x → Related fr F x σ κ
+    → Alike fr R (stopped (fault sort) σ) (stopped (fault sort) (record { store = κ .store; count = u; writes = κ .writes }))
+alike-stop {κ = κ} u h n = alike-logged u (κ .writes) h (n .logs) n
 
 -- ---- cases
 
@@ -125,6 +147,7 @@ by-outcome (faulty sort) y n = n sort refl
 
 module _ {fr : Frame} {A B C D : Type 0} {R : C → D → State → State → Type 0}
     (P : State → State → Type 0) (Q : A → B → State → State → Type 0)
+    (logs : (σ κ : State) → P σ κ → Logs fr (σ .writes) (κ .writes))
     (f : A → State → Result C) (g : B → State → Result D)
     (end : (a : A) (b : B) (σ κ : State) → Q a b σ κ → Alike fr R (f a σ) (g b κ))
     (m : State → (Turn A → State → Result C) → Result C) (n : State → (Turn B → State → Result D) → Result D)
@@ -133,5 +156,5 @@ module _ {fr : Frame} {A B C D : Type 0} {R : C → D → State → State → Ty
     → ((a : A) (b : B) (τ ν : State) → Q a b τ ν → Alike fr R (h (leave a) τ) (k (leave b) ν))
     → Alike fr R (m (stepped σ) h) (n (stepped κ) k)) where
   pub alike-loop : (c : ℕ) (σ κ : State) → P σ κ → Alike fr R (roundsThen c m σ f) (roundsThen c n κ g)
-  alike-loop zero σ κ p = alike-spent
+  alike-loop zero σ κ p = alike-spent (logs σ κ p)
   alike-loop (suc c) σ κ p = round σ κ p _ _ (alike-loop c) end

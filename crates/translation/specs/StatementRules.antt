@@ -17,7 +17,7 @@ use Rattle.translation.specs.Translate.{Atom, taken, atom, choosing, orE
 use Rattle.translation.specs.TranslateSize.{cases}
 use Rattle.translation.specs.Stack.{Stack, bottom, depth}
 use Rattle.translation.specs.RunThen.{runThen}
-use Rattle.translation.specs.Related.{Frame, Related, Alike, alike-loop, related-step, related-ran, related-less, related-push, related-top, related-pop}
+use Rattle.translation.specs.Related.{Frame, Related, Alike, alike-loop, logs-temporary, related-logged, related-step, related-ran, related-less, related-push, related-top, related-pop}
 use Rattle.translation.specs.Held.{Holds, holds-depth, source, kernel, kernel-append, see, release}
 use Rattle.translation.specs.ExpressionRules.{Goes}
 use Rattle.translation.specs.PassedCode.{has-neither, passes, plain-tests, Apart, apart-below, apart-above, label-least, label-absent}
@@ -92,8 +92,8 @@ module _ (fr : Frame) {C D : Type 0} {R : C → D → State → State → Type 0
     turns = λ c y σ κ f g n le k j.
         rw kernel-append (p .goes (c + n' + 4) y _ _ _ _ n (omega arith) λ v F' τ ν holds m.
         rw (see fr refl holds m, runThen) (by-cases (isTrue v)
-        (λ e. rw (e, runThen) (q .turns c (c + n') _ _ _ _ (release fr holds (related-ran _ _ (omega arith) m)) (omega arith) k j))
-        (λ e. rw (e, runThen, passes fr (label l) ys _ _ (q .free)) (j _ _ (release fr holds (related-ran _ _ (omega arith) m))))));
+        (λ e. rw (e, runThen) (q .turns c (c + n') _ _ _ _ (release fr holds (related-ran _ (omega arith) m)) (omega arith) k j))
+        (λ e. rw (e, runThen, passes fr (label l) ys _ _ (q .free)) (j _ _ (release fr holds (related-ran _ (omega arith) m))))));
     free = has-neither (label l) xs _ e (q .free);
   }
 
@@ -109,9 +109,9 @@ module _ (fr : Frame) {C D : Type 0} {R : C → D → State → State → Type 0
           → ((τ ν : State) → Related fr bottom c τ ν → Alike fr R (f again τ) (g next ν))
           → ((τ ν : State) → Related fr bottom c τ ν → Alike fr R (f (leave next) τ) (g (seeking (label l)) ν))
           → Alike fr R (source fr (afterBody b t) τ f) (kernel fr (label (l + 1) here ys) u ν g)
-      after leads-next c τ ν f g m k j = q .turns c (c + n') _ _ _ _ (related-ran _ _ (omega arith) m) (omega arith) k j
+      after leads-next c τ ν f g m k j = q .turns c (c + n') _ _ _ _ (related-ran _ (omega arith) m) (omega arith) k j
       after leads-break c τ ν f g m k j = rw (ne-eqb l (l + 1) (omega arith), runThen, passes fr (label l) ys _ _ (q .free)) (j _ _ (related-less (omega arith) m))
-      after leads-continue c τ ν f g m k j = rw (eq-eqb (l + 1) (l + 1) refl, runThen) (q .turns c (c + n') _ _ _ _ (related-ran _ _ (omega arith) m) (omega arith) k j)
+      after leads-continue c τ ν f g m k j = rw (eq-eqb (l + 1) (l + 1) refl, runThen) (q .turns c (c + n') _ _ _ _ (related-ran _ (omega arith) m) (omega arith) k j)
 
 -- ---- statements
 
@@ -123,7 +123,7 @@ module _ (fr : Frame) {C D : Type 0} {R : C → D → State → State → Type 0
 
   pub runs-empty : Runs fr R 1 x (ret next) (empty then none)
   unfolding runThen items perform
-  runs-empty = record { runs = λ c y σ κ f g n le k. k _ _ _ _ leads-next (related-ran _ _ (omega arith) n) }
+  runs-empty = record { runs = λ c y σ κ f g n le k. k _ _ _ _ leads-next (related-ran _ (omega arith) n) }
 
   -- A value that nobody uses is still computed.
   pub runs-express : {m : Computation ℤ} {xs : Items} {h : Atom} → Goes fr R 0 bottom m xs h → Runs fr R 1 x (do m; ret next) (orEmpty (fr .words) xs)
@@ -132,13 +132,13 @@ module _ (fr : Frame) {C D : Type 0} {R : C → D → State → State → Type 0
     where
       by : (xs : Items) → Goes fr R 0 bottom m xs h → (c y : ℕ) (σ κ : State) (f : Signal → State → Result C) (g : Signal → State → Result D) → Related fr bottom y σ κ → c + 1 ≤ y → SignalFollows fr R x c f g
           → Alike fr R (source fr (do m; ret next) σ f) (kernel fr (orEmpty (fr .words) xs) next κ g)
-      by none p c y σ κ f g n le k = p .goes (c + 1) y σ κ _ (λ s ν. kernel fr (empty then none) s ν g) n (omega arith) (λ v F' τ ν holds m. k _ _ _ _ leads-next (related-ran _ _ (omega arith) (release fr holds m)))
+      by none p c y σ κ f g n le k = p .goes (c + 1) y σ κ _ (λ s ν. kernel fr (empty then none) s ν g) n (omega arith) (λ v F' τ ν holds m. k _ _ _ _ leads-next (related-ran _ (omega arith) (release fr holds m)))
       by (s then xs) p c y σ κ f g n le k = p .goes c y σ κ _ g n (omega arith) (λ v F' τ ν holds m. k _ _ _ _ leads-next (release fr holds m))
       by (s here xs) p c y σ κ f g n le k = p .goes c y σ κ _ g n (omega arith) (λ v F' τ ν holds m. k _ _ _ _ leads-next (release fr holds m))
 
   pub runs-block : {l : ℕ} {is xs : Items} → RunsOn fr R x l is xs → Runs fr R 1 x (items (fr .layout) is next) (block xs then none)
   unfolding runThen items perform
-  runs-block p = record { runs = λ c y σ κ f g n le k. p .runs next next leads-next c _ _ _ _ (related-ran _ _ (omega arith) n) k }
+  runs-block p = record { runs = λ c y σ κ f g n le k. p .runs next next leads-next c _ _ _ _ (related-ran _ (omega arith) n) k }
 
   pub runs-ifThen : {a : Computation ℤ} {b : Computation Signal} {xs ys : Items} {h : Atom} → Goes fr R 0 bottom a xs h → Runs fr R 0 x b ys
       → Runs fr R 3 x (do test ← a; ifTrue test b (ret next)) (xs ⧺ choosing (fr .words) (atom (fr .words) 0 h) ys none none)
@@ -147,8 +147,8 @@ module _ (fr : Frame) {C D : Type 0} {R : C → D → State → State → Type 0
     runs = λ c y σ κ f g n le k.
         rw kernel-append (p .goes y y _ _ _ _ n (omega arith) λ v F' τ ν holds m.
         rw (see fr refl holds m, runThen) (by-cases (isTrue v)
-        (λ e. rw (e, runThen) (q .runs c c _ _ _ _ (release fr holds (related-ran _ _ (omega arith) m)) (omega arith) k))
-        (λ e. rw (e, runThen) (k _ _ _ _ leads-next (release fr holds (related-ran _ _ (omega arith) m))))));
+        (λ e. rw (e, runThen) (q .runs c c _ _ _ _ (release fr holds (related-ran _ (omega arith) m)) (omega arith) k))
+        (λ e. rw (e, runThen) (k _ _ _ _ leads-next (release fr holds (related-ran _ (omega arith) m))))));
   }
 
   pub runs-ifElse : {a : Computation ℤ} {b d : Computation Signal} {xs ys zs : Items} {h : Atom} → Goes fr R 0 bottom a xs h → Runs fr R 0 x b ys → Runs fr R 0 x d zs
@@ -158,32 +158,32 @@ module _ (fr : Frame) {C D : Type 0} {R : C → D → State → State → Type 0
     runs = λ c y σ κ f g n le k.
         rw kernel-append (p .goes y y _ _ _ _ n (omega arith) λ v F' τ ν holds m.
         rw (see fr refl holds m, runThen) (by-cases (isTrue v)
-        (λ e. rw (e, runThen) (q .runs c c _ _ _ _ (release fr holds (related-ran _ _ (omega arith) m)) (omega arith) k))
-        (λ e. rw (e, runThen) (r .runs c c _ _ _ _ (release fr holds (related-ran _ _ (omega arith) m)) (omega arith) k))));
+        (λ e. rw (e, runThen) (q .runs c c _ _ _ _ (release fr holds (related-ran _ (omega arith) m)) (omega arith) k))
+        (λ e. rw (e, runThen) (r .runs c c _ _ _ _ (release fr holds (related-ran _ (omega arith) m)) (omega arith) k))));
   }
 
   pub runs-break : Runs fr R 1 x (ret breaking) (goto (x .onBreak) then none)
   unfolding runThen items perform
-  runs-break = record { runs = λ c y σ κ f g n le k. k _ _ _ _ leads-break (related-ran _ _ (omega arith) n) }
+  runs-break = record { runs = λ c y σ κ f g n le k. k _ _ _ _ leads-break (related-ran _ (omega arith) n) }
 
   pub runs-continue : Runs fr R 1 x (ret continuing) (goto (x .onContinue) then none)
   unfolding runThen items perform
-  runs-continue = record { runs = λ c y σ κ f g n le k. k _ _ _ _ leads-continue (related-ran _ _ (omega arith) n) }
+  runs-continue = record { runs = λ c y σ κ f g n le k. k _ _ _ _ leads-continue (related-ran _ (omega arith) n) }
 
   -- A round's first step pays for the round.
   pub runs-loop : {m : Computation (Turn Signal)} {xs : Items} {own l : ℕ} → own + 2 ≤ fr .rate → Turns fr R own l m xs → Runs fr R 2 x (loop m) (loopCode (fr .words) xs l)
   unfolding runThen items perform evaluate isTrue sameMark
   runs-loop {own = own} {l = l} r p = record {
     runs = λ c y σ κ f g n le k.
-        alike-loop (Related fr bottom (suc c)) (Left fr R l (suc c)) f _ (λ a b τ ν e. ends c f g k e) _ _
-        (λ σ κ n f g goes leaves. p .turns (suc c) (suc c + own) _ _ _ _ (related-ran _ _ (omega arith) (related-step {y = suc c + own + 2} (omega arith) n)) (omega arith)
+        alike-loop (Related fr bottom (suc c)) (Left fr R l (suc c)) (λ σ κ m. m .logs) f _ (λ a b τ ν e. ends c f g k e) _ _
+        (λ σ κ n f g goes leaves. p .turns (suc c) (suc c + own) _ _ _ _ (related-ran _ (omega arith) (related-step {y = suc c + own + 2} (omega arith) n)) (omega arith)
         (λ τ ν m. goes τ ν m) (λ τ ν m. leaves _ _ τ ν (left m)))
-        (fr .rounds) _ _ (related-ran _ _ (omega arith) n);
+        (fr .rounds) _ _ (related-ran _ (omega arith) n);
   }
     where
       ends : (c : ℕ) (f : Signal → State → Result C) (g : Signal → State → Result D) → SignalFollows fr R x c f g
           → {a b : Signal} {σ κ : State} → Left fr R l (suc c) a b σ κ → Alike fr R (f a σ) (kernel fr (label l here none) b κ g)
-      ends c f g k (left n) = rw (eq-eqb l l refl, runThen) (k _ _ _ _ leads-next (related-ran _ _ (omega arith) n))
+      ends c f g k (left n) = rw (eq-eqb l l refl, runThen) (k _ _ _ _ leads-next (related-ran _ (omega arith) n))
 
   pub runs-after : {a : Computation ℤ} {b : Computation Signal} {xs ys : Items} {own : ℕ} → Drops fr R a xs → Runs fr R own x b ys → Runs fr R own x (do a; b) (xs ⧺ ys)
   unfolding runThen
@@ -217,7 +217,7 @@ module _ (fr : Frame) {C D : Type 0} {R : C → D → State → State → Type 0
   runs-here {n = mark} {is} {ys} {l} below r q = record {
     runs = λ t u w. goes w;
     finds = λ m h other c σ κ f g n k. by-cases (sameMark m mark)
-        (λ e. rw (e, runThen, eq-eqb l l refl, runThen) (q .runs _ _ leads-next c _ _ _ _ (related-ran _ _ (omega arith) (related-step {y = suc c} (omega arith) n)) k))
+        (λ e. rw (e, runThen, eq-eqb l l refl, runThen) (q .runs _ _ leads-next c _ _ _ _ (related-ran _ (omega arith) (related-step {y = suc c} (omega arith) n)) k))
         (λ e. let later : has m is ≡ true = rw e at h in
         let least = label-least m is (l + 1) other later in
         rw (e, runThen, ne-eqb (labelOf m is (l + 1) other) l (omega arith), runThen) (q .finds m later other c _ _ _ _ n k));
@@ -225,7 +225,7 @@ module _ (fr : Frame) {C D : Type 0} {R : C → D → State → State → Type 0
     where
       goes : {t u : Signal} → Leads x t u → (c : ℕ) (σ κ : State) (f : Signal → State → Result C) (g : Signal → State → Result D) → Related fr bottom c σ κ → SignalFollows fr R x c f g
           → Alike fr R (source fr (items (fr .layout) (mark here is) t) σ f) (kernel fr (label l here ys) u κ g)
-      goes leads-next c σ κ f g n k = q .runs _ _ leads-next c _ _ _ _ (related-ran _ _ (omega arith) (related-step {y = suc c} (omega arith) n)) k
+      goes leads-next c σ κ f g n k = q .runs _ _ leads-next c _ _ _ _ (related-ran _ (omega arith) (related-step {y = suc c} (omega arith) n)) k
       goes leads-break c σ κ f g n k = rw (ne-eqb (x .onBreak) l (omega arith), runThen) (q .runs _ _ leads-break c _ _ _ _ n k)
       goes leads-continue c σ κ f g n k = rw (ne-eqb (x .onContinue) l (omega arith), runThen) (q .runs _ _ leads-continue c _ _ _ _ n k)
 
@@ -244,8 +244,8 @@ module _ (fr : Frame) {C D : Type 0} {R : C → D → State → State → Type 0
   tests-go (case w here is) l y κ n le hit miss =
       rw (see fr refl holds n, related-top above (related-push (bit (sameWord v w)) above room n), runThen) (by-cases (sameWord v w)
       (λ e. rw (e, runThen, passes fr (label l) (caseTests (fr .words) (atom (fr .words) 0 h) (taken h) is (l + 1)) _ _ (plain-tests (fr .words) (atom (fr .words) 0 h) (taken h) is (l + 1) (label l)))
-      (rw e at (hit (rw e)) _ (release fr holds (related-pop (related-ran _ _ (omega arith) (related-push (pos 1) above room n))))))
-      (λ e. rw (e, runThen) (tests-go is (l + 1) (c + 11 * cases is) _ (related-pop (related-ran _ _ (omega arith) (related-push (pos 0) above room n))) (omega arith)
+      (rw e at (hit (rw e)) _ (release fr holds (related-pop (related-logged _ _ (omega arith) (logs-temporary (taken h) (n .logs)) (related-push (pos 1) above room n))))))
+      (λ e. rw (e, runThen) (tests-go is (l + 1) (c + 11 * cases is) _ (related-pop (related-logged _ _ (omega arith) (logs-temporary (taken h) (n .logs)) (related-push (pos 0) above room n))) (omega arith)
       (λ i ν q. (rw e at (hit (rw e i))) ν q) (λ i ν q. miss (rw e i) ν q))))
   tests-go (default here is) l y κ n le hit miss = tests-go is (l + 1) y κ n le hit miss
   tests-go (label k here is) l y κ n le hit miss = tests-go is (l + 1) y κ n le hit miss
@@ -261,12 +261,12 @@ module _ (fr : Frame) {C D : Type 0} {R : C → D → State → State → Type 0
         rw kernel-append (tests-go fr holds (omega (arith, holds-depth refl holds)) room _ _ (c + 2) l is (l + 1) y ν m (omega arith)
         (λ e ν m. rw (e, kernel-append fr ys) (q .finds (case v) e l (c + 1) _ _ _ _ (related-less (omega arith) m) (λ t u τ ν s m. ends c f g k s m)))
         (λ e ν m. rw (e, kernel-append fr ys) (by-cases (has default is)
-        (λ i. rw i (q .finds default i l (c + 1) _ _ _ _ (related-ran _ _ (omega arith) m) (λ t u τ ν s m. ends c f g k s m)))
-        (λ i. rw (i, label-absent default is (l + 1) l i) (q .runs breaking _ leads-break (c + 1) _ _ _ _ (related-ran _ _ (omega arith) m) (λ t u τ ν s m. ends c f g k s m)))))));
+        (λ i. rw i (q .finds default i l (c + 1) _ _ _ _ (related-ran _ (omega arith) m) (λ t u τ ν s m. ends c f g k s m)))
+        (λ i. rw (i, label-absent default is (l + 1) l i) (q .runs breaking _ leads-break (c + 1) _ _ _ _ (related-ran _ (omega arith) m) (λ t u τ ν s m. ends c f g k s m)))))));
   }
     where
       ends : (c : ℕ) (f : Signal → State → Result C) (g : Signal → State → Result D) → SignalFollows fr R x c f g
           → {t u : Signal} {τ ν : State} → Leads (exits l (x .onContinue)) t u → Related fr bottom (c + 1) τ ν → Alike fr R (f (afterSwitch t) τ) (kernel fr (label l here none) u ν g)
-      ends c f g k leads-next m = k _ _ _ _ leads-next (related-ran _ _ (omega arith) m)
-      ends c f g k leads-break m = rw (eq-eqb l l refl, runThen) (k _ _ _ _ leads-next (related-ran _ _ (omega arith) m))
+      ends c f g k leads-next m = k _ _ _ _ leads-next (related-ran _ (omega arith) m)
+      ends c f g k leads-break m = rw (eq-eqb l l refl, runThen) (k _ _ _ _ leads-next (related-ran _ (omega arith) m))
       ends c f g k leads-continue m = rw (ne-eqb (x .onContinue) l (omega arith), runThen) (k _ _ _ _ leads-continue (related-less (omega arith) m))

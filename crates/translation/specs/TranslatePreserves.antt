@@ -24,7 +24,7 @@ use Rattle.translation.specs.Translate.{exits, translate, temporaries}
 use Rattle.translation.specs.TranslateRows.{translation-rows}
 use Rattle.translation.specs.Stack.{bottom}
 use Rattle.translation.specs.RunThen.{runThen, runThen-run}
-use Rattle.translation.specs.Related.{Frame, Related, Alike, alike-ok, alike-spent, alike-fault, related-ran, related-step}
+use Rattle.translation.specs.Related.{Frame, logs-none, Related, Alike, alike-ok, alike-spent, alike-fault, related-ran, related-step}
 use Rattle.translation.specs.StatementRules.{leads-next}
 use Rattle.translation.specs.StatementPreserves.{items-run}
 
@@ -95,7 +95,7 @@ data Ended (fr : Frame) : Signal → Signal → State → State → Type 0 where
 
 same-end : {fr : Frame} {r q : Result Signal} → Alike fr (Ended fr) r q → SameEnd (fr .rate) (fr .temporaries) r q
 same-end (alike-ok (ended n)) = both-plain (related-words n)
-same-end alike-spent = neither
+same-end (alike-spent l) = neither
 same-end (alike-fault n) = both-fault (related-words n)
 
 module _ (L : Layout) (program : Items) (store temporaryWords : List ℤ) (tree : SourceTree L program) (all-words : length store ≡ storeSize L) (enough : temporaries program ≤ length temporaryWords) where
@@ -120,10 +120,10 @@ module _ (L : Layout) (program : Items) (store temporaryWords : List ℤ) (tree 
   runs-alike c =
       let fr = frame c in
       let size = translation-rows L program in
-      let at-start : Related fr bottom 0 (start store) (start (store ++ temporaryWords)) = record { spare = temporaryWords; stores = refl; source-words = all-words; kernel-words = omega arith; cost = omega arith } in
+      let at-start : Related fr bottom 0 (start store) (start (store ++ temporaryWords)) = record { spare = temporaryWords; stores = refl; source-words = all-words; kernel-words = omega arith; cost = omega arith; logs = logs-none } in
       same-end {fr = fr} (rw (← runThen-run c (exec L (block program)) (start store), ← runThen-run c (exec L (block (translate L program))) (start (store ++ temporaryWords)))
       (items-run fr program (exits 0 0) 1 false false false (omega arith) (tree .named) (tree .placed) enough (omega arith) .runs next next leads-next 0 _ _ _ _
-      (related-ran _ _ (omega arith) (related-step {y = 1} (omega arith) at-start)) (λ t u τ ν w m. alike-ok (ended m))))
+      (related-ran _ (omega arith) (related-step {y = 1} (omega arith) at-start)) (λ t u τ ν w m. alike-ok (ended m))))
 
   same-limits : (b d : ℕ) → Settled (sourceRun L program store (steps b)) → Settled (kernelRun L program store temporaryWords (steps d))
       → SameEnd Rows (length temporaryWords) (sourceRun L program store (steps b)) (kernelRun L program store temporaryWords (steps d))

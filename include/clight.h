@@ -48,7 +48,7 @@ enum clight_cause {
     CLIGHT_TEXT = 14              /* text malformed; the line, from 1 */
 };
 
-/* Endings of a run, in the first value of its answer. */
+/* Endings of a run, in the first value of its answer: `endingNumber` (crates/words/specs/Answers.antt). */
 enum clight_ending {
     CLIGHT_ENDED = 0,
     CLIGHT_SPENT = 1,

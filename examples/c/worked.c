@@ -4,7 +4,8 @@
 #include <stdio.h>
 #include <string.h>
 
-static const char *const endings[] = {"ended", "spent", "overflow", "zero", "index"};
+static const char *const endings[] = {
+    [CLIGHT_ENDED] = "ended", [CLIGHT_SPENT] = "spent", [CLIGHT_OVERFLOW] = "overflow", [CLIGHT_ZERO] = "zero", [CLIGHT_INDEX] = "index"};
 
 static const char text[] = "1\t3\n"
                            "42\t1\t0\t0\t0\t0\n"

@@ -1,7 +1,7 @@
 //! Reads document 01's worked example, translates it and runs both forms,
 //! each from a store of zeros.
 
-use clight::{Ending, Refusal, KERNEL_HEADER_WORDS, ROW_WORDS, SOURCE_HEADER_WORDS};
+use clight::{Refusal, KERNEL_HEADER_WORDS, ROW_WORDS, SOURCE_HEADER_WORDS};
 
 const TEXT: &[u8] = b"1\t3
 42\t1\t0\t0\t0\t0
@@ -21,16 +21,6 @@ const TEXT: &[u8] = b"1\t3
 const SOURCE_ROWS: usize = 13;
 const BUDGET: u32 = 100_000;
 
-fn name(ending: Ending) -> &'static str {
-    match ending {
-        Ending::Ended => "ended",
-        Ending::Spent => "spent",
-        Ending::Overflow => "overflow",
-        Ending::ZeroDivisor => "zero",
-        Ending::Index => "index",
-    }
-}
-
 /// The store's words, each behind a blank.
 fn words(store: &[i32]) -> String {
     store.iter().map(|word| format!(" {word}")).collect()
@@ -46,7 +36,7 @@ fn main() -> Result<(), Refusal> {
     let size: usize = header.iter().map(|&n| n as usize).sum();
     let mut store = vec![0; size];
     let ran = clight::run(header, rows, &mut store, BUDGET)?;
-    println!("source {} {}{}", name(ran.ending), ran.count, words(&store));
+    println!("source {} {}{}", ran.ending, ran.count, words(&store));
 
     let mut kernel_header = [0; KERNEL_HEADER_WORDS];
     let mut kernel_rows = vec![0; ROW_WORDS * clight::kernel_rows(SOURCE_ROWS)];
@@ -59,10 +49,6 @@ fn main() -> Result<(), Refusal> {
     // S+T: the temporaries behind the arrays.
     let mut kernel_store = vec![0; size + kernel_header[1] as usize];
     let ran = clight::kernel_run(kernel_header, kernel_rows, &mut kernel_store, BUDGET)?;
-    println!(
-        "kernel {}{}",
-        name(ran.ending),
-        words(&kernel_store[..size])
-    );
+    println!("kernel {}{}", ran.ending, words(&kernel_store[..size]));
     Ok(())
 }

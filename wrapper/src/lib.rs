@@ -47,7 +47,8 @@ pub enum Cause {
     Text = 14,
 }
 
-const CAUSES: [Cause; 14] = [
+/// Every cause, in order of number.
+pub const CAUSES: [Cause; 14] = [
     Cause::Header,
     Cause::RowCount,
     Cause::Kind,
@@ -89,8 +90,20 @@ pub enum Ending {
     Index,
 }
 
-const ENDINGS: [Ending; 5] =
-    [Ending::Ended, Ending::Spent, Ending::Overflow, Ending::ZeroDivisor, Ending::Index];
+/// Each ending, at the library's number for it, with the word that the trial program prints.
+pub const ENDINGS: [(Ending, &str); 5] = [
+    (Ending::Ended, "ended"),
+    (Ending::Spent, "spent"),
+    (Ending::Overflow, "overflow"),
+    (Ending::ZeroDivisor, "zero"),
+    (Ending::Index, "index"),
+];
+
+impl std::fmt::Display for Ending {
+    fn fmt(&self, f: &mut std::fmt::Formatter) -> std::fmt::Result {
+        f.write_str(ENDINGS[*self as usize].1)
+    }
+}
 
 /// An ending, and the number of steps that the run made.
 #[derive(Clone, Copy, Debug, PartialEq, Eq)]
@@ -142,7 +155,7 @@ fn run_by(
     let answer =
         unsafe { entry(header, header_words, rows, row_words, store, store_words, budget) };
     let (ending, count) = answer.values()?;
-    Ok(Run { ending: ENDINGS[ending], count: count as u32 })
+    Ok(Run { ending: ENDINGS[ending].0, count: count as u32 })
 }
 
 fn read_by(

@@ -1,31 +1,32 @@
 -- Decoding: answers as the code handles them: words cast to 64 bits, numbers handed on, stops.
 use mathlib.Core.Path.{_≡_, refl, sym, ap, ap₂, _∙_}
-use mathlib.Core.Bool.{Bool, true, false}
+use mathlib.Core.Bool.{Bool, true, false, true≢false}
 use mathlib.Core.List.{List}
-use Prim.Native.Nat.{ℕ, _+_, _^_, _≤_, _<_}
+use Prim.Native.Nat.{ℕ, _+_, _-_, _^_, _≤_, _<_}
 use native.Mathlib.Omega.{arith}
 use lib.Dec.{T}
-use lib.IntN.{ℤ, pos, negsuc, natAbs}
+use lib.IntN.{ℤ, pos, negsuc, natAbs, _+ℤ_}
 use lib.Signed.{mag, ltZ, nonNeg}
 use mir.Syntax.{w32, w64}
 use mir.Val.{SFits, Fits, toZ, ofZ}
 use mir.Facts.{toZ-ofZ}
-use borrow.Author.Tests.{lt-ltb, le-ltb}
+use borrow.Author.Tests.{ltb-true, ltb-false, lt-ltb, le-ltb, ne-eqb}
 use Rattle.words.specs.Word.{isWord, natural, pick}
 use lib.ListN.{getD, set}
 use Rattle.words.specs.Arithmetic.{Outcome, value, apply, element}
 use Rattle.words.specs.declared.Operator.{Operator}
 use Rattle.language.specs.Meaning.{update, oldValue, newValue}
-use Rattle.words.specs.Answers.{computed, located}
+use Rattle.words.specs.Answers.{computed, located, faultNumber}
 use Rattle.words.specs.Laws.{back, below-least-word, above-greatest-word, between-words, element-inside}
 use Rattle.words.specs.declared.FaultSort.{FaultSort}
-use Rattle.words.specs.declared.FaultSort.the-variants.{Overflow, ZeroDivisor, Index}
+use Rattle.words.specs.declared.FaultSort.the-variants.{Index}
+use Rattle.words.specs.AnswerLaws.{faults-apart}
 use Rattle.words.specs.declared.Computed.{Computed}
 use Rattle.words.specs.declared.Computed.the-variants.{Value as Computes, Fails}
 use Rattle.computation.specs.Computation.{settle}
 use Rattle.computation.specs.Run.{Stop, spent, fault}
 use Rattle.computation.specs.Remaining.{gives, halts, spend, onward}
-use Rattle.evaluator.specs.Answers.{stopNumber, stopOf, operandOf, answered, placed, Settles, Places}
+use Rattle.evaluator.specs.Answers.{stopNumber, beyond, stopOf, operandOf, answered, placed, Settles, Places}
 use Rattle.evaluator.specs.declared.Operand.the-variants.{Value, Halted}
 use Rattle.words.specs.declared.Located.{Located}
 use Rattle.words.specs.declared.Located.the-variants.{At, Outside}
@@ -89,16 +90,47 @@ answered-wide z h n s = rw (wide-is z h) (answered-word z h n s)
 pub stop-other : (why : Stop) → 2 ^ 31 ≤ mag (stopNumber why)
 unfolding stopNumber
 stop-other spent = omega arith
-stop-other (fault Overflow) = omega arith
-stop-other (fault ZeroDivisor) = omega arith
-stop-other (fault Index) = omega arith
+stop-other (fault sort) = omega (arith, faults-apart sort .no-other)
 
 pub stop-again : (why : Stop) → stopOf (stopNumber why) ≡ why
-unfolding stopOf stopNumber
+unfolding stopOf stopNumber beyond
 stop-again spent = refl
-stop-again (fault Overflow) = refl
-stop-again (fault ZeroDivisor) = refl
-stop-again (fault Index) = refl
+stop-again (fault sort) =
+    let number : 2147483647 + faultNumber sort - 2147483647 ≡ faultNumber sort = omega arith in
+    let apart = faults-apart sort in
+    rw (number, ne-eqb (faultNumber sort) 1 (λ e. omega (arith, apart .no-other)), apart .again)
+
+-- the code's sum of the greatest word and a fault's number
+module _ (sort : FaultSort) (n : ℕ) (e : n ≡ faultNumber sort) where
+  counted : pos 2147483647 +ℤ toZ w64 n ≡ stopNumber (fault sort)
+  unfolding stopNumber
+  counted = ap (λ (z : ℤ). pos 2147483647 +ℤ z) (handed-is (pos n) (omega (arith, faults-apart sort .small))) ∙ ap (λ (m : ℕ). pos (2147483647 + m)) e
+
+  pub counted-fits : SFits w64 (pos 2147483647 +ℤ toZ w64 n)
+  unfolding stopNumber
+  counted-fits = rw counted (record { sfits = omega (arith, faults-apart sort .small) })
+
+  pub counted-is : handed (pos 2147483647 +ℤ toZ w64 n) ≡ stopNumber (fault sort)
+  counted-is = handed-is _ (counted-fits .sfits) ∙ counted
+
+-- how far an answer lies behind the words, as the code tests and subtracts
+pub before-words-end : (z : ℤ) → ltZ z (pos 2147483647) ≡ true → 0 ≡ beyond z
+unfolding beyond
+before-words-end (pos n) e = omega (arith, ltb-true n 2147483647 e)
+before-words-end (negsuc n) e = refl
+
+pub behind-casts : (z : ℤ) → mag z < 2 ^ 63 → ltZ z (pos 2147483647) ≡ false → T (nonNeg z) × Fits w64 (natAbs z)
+behind-casts (pos n) h e = (tt, record { fits = omega arith })
+behind-casts (negsuc n) h e = absurd (true≢false e)
+
+pub behind-least : (z : ℤ) → ltZ z (pos 2147483647) ≡ false → 2147483647 ≤ natAbs z
+behind-least (pos n) e = ltb-false n 2147483647 e
+behind-least (negsuc n) e = absurd (true≢false e)
+
+pub behind-is : (z : ℤ) → ltZ z (pos 2147483647) ≡ false → natAbs z - 2147483647 ≡ beyond z
+unfolding beyond
+behind-is (pos n) e = refl
+behind-is (negsuc n) e = absurd (true≢false e)
 
 pub answered-stop : (why : Stop) (n : ℕ) (s : List ℤ) → answered (stopNumber why) n s ≡ halts why n s
 answered-stop why n s = rw (operand-other (stopNumber why) (stop-other why), stop-again why)

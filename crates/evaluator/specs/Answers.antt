@@ -2,12 +2,13 @@
 -- register: a word is a value, and the numbers behind the words say why the run stopped.
 use mathlib.Core.Path.{_≡_}
 use mathlib.Core.List.{List}
-use Prim.Native.Nat.{ℕ}
+use Prim.Native.Nat.{ℕ, _+_, _-_}
 use lib.Dec.{eqb}
 use lib.IntN.{ℤ, pos, negsuc}
 use Rattle.words.specs.Word.{isWord, natural, pick}
 use Rattle.words.specs.Arithmetic.{Outcome}
-use Rattle.words.specs.declared.FaultSort.the-variants.{Overflow, ZeroDivisor, Index}
+use Rattle.words.specs.Answers.{faultNumber, faultNumbered, endingNumber}
+use Rattle.words.specs.declared.Ending.the-variants.{Spent}
 use Rattle.computation.specs.Computation.{settle}
 use Rattle.computation.specs.Run.{Stop, spent, fault}
 use Rattle.computation.specs.Remaining.{Rest, gives, halts, spend}
@@ -16,17 +17,18 @@ use Rattle.evaluator.specs.declared.Operand.the-variants.{Value, Halted}
 use Rattle.evaluator.specs.declared.Position.{Position}
 use Rattle.evaluator.specs.declared.Position.the-variants.{At, Nowhere}
 
--- The answer of a run that stopped, and why one stopped that gave this answer.
+-- The answer of a run that stopped: the ending's number, counted from the greatest word.
 unfoldable pub stopNumber : Stop → ℤ
-stopNumber spent = pos 2147483648
-stopNumber (fault Overflow) = pos 2147483649
-stopNumber (fault ZeroDivisor) = pos 2147483650
-stopNumber (fault Index) = pos 2147483651
+stopNumber spent = pos (2147483647 + endingNumber Spent)
+stopNumber (fault sort) = pos (2147483647 + faultNumber sort)
+
+-- How far an answer lies behind the words, and why the run stopped that gave it.
+unfoldable pub beyond : ℤ → ℕ
+beyond (pos n) = n - 2147483647
+beyond (negsuc n) = 0
 
 unfoldable pub stopOf : ℤ → Stop
-stopOf (pos n) =
-    pick (eqb n 2147483648) spent (pick (eqb n 2147483649) (fault Overflow) (pick (eqb n 2147483650) (fault ZeroDivisor) (fault Index)))
-stopOf (negsuc n) = fault Index
+stopOf answer = pick (eqb (beyond answer) (endingNumber Spent)) spent (fault (faultNumbered (beyond answer)))
 
 -- The operand that an answer gives.
 unfoldable pub operandOf : ℤ → Operand

@@ -1,22 +1,21 @@
 // What an answer says: a word is a value, and the numbers behind the words say why the run stops.
-use super::INDEX;
-use super::OVERFLOW;
+use super::GREATEST_WORD;
 use super::Operand;
 use super::Position;
-use super::ZERO_DIVISOR;
 use words::Computed;
 use words::FaultSort;
+use words::endings::fault_number;
 use words::table::natural;
 ghost use mathlib.Core.Path.{_≡_};
 ghost use Rattle.words.specs.Answers.{computed as computedOf};
 ghost use Rattle.computation.specs.Run.{fault as faultOf};
-ghost use Rattle.evaluator.specs.Answers.{operandOf, positionOf, stopNumber, Settles};
+ghost use Rattle.evaluator.specs.Answers.{operandOf, positionOf, stopNumber, beyond as beyondOf, Settles};
 
 // The operand that an answer gives.
 pub fn operand(answer: i64) -> Operand
     ensures { λ r. ⌜ r ≡ operandOf answer ⌝ }
 {
-    if answer > 2147483647 {
+    if answer > GREATEST_WORD {
         return Operand::Halted;
     }
     if answer < -2147483648 {
@@ -40,11 +39,17 @@ pub fn position(answer: i64) -> Position
 pub fn fault(sort: FaultSort) -> i64
     ensures { λ r. ⌜ r ≡ stopNumber (faultOf sort) ⌝ }
 {
-    match sort {
-        FaultSort::Overflow => OVERFLOW,
-        FaultSort::ZeroDivisor => ZERO_DIVISOR,
-        FaultSort::Index => INDEX,
+    GREATEST_WORD + fault_number(sort) as i64
+}
+
+// How far an answer lies behind the words: the number of the ending, where the run stopped.
+pub fn beyond(answer: i64) -> u64
+    ensures { λ r. ⌜ r ≡ beyondOf answer ⌝ }
+{
+    if answer < GREATEST_WORD {
+        return 0;
     }
+    answer as u64 - GREATEST_WORD as u64
 }
 
 // The answer for what an operation gives.

@@ -18,7 +18,7 @@ use Rattle.computation.specs.Run.{spent}
 use Rattle.computation.specs.Remaining.{Rest, gives, halts, onward, onTurn, spend, leftOf, left-never-rises}
 use Rattle.language.specs.Trees.{label}
 use Rattle.language.specs.Meaning.{Signal, next, breaking, continuing, seeking, enter, afterSwitch, afterBody}
-use Rattle.evaluator.specs.Answers.{stopOf, operandOf, operandRest, answered}
+use Rattle.evaluator.specs.Answers.{beyond, stopOf, operandOf, operandRest, answered}
 use Rattle.evaluator.specs.declared.Operand.{Operand}
 use Rattle.evaluator.specs.declared.Operand.the-variants.{Value, Halted as Stopped}
 use Rattle.evaluator.proofs.Decoding.{handed, handed-is, wide, wide-is, operand-word}
@@ -46,7 +46,7 @@ module _ (n : ℕ) (s : List ℤ) where
   ran-continue = refl
 
   pub ran-spent : ran (pos 2147483648) n s ≡ halts spent n s
-  unfolding flowOf operandOf isWord stopOf
+  unfolding flowOf operandOf isWord beyond stopOf
   ran-spent = refl
 
   pub turned-last : turned (negsuc 0) n s ≡ gives (leave next) n s

@@ -10,7 +10,7 @@ use mir.Syntax.{w64}
 use mir.Val.{toZ, ofZ}
 use borrow.Author.Tests.{ne-eqb}
 use Rattle.words.specs.Word.{sameWord, natural, pick}
-use Rattle.words.specs.declared.FaultSort.the-variants.{Overflow, ZeroDivisor, Index}
+use Rattle.words.specs.Answers.{faultNumbered}
 use Rattle.words.specs.declared.Ending.the-variants.{Plain, Spent, Fault}
 use Rattle.computation.specs.Computation.{Computation}
 use Rattle.computation.specs.Run.{spent, fault, Result, ok, stopped, steps, run, start, final}
@@ -18,7 +18,7 @@ use Rattle.computation.specs.RunLaws.{count-never-passes}
 use Rattle.computation.specs.Remaining.{Rest, gives, halts, spend, told, spend-is-run}
 use Rattle.language.specs.Meaning.{Signal}
 use Rattle.language.specs.Program.{Finished, finished}
-use Rattle.evaluator.specs.Answers.{stopOf, operandOf}
+use Rattle.evaluator.specs.Answers.{beyond, stopOf, operandOf}
 use Rattle.evaluator.specs.declared.Operand.{Operand}
 use Rattle.evaluator.specs.declared.Operand.the-variants.{Value, Halted as Stopped}
 use Rattle.evaluator.proofs.Decoding.{handed, handed-is}
@@ -28,10 +28,11 @@ use Rattle.machine.specs.declared.Flow.{Flow}
 use Rattle.machine.specs.declared.Flow.the-variants.{Next, Break, Continue, Goto, Halted}
 use Rattle.machine.proofs.Answers.{flow-stops, flow-passes}
 
-stop-index : (z : ℤ) → (z ≡ pos 2147483648 → ⊥) → (z ≡ pos 2147483649 → ⊥) → (z ≡ pos 2147483650 → ⊥) → stopOf z ≡ fault Index
-unfolding stopOf
-stop-index (pos n) p q r = rw (ne-eqb n 2147483648 (λ e. p (ap pos e)), ne-eqb n 2147483649 (λ e. q (ap pos e)), ne-eqb n 2147483650 (λ e. r (ap pos e)))
-stop-index (negsuc n) p q r = refl
+-- an answer that is no word, and not that of a spent run, is a fault's
+unspent : (z : ℤ) → (z ≡ pos 2147483648 → ⊥) → stopOf z ≡ fault (faultNumbered (beyond z))
+unfolding stopOf beyond
+unspent (pos n) p = rw (ne-eqb (n - 2147483647) 1 (λ e. p (ap pos (omega arith))))
+unspent (negsuc n) p = refl
 
 module _ (z : ℤ) (fits : mag z < 2 ^ 63) (o : Operand) (e : o ≡ operandOf (handed z)) where
   operand-is : operandOf z ≡ o
@@ -54,19 +55,11 @@ module _ (z : ℤ) (fits : mag z < 2 ^ 63) (o : Operand) (e : o ≡ operandOf (h
     differs n p g = p (ap (ofZ w64) g)
 
     pub ending-spent : ofZ w64 z ≡ 2147483648 → Spent ≡ endingOfAnswer z
-    unfolding stopOf
+    unfolding stopOf beyond
     ending-spent b = sym (stopped-is ∙ ap (λ (x : ℤ). endingOfStop (stopOf x)) (number-is 2147483648 b))
 
-    pub ending-overflow : ofZ w64 z ≡ 2147483649 → Fault Overflow ≡ endingOfAnswer z
-    unfolding stopOf
-    ending-overflow b = sym (stopped-is ∙ ap (λ (x : ℤ). endingOfStop (stopOf x)) (number-is 2147483649 b))
-
-    pub ending-zero : ofZ w64 z ≡ 2147483650 → Fault ZeroDivisor ≡ endingOfAnswer z
-    unfolding stopOf
-    ending-zero b = sym (stopped-is ∙ ap (λ (x : ℤ). endingOfStop (stopOf x)) (number-is 2147483650 b))
-
-    pub ending-index : (ofZ w64 z ≡ 2147483648 → ⊥) → (ofZ w64 z ≡ 2147483649 → ⊥) → (ofZ w64 z ≡ 2147483650 → ⊥) → Fault Index ≡ endingOfAnswer z
-    ending-index a b c = sym (stopped-is ∙ ap endingOfStop (stop-index z (differs 2147483648 a) (differs 2147483649 b) (differs 2147483650 c)))
+    pub ending-fault : (ofZ w64 z ≡ 2147483648 → ⊥) → Fault (faultNumbered (beyond z)) ≡ endingOfAnswer z
+    ending-fault p = sym (stopped-is ∙ ap endingOfStop (unspent z (differs 2147483648 p)))
 
 -- ---- the run under the budget
 

@@ -1,14 +1,13 @@
 // The run of a program.
 use super::statements::run_statement;
-use evaluator::OVERFLOW;
 use evaluator::Operand;
 use evaluator::SPENT;
-use evaluator::ZERO_DIVISOR;
+use evaluator::answers::beyond;
 use evaluator::answers::operand;
 use words::Ending;
-use words::FaultSort;
 use words::Form;
 use words::RunAnswer;
+use words::endings::fault_numbered;
 use words::layout::leading;
 use words::table::natural;
 ghost use mathlib.Core.Path.{_≡_};
@@ -49,13 +48,7 @@ fn ending_of(answer: i64) -> Ending
     if answer == SPENT {
         return Ending::Spent;
     }
-    if answer == OVERFLOW {
-        return Ending::Fault(FaultSort::Overflow);
-    }
-    if answer == ZERO_DIVISOR {
-        return Ending::Fault(FaultSort::ZeroDivisor);
-    }
-    Ending::Fault(FaultSort::Index)
+    Ending::Fault(fault_numbered(beyond(answer)))
 }
 
 // The statement at row 0, with the bounds written into what is lent for them.

@@ -12,9 +12,8 @@ use mir.Syntax.{w32}
 use mir.Val.{toZ, ofZ}
 use Rattle.words.specs.Laws.{back}
 use Rattle.words.specs.Answers.{endingName}
+use Rattle.words.specs.AnswerLaws.{names-short}
 use Rattle.words.specs.declared.Ending.{Ending}
-use Rattle.words.specs.declared.Ending.the-variants.{Plain, Spent, Fault}
-use Rattle.words.specs.declared.FaultSort.the-variants.{Overflow, ZeroDivisor, Index}
 use Rattle.text_form.specs.Number.{digits, numberBytes}
 use Rattle.text_form.specs.Line.{newline}
 use Rattle.text_form.specs.Writer.{Put}
@@ -133,11 +132,7 @@ module _ {most : ℕ} {bytes buffer : List ℕ} {at : ℕ} {left : List ℕ} (b 
       omega (arith, put-fits p e, p .size, far-inside, far-length)
 
 pub ending-few : (ending : Ending) → length (blank ∷ endingName ending) ≤ 9
-ending-few Plain = omega arith
-ending-few Spent = omega arith
-ending-few (Fault Overflow) = omega arith
-ending-few (Fault ZeroDivisor) = omega arith
-ending-few (Fault Index) = omega arith
+ending-few ending = omega (arith, names-short ending)
 
 -- a number of 32 bits has ten digits at most, one of 64 bits twenty
 pub count-few : (n : ℕ) → n < 2 ^ 32 → length (blank ∷ digits n) ≤ 11

@@ -2,11 +2,11 @@
 use text_form::digits::put_digits;
 use text_form::digits::put_number;
 use words::Ending;
-use words::FaultSort;
+use words::endings::ending_name;
 ghost use mathlib.Core.List.{_∷_, map};
 ghost use Prim.Native.Nat.{_*_, _≤_};
 ghost use lib.ListN.{length};
-ghost use Rattle.words.specs.Answers.{faultName, endingName};
+ghost use Rattle.words.specs.Answers.{endingName};
 ghost use Rattle.text_form.specs.Number.{digits, numberBytes};
 ghost use Rattle.text_form.specs.Writer.{Put};
 ghost use Rattle.report.specs.Lines.{blank, spaced};
@@ -56,28 +56,15 @@ pub fn put_words(words: &[i32], text: &mut [u8]) -> usize
     at
 }
 
-// The longest is "overflow".
-fn put_fault_name(sort: FaultSort, text: &mut [u8]) -> usize
-    requires { ⌜ 8 ≤ length (now text) ⌝ }
-    ensures { λ r. ⌜ Put (faultName sort) (now (text .entry)) r (now (text .exit)) ⌝ }
-{
-    match sort {
-        FaultSort::Overflow => put_bytes(b"overflow", text),
-        FaultSort::ZeroDivisor => put_bytes(b"zero", text),
-        FaultSort::Index => put_bytes(b"index", text),
-    }
-}
-
 // The name of an ending, without a blank before it.
 pub fn put_ending_name(ending: Ending, text: &mut [u8]) -> usize
     requires { ⌜ 8 ≤ length (now text) ⌝ }
     ensures { λ r. ⌜ Put (endingName ending) (now (text .entry)) r (now (text .exit)) ⌝ }
 {
-    match ending {
-        Ending::Plain => put_bytes(b"ended", text),
-        Ending::Spent => put_bytes(b"spent", text),
-        Ending::Fault(sort) => put_fault_name(sort, text),
-    }
+    let name = ending_name(ending);
+    let bytes = name.bytes;
+    let size = name.size;
+    put_bytes(&bytes[..size], text)
 }
 
 pub fn put_ending(ending: Ending, text: &mut [u8]) -> usize

@@ -15,5 +15,7 @@ pub mod Over
 pub mod OverLaws
 -- Answers: document 01's numbers and words for each case of an enum.
 pub mod Answers
+-- Laws of answers: numbers and names of endings are apart, and short.
+pub mod AnswerLaws
 -- Laws: what follows from these definitions.
 pub mod Laws

@@ -1,5 +1,6 @@
 // Words, tables, layouts and 32-bit arithmetic: the leaves that every other crate stands on, and the answers they share.
 pub mod arithmetic; // arithmetic.rt: the operations on words, and the bounds test
+pub mod endings; // endings.rt: the numbers and names of endings
 pub mod kinds; // kinds.rt: the kind of a row
 pub mod layout; // layout.rt: the header's limits, and the sizes it gives
 pub mod table; // table.rt: the words of a row, and the numbers they name
@@ -34,6 +35,12 @@ pub enum Ending {
     Plain,
     Spent,
     Fault(FaultSort),
+}
+
+// The word that is printed for an ending: the first `size` bytes.
+pub struct Name {
+    pub bytes: [u8; 8],
+    pub size: usize,
 }
 
 // How a run ended, and "the number of steps that the run made".

@@ -1,5 +1,10 @@
 -- `ending_of` makes the tests of its definition in order.
-use Rattle.machine.proofs.Endings.{ending-plain, ending-spent, ending-overflow, ending-zero, ending-index}
+use mathlib.Core.Path.{ap, _∙_}
+use Rattle.words.specs.Answers.{faultNumbered}
+use Rattle.words.specs.declared.Ending.the-variants.{Fault}
+use Rattle.evaluator.specs.Answers.{beyond}
+use Rattle.evaluator.proofs.Decoding.{handed-is}
+use Rattle.machine.proofs.Endings.{ending-plain, ending-spent, ending-fault}
 use borrow.Author.Needs.{needs}
 use Rattle.machine.proofs.whole.ending_of.Statement.{statement}
 use Rattle.machine.proofs.whole.ending_of.Tie as tie
@@ -25,23 +30,18 @@ returns-2 c =
     let past-operand = c .before .before .before .operand in
     ending-spent (start .args .answer) (start .fits .answer .sfits) (past-operand .result) (past-operand .ensures) (c .before .enum-told .given .1) (c .if1 .taken)
 
+beyond-requires : tie.Need-beyond-requires
+beyond-requires c κs = search needs
+
+fault-numbered-requires : tie.Need-fault-numbered-requires
+fault-numbered-requires c κs = search needs
+
 returns-3 : tie.Need-returns-3
 returns-3 c =
-    let start = c .before .before .before .before .before in
-    let past-operand = c .before .before .before .before .operand in
-    ending-overflow (start .args .answer) (start .fits .answer .sfits) (past-operand .result) (past-operand .ensures) (c .before .before .enum-told .given .1) (c .if2 .taken)
-
-returns-4 : tie.Need-returns-4
-returns-4 c =
     let start = c .before .before .before .before .before .before in
     let past-operand = c .before .before .before .before .before .operand in
-    ending-zero (start .args .answer) (start .fits .answer .sfits) (past-operand .result) (past-operand .ensures) (c .before .before .before .enum-told .given .1) (c .if3 .taken)
-
-returns-5 : tie.Need-returns-5
-returns-5 c =
-    let start = c .before .before .before .before .before .before in
-    let past-operand = c .before .before .before .before .before .operand in
-    ending-index (start .args .answer) (start .fits .answer .sfits) (past-operand .result) (past-operand .ensures) (c .before .before .before .enum-told .given .1) (c .before .before .if1 .left) (c .before .if2 .left) (c .if3 .left)
+    ap Fault (c .fault-numbered .ensures ∙ ap faultNumbered (c .before .beyond .ensures ∙ ap beyond (handed-is (start .args .answer) (start .fits .answer .sfits))))
+    ∙ ending-fault (start .args .answer) (start .fits .answer .sfits) (past-operand .result) (past-operand .ensures) (c .before .before .before .enum-told .given .1) (c .before .before .if1 .left)
 
 pub ending-of-spec : {M : Type 1} → statement M
 ending-of-spec =
@@ -52,6 +52,6 @@ ending-of-spec =
     enum-told-2
     returns
     returns-2
-    returns-3
-    returns-4
-    returns-5)
+    beyond-requires
+    fault-numbered-requires
+    returns-3)

@@ -9,3 +9,5 @@ pub mod Labels
 pub mod Forms
 -- Kernel: what a legal kernel program gives to its users.
 pub mod Kernel
+-- The rules in kernel form are accepted, and so legal.
+pub mod KernelRulesAccepted

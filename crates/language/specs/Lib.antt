@@ -11,10 +11,17 @@ pub mod WriteLaws
 pub mod Untouched
 -- Programs: the items of a table of rows, and its run.
 pub mod Program
--- Rules: what a rule on the shelf is; document 01's starred rules; orders that surprise; both as one table, and the theorem that they hold.
+-- Rules: what a rule on the shelf is; document 01's starred rules; orders that surprise; rules that pin each clause, by subject; all as
+-- one table, those in kernel form as another; and the theorem that they hold.
 pub mod Rule
 pub mod StarredRules
 pub mod SurprisingOrders
+pub mod ArithmeticRules
+pub mod ComparisonRules
+pub mod ExpressionRules
+pub mod StatementRules
+pub mod LoopRules
+pub mod KernelRules
 pub mod Rules
 pub mod RulesHold
 -- Sizes: the rows and the depth of a tree.

@@ -10,10 +10,10 @@ use Rattle.words.specs.Table.{rowCount}
 use Rattle.words.specs.Layout.{depthLimit}
 use Rattle.words.specs.declared.Form.{Form}
 use Rattle.language.specs.Trees.{read}
-use Rattle.language.specs.Decode.{expressionAt, statementAt, decode}
-use Rattle.language.specs.DecodeLaws.{listAt, partAt}
+use Rattle.language.specs.Decode.{expressionAt, statementAt, decode, listAt, partAt}
 use Rattle.language.specs.Sizes.{expressionDepth, placeDepth, partDepth, statementDepth, itemsDepth}
-use Rattle.structure.specs.Grammar.{between, link}
+use Rattle.words.specs.Kinds.{between}
+use Rattle.structure.specs.Grammar.{link}
 use Rattle.structure.specs.Structured.{Leads, Structured, Depth, root, owned, beside, Shallow}
 use Rattle.structure.specs.StructuredLaws.{structured-tree}
 use Rattle.structure.specs.DepthLaws.{depth-inside}

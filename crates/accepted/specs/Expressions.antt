@@ -9,20 +9,23 @@ use native.Mathlib.Omega.{arith}
 use lib.Dec.{eqb}
 use lib.IntN.{ℤ}
 use borrow.Author.Tests.{eqb-true}
-use Rattle.words.specs.Table.{rowCount, wordAt, numberAt}
-use Rattle.words.specs.Kinds.{kindAt}
+use Rattle.words.specs.Table.{rowCount, wordAt, numberAt, Whole}
+use Rattle.words.specs.Kinds.{kindAt, expression, place, expressionRow, placeRow, between, sortAt, isRequired, sortIn, kindRow, expressionFields, statementFields, markFields}
 use Rattle.words.specs.declared.Form.{Form}
 use Rattle.words.specs.declared.Operator.{Operator}
 use Rattle.words.specs.declared.Kind.{Kind}
-use Rattle.words.specs.declared.Kind.the-variants.{Constant, Variable, Element, Minus, Not, Binary, And, Or, Conditional, Comma, Assign, Compound, Prefix, Postfix, Empty, Express, Block, If, While, Do, For, Switch, Case, Default, Break, Continue, Goto, Label, Other}
+use Rattle.words.specs.declared.Kind.the-variants.{OfExpression, OfStatement, OfMark, Other}
+use Rattle.words.specs.declared.ExpressionKind.the-variants.{Constant, Variable, Element, Minus, Not, Binary, And, Or, Conditional, Comma, Assign, Compound, Prefix, Postfix}
+use Rattle.words.specs.declared.StatementKind.the-variants.{Empty, Express, Block, If, While, Do, For, Switch, Break, Continue, Goto}
+use Rattle.words.specs.declared.MarkKind.the-variants.{Case, Default, Label}
 use Rattle.language.specs.Trees.{constant, read, minus, not, binary, and, or, comma, conditional, assign, compound, prefix, postfix, Place, variable, element}
 use Rattle.language.specs.Decode.{placeOf, expressionAt}
-use Rattle.language.specs.DecodeLaws.{Whole, at-constant, at-variable, at-element, at-minus, at-not, at-binary, at-and, at-or, at-comma, at-conditional, at-assign, at-compound, at-prefix, at-postfix}
-use Rattle.structure.specs.Grammar.{expression, place, expressionRow, placeRow, between, sortAt, isExpression, isPlace, isRequired, link}
+use Rattle.language.specs.DecodeLaws.{at-constant, at-variable, at-element, at-minus, at-not, at-binary, at-and, at-or, at-comma, at-conditional, at-assign, at-compound, at-prefix, at-postfix}
+use Rattle.structure.specs.Grammar.{isExpression, isPlace, link}
 use Rattle.structure.specs.Fields.{fits}
 use Rattle.structure.specs.StructuredLaws.{structured-tree}
 use Rattle.structure.specs.Structured.{Leads, Structured}
-use Rattle.accepted.specs.Sorts.{sorts, sortIn, sort-is, place-kind}
+use Rattle.accepted.specs.Sorts.{sort-is, place-kind}
 use Rattle.accepted.specs.Fields.{holds, Linked, linked}
 
 -- The place that a row holds.
@@ -32,41 +35,41 @@ placeAt rows row = placeOf (expressionAt rows row)
 module _ (rows : List ℤ) where
   -- A row that holds an expression: its kind, its links, its expression, and the rows that it links.
   pub data ExpressionRow : ℕ → Type 0 where
-    constant-row : {row : ℕ} → kindAt rows row ≡ Constant → expressionAt rows row ≡ constant (wordAt rows row 1) → ExpressionRow row
-    variable-row : {row : ℕ} → kindAt rows row ≡ Variable → expressionAt rows row ≡ read (variable (numberAt rows row 1)) → ExpressionRow row
-    element-row : {row : ℕ} → kindAt rows row ≡ Element → Leads rows row 2
+    constant-row : {row : ℕ} → kindAt rows row ≡ OfExpression Constant → expressionAt rows row ≡ constant (wordAt rows row 1) → ExpressionRow row
+    variable-row : {row : ℕ} → kindAt rows row ≡ OfExpression Variable → expressionAt rows row ≡ read (variable (numberAt rows row 1)) → ExpressionRow row
+    element-row : {row : ℕ} → kindAt rows row ≡ OfExpression Element → Leads rows row 2
         → expressionAt rows row ≡ read (element (numberAt rows row 1) (expressionAt rows (link rows row 2))) → ExpressionRow (link rows row 2) → ExpressionRow row
-    minus-row : {row : ℕ} → kindAt rows row ≡ Minus → Leads rows row 1
+    minus-row : {row : ℕ} → kindAt rows row ≡ OfExpression Minus → Leads rows row 1
         → expressionAt rows row ≡ minus (expressionAt rows (link rows row 1)) → ExpressionRow (link rows row 1) → ExpressionRow row
-    not-row : {row : ℕ} → kindAt rows row ≡ Not → Leads rows row 1
+    not-row : {row : ℕ} → kindAt rows row ≡ OfExpression Not → Leads rows row 1
         → expressionAt rows row ≡ not (expressionAt rows (link rows row 1)) → ExpressionRow (link rows row 1) → ExpressionRow row
-    binary-row : {row : ℕ} {o : Operator} → kindAt rows row ≡ Binary o → Leads rows row 1 → Leads rows row 2
+    binary-row : {row : ℕ} {o : Operator} → kindAt rows row ≡ OfExpression (Binary o) → Leads rows row 1 → Leads rows row 2
         → expressionAt rows row ≡ binary o (expressionAt rows (link rows row 1)) (expressionAt rows (link rows row 2))
         → ExpressionRow (link rows row 1) → ExpressionRow (link rows row 2) → ExpressionRow row
-    and-row : {row : ℕ} → kindAt rows row ≡ And → Leads rows row 1 → Leads rows row 2
+    and-row : {row : ℕ} → kindAt rows row ≡ OfExpression And → Leads rows row 1 → Leads rows row 2
         → expressionAt rows row ≡ and (expressionAt rows (link rows row 1)) (expressionAt rows (link rows row 2))
         → ExpressionRow (link rows row 1) → ExpressionRow (link rows row 2) → ExpressionRow row
-    or-row : {row : ℕ} → kindAt rows row ≡ Or → Leads rows row 1 → Leads rows row 2
+    or-row : {row : ℕ} → kindAt rows row ≡ OfExpression Or → Leads rows row 1 → Leads rows row 2
         → expressionAt rows row ≡ or (expressionAt rows (link rows row 1)) (expressionAt rows (link rows row 2))
         → ExpressionRow (link rows row 1) → ExpressionRow (link rows row 2) → ExpressionRow row
-    comma-row : {row : ℕ} → kindAt rows row ≡ Comma → Leads rows row 1 → Leads rows row 2
+    comma-row : {row : ℕ} → kindAt rows row ≡ OfExpression Comma → Leads rows row 1 → Leads rows row 2
         → expressionAt rows row ≡ comma (expressionAt rows (link rows row 1)) (expressionAt rows (link rows row 2))
         → ExpressionRow (link rows row 1) → ExpressionRow (link rows row 2) → ExpressionRow row
-    conditional-row : {row : ℕ} → kindAt rows row ≡ Conditional → Leads rows row 1 → Leads rows row 2 → Leads rows row 3
+    conditional-row : {row : ℕ} → kindAt rows row ≡ OfExpression Conditional → Leads rows row 1 → Leads rows row 2 → Leads rows row 3
         → expressionAt rows row ≡ conditional (expressionAt rows (link rows row 1)) (expressionAt rows (link rows row 2)) (expressionAt rows (link rows row 3))
         → ExpressionRow (link rows row 1) → ExpressionRow (link rows row 2) → ExpressionRow (link rows row 3) → ExpressionRow row
-    assign-row : {row : ℕ} → kindAt rows row ≡ Assign → Leads rows row 1 → Leads rows row 2
+    assign-row : {row : ℕ} → kindAt rows row ≡ OfExpression Assign → Leads rows row 1 → Leads rows row 2
         → expressionAt rows (link rows row 1) ≡ read (placeAt rows (link rows row 1))
         → expressionAt rows row ≡ assign (placeAt rows (link rows row 1)) (expressionAt rows (link rows row 2))
         → ExpressionRow (link rows row 1) → ExpressionRow (link rows row 2) → ExpressionRow row
-    compound-row : {row : ℕ} {o : Operator} → kindAt rows row ≡ Compound o → Leads rows row 1 → Leads rows row 2
+    compound-row : {row : ℕ} {o : Operator} → kindAt rows row ≡ OfExpression (Compound o) → Leads rows row 1 → Leads rows row 2
         → expressionAt rows (link rows row 1) ≡ read (placeAt rows (link rows row 1))
         → expressionAt rows row ≡ compound o (placeAt rows (link rows row 1)) (expressionAt rows (link rows row 2))
         → ExpressionRow (link rows row 1) → ExpressionRow (link rows row 2) → ExpressionRow row
-    prefix-row : {row : ℕ} {o : Operator} → kindAt rows row ≡ Prefix o → Leads rows row 1
+    prefix-row : {row : ℕ} {o : Operator} → kindAt rows row ≡ OfExpression (Prefix o) → Leads rows row 1
         → expressionAt rows (link rows row 1) ≡ read (placeAt rows (link rows row 1))
         → expressionAt rows row ≡ prefix o (placeAt rows (link rows row 1)) → ExpressionRow (link rows row 1) → ExpressionRow row
-    postfix-row : {row : ℕ} {o : Operator} → kindAt rows row ≡ Postfix o → Leads rows row 1
+    postfix-row : {row : ℕ} {o : Operator} → kindAt rows row ≡ OfExpression (Postfix o) → Leads rows row 1
         → expressionAt rows (link rows row 1) ≡ read (placeAt rows (link rows row 1))
         → expressionAt rows row ≡ postfix o (placeAt rows (link rows row 1)) → ExpressionRow (link rows row 1) → ExpressionRow row
 
@@ -76,11 +79,11 @@ module _ (form : Form) (header rows : List ℤ) (s : Structured form header rows
 
   -- a row of a place's kind holds a place
   read-place : (row : ℕ) → row < rowCount rows → isPlace rows row ≡ true → expressionAt rows row ≡ read (placeAt rows row)
-  unfolding isPlace sortIn sorts isRequired
+  unfolding isPlace sortIn kindRow expressionFields statementFields markFields isRequired
   read-place row inside e =
       ⊎-elim (λ k. rw (at-variable rows whole-rows row k))
       (λ k. rw (at-element rows whole-rows row k (linked form header rows s row inside k expression 2 refl refl .later)))
-      (place-kind form rows row (s .known row inside) (eqb-true _ _ e))
+      (place-kind rows row (eqb-true _ _ e))
 
   pub place-expression : (row : ℕ) → isPlace rows row ≡ true → isExpression rows row ≡ true
   unfolding isPlace isExpression
@@ -110,68 +113,56 @@ module _ (form : Form) (header rows : List ℤ) (s : Structured form header rows
     reads l = read-place _ (l .leads .inside) (l .fit)
 
     expression-by : (kind : Kind) → kindAt rows row ≡ kind → between expressionRow placeRow (sortIn kind 0) ≡ true → ExpressionRow rows row
-    unfolding sortIn sorts
-    expression-by Constant k t = constant-row k (at-constant rows whole-rows row k)
-    expression-by Variable k t = variable-row k (at-variable rows whole-rows row k)
-    expression-by Element k t =
+    unfolding sortIn kindRow expressionFields statementFields markFields
+    expression-by (OfExpression Constant) k t = constant-row k (at-constant rows whole-rows row k)
+    expression-by (OfExpression Variable) k t = variable-row k (at-variable rows whole-rows row k)
+    expression-by (OfExpression Element) k t =
         let b = link-at k 2 refl in
         element-row k (b .leads) (rw (b .same) (at-element rows whole-rows row k (b .later))) (operand b)
-    expression-by Minus k t =
+    expression-by (OfExpression Minus) k t =
         let a = link-at k 1 refl in
         minus-row k (a .leads) (rw (a .same) (at-minus rows whole-rows row k (a .later))) (operand a)
-    expression-by Not k t =
+    expression-by (OfExpression Not) k t =
         let a = link-at k 1 refl in
         not-row k (a .leads) (rw (a .same) (at-not rows whole-rows row k (a .later))) (operand a)
-    expression-by (Binary o) k t =
+    expression-by (OfExpression (Binary o)) k t =
         let a = link-at k 1 refl in
         let b = link-at k 2 refl in
         binary-row k (a .leads) (b .leads) (rw (a .same, b .same) (at-binary rows whole-rows row o k (a .later) (b .later))) (operand a) (operand b)
-    expression-by And k t =
+    expression-by (OfExpression And) k t =
         let a = link-at k 1 refl in
         let b = link-at k 2 refl in
         and-row k (a .leads) (b .leads) (rw (a .same, b .same) (at-and rows whole-rows row k (a .later) (b .later))) (operand a) (operand b)
-    expression-by Or k t =
+    expression-by (OfExpression Or) k t =
         let a = link-at k 1 refl in
         let b = link-at k 2 refl in
         or-row k (a .leads) (b .leads) (rw (a .same, b .same) (at-or rows whole-rows row k (a .later) (b .later))) (operand a) (operand b)
-    expression-by Comma k t =
+    expression-by (OfExpression Comma) k t =
         let a = link-at k 1 refl in
         let b = link-at k 2 refl in
         comma-row k (a .leads) (b .leads) (rw (a .same, b .same) (at-comma rows whole-rows row k (a .later) (b .later))) (operand a) (operand b)
-    expression-by Conditional k t =
+    expression-by (OfExpression Conditional) k t =
         let a = link-at k 1 refl in
         let b = link-at k 2 refl in
         let c = link-at k 3 refl in
         conditional-row k (a .leads) (b .leads) (c .leads) (rw (a .same, b .same, c .same) (at-conditional rows whole-rows row k (a .later) (b .later) (c .later)))
         (operand a) (operand b) (operand c)
-    expression-by Assign k t =
+    expression-by (OfExpression Assign) k t =
         let a = place-at k 1 refl in
         let b = link-at k 2 refl in
         assign-row k (a .leads) (b .leads) (reads a) (rw (a .same, b .same) (at-assign rows whole-rows row k (a .later) (b .later))) (a-place a) (operand b)
-    expression-by (Compound o) k t =
+    expression-by (OfExpression (Compound o)) k t =
         let a = place-at k 1 refl in
         let b = link-at k 2 refl in
         compound-row k (a .leads) (b .leads) (reads a) (rw (a .same, b .same) (at-compound rows whole-rows row o k (a .later) (b .later))) (a-place a) (operand b)
-    expression-by (Prefix o) k t =
+    expression-by (OfExpression (Prefix o)) k t =
         let a = place-at k 1 refl in
         prefix-row k (a .leads) (reads a) (rw (a .same) (at-prefix rows whole-rows row o k (a .later))) (a-place a)
-    expression-by (Postfix o) k t =
+    expression-by (OfExpression (Postfix o)) k t =
         let a = place-at k 1 refl in
         postfix-row k (a .leads) (reads a) (rw (a .same) (at-postfix rows whole-rows row o k (a .later))) (a-place a)
-    expression-by Empty k t = absurd (false≢true t)
-    expression-by Express k t = absurd (false≢true t)
-    expression-by Block k t = absurd (false≢true t)
-    expression-by If k t = absurd (false≢true t)
-    expression-by While k t = absurd (false≢true t)
-    expression-by Do k t = absurd (false≢true t)
-    expression-by For k t = absurd (false≢true t)
-    expression-by Switch k t = absurd (false≢true t)
-    expression-by Case k t = absurd (false≢true t)
-    expression-by Default k t = absurd (false≢true t)
-    expression-by Break k t = absurd (false≢true t)
-    expression-by Continue k t = absurd (false≢true t)
-    expression-by Goto k t = absurd (false≢true t)
-    expression-by Label k t = absurd (false≢true t)
+    expression-by (OfStatement kind) k t = absurd (false≢true t)
+    expression-by (OfMark kind) k t = absurd (false≢true t)
     expression-by Other k t = absurd (false≢true t)
 
   expression-rows : (links row : ℕ) → rowCount rows ≤ row + links → row < rowCount rows → isExpression rows row ≡ true → ExpressionRow rows row
@@ -179,7 +170,7 @@ module _ (form : Form) (header rows : List ℤ) (s : Structured form header rows
   expression-rows zero row enough inside t = absurd (omega arith)
   expression-rows (suc links) row enough inside t =
       expression-by row inside (λ l later there u. expression-rows links l (omega arith) there u) (kindAt rows row) refl
-      (rw (sort-is form rows row (s .known row inside) 0 (omega arith)) at t)
+      (rw (sort-is rows row 0) at t)
 
   -- Every row of an expression's kind holds an expression.
   pub expression-row : (row : ℕ) → row < rowCount rows → isExpression rows row ≡ true → ExpressionRow rows row

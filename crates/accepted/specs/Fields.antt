@@ -11,17 +11,17 @@ use lib.IntN.{ℤ}
 use lib.ListN.{length}
 use borrow.Author.Tests.{ltb-true, leb-true, eqb-true, not-true}
 use Rattle.words.specs.Table.{rowCount, numberAt}
-use Rattle.words.specs.Kinds.{kindAt}
+use Rattle.words.specs.Kinds.{kindAt, variable, array, optionalItem, sortAt, between, isLink, isRequired, sortIn, kindRow, expressionFields, statementFields, markFields}
 use Rattle.words.specs.Layout.{layoutOf, storeSize, storeWords}
 use Rattle.words.specs.Laws.{both, either}
 use Rattle.words.specs.declared.Form.{Form}
 use Rattle.words.specs.declared.Kind.{Kind}
-use Rattle.language.specs.DecodeLaws.{Forward}
-use Rattle.structure.specs.Grammar.{variable, array, optionalItem, sortAt, between, isLink, isRequired, link}
+use Rattle.language.specs.Decode.{Forward}
+use Rattle.structure.specs.Grammar.{link}
 use Rattle.structure.specs.Fields.{fits, boundsOf, numberFits}
 use Rattle.structure.specs.Structured.{Leads, Structured}
 use Rattle.structure.specs.StructuredLaws.{required-is-link}
-use Rattle.accepted.specs.Sorts.{sortIn, sort-is, next-sort, between-true}
+use Rattle.accepted.specs.Sorts.{sort-is, next-sort, between-true}
 
 -- The field of a kind is one of a, b, c, d and next, and its sort passes the test.
 abbrev pub holds : (ℕ → Bool) → Kind → ℕ → Bool
@@ -69,7 +69,7 @@ module _ (form : Form) (header rows : List ℤ) (s : Structured form header rows
   tested test k field t =
       let parts = both _ _ t in
       let range = between-true 1 5 field (parts .0) in
-      let sort = sort-is form rows row (s .known row inside) field (omega arith) ∙ ap (λ kind. sortIn kind field) k in
+      let sort = sort-is rows row field ∙ ap (λ kind. sortIn kind field) k in
       record { first = range .0; last = omega arith; passes = rw sort (parts .1) }
 
   pub link-none : {kind : Kind} → kindAt rows row ≡ kind → (field : ℕ) → holds noLink kind field ≡ true → link rows row field ≡ 0

@@ -7,17 +7,16 @@ use native.Mathlib.Omega.{arith}
 use lib.IntN.{ℤ}
 use lib.ListN.{length}
 use Rattle.words.specs.Table.{rowCount}
+use Rattle.words.specs.Kinds.{kindRow, expressionFields, statementFields, markFields, sortIn}
 use Rattle.words.specs.Layout.{layoutOf, storeWords}
 use Rattle.words.specs.declared.Form.{Form}
 use Rattle.words.specs.declared.Form.the-variants.{Source}
 use Rattle.language.specs.Trees.{read}
-use Rattle.language.specs.Decode.{expressionAt, statementAt, decode}
-use Rattle.language.specs.DecodeLaws.{listAt, partAt}
+use Rattle.language.specs.Decode.{expressionAt, statementAt, decode, listAt, partAt}
 use Rattle.language.specs.Program.{contents}
 use Rattle.language.specs.WellFormed.{NamedExpression, NamedPlace, NamedPart, NamedStatement, NamedItems}
 use Rattle.structure.specs.Grammar.{link}
 use Rattle.structure.specs.Structured.{Structured}
-use Rattle.accepted.specs.Sorts.{sorts, sortIn}
 use Rattle.accepted.specs.Fields.{NamesVariable, stays, names-variable, names-array}
 use Rattle.accepted.specs.Expressions.{ExpressionRow, constant-row, variable-row, element-row, minus-row, not-row, binary-row, and-row, or-row, comma-row, conditional-row, assign-row, compound-row, prefix-row, postfix-row, placeAt}
 use Rattle.accepted.specs.Statements.{PartRow, absent-part, present-part, StatementRow, empty-row, express-row, block-row, ifThen-row, ifElse-row, while-row, doWhile-row, for-row, switch-row, case-row, default-row, break-row, continue-row, goto-row, label-row, ListRow, no-items, item, case-item, default-item, label-item, root-inside, program-list, program-contents, program-block}
@@ -34,7 +33,7 @@ module _ (form : Form) (header rows : List ℤ) (s : Structured form header rows
   named-place row e n = subst (NamedExpression Names arrays) e n
 
   pub named-expression : {row : ℕ} → ExpressionRow rows row → row < rowCount rows → NamedExpression Names arrays (expressionAt rows row)
-  unfolding NamedExpression NamedPlace sortIn sorts
+  unfolding NamedExpression NamedPlace sortIn kindRow expressionFields statementFields markFields
   named-expression (constant-row k e) inside = rw e tt
   named-expression {row} (variable-row k e) inside = rw e (names _ (names-variable form header rows s row inside k 1 refl))
   named-expression {row} (element-row k p e x) inside = rw e (names-array form header rows s row inside k 1 refl, named-expression x (p .inside))

@@ -8,21 +8,21 @@ use Prim.Native.Nat.{ℕ, _+_, _*_, _<_}
 use native.Mathlib.Omega.{arith}
 use lib.IntN.{ℤ}
 use Rattle.words.specs.Table.{rowCount, numberAt}
-use Rattle.words.specs.Kinds.{kindAt}
+use Rattle.words.specs.Kinds.{kindAt, statementRow, standsIn, inLanguage, sortIn, kindRow, expressionFields, statementFields, markFields}
 use Rattle.words.specs.declared.Form.the-variants.{Source}
 use Rattle.words.specs.declared.Kind.{Kind}
-use Rattle.words.specs.declared.Kind.the-variants.{Block, Switch}
-use Rattle.language.specs.Decode.{statementAt, decode}
-use Rattle.language.specs.DecodeLaws.{listAt}
+use Rattle.words.specs.declared.Kind.the-variants.{OfStatement}
+use Rattle.words.specs.declared.StatementKind.the-variants.{Block, Switch}
+use Rattle.language.specs.Decode.{statementAt, decode, listAt}
 use Rattle.language.specs.Program.{contents}
 use Rattle.language.specs.WellFormed.{Placed, PlacedItems}
-use Rattle.structure.specs.Grammar.{statementRow, inLanguage, link}
+use Rattle.structure.specs.Grammar.{link}
 use Rattle.structure.specs.LinkLaws.{linker-of}
 use Rattle.structure.specs.StructuredLaws.{structured-tree}
 use Rattle.structure.specs.Structured.{Leads, Structured, Tree}
 use Rattle.source_check.specs.Places.{isLoop, isLoopOrSwitch, isMark}
 use Rattle.source_check.specs.Legal.{Inside, part, along, SwitchItem, first, next, Legal}
-use Rattle.accepted.specs.Sorts.{sorts, sortIn, statementNumber, number-is}
+use Rattle.accepted.specs.Sorts.{statementNumber, number-is}
 use Rattle.accepted.specs.Fields.{leads-on}
 use Rattle.accepted.specs.Statements.{StatementRow, empty-row, express-row, block-row, ifThen-row, ifElse-row, while-row, doWhile-row, for-row, switch-row, case-row, default-row, break-row, continue-row, goto-row, label-row, ListRow, no-items, item, case-item, default-item, label-item, root-inside, root-row, program-block}
 
@@ -68,7 +68,7 @@ module _ (header rows : List ℤ) (legal : Legal header rows) where
 
   -- the number of a row of a statement's kind
   number-of : {row : ℕ} {kind : Kind} → row < rowCount rows → kindAt rows row ≡ kind → sortIn kind 0 ≡ statementRow → numberAt rows row 0 ≡ statementNumber kind
-  number-of {row} inside k e = number-is Source rows row (s .known row inside) (ap (λ kind. sortIn kind 0) k ∙ e) ∙ ap statementNumber k
+  number-of {row} inside k e = number-is rows row (ap (λ kind. sortIn kind 0) k ∙ e) ∙ ap statementNumber k
 
   -- What the flags of `Placed` say of a row: where it stands inside such a row, the flag is set.
   abbrev Flag : (ℕ → Bool) → Bool → ℕ → Type 0
@@ -107,8 +107,8 @@ module _ (header rows : List ℤ) (legal : Legal header rows) where
   looping inside = record { inside = inside; breaks = λ i. refl; continues = λ i. refl }
 
   -- the first item of a block
-  first-item : {row : ℕ} {mayBreak mayContinue : Bool} → kindAt rows row ≡ Block → Around mayBreak mayContinue row → 0 < link rows row 1 → AroundItem false mayBreak mayContinue (link rows row 1)
-  unfolding sortIn sorts statementNumber
+  first-item : {row : ℕ} {mayBreak mayContinue : Bool} → kindAt rows row ≡ OfStatement Block → Around mayBreak mayContinue row → 0 < link rows row 1 → AroundItem false mayBreak mayContinue (link rows row 1)
+  unfolding sortIn kindRow expressionFields statementFields markFields statementNumber
   first-item {row} k around p =
       let l = leads-on Source header rows s _ (around .inside) 1 refl p in
       record {
@@ -117,8 +117,8 @@ module _ (header rows : List ℤ) (legal : Legal header rows) where
       }
 
   -- the first item of a switch
-  first-in-switch : {row : ℕ} {mayBreak mayContinue : Bool} → kindAt rows row ≡ Switch → Around mayBreak mayContinue row → 0 < link rows row 2 → AroundItem true true mayContinue (link rows row 2)
-  unfolding sortIn sorts statementNumber
+  first-in-switch : {row : ℕ} {mayBreak mayContinue : Bool} → kindAt rows row ≡ OfStatement Switch → Around mayBreak mayContinue row → 0 < link rows row 2 → AroundItem true true mayContinue (link rows row 2)
+  unfolding sortIn kindRow expressionFields statementFields markFields statementNumber
   first-in-switch {row} k around p =
       let l = leads-on Source header rows s _ (around .inside) 2 refl p in
       record {
@@ -149,11 +149,12 @@ module _ (header rows : List ℤ) (legal : Legal header rows) where
   mark-allowed {row} a k e m = let inside = a .around .inside in a .own (legal .placed row inside .mark-inside (rw (number-of inside k e) m))
 
   -- "52 goto, 53 label (kernel only)".
-  not-in-source : {row : ℕ} {kind : Kind} → row < rowCount rows → kindAt rows row ≡ kind → sortIn kind 0 ≡ statementRow → inLanguage Source (statementNumber kind) ≡ false → ⊥
-  not-in-source {row} inside k e f = true≢false (sym (rw (number-of inside k e) at (s .known row inside)) ∙ f)
+  not-in-source : {row : ℕ} {kind : Kind} → row < rowCount rows → kindAt rows row ≡ kind → standsIn (kindRow kind .forms) Source ≡ false → ⊥
+  unfolding inLanguage kindAt
+  not-in-source {row} inside k f = true≢false (sym (rw k at (s .known row inside)) ∙ f)
 
   mutual
-    unfolding Placed PlacedItems sortIn sorts statementNumber inLanguage
+    unfolding Placed PlacedItems sortIn kindRow expressionFields statementFields markFields statementNumber inLanguage
 
     placed-statement : {row : ℕ} → StatementRow rows row → (mayBreak mayContinue : Bool) → Around mayBreak mayContinue row → Placed mayBreak mayContinue (statementAt rows row)
     placed-statement (empty-row k e) b c a = rw e tt
@@ -170,7 +171,7 @@ module _ (header rows : List ℤ) (legal : Legal header rows) where
     placed-statement (default-row k e) b c a = rw e tt
     placed-statement {row} (break-row k e) b c a = rw e (a .breaks (legal .placed row (a .inside) .break-inside (number-of (a .inside) k refl)))
     placed-statement {row} (continue-row k e) b c a = rw e (a .continues (legal .placed row (a .inside) .continue-inside (number-of (a .inside) k refl)))
-    placed-statement (goto-row k e) b c a = absurd (not-in-source (a .inside) k refl refl)
+    placed-statement (goto-row k e) b c a = absurd (not-in-source (a .inside) k refl)
     placed-statement (label-row k e) b c a = rw e tt
 
     placed-list : {l : ℕ} → ListRow rows l → (inSwitch mayBreak mayContinue : Bool) → (0 < l → AroundItem inSwitch mayBreak mayContinue l) → PlacedItems inSwitch mayBreak mayContinue (listAt rows l)
@@ -178,7 +179,7 @@ module _ (header rows : List ℤ) (legal : Legal header rows) where
     placed-list (item p e x y) w b c a = rw e (placed-statement x b c (a p .around), placed-list y w b c (next-item (a p)))
     placed-list (case-item p k e x y) w b c a = rw e (mark-allowed (a p) k refl refl, placed-list y w b c (next-item (a p)))
     placed-list (default-item p k e x y) w b c a = rw e (mark-allowed (a p) k refl refl, placed-list y w b c (next-item (a p)))
-    placed-list (label-item p k e x y) w b c a = absurd (not-in-source (a p .around .inside) k refl refl)
+    placed-list (label-item p k e x y) w b c a = absurd (not-in-source (a p .around .inside) k refl)
 
   -- nothing stands around the program
   pub placed-contents : PlacedItems false false false (contents rows)

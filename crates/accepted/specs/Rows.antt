@@ -10,20 +10,20 @@ use lib.Dec.{eqb}
 use lib.IntN.{ℤ}
 use borrow.Author.Tests.{eqb-true, ne-eqb}
 use Rattle.words.specs.Word.{pick}
-use Rattle.words.specs.Table.{rowCount, numberAt}
-use Rattle.words.specs.Kinds.{kindAt}
+use Rattle.words.specs.Table.{rowCount, numberAt, Whole}
+use Rattle.words.specs.Kinds.{kindAt, expression, optionalExpression, place, branch, optionalBranch, optionalItem, statementRow, sortOf, sortAt, isLink, isRequired, sortIn, kindRow, expressionFields, statementFields, markFields, kinds, kindIn, kindOf}
 use Rattle.words.specs.Laws.{both}
 use Rattle.words.specs.declared.Form.{Form}
 use Rattle.words.specs.declared.Kind.{Kind}
 use Rattle.language.specs.Trees.{read}
-use Rattle.language.specs.Decode.{expressionAt, statementOf, statementAt, itemsAt, decode}
-use Rattle.language.specs.DecodeLaws.{Whole, listAt, partAt, statement-at, at-item, at-case, at-default, at-label, part-some}
+use Rattle.language.specs.Decode.{expressionAt, statementOf, statementAt, itemsAt, decode, listAt, partAt}
+use Rattle.language.specs.DecodeLaws.{statement-at, at-item, at-case, at-default, at-label, part-some}
 use Rattle.language.specs.Sizes.{expressionRows, placeRows, partRows, statementRows, itemsRows}
-use Rattle.structure.specs.Grammar.{expression, optionalExpression, place, branch, optionalBranch, optionalItem, statementRow, grammar, sortOf, sortAt, isExpression, isStatement, isLink, isRequired, link}
+use Rattle.structure.specs.Grammar.{isExpression, isStatement, link}
 use Rattle.structure.specs.Fields.{fits}
 use Rattle.structure.specs.StructuredLaws.{structured-tree}
 use Rattle.structure.specs.Structured.{Leads, Structured}
-use Rattle.accepted.specs.Sorts.{sorts, sortIn, expression-or-statement, statement-kind}
+use Rattle.accepted.specs.Sorts.{expression-or-statement, statement-kind}
 use Rattle.accepted.specs.Fields.{holds, noLink, MayLink, link-none, linked, may-link, next-link}
 use Rattle.accepted.specs.Sums.{totalFrom, along, brought, total-one, gathers}
 use Rattle.accepted.specs.Expressions.{ExpressionRow, constant-row, variable-row, element-row, minus-row, not-row, binary-row, and-row, or-row, comma-row, conditional-row, assign-row, compound-row, prefix-row, postfix-row, placeAt, whole-rows, place-expression, expression-row}
@@ -64,7 +64,7 @@ module _ (form : Form) (header rows : List ℤ) (s : Structured form header rows
       (⊎-elim (λ k. rw (at-case rows whole row k (next .later), statement-at rows whole row, k))
       (⊎-elim (λ k. rw (at-default rows whole row k (next .later), statement-at rows whole row, k))
       (λ k. rw (at-label rows whole row k (next .later), statement-at rows whole row, k))))
-      (statement-kind form rows row (s .known row inside) (eqb-true _ _ e)))
+      (statement-kind rows row (eqb-true _ _ e)))
 
   -- a statement behind which nothing stands
   lone-statement : (row : ℕ) → row < rowCount rows → isStatement rows row ≡ true → numberAt rows row 5 ≡ 0 → itemsRows (itemsAt rows row) ≡ statementRows (statementAt rows row)
@@ -152,7 +152,7 @@ module _ (form : Form) (header rows : List ℤ) (s : Structured form header rows
     -- ---- a row counts itself and what its links bring
 
     expression-adds : ExpressionRow rows row → expressionRows (expressionAt rows row) ≡ 1 + totalFrom brings 1 5
-    unfolding expressionRows placeRows totalFrom all sortIn sorts isLink
+    unfolding expressionRows placeRows totalFrom all sortIn kindRow expressionFields statementFields markFields isLink
     expression-adds (constant-row k e) = rw e (omega (arith, free k 1 5 refl))
     expression-adds (variable-row k e) = rw e (omega (arith, free k 1 5 refl))
     expression-adds (element-row k p e x) = rw e (omega (arith, none-brings k 1 refl, operand-brings k 2 refl, free k 3 3 refl))
@@ -170,7 +170,7 @@ module _ (form : Form) (header rows : List ℤ) (s : Structured form header rows
     expression-adds (postfix-row k p i e x) = rw e (omega (arith, place-brings k 1 refl i, free k 2 4 refl))
 
     statement-adds : StatementRow rows row → statementRows (statementAt rows row) ≡ 1 + totalFrom brings 1 4
-    unfolding statementRows totalFrom all sortIn sorts isLink
+    unfolding statementRows totalFrom all sortIn kindRow expressionFields statementFields markFields isLink
     statement-adds (empty-row k e) = rw e (omega (arith, free k 1 4 refl))
     statement-adds (express-row k p e x) = rw e (omega (arith, operand-brings k 1 refl, free k 2 3 refl))
     statement-adds (block-row k e x) = rw e (omega (arith, items-bring k 1 refl, free k 2 3 refl))
@@ -202,7 +202,7 @@ module _ (form : Form) (header rows : List ℤ) (s : Structured form header rows
 
 -- "Every other row is linked exactly once": the tree has a row for each row of the table.
 pub structured-rows : (form : Form) (header rows : List ℤ) → Structured form header rows → statementRows (decode rows) ≡ rowCount rows
-unfolding decode isStatement sortAt sortOf grammar
+unfolding decode isStatement sortAt sortOf kindOf kindIn kinds sortIn kindRow statementFields
 structured-rows form header rows s =
     let inside = root-inside form header rows s in
     let block-row : isStatement rows 0 ≡ true = rw (s .block) in

@@ -1,27 +1,26 @@
--- Sound: a structured table is sound, in both forms: what a run asks of a table. A clause for each kind; each field by its sort.
+-- Sound: a structured table is sound, in both forms: what a run asks of a table. Each field by its sort.
 use mathlib.Core.Path.{_≡_, refl, sym}
 use mathlib.Core.Bool.{true}
 use mathlib.Core.List.{List}
 use mathlib.Core.Logic.{⊎-elim}
 use Prim.Native.Nat.{ℕ, _≤_, _<_}
 use native.Mathlib.Omega.{arith}
-use lib.Dec.{eqb}
+use lib.Dec.{leb}
 use lib.IntN.{ℤ}
-use borrow.Author.Tests.{eqb-true}
-use Rattle.words.specs.Table.{rowCount}
-use Rattle.words.specs.Kinds.{kindAt}
+use lib.ListN.{length}
+use borrow.Author.Tests.{ltb-true}
+use Rattle.words.specs.Table.{rowCount, numberAt}
+use Rattle.words.specs.Kinds.{kindAt, variable, array, place, isLink, isRequired, sortIn, sortAt, isPlaceKind}
+use Rattle.words.specs.KindLaws.{required-link}
+use Rattle.words.specs.Laws.{both, either}
 use Rattle.words.specs.Layout.{Layout, layoutOf, storeSize, storeWords}
 use Rattle.words.specs.declared.Form.{Form}
-use Rattle.words.specs.declared.Kind.{Kind}
-use Rattle.words.specs.declared.Kind.the-variants.{Constant, Variable, Element, Minus, Not, Binary, And, Or, Conditional, Comma, Assign, Compound, Prefix, Postfix, Empty, Express, Block, If, While, Do, For, Switch, Case, Default, Break, Continue, Goto, Label, Other}
-use Rattle.language.specs.Sound.{isPlace, Link, OptionalLink, PlaceLink, SoundRow, Sound}
-use Rattle.structure.specs.Grammar.{expression, optionalExpression, place, branch, optionalBranch, optionalItem, isLink, isRequired, link}
-use Rattle.structure.specs.Grammar as grammar
-use Rattle.structure.specs.Fields.{fits}
+use Rattle.language.specs.Sound.{Link, OptionalLink, SoundField, Sound}
+use Rattle.structure.specs.Grammar.{isPlace, link}
+use Rattle.structure.specs.Fields.{fits, boundsOf, numberFits}
 use Rattle.structure.specs.StructuredLaws.{structured-tree}
 use Rattle.structure.specs.Structured.{Structured}
-use Rattle.accepted.specs.Sorts.{sorts, sortIn, kind-known, place-kind}
-use Rattle.accepted.specs.Fields.{holds, Linked, MayLink, linked, may-link, next-link, names-variable, names-array}
+use Rattle.accepted.specs.Sorts.{sort-is, kind-known}
 
 module _ (form : Form) (header rows : List ℤ) (s : Structured form header rows) where
   abbrev L : Layout
@@ -38,63 +37,52 @@ module _ (form : Form) (header rows : List ℤ) (s : Structured form header rows
   unfolding storeSize
   variables-fit = omega arith
 
-  module _ (row : ℕ) (inside : row < rowCount rows) where
-    -- links that must be there, and links that may
-    link-by : {sort field : ℕ} → Linked rows row sort field → Link rows L words row field
-    link-by l = record { later = l .later; inside = rw (← l .same) (l .leads .inside) }
+  module _ (row : ℕ) (inside : row < rowCount rows) (field : ℕ) (first : 1 ≤ field) (last : field < 6) where
+    -- a field of a link's sort links the row that its number names
+    same : isLink (sortAt rows row field) ≡ true → link rows row field ≡ numberAt rows row field
+    unfolding link
+    same t = rw t
 
-    optional-by : {sort field : ℕ} → MayLink rows row sort field → OptionalLink rows L words row field
-    optional-by l p = record { later = l .later p; inside = rw (← l .same) (l .leads (rw (l .same) p) .inside) }
+    required : isRequired (sortAt rows row field) ≡ true → 0 < numberAt rows row field
+    required r = let l = s .present row inside field first last r in rw (same (required-link _ r)) at l
 
-    operand : {kind : Kind} → kindAt rows row ≡ kind → (field : ℕ) → holds (eqb expression) kind field ≡ true → Link rows L words row field
-    unfolding isRequired
-    operand k field t = link-by (linked form header rows s row inside k expression field refl t)
+    onward : isLink (sortAt rows row field) ≡ true → OptionalLink rows L words row field
+    onward t p =
+        let leads = s .forward row inside field first last (rw (same t) p) in
+        record { later = rw (same t) at (leads .later); inside = rw (same t) at (leads .inside) }
 
-    body : {kind : Kind} → kindAt rows row ≡ kind → (field : ℕ) → holds (eqb branch) kind field ≡ true → Link rows L words row field
-    unfolding isRequired
-    body k field t = link-by (linked form header rows s row inside k branch field refl t)
+    names : (sort : ℕ) → sortAt rows row field ≡ sort → numberFits (boundsOf form header) sort (numberAt rows row field) ≡ true
+    names sort e = rw (← e) (s .named row inside field first last)
 
-    allowed : {kind : Kind} → kindAt rows row ≡ kind → (sort field : ℕ) → isLink sort ≡ true → holds (eqb sort) kind field ≡ true → OptionalLink rows L words row field
-    allowed k sort field e t = optional-by (may-link form header rows s row inside k sort field e t)
+    names-a-word : sortAt rows row field ≡ variable → numberAt rows row field < words
+    unfolding numberFits boundsOf
+    names-a-word e =
+        ⊎-elim (λ h. let below : numberAt rows row field < L .variables = ltb-true _ _ h in omega (arith, store-fits, variables-fit))
+        (λ h. ltb-true _ _ (both (leb (storeSize L) (numberAt rows row field)) _ h .1)) (either _ _ (names variable e))
 
-    a-place : {kind : Kind} → kindAt rows row ≡ kind → holds (eqb place) kind 1 ≡ true → PlaceLink rows L words row 1
-    unfolding isRequired fits grammar.isPlace
-    a-place k t =
-        let l = linked form header rows s row inside k place 1 refl t in
-        let known = s .known (link rows row 1) (l .leads .inside) in
-        (link-by l, rw (← l .same) (⊎-elim (λ e. rw e) (λ e. rw e) (place-kind form rows (link rows row 1) known (eqb-true _ _ (l .fit)))))
+    names-an-array : sortAt rows row field ≡ array → numberAt rows row field < length (L .lengths)
+    unfolding numberFits boundsOf
+    names-an-array e = ltb-true _ _ (names array e)
 
-    sound-row : (kind : Kind) → kindAt rows row ≡ kind → SoundRow rows L words row kind
-    unfolding sortIn sorts isLink
-    sound-row Constant k = tt
-    sound-row Variable k = ⊎-elim (λ h. omega (arith, store-fits, variables-fit, h)) (λ h. h .1) (names-variable form header rows s row inside k 1 refl)
-    sound-row Element k = (names-array form header rows s row inside k 1 refl, operand k 2 refl)
-    sound-row Minus k = operand k 1 refl
-    sound-row Not k = operand k 1 refl
-    sound-row (Binary o) k = (operand k 1 refl, operand k 2 refl)
-    sound-row And k = (operand k 1 refl, operand k 2 refl)
-    sound-row Or k = (operand k 1 refl, operand k 2 refl)
-    sound-row Conditional k = (operand k 1 refl, operand k 2 refl, operand k 3 refl)
-    sound-row Comma k = (operand k 1 refl, operand k 2 refl)
-    sound-row Assign k = (a-place k refl, operand k 2 refl)
-    sound-row (Compound o) k = (a-place k refl, operand k 2 refl)
-    sound-row (Prefix o) k = a-place k refl
-    sound-row (Postfix o) k = a-place k refl
-    sound-row Empty k = tt
-    sound-row Express k = operand k 1 refl
-    sound-row Block k = allowed k optionalItem 1 refl refl
-    sound-row If k = (operand k 1 refl, body k 2 refl, allowed k optionalBranch 3 refl refl)
-    sound-row While k = (operand k 1 refl, body k 2 refl)
-    sound-row Do k = (body k 1 refl, operand k 2 refl)
-    sound-row For k = (allowed k optionalExpression 1 refl refl, allowed k optionalExpression 2 refl refl, allowed k optionalExpression 3 refl refl, body k 4 refl)
-    sound-row Switch k = (operand k 1 refl, allowed k optionalItem 2 refl refl)
-    sound-row Case k = tt
-    sound-row Default k = tt
-    sound-row Break k = tt
-    sound-row Continue k = tt
-    sound-row Goto k = tt
-    sound-row Label k = tt
-    sound-row Other k = kind-known form rows row (s .known row inside) k
+    links-a-place : sortAt rows row field ≡ place → isPlaceKind (kindAt rows (numberAt rows row field)) ≡ true
+    unfolding isRequired fits isPlace isPlaceKind
+    links-a-place e =
+        let t : isRequired (sortAt rows row field) ≡ true = rw e in
+        let there = s .present row inside field first last t in
+        let fit = rw e at (s .fitting row inside field first last there) in
+        rw (← same (required-link _ t), ← sort-is rows (link rows row field) 0) fit
+
+    sound-field : SoundField rows L words row field (sortIn (kindAt rows row) field)
+    sound-field =
+        rw (← sort-is rows row field)
+        (record {
+          unused-zero = s .unused-zero row inside field first last;
+          names-word = names-a-word;
+          names-array = names-an-array;
+          present = required;
+          forward = onward;
+          at-place = links-a-place;
+        })
 
 -- What a run asks of a table, from what the checks of both forms share.
 pub structured-sound : (form : Form) (header rows : List ℤ) → Structured form header rows → Sound rows (layoutOf form header) (storeWords form header)
@@ -103,7 +91,7 @@ structured-sound form header rows s =
     record {
       whole = sym (tree .whole);
       some-rows = tree .some-rows;
-      row-sound = λ row inside. sound-row form header rows s row inside (kindAt rows row) refl;
-      next-sound = λ row inside. optional-by form header rows s row inside (next-link form header rows s row inside);
+      known = λ row inside. kind-known form rows row (s .known row inside);
+      fields = λ row inside field first last. sound-field form header rows s row inside field first last;
       store-fits = store-fits form header rows s;
     }

@@ -9,22 +9,24 @@ use native.Mathlib.Omega.{arith}
 use lib.Dec.{eqb}
 use lib.IntN.{ℤ}
 use borrow.Author.Tests.{eqb-true}
-use Rattle.words.specs.Table.{rowCount, wordAt, numberAt}
-use Rattle.words.specs.Kinds.{kinds, kindIn, kindOf, kindAt}
+use Rattle.words.specs.Table.{rowCount, wordAt, numberAt, Whole}
+use Rattle.words.specs.Kinds.{kinds, kindIn, kindOf, kindAt, expression, optionalExpression, branch, optionalBranch, optionalItem, statementRow, sortOf, sortAt, isLink, isRequired, isStatementKind, sortIn, kindRow, expressionFields, statementFields, markFields}
 use Rattle.words.specs.Laws.{both}
 use Rattle.words.specs.declared.Form.{Form}
 use Rattle.words.specs.declared.Kind.{Kind}
-use Rattle.words.specs.declared.Kind.the-variants.{Constant, Variable, Element, Minus, Not, Binary, And, Or, Conditional, Comma, Assign, Compound, Prefix, Postfix, Empty, Express, Block, If, While, Do, For, Switch, Case, Default, Break, Continue, Goto, Label, Other}
+use Rattle.words.specs.declared.Kind.the-variants.{OfExpression, OfStatement, OfMark, Other}
+use Rattle.words.specs.declared.ExpressionKind.the-variants.{Constant, Variable, Element, Minus, Not, Binary, And, Or, Conditional, Comma, Assign, Compound, Prefix, Postfix}
+use Rattle.words.specs.declared.StatementKind.the-variants.{Empty, Express, Block, If, While, Do, For, Switch, Break, Continue, Goto}
+use Rattle.words.specs.declared.MarkKind.the-variants.{Case, Default, Label}
 use Rattle.language.specs.Trees.{Expression, absent, present, case, default, label, Statement, empty, express, block, ifThen, ifElse, while, doWhile, for, switch, break, continue, goto, none, _then_, _here_}
-use Rattle.language.specs.Decode.{expressionAt, statementOf, statementAt, itemsAt, decode}
-use Rattle.language.specs.DecodeLaws.{Whole, listAt, partAt, isStatement, statement-at, at-empty, at-express, at-block, at-ifThen, at-ifElse, at-while, at-doWhile, at-for, at-switch, at-break, at-continue, at-goto, at-item, at-case, at-default, at-label, part-some}
+use Rattle.language.specs.Decode.{expressionAt, statementOf, statementAt, itemsAt, decode, listAt, partAt}
+use Rattle.language.specs.DecodeLaws.{statement-at, at-empty, at-express, at-block, at-ifThen, at-ifElse, at-while, at-doWhile, at-for, at-switch, at-break, at-continue, at-goto, at-item, at-case, at-default, at-label, part-some}
+use Rattle.structure.specs.Grammar.{link, isStatement}
 use Rattle.language.specs.Program.{contents}
-use Rattle.structure.specs.Grammar.{expression, optionalExpression, branch, optionalBranch, optionalItem, statementRow, sortOf, sortAt, isLink, isRequired, link}
-use Rattle.structure.specs.Grammar as grammar
 use Rattle.structure.specs.Fields.{fits}
 use Rattle.structure.specs.StructuredLaws.{structured-tree}
 use Rattle.structure.specs.Structured.{Leads, Structured}
-use Rattle.accepted.specs.Sorts.{sorts, sortIn, sort-is, statement-kind}
+use Rattle.accepted.specs.Sorts.{sort-is, operand-is, statement-kind}
 use Rattle.accepted.specs.Fields.{holds, Linked, MayLink, linked, may-link, next-link}
 use Rattle.accepted.specs.Expressions.{ExpressionRow, whole-rows, expression-row}
 
@@ -43,46 +45,46 @@ module _ (rows : List ℤ) where
   mutual
     -- A row that holds a statement: its kind, its links, its statement, and the rows that it links. Of a mark the statement is empty.
     pub data StatementRow : ℕ → Type 0 where
-      empty-row : {row : ℕ} → kindAt rows row ≡ Empty → statementAt rows row ≡ empty → StatementRow row
-      express-row : {row : ℕ} → kindAt rows row ≡ Express → Leads rows row 1
+      empty-row : {row : ℕ} → kindAt rows row ≡ OfStatement Empty → statementAt rows row ≡ empty → StatementRow row
+      express-row : {row : ℕ} → kindAt rows row ≡ OfStatement Express → Leads rows row 1
           → statementAt rows row ≡ express (expressionOf row 1) → ExpressionRow rows (link rows row 1) → StatementRow row
-      block-row : {row : ℕ} → kindAt rows row ≡ Block
+      block-row : {row : ℕ} → kindAt rows row ≡ OfStatement Block
           → statementAt rows row ≡ block (listAt rows (link rows row 1)) → ListRow (link rows row 1) → StatementRow row
-      ifThen-row : {row : ℕ} → kindAt rows row ≡ If → Leads rows row 1 → Leads rows row 2 → link rows row 3 ≡ 0
+      ifThen-row : {row : ℕ} → kindAt rows row ≡ OfStatement If → Leads rows row 1 → Leads rows row 2 → link rows row 3 ≡ 0
           → statementAt rows row ≡ ifThen (expressionOf row 1) (statementIn row 2)
           → ExpressionRow rows (link rows row 1) → StatementRow (link rows row 2) → StatementRow row
-      ifElse-row : {row : ℕ} → kindAt rows row ≡ If → Leads rows row 1 → Leads rows row 2 → Leads rows row 3
+      ifElse-row : {row : ℕ} → kindAt rows row ≡ OfStatement If → Leads rows row 1 → Leads rows row 2 → Leads rows row 3
           → statementAt rows row ≡ ifElse (expressionOf row 1) (statementIn row 2) (statementIn row 3)
           → ExpressionRow rows (link rows row 1) → StatementRow (link rows row 2) → StatementRow (link rows row 3) → StatementRow row
-      while-row : {row : ℕ} → kindAt rows row ≡ While → Leads rows row 1 → Leads rows row 2
+      while-row : {row : ℕ} → kindAt rows row ≡ OfStatement While → Leads rows row 1 → Leads rows row 2
           → statementAt rows row ≡ while (expressionOf row 1) (statementIn row 2)
           → ExpressionRow rows (link rows row 1) → StatementRow (link rows row 2) → StatementRow row
-      doWhile-row : {row : ℕ} → kindAt rows row ≡ Do → Leads rows row 1 → Leads rows row 2
+      doWhile-row : {row : ℕ} → kindAt rows row ≡ OfStatement Do → Leads rows row 1 → Leads rows row 2
           → statementAt rows row ≡ doWhile (statementIn row 1) (expressionOf row 2)
           → StatementRow (link rows row 1) → ExpressionRow rows (link rows row 2) → StatementRow row
-      for-row : {row : ℕ} → kindAt rows row ≡ For → Leads rows row 4
+      for-row : {row : ℕ} → kindAt rows row ≡ OfStatement For → Leads rows row 4
           → statementAt rows row ≡ for (partAt rows (link rows row 1)) (partAt rows (link rows row 2)) (partAt rows (link rows row 3)) (statementIn row 4)
           → PartRow (link rows row 1) → PartRow (link rows row 2) → PartRow (link rows row 3) → StatementRow (link rows row 4) → StatementRow row
-      switch-row : {row : ℕ} → kindAt rows row ≡ Switch → Leads rows row 1
+      switch-row : {row : ℕ} → kindAt rows row ≡ OfStatement Switch → Leads rows row 1
           → statementAt rows row ≡ switch (expressionOf row 1) (listAt rows (link rows row 2))
           → ExpressionRow rows (link rows row 1) → ListRow (link rows row 2) → StatementRow row
-      case-row : {row : ℕ} → kindAt rows row ≡ Case → statementAt rows row ≡ empty → StatementRow row
-      default-row : {row : ℕ} → kindAt rows row ≡ Default → statementAt rows row ≡ empty → StatementRow row
-      break-row : {row : ℕ} → kindAt rows row ≡ Break → statementAt rows row ≡ break → StatementRow row
-      continue-row : {row : ℕ} → kindAt rows row ≡ Continue → statementAt rows row ≡ continue → StatementRow row
-      goto-row : {row : ℕ} → kindAt rows row ≡ Goto → statementAt rows row ≡ goto (numberAt rows row 1) → StatementRow row
-      label-row : {row : ℕ} → kindAt rows row ≡ Label → statementAt rows row ≡ empty → StatementRow row
+      case-row : {row : ℕ} → kindAt rows row ≡ OfMark Case → statementAt rows row ≡ empty → StatementRow row
+      default-row : {row : ℕ} → kindAt rows row ≡ OfMark Default → statementAt rows row ≡ empty → StatementRow row
+      break-row : {row : ℕ} → kindAt rows row ≡ OfStatement Break → statementAt rows row ≡ break → StatementRow row
+      continue-row : {row : ℕ} → kindAt rows row ≡ OfStatement Continue → statementAt rows row ≡ continue → StatementRow row
+      goto-row : {row : ℕ} → kindAt rows row ≡ OfStatement Goto → statementAt rows row ≡ goto (numberAt rows row 1) → StatementRow row
+      label-row : {row : ℕ} → kindAt rows row ≡ OfMark Label → statementAt rows row ≡ empty → StatementRow row
 
     -- A list, at a link: empty, or a statement or mark and the list behind it.
     pub data ListRow : ℕ → Type 0 where
       no-items : {l : ℕ} → l ≡ 0 → listAt rows l ≡ none → ListRow l
       item : {l : ℕ} → 0 < l → listAt rows l ≡ statementAt rows l then listAt rows (link rows l 5)
           → StatementRow l → ListRow (link rows l 5) → ListRow l
-      case-item : {l : ℕ} → 0 < l → kindAt rows l ≡ Case → listAt rows l ≡ case (wordAt rows l 1) here listAt rows (link rows l 5)
+      case-item : {l : ℕ} → 0 < l → kindAt rows l ≡ OfMark Case → listAt rows l ≡ case (wordAt rows l 1) here listAt rows (link rows l 5)
           → StatementRow l → ListRow (link rows l 5) → ListRow l
-      default-item : {l : ℕ} → 0 < l → kindAt rows l ≡ Default → listAt rows l ≡ default here listAt rows (link rows l 5)
+      default-item : {l : ℕ} → 0 < l → kindAt rows l ≡ OfMark Default → listAt rows l ≡ default here listAt rows (link rows l 5)
           → StatementRow l → ListRow (link rows l 5) → ListRow l
-      label-item : {l : ℕ} → 0 < l → kindAt rows l ≡ Label → listAt rows l ≡ label (numberAt rows l 1) here listAt rows (link rows l 5)
+      label-item : {l : ℕ} → 0 < l → kindAt rows l ≡ OfMark Label → listAt rows l ≡ label (numberAt rows l 1) here listAt rows (link rows l 5)
           → StatementRow l → ListRow (link rows l 5) → ListRow l
 
   pub list-some : (l : ℕ) → 0 < l → listAt rows l ≡ itemsAt rows l
@@ -98,7 +100,7 @@ module _ (form : Form) (header rows : List ℤ) (s : Structured form header rows
   whole : Whole rows
   whole = whole-rows form header rows s
 
-  module _ (row : ℕ) (inside : row < rowCount rows) (later-rows : (l : ℕ) → row < l → l < rowCount rows → grammar.isStatement rows l ≡ true → Held rows l) where
+  module _ (row : ℕ) (inside : row < rowCount rows) (later-rows : (l : ℕ) → row < l → l < rowCount rows → isStatement rows l ≡ true → Held rows l) where
     -- the row that a field links: an expression, a branch or body, an else, a part of a for, a list
     link-at : {kind : Kind} → kindAt rows row ≡ kind → (field : ℕ) → holds (eqb expression) kind field ≡ true → Linked rows row expression field
     unfolding isRequired
@@ -143,8 +145,8 @@ module _ (form : Form) (header rows : List ℤ) (s : Structured form header rows
             let p : 0 < link rows row field = omega arith in
             later-rows _ (l .leads p .later) (l .leads p .inside) (l .fit p) .list p
 
-    if-by : kindAt rows row ≡ If → (l : ℕ) → link rows row 3 ≡ l → StatementRow rows row
-    unfolding sortIn sorts isLink
+    if-by : kindAt rows row ≡ OfStatement If → (l : ℕ) → link rows row 3 ≡ l → StatementRow rows row
+    unfolding sortIn kindRow expressionFields statementFields markFields isLink
     if-by k zero z =
         let a = link-at k 1 refl in
         let b = body-at k 2 refl in
@@ -161,54 +163,41 @@ module _ (form : Form) (header rows : List ℤ) (s : Structured form header rows
         (operand a) (body b) (otherwise c p)
 
     statement-by : (kind : Kind) → kindAt rows row ≡ kind → eqb (sortIn kind 0) statementRow ≡ true → StatementRow rows row
-    unfolding sortIn sorts isLink statementOf
-    statement-by Empty k t = empty-row k (at-empty rows whole row k)
-    statement-by Express k t =
+    unfolding sortIn kindRow expressionFields statementFields markFields isLink statementOf
+    statement-by (OfStatement Empty) k t = empty-row k (at-empty rows whole row k)
+    statement-by (OfStatement Express) k t =
         let a = link-at k 1 refl in
         express-row k (a .leads) (rw (a .same) (at-express rows whole row k (a .later))) (operand a)
-    statement-by Block k t =
+    statement-by (OfStatement Block) k t =
         let a = may-at k optionalItem 1 refl refl in
         block-row k (rw (a .same) (at-block rows whole row k (a .later))) (items a)
-    statement-by If k t = if-by k (link rows row 3) refl
-    statement-by While k t =
+    statement-by (OfStatement If) k t = if-by k (link rows row 3) refl
+    statement-by (OfStatement While) k t =
         let a = link-at k 1 refl in
         let b = body-at k 2 refl in
         while-row k (a .leads) (b .leads) (rw (a .same, b .same) (at-while rows whole row k (a .later) (b .later))) (operand a) (body b)
-    statement-by Do k t =
+    statement-by (OfStatement Do) k t =
         let a = body-at k 1 refl in
         let b = link-at k 2 refl in
         doWhile-row k (a .leads) (b .leads) (rw (a .same, b .same) (at-doWhile rows whole row k (a .later) (b .later))) (body a) (operand b)
-    statement-by For k t =
+    statement-by (OfStatement For) k t =
         let a = may-at k optionalExpression 1 refl refl in
         let b = may-at k optionalExpression 2 refl refl in
         let c = may-at k optionalExpression 3 refl refl in
         let d = body-at k 4 refl in
         for-row k (d .leads) (rw (a .same, b .same, c .same, d .same) (at-for rows whole row k (a .later) (b .later) (c .later) (d .later)))
         (part a) (part b) (part c) (body d)
-    statement-by Switch k t =
+    statement-by (OfStatement Switch) k t =
         let a = link-at k 1 refl in
         let b = may-at k optionalItem 2 refl refl in
         switch-row k (a .leads) (rw (a .same, b .same) (at-switch rows whole row k (a .later) (b .later))) (operand a) (items b)
-    statement-by Case k t = case-row k (rw (statement-at rows whole row, k))
-    statement-by Default k t = default-row k (rw (statement-at rows whole row, k))
-    statement-by Break k t = break-row k (at-break rows whole row k)
-    statement-by Continue k t = continue-row k (at-continue rows whole row k)
-    statement-by Goto k t = goto-row k (at-goto rows whole row k)
-    statement-by Label k t = label-row k (rw (statement-at rows whole row, k))
-    statement-by Constant k t = absurd (false≢true t)
-    statement-by Variable k t = absurd (false≢true t)
-    statement-by Element k t = absurd (false≢true t)
-    statement-by Minus k t = absurd (false≢true t)
-    statement-by Not k t = absurd (false≢true t)
-    statement-by (Binary o) k t = absurd (false≢true t)
-    statement-by And k t = absurd (false≢true t)
-    statement-by Or k t = absurd (false≢true t)
-    statement-by Conditional k t = absurd (false≢true t)
-    statement-by Comma k t = absurd (false≢true t)
-    statement-by Assign k t = absurd (false≢true t)
-    statement-by (Compound o) k t = absurd (false≢true t)
-    statement-by (Prefix o) k t = absurd (false≢true t)
-    statement-by (Postfix o) k t = absurd (false≢true t)
+    statement-by (OfMark Case) k t = case-row k (rw (statement-at rows whole row, k))
+    statement-by (OfMark Default) k t = default-row k (rw (statement-at rows whole row, k))
+    statement-by (OfStatement Break) k t = break-row k (at-break rows whole row k)
+    statement-by (OfStatement Continue) k t = continue-row k (at-continue rows whole row k)
+    statement-by (OfStatement Goto) k t = goto-row k (at-goto rows whole row k)
+    statement-by (OfMark Label) k t = label-row k (rw (statement-at rows whole row, k))
+    statement-by (OfExpression kind) k t = absurd (false≢true (rw (eqb-true (sortIn (OfExpression kind) 0) statementRow t) at (operand-is rows row k)))
     statement-by Other k t = absurd (false≢true t)
 
     list-by : 0 < row → sortAt rows row 0 ≡ statementRow → StatementRow rows row → ListRow rows row
@@ -219,26 +208,26 @@ module _ (form : Form) (header rows : List ℤ) (s : Structured form header rows
         (⊎-elim (λ k. case-item p k (rw (next .same) (begins ∙ at-case rows whole row k (next .later))) held (items next))
         (⊎-elim (λ k. default-item p k (rw (next .same) (begins ∙ at-default rows whole row k (next .later))) held (items next))
         (λ k. label-item p k (rw (next .same) (begins ∙ at-label rows whole row k (next .later))) held (items next))))
-        (statement-kind form rows row (s .known row inside) e)
+        (statement-kind rows row e)
 
-  held-rows : (links row : ℕ) → rowCount rows ≤ row + links → row < rowCount rows → grammar.isStatement rows row ≡ true → Held rows row
-  unfolding grammar.isStatement
+  held-rows : (links row : ℕ) → rowCount rows ≤ row + links → row < rowCount rows → isStatement rows row ≡ true → Held rows row
+  unfolding isStatement
   held-rows zero row enough inside t = absurd (omega arith)
   held-rows (suc links) row enough inside t =
-      let later-rows : (l : ℕ) → row < l → l < rowCount rows → grammar.isStatement rows l ≡ true → Held rows l = λ l later there u. held-rows links l (omega arith) there u in
-      let own = statement-by row inside later-rows (kindAt rows row) refl (rw (sort-is form rows row (s .known row inside) 0 (omega arith)) at t) in
+      let later-rows : (l : ℕ) → row < l → l < rowCount rows → isStatement rows l ≡ true → Held rows l = λ l later there u. held-rows links l (omega arith) there u in
+      let own = statement-by row inside later-rows (kindAt rows row) refl (rw (sort-is rows row 0) at t) in
       record { statement = own; list = λ p. list-by row inside later-rows p (eqb-true _ _ t) own }
 
   -- Every row of a statement's kind holds a statement, and is, but for row 0, where a list begins.
-  pub statement-row : (row : ℕ) → row < rowCount rows → grammar.isStatement rows row ≡ true → StatementRow rows row
+  pub statement-row : (row : ℕ) → row < rowCount rows → isStatement rows row ≡ true → StatementRow rows row
   statement-row row inside t = held-rows (rowCount rows) row (omega arith) inside t .statement
 
-  pub list-row : (row : ℕ) → row < rowCount rows → grammar.isStatement rows row ≡ true → 0 < row → ListRow rows row
+  pub list-row : (row : ℕ) → row < rowCount rows → isStatement rows row ≡ true → 0 < row → ListRow rows row
   list-row row inside t = held-rows (rowCount rows) row (omega arith) inside t .list
 
   -- ---- row 0: "Row 0 is a block with next 0"
 
-  pub root-kind : kindAt rows 0 ≡ Block
+  pub root-kind : kindAt rows 0 ≡ OfStatement Block
   unfolding kindAt kindOf kindIn kinds
   root-kind = rw (s .block)
 
@@ -246,12 +235,12 @@ module _ (form : Form) (header rows : List ℤ) (s : Structured form header rows
   root-inside = structured-tree form header rows s .some-rows
 
   pub root-row : StatementRow rows 0
-  unfolding sortAt sortOf grammar.grammar grammar.isStatement
+  unfolding isStatement sortAt sortOf kindOf kindIn kinds sortIn kindRow statementFields
   root-row = statement-row 0 root-inside (rw (s .block))
 
   -- The program is a block, and its items hang at row 0's field a.
   root-link : MayLink rows 0 optionalItem 1
-  unfolding sortIn sorts isLink
+  unfolding sortIn kindRow expressionFields statementFields markFields isLink
   root-link = may-link form header rows s 0 root-inside root-kind optionalItem 1 refl refl
 
   pub program-list : ListRow rows (link rows 0 1)

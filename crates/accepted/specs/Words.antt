@@ -8,8 +8,7 @@ use lib.Signed.{mag}
 use Rattle.words.specs.Table.{wordAt}
 use Rattle.words.specs.declared.Form.{Form}
 use Rattle.language.specs.Trees.{read}
-use Rattle.language.specs.Decode.{expressionAt, statementAt, decode}
-use Rattle.language.specs.DecodeLaws.{listAt, partAt}
+use Rattle.language.specs.Decode.{expressionAt, statementAt, decode, listAt, partAt}
 use Rattle.structure.specs.Grammar.{link}
 use Rattle.structure.specs.Structured.{Structured}
 use Rattle.accepted.specs.Worded.{ValuedExpression, ValuedPlace, ValuedPart, ValuedStatement, ValuedItems, IsWord, Worded}

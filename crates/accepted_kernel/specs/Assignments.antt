@@ -12,29 +12,29 @@ use lib.IntN.{ℤ}
 use borrow.Author.Tests.{eqb-true, eq-eqb, ne-eqb}
 use Rattle.words.specs.Word.{pick}
 use Rattle.words.specs.Table.{rowCount, numberAt}
-use Rattle.words.specs.Kinds.{kinds, kindIn, kindOf, kindAt}
+use Rattle.words.specs.Kinds.{kinds, kindIn, kindOf, kindAt, expression, place, isRequired, sortIn, kindRow, expressionFields, statementFields, markFields}
 use Rattle.words.specs.Laws.{both, either}
 use Rattle.words.specs.declared.Form.the-variants.{Kernel}
 use Rattle.words.specs.declared.Kind.{Kind}
-use Rattle.words.specs.declared.Kind.the-variants.{Binary, Assign}
+use Rattle.words.specs.declared.Kind.the-variants.{OfExpression}
+use Rattle.words.specs.declared.ExpressionKind.the-variants.{Binary, Assign}
 use Rattle.words.specs.declared.Operator.{Operator}
 use Rattle.words.specs.declared.Operator.the-variants.{Add, Subtract, Multiply, Divide, Remainder, Less, Greater, LessOrEqual, GreaterOrEqual, Equal, NotEqual}
 use Rattle.language.specs.Trees.{Expression, read, assign, variable, element}
 use Rattle.language.specs.Decode.{placeOf, expressionAt}
 use Rattle.language.specs.DecodeLaws.{at-constant, at-variable, at-element, at-minus, at-binary, at-assign}
-use Rattle.structure.specs.Grammar.{expression, place, isRequired}
 use Rattle.structure.specs.SearchLaws.{from-on}
 use Rattle.structure.specs.Structured.{Structured}
 use Rattle.translation.specs.KernelForm.{IsAtom, constant-atom, variable-atom, Assigns, assigns-atom, assigns-minus, assigns-operation, assigns-element, assigns-to-element}
 use Rattle.kernel_check.specs.Statements.{isAtom, isAtomMinus, isAtomOperation, isAtomElement, fitsVariable, isAssignment}
-use Rattle.accepted.specs.Sorts.{sorts, sortIn, between-true}
+use Rattle.accepted.specs.Sorts.{between-true}
 use Rattle.accepted.specs.Fields.{holds, Linked, linked}
 use Rattle.accepted.specs.Expressions.{whole-rows}
 
 -- Kinds 6 to 16 are the binary ones.
 record BinaryKind (number : ℕ) : Type 0 where
   operator : Operator
-  is : kindOf number ≡ Binary operator
+  is : kindOf number ≡ OfExpression (Binary operator)
 
 binary-kind : (number : ℕ) → 6 ≤ number → number ≤ 16 → BinaryKind number
 unfolding kindOf kindIn kinds
@@ -55,8 +55,8 @@ module _ (header rows : List ℤ) (s : Structured Kernel header rows) where
   unfolding isRequired
   operand row n k field t = linked Kernel header rows s row n k expression field refl t
 
-  target : (row : ℕ) → row < rowCount rows → kindAt rows row ≡ Assign → Linked rows row place 1
-  unfolding isRequired sortIn sorts
+  target : (row : ℕ) → row < rowCount rows → kindAt rows row ≡ OfExpression Assign → Linked rows row place 1
+  unfolding isRequired sortIn kindRow expressionFields statementFields markFields
   target row n k = linked Kernel header rows s row n k place 1 refl refl
 
   -- "An atom is a constant or variable."
@@ -80,7 +80,7 @@ module _ (header rows : List ℤ) (s : Structured Kernel header rows) where
     atom : IsAtom index
 
   element-at : (row : ℕ) → row < rowCount rows → isAtomElement rows row ≡ true → ElementAt row
-  unfolding isAtomElement kindOf kindIn kinds sortIn sorts
+  unfolding isAtomElement kindOf kindIn kinds sortIn kindRow expressionFields statementFields markFields
   element-at row n e =
       let parts = both (eqb (numberAt rows row 0) 3) _ e in
       let kind = kind-of row 3 (eqb-true _ _ (parts .0)) in
@@ -93,14 +93,14 @@ module _ (header rows : List ℤ) (s : Structured Kernel header rows) where
 
   -- "To a variable it assigns an atom, minus an atom, one of kinds 6 to 16 on two atoms, or an element with an atom index."
   minus-at : (i row : ℕ) → row < rowCount rows → isAtomMinus rows row ≡ true → Assigns (assign (variable i) (expressionAt rows row))
-  unfolding isAtomMinus kindOf kindIn kinds sortIn sorts
+  unfolding isAtomMinus kindOf kindIn kinds sortIn kindRow expressionFields statementFields markFields
   minus-at i row n e =
       let parts = both (eqb (numberAt rows row 0) 4) _ e in
       let kind = kind-of row 4 (eqb-true _ _ (parts .0)) in
       rw (at-minus rows (whole-rows Kernel header rows s) row kind (operand row n kind 1 refl .later)) (assigns-minus (atom-at (numberAt rows row 1) (parts .1)))
 
   operation-at : (i row : ℕ) → row < rowCount rows → isAtomOperation rows row ≡ true → Assigns (assign (variable i) (expressionAt rows row))
-  unfolding isAtomOperation sortIn sorts
+  unfolding isAtomOperation sortIn kindRow expressionFields statementFields markFields
   operation-at i row n e =
       let parts = both _ _ e in
       let atoms = both (isAtom rows (numberAt rows row 1)) _ (parts .1) in
@@ -121,7 +121,7 @@ module _ (header rows : List ℤ) (s : Structured Kernel header rows) where
 
   -- "An expression statement that assigns."
   pub assignment-at : (row : ℕ) → row < rowCount rows → isAssignment rows row ≡ true → Assigns (expressionAt rows row)
-  unfolding isAssignment kindOf kindIn kinds sortIn sorts
+  unfolding isAssignment kindOf kindIn kinds sortIn kindRow expressionFields statementFields markFields
   assignment-at row n e =
       let parts = both (eqb (numberAt rows row 0) 21) _ e in
       let kind = kind-of row 21 (eqb-true _ _ (parts .0)) in

@@ -10,17 +10,18 @@ use native.Mathlib.Decide.{ℕ-discrete}
 use lib.Dec.{eqb}
 use lib.IntN.{ℤ}
 use borrow.Author.Tests.{eqb-true, eq-eqb}
-use Rattle.words.specs.Table.{rowCount, numberAt}
-use Rattle.words.specs.Kinds.{kinds, kindIn, kindOf, kindAt}
+use Rattle.words.specs.Table.{rowCount, numberAt, Whole}
+use Rattle.words.specs.Kinds.{kinds, kindIn, kindOf, kindAt, expression, branch, optionalBranch, optionalItem, statementRow, inLanguage, isLink, isRequired, sortIn, kindRow, expressionFields, statementFields, markFields, standsIn}
 use Rattle.words.specs.Laws.{both, either}
 use Rattle.words.specs.declared.Form.the-variants.{Kernel}
 use Rattle.words.specs.declared.Kind.{Kind}
-use Rattle.words.specs.declared.Kind.the-variants.{Block, If}
+use Rattle.words.specs.declared.Kind.the-variants.{OfStatement}
+use Rattle.words.specs.declared.StatementKind.the-variants.{Block, If}
 use Rattle.language.specs.Trees.{block, Items, none, _then_, _here_, _⧺_}
-use Rattle.language.specs.Decode.{statementOf, statementAt}
-use Rattle.language.specs.DecodeLaws.{Whole, listAt, statement-at, at-empty, at-express, at-block, at-ifElse, at-while, at-goto, at-item, at-label}
+use Rattle.language.specs.Decode.{statementOf, statementAt, listAt}
+use Rattle.language.specs.DecodeLaws.{statement-at, at-empty, at-express, at-block, at-ifElse, at-while, at-goto, at-item, at-label}
+use Rattle.structure.specs.Grammar.{isStatement, link}
 use Rattle.language.specs.Program.{contents}
-use Rattle.structure.specs.Grammar.{expression, branch, optionalBranch, optionalItem, statementRow, inLanguage, isLink, isRequired, isStatement, link}
 use Rattle.structure.specs.Fields.{fits}
 use Rattle.structure.specs.NoteLaws.{above-zero}
 use Rattle.structure.specs.Structured.{Leads, Structured}
@@ -31,7 +32,7 @@ use Rattle.kernel_check.specs.Accepts.{structured-lone, structured-labels}
 use Rattle.kernel_check.specs.Legal.{Owner, part, beside, behind, outward, Legal}
 use Rattle.kernel_check.specs.ListLaws.{owner-earlier}
 use Rattle.kernel_check.specs.Statements.{isAtom, isBlock, isKernelIf, isKernelWhile, isKernelExpression, isKernelStatement}
-use Rattle.accepted.specs.Sorts.{sorts, sortIn, statementNumber, number-is, statement-kind}
+use Rattle.accepted.specs.Sorts.{statementNumber, number-is, statement-kind}
 use Rattle.accepted.specs.Fields.{holds, Linked, MayLink, linked, may-link, next-link}
 use Rattle.accepted.specs.Expressions.{whole-rows}
 use Rattle.accepted.specs.Statements.{list-some, program-contents}
@@ -52,11 +53,11 @@ module _ (header rows : List ℤ) (legal : Legal header rows) where
     owned : Owner rows owner row
 
   -- the list of a block
-  first-item : (row : ℕ) → row < rowCount rows → kindAt rows row ≡ Block → MayLink rows row optionalItem 1
-  unfolding isLink sortIn sorts
+  first-item : (row : ℕ) → row < rowCount rows → kindAt rows row ≡ OfStatement Block → MayLink rows row optionalItem 1
+  unfolding isLink sortIn kindRow expressionFields statementFields markFields
   first-item row n k = may-link Kernel header rows s row n k optionalItem 1 refl refl
 
-  begins-in : (row : ℕ) → row < rowCount rows → kindAt rows row ≡ Block → 0 < link rows row 1 → Begins row (link rows row 1)
+  begins-in : (row : ℕ) → row < rowCount rows → kindAt rows row ≡ OfStatement Block → 0 < link rows row 1 → Begins row (link rows row 1)
   unfolding fits
   begins-in row n k p =
       let first = first-item row n k in
@@ -70,7 +71,7 @@ module _ (header rows : List ℤ) (legal : Legal header rows) where
 
   -- ---- a statement, given the lists of later rows
 
-  module _ (row : ℕ) (n : row < rowCount rows) (lists : (owner : ℕ) (ahead : Items) → row ≤ owner → owner < rowCount rows → kindAt rows owner ≡ Block → Covers header rows s ahead owner → KernelItems ahead (listAt rows (link rows owner 1))) (ahead : Items) (covers : Covers header rows s ahead row) where
+  module _ (row : ℕ) (n : row < rowCount rows) (lists : (owner : ℕ) (ahead : Items) → row ≤ owner → owner < rowCount rows → kindAt rows owner ≡ OfStatement Block → Covers header rows s ahead owner → KernelItems ahead (listAt rows (link rows owner 1))) (ahead : Items) (covers : Covers header rows s ahead row) where
     kind-of : (number : ℕ) → numberAt rows row 0 ≡ number → kindAt rows row ≡ kindOf number
     unfolding kindAt
     kind-of number e = ap kindOf e
@@ -79,7 +80,7 @@ module _ (header rows : List ℤ) (legal : Legal header rows) where
     unfolding isRequired
     test k field t = linked Kernel header rows s row n k expression field refl t
 
-    block-at : (b : ℕ) → b < rowCount rows → kindAt rows b ≡ Block → statementAt rows b ≡ block (listAt rows (link rows b 1))
+    block-at : (b : ℕ) → b < rowCount rows → kindAt rows b ≡ OfStatement Block → statementAt rows b ≡ block (listAt rows (link rows b 1))
     block-at b m k = let first = first-item b m k in rw (first .same) (at-block rows whole b k (first .later))
 
     -- a branch or body that is a block
@@ -96,7 +97,7 @@ module _ (header rows : List ℤ) (legal : Legal header rows) where
         let inside : b < rowCount rows = rw same at (leads .inside) in
         let is-block = both (not (eqb b 0)) (eqb (numberAt rows b 0) 42) e in
         let number : numberAt rows b 0 ≡ 42 = eqb-true _ _ (is-block .1) in
-        let kind : kindAt rows b ≡ Block = rw number in
+        let kind : kindAt rows b ≡ OfStatement Block = rw number in
         let owned : Owner rows row b = subst (Owner rows row) same (part h leads) in
         let next = next-link Kernel header rows s b inside in
         record {
@@ -111,8 +112,8 @@ module _ (header rows : List ℤ) (legal : Legal header rows) where
         let b = linked Kernel header rows s row n k branch field refl t in
         branch-by field h (b .leads) (b .same) (eqb-true _ _ (both (isStatement rows (link rows row field)) _ (b .fit) .1)) e
 
-    else-at : kindAt rows row ≡ If → isBlock rows (numberAt rows row 3) ≡ true → BranchAt 3
-    unfolding isLink sortIn sorts fits isBlock
+    else-at : kindAt rows row ≡ OfStatement If → isBlock rows (numberAt rows row 3) ≡ true → BranchAt 3
+    unfolding isLink sortIn kindRow expressionFields statementFields markFields fits isBlock
     else-at k e =
         let c = may-link Kernel header rows s row n k optionalBranch 3 refl refl in
         let there : 0 < link rows row 3 = rw (c .same) (above-zero _ (λ q. true≢false (sym (both (not (eqb (numberAt rows row 3) 0)) _ e .0) ∙ ap not (eq-eqb _ _ q)))) in
@@ -127,7 +128,7 @@ module _ (header rows : List ℤ) (legal : Legal header rows) where
     block-form e = rw (block-at row n (kind-of 42 e)) (kernel-block (lists row ahead (omega arith) n (kind-of 42 e) covers))
 
     if-form : isKernelIf rows row ≡ true → KernelStatement ahead (statementAt rows row)
-    unfolding isKernelIf kindOf kindIn kinds sortIn sorts
+    unfolding isKernelIf kindOf kindIn kinds sortIn kindRow expressionFields statementFields markFields
     if-form e =
         let parts = both (eqb (numberAt rows row 0) 43) _ e in
         let others = both (isAtom rows (numberAt rows row 1)) _ (parts .1) in
@@ -139,7 +140,7 @@ module _ (header rows : List ℤ) (legal : Legal header rows) where
         (kernel-if (atom-at header rows s (numberAt rows row 1) (others .0)) (b .form) (c .form))
 
     while-form : isKernelWhile rows row ≡ true → KernelStatement ahead (statementAt rows row)
-    unfolding isKernelWhile kindOf kindIn kinds sortIn sorts
+    unfolding isKernelWhile kindOf kindIn kinds sortIn kindRow expressionFields statementFields markFields
     while-form e =
         let parts = both (eqb (numberAt rows row 0) 44) _ e in
         let others = both (isAtom rows (numberAt rows row 1)) _ (parts .1) in
@@ -159,7 +160,7 @@ module _ (header rows : List ℤ) (legal : Legal header rows) where
     label-form e = rw (statement-at rows whole row, kind-of 53 e) kernel-empty
 
     expression-form : isKernelExpression rows row ≡ true → KernelStatement ahead (statementAt rows row)
-    unfolding isKernelExpression kindOf kindIn kinds sortIn sorts
+    unfolding isKernelExpression kindOf kindIn kinds sortIn kindRow expressionFields statementFields markFields
     expression-form e =
         let parts = both (eqb (numberAt rows row 0) 41) _ e in
         let k = kind-of 41 (eqb-true _ _ (parts .0)) in
@@ -181,28 +182,29 @@ module _ (header rows : List ℤ) (legal : Legal header rows) where
   -- ---- lists
 
   number-of : (row : ℕ) {kind : Kind} → row < rowCount rows → kindAt rows row ≡ kind → sortIn kind 0 ≡ statementRow → numberAt rows row 0 ≡ statementNumber kind
-  number-of row n k e = number-is Kernel rows row (s .known row n) (ap (λ kind. sortIn kind 0) k ∙ e) ∙ ap statementNumber k
+  number-of row n k e = number-is rows row (ap (λ kind. sortIn kind 0) k ∙ e) ∙ ap statementNumber k
 
   -- no case and no default
-  not-in-kernel : (row : ℕ) {kind : Kind} → row < rowCount rows → kindAt rows row ≡ kind → sortIn kind 0 ≡ statementRow → inLanguage Kernel (statementNumber kind) ≡ false → ⊥
-  not-in-kernel row n k e f = true≢false (sym (s .known row n) ∙ ap (inLanguage Kernel) (number-of row n k e) ∙ f)
+  not-in-kernel : (row : ℕ) {kind : Kind} → row < rowCount rows → kindAt rows row ≡ kind → standsIn (kindRow kind .forms) Kernel ≡ false → ⊥
+  unfolding inLanguage kindAt
+  not-in-kernel row n k f = true≢false (sym (rw k at (s .known row n)) ∙ f)
 
   -- what the lists of later blocks give
   abbrev Lists : ℕ → Type 0
-  Lists row = (other : ℕ) (ahead : Items) → row ≤ other → other < rowCount rows → kindAt rows other ≡ Block → Covers header rows s ahead other → KernelItems ahead (listAt rows (link rows other 1))
+  Lists row = (other : ℕ) (ahead : Items) → row ≤ other → other < rowCount rows → kindAt rows other ≡ OfStatement Block → Covers header rows s ahead other → KernelItems ahead (listAt rows (link rows other 1))
 
   list-step : (row : ℕ) (ahead : Items) (owner : ℕ) → Begins owner row → 0 < row → Covers header rows s ahead owner → Lists row
       → KernelItems ahead (listAt rows (link rows row 5)) → KernelItems ahead (listAt rows row)
-  unfolding inLanguage isStatement sortIn sorts statementNumber
+  unfolding inLanguage isStatement sortIn kindRow expressionFields statementFields markFields statementNumber
   list-step row ahead owner b p covers lists rest =
       let next = next-link Kernel header rows s row (b .inside) in
       let own = statement-form row (b .inside) lists (listAt rows (link rows row 5) ⧺ ahead) (covers-item header rows s ahead owner row (b .owned) covers) (b .statement) in
       ⊎-elim (λ t. rw (list-some rows row p ∙ at-item rows whole row t (next .later), ← next .same) (kernel-then own rest))
-      (⊎-elim (λ k. absurd (not-in-kernel row (b .inside) k refl refl))
-      (⊎-elim (λ k. absurd (not-in-kernel row (b .inside) k refl refl))
+      (⊎-elim (λ k. absurd (not-in-kernel row (b .inside) k refl))
+      (⊎-elim (λ k. absurd (not-in-kernel row (b .inside) k refl))
       (λ k. rw (list-some rows row p ∙ at-label rows whole row k (next .later), ← next .same)
       (kernel-label (structured-labels header rows s row (b .inside) (rw (number-of row (b .inside) k refl))) rest))))
-      (statement-kind Kernel rows row (s .known row (b .inside)) (eqb-true _ _ (b .statement)))
+      (statement-kind rows row (eqb-true _ _ (b .statement)))
 
   no-list : (row : ℕ) (ahead : Items) → row ≡ 0 → KernelItems ahead (listAt rows row)
   no-list row ahead z = rw z kernel-none
@@ -242,5 +244,5 @@ module _ (header rows : List ℤ) (legal : Legal header rows) where
   unfolding kindAt kindOf kindIn kinds
   contents-form =
       let some = structured-tree Kernel header rows s .some-rows in
-      let block-kind : kindAt rows 0 ≡ Block = rw (s .block) in
+      let block-kind : kindAt rows 0 ≡ OfStatement Block = rw (s .block) in
       rw (program-contents Kernel header rows s) (list-form (rowCount rows) (link rows 0 1) none 0 (λ p. omega arith) (begins-in 0 some block-kind) root-covers)

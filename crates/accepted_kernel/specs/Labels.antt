@@ -9,10 +9,12 @@ use borrow.Author.Tests.{eq-eqb}
 use Rattle.words.specs.Table.{rowCount}
 use Rattle.words.specs.Kinds.{kinds, kindIn, kindOf, kindAt}
 use Rattle.words.specs.declared.Form.the-variants.{Kernel}
-use Rattle.words.specs.declared.Kind.the-variants.{Label}
+use Rattle.words.specs.declared.Kind.the-variants.{OfMark}
+use Rattle.words.specs.declared.MarkKind.the-variants.{Label}
 use Rattle.language.specs.Trees.{Mark, label, sameMark, has, Items, _⧺_}
 use Rattle.language.specs.TreeLaws.{has-next, has-left, has-right}
-use Rattle.language.specs.DecodeLaws.{listAt, at-label}
+use Rattle.language.specs.Decode.{listAt}
+use Rattle.language.specs.DecodeLaws.{at-label}
 use Rattle.structure.specs.Grammar.{link}
 use Rattle.structure.specs.Fields.{fits}
 use Rattle.structure.specs.Structured.{Leads, Structured}

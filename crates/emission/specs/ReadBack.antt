@@ -6,15 +6,18 @@ use mathlib.Core.List.{List}
 use Prim.Native.Nat.{ℕ, zero, suc, _+_, _≤_, _<_}
 use native.Mathlib.Omega.{arith}
 use lib.IntN.{ℤ}
-use Rattle.words.specs.Table.{numberAt}
-use Rattle.words.specs.Kinds.{kinds, kindIn, kindOf, kindAt}
+use Rattle.words.specs.Table.{numberAt, Whole}
+use Rattle.words.specs.Kinds.{kinds, kindIn, kindOf, kindAt, isStatementKind}
 use Rattle.words.specs.declared.Operator.{Operator}
 use Rattle.words.specs.declared.Operator.the-variants.{Add, Subtract, Multiply, Divide, Remainder, Less, Greater, LessOrEqual, GreaterOrEqual, Equal, NotEqual}
 use Rattle.words.specs.declared.Kind.{Kind}
-use Rattle.words.specs.declared.Kind.the-variants.{Constant, Variable, Element, Minus, Binary, Assign, Empty, Express, Block, If, While, Goto, Label}
+use Rattle.words.specs.declared.Kind.the-variants.{OfExpression, OfStatement, OfMark}
+use Rattle.words.specs.declared.ExpressionKind.the-variants.{Constant, Variable, Element, Minus, Binary, Assign}
+use Rattle.words.specs.declared.StatementKind.the-variants.{Empty, Express, Block, If, While, Goto}
+use Rattle.words.specs.declared.MarkKind.the-variants.{Label}
 use Rattle.language.specs.Trees.{Expression, constant, read, minus, binary, assign, Place, variable, element, label, Statement, express, block, while, goto, Items, none, _then_, _here_}
-use Rattle.language.specs.Decode.{placeOf, expressionAt, statementAt, itemsAt, decode}
-use Rattle.language.specs.DecodeLaws.{Whole, Forward, listAt, isStatement, at-constant, at-variable, at-element, at-minus, at-binary, at-assign, at-empty, at-express, at-block, at-ifElse, at-while, at-goto, at-item, at-label}
+use Rattle.language.specs.Decode.{placeOf, expressionAt, statementAt, itemsAt, decode, Forward, listAt}
+use Rattle.language.specs.DecodeLaws.{at-constant, at-variable, at-element, at-minus, at-binary, at-assign, at-empty, at-express, at-block, at-ifElse, at-while, at-goto, at-item, at-label}
 use Rattle.language.specs.Sizes.{statementRows}
 use Rattle.language.specs.TreeLaws.{statement-some}
 use Rattle.emission.specs.Emission.{operatorNumber, listLink, emit}
@@ -38,7 +41,7 @@ link-forward (m here is) row base h p = h
 -- ---- kinds
 
 -- The kinds 6 to 16 are the operators in their order.
-kind-binary : (o : Operator) → kindOf (6 + operatorNumber o) ≡ Binary o
+pub kind-binary : (o : Operator) → kindOf (6 + operatorNumber o) ≡ OfExpression (Binary o)
 unfolding kindOf kindIn kinds
 kind-binary Add = refl
 kind-binary Subtract = refl
@@ -57,34 +60,34 @@ unfolding kindAt
 row-kind k e r = ap kindOf (r .kind-is) ∙ e
 
 -- The kind of a statement's row is a statement's; its next field.
-statement-row : {rows : List ℤ} {s : Statement} {base next : ℕ} → EmittedStatement rows s base next → (isStatement (kindAt rows base) ≡ true) × (numberAt rows base 5 ≡ next)
+statement-row : {rows : List ℤ} {s : Statement} {base next : ℕ} → EmittedStatement rows s base next → (isStatementKind (kindAt rows base) ≡ true) × (numberAt rows base 5 ≡ next)
 unfolding kindOf kindIn kinds
-statement-row (empty-at r) = (ap isStatement (row-kind Empty refl r), r .next-is)
-statement-row (express-at r m) = (ap isStatement (row-kind Express refl r), r .next-is)
-statement-row (block-at r m) = (ap isStatement (row-kind Block refl r), r .next-is)
-statement-row (if-at r m n o) = (ap isStatement (row-kind If refl r), r .next-is)
-statement-row (while-at r m n) = (ap isStatement (row-kind While refl r), r .next-is)
-statement-row (goto-at r) = (ap isStatement (row-kind Goto refl r), r .next-is)
+statement-row (empty-at r) = (ap isStatementKind (row-kind (OfStatement Empty) refl r), r .next-is)
+statement-row (express-at r m) = (ap isStatementKind (row-kind (OfStatement Express) refl r), r .next-is)
+statement-row (block-at r m) = (ap isStatementKind (row-kind (OfStatement Block) refl r), r .next-is)
+statement-row (if-at r m n o) = (ap isStatementKind (row-kind (OfStatement If) refl r), r .next-is)
+statement-row (while-at r m n) = (ap isStatementKind (row-kind (OfStatement While) refl r), r .next-is)
+statement-row (goto-at r) = (ap isStatementKind (row-kind (OfStatement Goto) refl r), r .next-is)
 
 module _ (rows : List ℤ) (whole : Whole rows) where
   mutual
     unfolding kindOf kindIn kinds
 
     pub read-expression : {e : Expression} {base : ℕ} → EmittedExpression rows e base → expressionAt rows base ≡ e
-    read-expression (constant-at {v} {base} r w) = at-constant rows whole base (row-kind Constant refl r) ∙ ap constant w
+    read-expression (constant-at {v} {base} r w) = at-constant rows whole base (row-kind (OfExpression Constant) refl r) ∙ ap constant w
     read-expression (read-at p) = read-place p
-    read-expression (minus-at {e} {base} r m) = at-minus rows whole base (row-kind Minus refl r) (omega (arith, r .a-is)) ∙ rw (r .a-is) (ap minus (read-expression m))
+    read-expression (minus-at {e} {base} r m) = at-minus rows whole base (row-kind (OfExpression Minus) refl r) (omega (arith, r .a-is)) ∙ rw (r .a-is) (ap minus (read-expression m))
     read-expression (binary-at {o} {a} {b} {base} r m n) =
-        at-binary rows whole base o (row-kind (Binary o) (kind-binary o) r) (omega (arith, r .a-is)) (omega (arith, r .b-is))
+        at-binary rows whole base o (row-kind (OfExpression (Binary o)) (kind-binary o) r) (omega (arith, r .a-is)) (omega (arith, r .b-is))
         ∙ rw (r .a-is, r .b-is) (ap₂ (binary o) (read-expression m) (read-expression n))
     read-expression (assign-at {p} {e} {base} r m n) =
-        at-assign rows whole base (row-kind Assign refl r) (omega (arith, r .a-is)) (omega (arith, r .b-is))
+        at-assign rows whole base (row-kind (OfExpression Assign) refl r) (omega (arith, r .a-is)) (omega (arith, r .b-is))
         ∙ rw (r .a-is, r .b-is) (ap₂ assign (ap placeOf (read-place m)) (read-expression n))
 
     pub read-place : {p : Place} {base : ℕ} → EmittedPlace rows p base → expressionAt rows base ≡ read p
-    read-place (variable-at {i} {base} r) = at-variable rows whole base (row-kind Variable refl r) ∙ ap (λ n. read (variable n)) (r .a-is)
+    read-place (variable-at {i} {base} r) = at-variable rows whole base (row-kind (OfExpression Variable) refl r) ∙ ap (λ n. read (variable n)) (r .a-is)
     read-place (element-at {array} {e} {base} r m) =
-        at-element rows whole base (row-kind Element refl r) (omega (arith, r .b-is))
+        at-element rows whole base (row-kind (OfExpression Element) refl r) (omega (arith, r .b-is))
         ∙ rw (r .a-is, r .b-is) (ap (λ i. read (element array i)) (read-expression m))
 
   -- The list at a link.
@@ -96,18 +99,18 @@ module _ (rows : List ℤ) (whole : Whole rows) where
     unfolding kindOf kindIn kinds
 
     pub read-statement : {s : Statement} {base next : ℕ} → EmittedStatement rows s base next → statementAt rows base ≡ s
-    read-statement (empty-at {base} r) = at-empty rows whole base (row-kind Empty refl r)
-    read-statement (express-at {e} {base} r m) = at-express rows whole base (row-kind Express refl r) (omega (arith, r .a-is)) ∙ rw (r .a-is) (ap express (read-expression m))
+    read-statement (empty-at {base} r) = at-empty rows whole base (row-kind (OfStatement Empty) refl r)
+    read-statement (express-at {e} {base} r m) = at-express rows whole base (row-kind (OfStatement Express) refl r) (omega (arith, r .a-is)) ∙ rw (r .a-is) (ap express (read-expression m))
     read-statement (block-at {is} {base} r m) =
-        at-block rows whole base (row-kind Block refl r) (rw (r .a-is) (link-forward is base (base + 1) (omega arith)))
+        at-block rows whole base (row-kind (OfStatement Block) refl r) (rw (r .a-is) (link-forward is base (base + 1) (omega arith)))
         ∙ rw (r .a-is) (ap block (read-items (omega arith) m))
     read-statement (if-at {e} {onTrue} {onFalse} {base} r m n o) =
-        at-ifElse rows whole base (row-kind If refl r) (omega (arith, r .a-is)) (omega (arith, r .b-is)) (omega (arith, r .c-is))
+        at-ifElse rows whole base (row-kind (OfStatement If) refl r) (omega (arith, r .a-is)) (omega (arith, r .b-is)) (omega (arith, r .c-is))
         ∙ rw (r .a-is, r .b-is, r .c-is) (cc (read-expression m, read-statement n, read-statement o))
     read-statement (while-at {e} {body} {base} r m n) =
-        at-while rows whole base (row-kind While refl r) (omega (arith, r .a-is)) (omega (arith, r .b-is))
+        at-while rows whole base (row-kind (OfStatement While) refl r) (omega (arith, r .a-is)) (omega (arith, r .b-is))
         ∙ rw (r .a-is, r .b-is) (ap₂ while (read-expression m) (read-statement n))
-    read-statement (goto-at {l} {base} r) = at-goto rows whole base (row-kind Goto refl r) ∙ ap goto (r .a-is)
+    read-statement (goto-at {l} {base} r) = at-goto rows whole base (row-kind (OfStatement Goto) refl r) ∙ ap goto (r .a-is)
 
     -- The list that begins at a list's link.
     pub read-items : {is : Items} {base : ℕ} → 0 < base → EmittedItems rows is base → listAt rows (listLink false is base) ≡ is
@@ -121,7 +124,7 @@ module _ (rows : List ℤ) (whole : Whole rows) where
         ∙ rw (first .1) (ap₂ (λ a b. a then b) (read-statement m) (read-items (omega arith) n))
     read-items h (label-at {l} {is} {base} r n) =
         list-at base h
-        ∙ at-label rows whole base (row-kind Label refl r) (rw (r .next-is) (link-forward is base (base + 1) (omega arith)))
+        ∙ at-label rows whole base (row-kind (OfMark Label) refl r) (rw (r .next-is) (link-forward is base (base + 1) (omega arith)))
         ∙ rw (r .a-is, r .next-is) (ap (λ b. label l here b) (read-items (omega arith) n))
 
 -- Decode reads back what emission writes.

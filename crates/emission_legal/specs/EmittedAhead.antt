@@ -14,7 +14,8 @@ use Rattle.language.specs.Trees.{Expression, Place, Mark, label, sameMark, has,
 use Rattle.language.specs.Sizes.{expressionRows, placeRows, statementRows, itemsRows}
 use Rattle.language.specs.TreeLaws.{statement-some}
 use Rattle.translation.specs.KernelForm.{KernelStatement, kernel-block, kernel-if, kernel-while, kernel-goto, KernelItems, kernel-then, kernel-label}
-use Rattle.structure.specs.Grammar.{grammar, sortOf, isLink, isStatement, link}
+use Rattle.words.specs.Kinds.{sortOf, isLink, kindOf, kindIn, kinds, sortIn, kindRow, expressionFields, statementFields, markFields}
+use Rattle.structure.specs.Grammar.{isStatement, link}
 use Rattle.structure.specs.Structured.{Leads}
 use Rattle.structure.specs.Lists.{Before, adjacent, further}
 use Rattle.kernel_check.specs.Statements.{isKernelStatement}
@@ -31,7 +32,7 @@ use Rattle.emission_legal.specs.EmittedForms.{form-statement, form-label
 
 module _ {rows : List ℤ} where
   mutual
-    unfolding isStatement sortOf grammar expressionRows
+    unfolding isStatement sortOf kindOf kindIn kinds sortIn kindRow expressionFields statementFields markFields expressionRows
 
     pub plain-expression : {e : Expression} {base : ℕ} (end : ℕ) → base + expressionRows e ≡ end → EmittedExpression rows e base → Each (λ row. isStatement rows row ≡ false) base end
     plain-expression end q (constant-at {v} {base} r w) = first-and _ base end (rw (row-sort r)) (none-of _ (base + 1) end (omega arith))
@@ -51,7 +52,7 @@ module _ {rows : List ℤ} where
 module _ {rows : List ℤ} where
   -- The next field of an item links the row behind it.
   statement-next : {s : Statement} {base next : ℕ} → EmittedStatement rows s base next → link rows base 5 ≡ next
-  unfolding sortOf grammar isLink
+  unfolding sortOf kindOf kindIn kinds sortIn kindRow expressionFields statementFields markFields isLink
   statement-next (empty-at {base} {next} r) = row-link r 5 next (r .next-is)
   statement-next (express-at {base} {next} r m) = row-link r 5 next (r .next-is)
   statement-next (block-at {base} {next} r m) = row-link r 5 next (r .next-is)
@@ -60,7 +61,7 @@ module _ {rows : List ℤ} where
   statement-next (goto-at {base} {next} r) = row-link r 5 next (r .next-is)
 
   label-next : {row l next : ℕ} → Row rows row 53 l 0 0 0 next → link rows row 5 ≡ next
-  unfolding sortOf grammar isLink
+  unfolding sortOf kindOf kindIn kinds sortIn kindRow expressionFields statementFields markFields isLink
   label-next {row} {l} {next} r = row-link r 5 next (r .next-is)
 
   -- The link to a list leads into the table.
@@ -152,7 +153,7 @@ module _ (rows : List ℤ) where
       subst (Owner rows owner) e (beside own (leads-to row 5 (listLink false is m) e (link-forward is row m h some) (list-inside n some)))
 
   mutual
-    unfolding statementRows sortOf grammar isLink
+    unfolding statementRows sortOf kindOf kindIn kinds sortIn kindRow expressionFields statementFields markFields isLink
 
     pub formed-statement : {ahead : Items} {s : Statement} {base next : ℕ} (end : ℕ) → base + statementRows s ≡ end → EmittedStatement rows s base next → KernelStatement ahead s → LabelsAhead ahead base → Formed base end
     formed-statement end q (empty-at {base} r) f labels = first-and _ base end (λ e. no-goto r (λ k. omega arith) (form-statement rows f (empty-at r))) (none-of _ (base + 1) end (omega arith))

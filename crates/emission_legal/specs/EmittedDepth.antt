@@ -11,7 +11,8 @@ use lib.IntN.{ℤ}
 use Rattle.words.specs.Word.{pick}
 use Rattle.language.specs.Trees.{Expression, Place, Statement, Items, none}
 use Rattle.language.specs.Sizes.{statementRows, expressionDepth, placeDepth, statementDepth, itemsDepth}
-use Rattle.structure.specs.Grammar.{grammar, sortOf, isLink, link}
+use Rattle.words.specs.Kinds.{sortOf, isLink, kindOf, kindIn, kinds, sortIn, kindRow, expressionFields, statementFields, markFields}
+use Rattle.structure.specs.Grammar.{link}
 use Rattle.structure.specs.Structured.{Leads, Depth, root, owned, beside}
 use Rattle.emission.specs.Emission.{listLink}
 use Rattle.emission.specs.Emitted.{Row, EmittedExpression, constant-at, read-at, minus-at, binary-at, assign-at, EmittedPlace, variable-at, element-at, EmittedStatement, empty-at, express-at, block-at, if-at, while-at, goto-at, EmittedItems, none-at, then-at, label-at}
@@ -51,12 +52,12 @@ module _ (rows : List ℤ) (limit : ℕ) where
   -- A row's links lead to what stands one deeper, and its next to what stands beside it.
   module _ (depth : ℕ) where
     below-place : {p : Place} {row : ℕ} → EmittedPlace rows p row → depth + placeDepth p ≤ limit + 1 → (field : ℕ) → field < 6 → Leads rows row field → Standing (link rows row field) (handed field depth)
-    unfolding sortOf grammar isLink expressionDepth
+    unfolding sortOf kindOf kindIn kinds sortIn kindRow expressionFields statementFields markFields isLink expressionDepth
     below-place (variable-at r) room = each-link r (Below depth) never never never never never
     below-place (element-at r m) room = each-link r (Below depth) never (λ h. an-expression {depth = depth + 1} m (omega arith)) never never never
 
     below-expression : {e : Expression} {row : ℕ} → EmittedExpression rows e row → depth + expressionDepth e ≤ limit + 1 → (field : ℕ) → field < 6 → Leads rows row field → Standing (link rows row field) (handed field depth)
-    unfolding sortOf grammar isLink expressionDepth
+    unfolding sortOf kindOf kindIn kinds sortIn kindRow expressionFields statementFields markFields isLink expressionDepth
     below-expression (constant-at r v) room = each-link r (Below depth) never never never never never
     below-expression (read-at m) room = below-place m room
     below-expression (minus-at r m) room = each-link r (Below depth) (λ h. an-expression {depth = depth + 1} m (omega arith)) never never never never
@@ -69,7 +70,7 @@ module _ (rows : List ℤ) (limit : ℕ) where
 
     below-statement : {s : Statement} {row next : ℕ} → EmittedStatement rows s row next → depth + statementDepth s ≤ limit + 1 → (0 < next → Standing next depth)
         → (field : ℕ) → field < 6 → Leads rows row field → Standing (link rows row field) (handed field depth)
-    unfolding sortOf grammar isLink statementDepth
+    unfolding sortOf kindOf kindIn kinds sortIn kindRow expressionFields statementFields markFields isLink statementDepth
     below-statement (empty-at r) room next = each-link r (Below depth) never never never never next
     below-statement (express-at r m) room next = each-link r (Below depth) (λ h. an-expression {depth = depth + 1} m (omega arith)) never never never next
     below-statement (block-at r m) room next = each-link r (Below depth) (a-list (depth + 1) m (omega arith)) never never never next
@@ -80,7 +81,7 @@ module _ (rows : List ℤ) (limit : ℕ) where
     below-statement (goto-at r) room next = each-link r (Below depth) never never never never next
 
   below : {row depth : ℕ} (field : ℕ) → field < 6 → Leads rows row field → Standing row depth → Standing (link rows row field) (handed field depth)
-  unfolding sortOf grammar isLink
+  unfolding sortOf kindOf kindIn kinds sortIn kindRow expressionFields statementFields markFields isLink
   below {row} {depth} field h leads (an-expression m room) = below-expression depth m room field h leads
   below {row} {depth} field h leads (a-statement m n room rest) = below-statement depth m room (a-list depth n rest) field h leads
   below {row} {depth} field h leads (a-label r n room rest) = each-link r (Below depth) never never never never (a-list depth n rest) field h leads

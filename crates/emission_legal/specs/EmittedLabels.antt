@@ -17,7 +17,8 @@ use Rattle.words.specs.Table.{rowCount, wordAt, numberAt}
 use Rattle.language.specs.Trees.{Expression, Statement, Items}
 use Rattle.language.specs.Sizes.{expressionRows, statementRows, itemsRows}
 use Rattle.translation.specs.KernelForm.{statementTimes, itemsTimes}
-use Rattle.structure.specs.Grammar.{grammar, sortOf, sortAt, isStatement}
+use Rattle.words.specs.Kinds.{sortOf, sortAt, kindOf, kindIn, kinds, sortIn, kindRow, expressionFields, statementFields, markFields}
+use Rattle.structure.specs.Grammar.{isStatement}
 use Rattle.structure.specs.Links.{one}
 use Rattle.kernel_check.specs.Legal.{Label}
 use Rattle.emission.specs.Emitted.{Row, EmittedExpression, EmittedStatement, empty-at, express-at, block-at, if-at, while-at, goto-at, EmittedItems, none-at, then-at, label-at}
@@ -39,7 +40,7 @@ module _ (rows : List ℤ) (l : ℕ) where
 
   -- The rows of an expression have no label.
   no-label : (row : ℕ) → isStatement rows row ≡ false → stands row ≡ false
-  unfolding isStatement sortAt sortOf grammar
+  unfolding isStatement sortAt sortOf kindOf kindIn kinds sortIn kindRow expressionFields statementFields markFields
   no-label row e = go (eqb (numberAt rows row 0) 53) refl
     where
       go : (b : Bool) → eqb (numberAt rows row 0) 53 ≡ b → (b && eqb l (numberAt rows row 1)) ≡ false

@@ -17,7 +17,8 @@ use Rattle.language.specs.WellFormed.{SourceTree}
 use Rattle.translation.specs.Translate.{translate, temporaries, kernelHeader}
 use Rattle.translation.specs.KernelForm.{kernel-block, statementTimes, KernelTree}
 use Rattle.translation.specs.TranslateKernel.{translation-is-kernel, header-layout, header-temporaries, header-fits}
-use Rattle.structure.specs.Grammar.{grammar, sortOf, sortAt, isStatement}
+use Rattle.words.specs.Kinds.{sortOf, sortAt, kindOf, kindIn, kinds, sortIn, kindRow, expressionFields, statementFields, markFields}
+use Rattle.structure.specs.Grammar.{isStatement}
 use Rattle.kernel_check.specs.Legal.{Legal}
 use Rattle.emission.specs.Emission.{emit}
 use Rattle.emission.specs.EmissionLaws.{length-emit}
@@ -40,7 +41,7 @@ kernel-decodes k = decode-emit (a-block (items-kinds (k .form)))
 
 -- A goto is a statement.
 goto-statement : (rows : List ℤ) (row : ℕ) → numberAt rows row 0 ≡ 52 → isStatement rows row ≡ true
-unfolding isStatement sortAt sortOf grammar
+unfolding isStatement sortAt sortOf kindOf kindIn kinds sortIn kindRow expressionFields statementFields markFields
 goto-statement rows row e = rw e
 
 -- The table of a kernel program's tree is a legal kernel program.

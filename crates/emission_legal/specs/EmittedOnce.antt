@@ -13,7 +13,8 @@ use lib.IntN.{ℤ}
 use Rattle.words.specs.Table.{rowCount}
 use Rattle.language.specs.Trees.{Expression, Place, Statement, Items}
 use Rattle.language.specs.Sizes.{expressionRows, placeRows, statementRows, itemsRows}
-use Rattle.structure.specs.Grammar.{grammar, sortOf, isLink, link}
+use Rattle.words.specs.Kinds.{sortOf, isLink, kindOf, kindIn, kinds, sortIn, kindRow, expressionFields, statementFields, markFields}
+use Rattle.structure.specs.Grammar.{link}
 use Rattle.structure.specs.Links.{target, one, linksAmong, linkCount}
 use Rattle.emission.specs.Emission.{listLink}
 use Rattle.emission.specs.Emitted.{Row, EmittedExpression, constant-at, read-at, minus-at, binary-at, assign-at, EmittedPlace, variable-at, element-at, EmittedStatement, empty-at, express-at, block-at, if-at, while-at, goto-at, EmittedItems, none-at, then-at, label-at}
@@ -78,7 +79,7 @@ module _ (rows : List ℤ) where
         ∙ rw (row-link r 0 kind (r .kind-is), row-link r 1 a (r .a-is), row-link r 2 b (r .b-is), row-link r 3 c (r .c-is), row-link r 4 d (r .d-is), row-link r 5 next (r .next-is))
 
     mutual
-      unfolding before sortOf grammar isLink expressionRows
+      unfolding before sortOf kindOf kindIn kinds sortIn kindRow expressionFields statementFields markFields isLink expressionRows
 
       once-expression : {e : Expression} {base : ℕ} (end : ℕ) → base + expressionRows e ≡ end → EmittedExpression rows e base → before end + below (base + 1) j ≡ before base + below end j
       once-expression end q (constant-at {v} {base} r w) = let z : end ≡ base + 1 = omega arith in rw z (omega (arith, row-links r, miss))
@@ -98,7 +99,7 @@ module _ (rows : List ℤ) where
       once-place end q (element-at {array} {e} {base} r m) = omega (arith, row-links r, miss, step (base + 1) j, once-expression end (omega arith) m)
 
     mutual
-      unfolding before sortOf grammar isLink statementRows
+      unfolding before sortOf kindOf kindIn kinds sortIn kindRow expressionFields statementFields markFields isLink statementRows
 
       once-statement : {s : Statement} {base next : ℕ} (end : ℕ) → base + statementRows s ≡ end → EmittedStatement rows s base next
           → before end + below (base + 1) j ≡ before base + below end j + hit next j

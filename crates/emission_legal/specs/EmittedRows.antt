@@ -16,34 +16,22 @@ use Rattle.language.specs.WellFormed.{NamedExpression, NamedPlace, NamedStateme
 use Rattle.language.specs.Sizes.{expressionRows, placeRows, statementRows, itemsRows}
 use Rattle.language.specs.TreeLaws.{statement-some}
 use Rattle.translation.specs.KernelForm.{isLabelNumber, KernelStatement, kernel-block, kernel-if, kernel-while, kernel-goto, KernelItems, kernel-then, kernel-label}
-use Rattle.structure.specs.Grammar.{unused, variable, array, label, expression, place, branch, optionalBranch, optionalItem, grammar, sortOf, sortAt, between, inLanguage, isExpression, isPlace, isStatement}
+use Rattle.words.specs.Kinds.{unused, variable, array, label, expression, place, branch, optionalBranch, optionalItem, sortOf, sortAt, between, inLanguage, kindOf, kindIn, kinds, sortIn, kindRow, expressionFields, statementFields, markFields}
+use Rattle.structure.specs.Grammar.{isExpression, isPlace, isStatement}
 use Rattle.structure.specs.Fields.{fits, numberFits}
 use Rattle.structure.specs.declared.Bounds.{Bounds}
 use Rattle.emission.specs.Emission.{operatorNumber, listLink}
 use Rattle.emission.specs.Emitted.{Row, EmittedExpression, constant-at, read-at, minus-at, binary-at, assign-at, EmittedPlace, variable-at, element-at, EmittedStatement, empty-at, express-at, block-at, if-at, while-at, goto-at, EmittedItems, none-at, then-at, label-at}
+use Rattle.emission.specs.ReadBack.{kind-binary}
 use Rattle.emission_legal.specs.Ranges.{Each, none-of, join, first-and}
 use Rattle.emission_legal.specs.Suits.{Suits, RowLegal, suits-unused, suits-value, suits-name, suits-link-to, suits-absent, row-legal}
 
 -- ---- the table of kinds
 
 -- Kinds 6 to 16 have one line.
-line-binary : (o : Operator) → getD grammar (6 + operatorNumber o) [] ≡ getD grammar 6 []
-unfolding grammar
-line-binary Add = refl
-line-binary Subtract = refl
-line-binary Multiply = refl
-line-binary Divide = refl
-line-binary Remainder = refl
-line-binary Less = refl
-line-binary Greater = refl
-line-binary LessOrEqual = refl
-line-binary GreaterOrEqual = refl
-line-binary Equal = refl
-line-binary NotEqual = refl
-
 pub sort-binary : (o : Operator) (field : ℕ) → sortOf (6 + operatorNumber o) field ≡ sortOf 6 field
-unfolding sortOf
-sort-binary o field = ap (λ line. getD line field unused) (line-binary o)
+unfolding sortOf kindOf kindIn kinds sortIn kindRow expressionFields
+sort-binary o field = rw (kind-binary o)
 
 pub between-binary : (o : Operator) → between 6 16 (6 + operatorNumber o) ≡ true
 between-binary Add = refl
@@ -59,8 +47,8 @@ between-binary Equal = refl
 between-binary NotEqual = refl
 
 known-binary : (o : Operator) → inLanguage Kernel (6 + operatorNumber o) ≡ true
-unfolding inLanguage
-known-binary o = rw (between-binary o, or-true)
+unfolding inLanguage kindRow expressionFields
+known-binary o = rw (kind-binary o)
 
 -- ---- the first row of a part
 
@@ -76,12 +64,12 @@ row-sort r = ap (λ k. sortOf k 0) (r .kind-is)
 
 module _ {rows : List ℤ} where
   pub first-place : {p : Place} {base : ℕ} → EmittedPlace rows p base → First rows base place × First rows base expression
-  unfolding fits isExpression isPlace sortOf grammar
+  unfolding fits isExpression isPlace sortOf kindOf kindIn kinds sortIn kindRow expressionFields statementFields markFields
   first-place (variable-at r) = (record { inside = r .inside; fitting = rw (row-sort r) }, record { inside = r .inside; fitting = rw (row-sort r) })
   first-place (element-at r m) = (record { inside = r .inside; fitting = rw (row-sort r) }, record { inside = r .inside; fitting = rw (row-sort r) })
 
   pub first-expression : {e : Expression} {base : ℕ} → EmittedExpression rows e base → First rows base expression
-  unfolding fits isExpression sortOf grammar
+  unfolding fits isExpression sortOf kindOf kindIn kinds sortIn kindRow expressionFields statementFields markFields
   first-expression (constant-at r v) = record { inside = r .inside; fitting = rw (row-sort r) }
   first-expression (read-at m) = first-place m .1
   first-expression (minus-at r m) = record { inside = r .inside; fitting = rw (row-sort r) }
@@ -89,7 +77,7 @@ module _ {rows : List ℤ} where
   first-expression (assign-at r m n) = record { inside = r .inside; fitting = rw (row-sort r) }
 
   pub first-statement : {s : Statement} {base next : ℕ} → EmittedStatement rows s base next → First rows base optionalItem × (numberAt rows base 5 ≡ next)
-  unfolding fits isStatement sortOf grammar
+  unfolding fits isStatement sortOf kindOf kindIn kinds sortIn kindRow expressionFields statementFields markFields
   first-statement (empty-at r) = (record { inside = r .inside; fitting = rw (row-sort r) }, r .next-is)
   first-statement (express-at r m) = (record { inside = r .inside; fitting = rw (row-sort r) }, r .next-is)
   first-statement (block-at r m) = (record { inside = r .inside; fitting = rw (row-sort r) }, r .next-is)
@@ -106,7 +94,7 @@ module _ {rows : List ℤ} where
       (record { inside = f .0 .inside; fitting = rw (statement, f .1) }, record { inside = f .0 .inside; fitting = rw (statement, f .1) })
 
   pub first-label : {row a next : ℕ} → Row rows row 53 a 0 0 0 next → First rows row optionalItem
-  unfolding fits isStatement sortOf grammar
+  unfolding fits isStatement sortOf kindOf kindIn kinds sortIn kindRow expressionFields statementFields markFields
   first-label r = record { inside = r .inside; fitting = rw (row-sort r) }
 
 -- ---- the induction
@@ -137,7 +125,7 @@ module _ (bounds : Bounds) (rows : List ℤ) (Names : ℕ → Type 0) (arrays : 
   to-list row h (label-at {l} {is} {base} r k) = let f = first-label r in suits-link-to bounds rows row optionalItem base (omega arith) (omega arith) h (f .inside) (f .fitting)
 
   mutual
-    unfolding sortOf grammar inLanguage NamedExpression expressionRows
+    unfolding sortOf kindOf kindIn kinds sortIn kindRow expressionFields statementFields markFields inLanguage NamedExpression expressionRows
 
     legal-expression : {e : Expression} {base : ℕ} (end : ℕ) → base + expressionRows e ≡ end → EmittedExpression rows e base → NamedExpression Names arrays e → Legals base end
     legal-expression end q (constant-at {v} {base} r w) k =
@@ -164,7 +152,7 @@ module _ (bounds : Bounds) (rows : List ℤ) (Names : ℕ → Type 0) (arrays : 
         (legal-expression end (omega arith) m (k .1))
 
   mutual
-    unfolding sortOf grammar inLanguage NamedStatement statementRows
+    unfolding sortOf kindOf kindIn kinds sortIn kindRow expressionFields statementFields markFields inLanguage NamedStatement statementRows
 
     pub legal-statement : {ahead : Items} {s : Statement} {base next : ℕ} (end : ℕ) → base + statementRows s ≡ end → EmittedStatement rows s base next → Suits bounds rows base optionalItem next
         → NamedStatement Names arrays s → KernelStatement ahead s → Legals base end

@@ -10,7 +10,8 @@ use lib.IntN.{ℤ}
 use Rattle.words.specs.Word.{pick}
 use Rattle.words.specs.Table.{rowCount, numberAt}
 use Rattle.words.specs.declared.Form.the-variants.{Kernel}
-use Rattle.structure.specs.Grammar.{unused, value, variable, label, expression, optionalItem, sortOf, sortAt, inLanguage, isLink, isRequired, link}
+use Rattle.words.specs.Kinds.{unused, value, variable, label, expression, optionalItem, sortOf, sortAt, inLanguage, isLink, isRequired}
+use Rattle.structure.specs.Grammar.{link}
 use Rattle.structure.specs.Fields.{fits, numberFits}
 use Rattle.structure.specs.GrammarLaws.{kind-links-none}
 use Rattle.structure.specs.Structured.{Leads}

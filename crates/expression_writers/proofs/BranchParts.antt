@@ -10,7 +10,7 @@ use lib.ListN.{length}
 use Rattle.words.specs.Word.{pick}
 use Rattle.words.specs.Over.{over}
 use Rattle.language.specs.Trees.{block}
-use Rattle.language.specs.DecodeLaws.{partAt}
+use Rattle.language.specs.Decode.{partAt}
 use Rattle.translation.specs.TranslateSize.{partSize}
 use Rattle.emission.specs.Emission.{rowOf, emitStatement, emitItems}
 use Rattle.leaves.specs.Room.{Room, moreRows}

@@ -8,8 +8,8 @@ use lib.IntN.{ℤ, pos}
 use Rattle.words.specs.Table.{rowCount}
 use Rattle.words.specs.declared.Operator.the-variants.{NotEqual}
 use Rattle.language.specs.Trees.{Expression, constant, binary, Items, none, _⧺_}
-use Rattle.language.specs.Decode.{expressionAt}
-use Rattle.language.specs.DecodeLaws.{partAt, part-some}
+use Rattle.language.specs.Decode.{expressionAt, partAt}
+use Rattle.language.specs.DecodeLaws.{part-some}
 use Rattle.translation.specs.Translate.{Atom as Held, number, top, atomOf, atom, temporary, assigning, choosing, copyCode, expressionCode}
 use Rattle.translation.specs.TranslateSize.{copyRows, partSize, expressionSize}
 use Rattle.measures.specs.Source.{Onward}

@@ -11,8 +11,8 @@ use lib.ListN.{length}
 use Rattle.words.specs.Table.{rowCount}
 use Rattle.words.specs.Over.{over}
 use Rattle.language.specs.Trees.{_⧺_}
-use Rattle.language.specs.Decode.{expressionAt}
-use Rattle.language.specs.DecodeLaws.{partAt, part-some}
+use Rattle.language.specs.Decode.{expressionAt, partAt}
+use Rattle.language.specs.DecodeLaws.{part-some}
 use Rattle.translation.specs.TranslateSize.{partSize}
 use Rattle.emission.specs.Emission.{emitItems}
 use Rattle.measures.specs.Source.{Source, OptionalOnward}

@@ -5,8 +5,7 @@ use mathlib.Core.List.{List}
 use Prim.Native.Nat.{ℕ, _+_, _≤_, _<_}
 use lib.IntN.{ℤ}
 use Rattle.words.specs.Table.{rowCount}
-use Rattle.language.specs.Decode.{expressionAt}
-use Rattle.language.specs.DecodeLaws.{partAt}
+use Rattle.language.specs.Decode.{expressionAt, partAt}
 use Rattle.translation.specs.TranslateSize.{partSize}
 use Rattle.leaves.specs.Room.{Room}
 use Rattle.leaves.specs.Atoms.{AtomFits}

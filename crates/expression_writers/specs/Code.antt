@@ -5,7 +5,7 @@ use Prim.Native.Nat.{ℕ}
 use lib.IntN.{ℤ, pos}
 use Rattle.words.specs.declared.Operator.the-variants.{NotEqual}
 use Rattle.language.specs.Trees.{Expression, constant, read, minus, not, binary, and, or, comma, conditional, assign, compound, prefix, postfix, Part, absent, present, Items, none, _here_, _⧺_}
-use Rattle.language.specs.DecodeLaws.{partAt}
+use Rattle.language.specs.Decode.{partAt}
 use Rattle.translation.specs.Translate.{atomOf, atom, temporary, assigning, choosing, copyCode, expressionCode}
 use Rattle.leaves.specs.Atoms.{atomTree}
 use Rattle.leaves.specs.Straight.{straightCode}

@@ -9,7 +9,7 @@ use Rattle.words.specs.Word.{pick}
 use Rattle.language.specs.Trees.{Expression, constant, read, minus, not, binary, and, or, comma, conditional, assign, compound, prefix, postfix, variable, element, Part, absent, present, block, Items, _here_, _⧺_}
 use Rattle.language.specs.Sizes.{expressionRows, statementRows, itemsRows}
 use Rattle.language.specs.TreeLaws.{append-none, append-append}
-use Rattle.language.specs.DecodeLaws.{partAt}
+use Rattle.language.specs.Decode.{partAt}
 use Rattle.translation.specs.Translate.{expressionCode}
 use Rattle.translation.specs.TranslateSize.{expressionSize, partSize}
 use Rattle.translation.specs.TranslateRows.{rows-append, rows-expression}

@@ -10,7 +10,7 @@ use lib.IntN.{ℤ}
 use lib.ListN.{getD, set, length-set, replicate, length-replicate, getD-replicate}
 use lib.Seq.{getD-set-same, getD-set-other}
 use Rattle.words.specs.Table.{rowCount, numberAt}
-use Rattle.structure.specs.Grammar.{between}
+use Rattle.words.specs.Kinds.{between}
 use Rattle.kernel_check.specs.Passes.{Jump, NextJump, Heads, Chain}
 
 -- a later row, or the row itself

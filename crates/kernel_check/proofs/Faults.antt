@@ -13,7 +13,7 @@ use lib.IntN.{ℤ}
 use borrow.Author.Tests.{eqb-true, ltb-true, ltb-false, leb-true}
 use Rattle.words.specs.Word.{pick}
 use Rattle.words.specs.Table.{rowCount, numberAt}
-use Rattle.structure.specs.Grammar.{between}
+use Rattle.words.specs.Kinds.{between}
 use Rattle.structure.specs.Search.{some, lowestRow}
 use Rattle.structure.specs.SearchLaws.{lowest-at, all-lowestRow}
 use Rattle.structure.specs.declared.Found.the-variants.{At, Nothing}

@@ -9,7 +9,8 @@ use lib.IntN.{ℤ}
 use lib.ListN.{length, getD}
 use Rattle.words.specs.Word.{pick}
 use Rattle.words.specs.Table.{rowCount, numberAt}
-use Rattle.structure.specs.Grammar.{between, link}
+use Rattle.words.specs.Kinds.{between}
+use Rattle.structure.specs.Grammar.{link}
 use Rattle.structure.specs.Links.{note}
 use Rattle.structure.specs.Passes.{Notes}
 use Rattle.structure.specs.Structured.{Tree}

@@ -6,7 +6,8 @@ use lib.Dec.{eqb}
 use lib.IntN.{ℤ}
 use Rattle.words.specs.Word.{pick}
 use Rattle.words.specs.Table.{numberAt}
-use Rattle.structure.specs.Grammar.{between, isStatement}
+use Rattle.words.specs.Kinds.{between}
+use Rattle.structure.specs.Grammar.{isStatement}
 
 -- "An atom is a constant or variable."
 unfoldable pub isAtom : List ℤ → ℕ → Bool

@@ -9,17 +9,16 @@ use borrow.Author.Tests.{ltb-true, lt-ltb, le-ltb}
 use lib.IntN.{ℤ, pos}
 use lib.ListN.{length, List·getD-eq-default}
 use Rattle.words.specs.Word.{natural, pick}
-use Rattle.words.specs.Table.{rowCount, wordAt, numberAt}
-use Rattle.words.specs.Kinds.{kinds, kindIn, kindOf, kindAt}
+use Rattle.words.specs.Table.{rowCount, Whole, wordAt, numberAt}
+use Rattle.words.specs.Kinds.{kinds, kindIn, kindOf, kindAt, isStatementKind}
 use Rattle.words.specs.declared.Operator.{Operator}
 use Rattle.words.specs.declared.Kind.{Kind}
-use Rattle.words.specs.declared.Kind.the-variants.{Constant, Variable, Element, Minus, Not, Binary, And, Or, Conditional, Comma, Assign, Compound, Prefix, Postfix, Empty, Express, Block, If, While, Do, For, Switch, Case, Default, Break, Continue, Goto, Label, Other}
-use Rattle.language.specs.Trees.{Expression, constant, read, minus, not, binary, and, or, comma, conditional, assign, compound, prefix, postfix, variable, element, Part, absent, present, case, default, label, Statement, empty, express, block, ifThen, ifElse, while, doWhile, for, switch, break, continue, goto, Items, none, _then_, _here_}
-use Rattle.language.specs.Decode.{later, placeOf, expressionOf, expressionBy, expressionAt, partOf, ifOf, statementOf, itemsOf, treesOf, treesBy, statementAt, itemsAt}
-
--- The table has whole rows.
-abbrev pub Whole : List ℤ → Type 0
-Whole rows = length rows ≡ 6 * rowCount rows
+use Rattle.words.specs.declared.Kind.the-variants.{OfExpression, OfStatement, OfMark, Other}
+use Rattle.words.specs.declared.ExpressionKind.the-variants.{Constant, Variable, Element, Minus, Not, Binary, And, Or, Conditional, Comma, Assign, Compound, Prefix, Postfix}
+use Rattle.words.specs.declared.StatementKind.the-variants.{Empty, Express, Block, If, While, Do, For, Switch, Break, Continue, Goto}
+use Rattle.words.specs.declared.MarkKind.the-variants.{Case, Default, Label}
+use Rattle.language.specs.Trees.{Expression, constant, read, minus, not, binary, and, or, comma, conditional, assign, compound, prefix, postfix, variable, element, present, case, default, label, Statement, empty, express, block, ifThen, ifElse, while, doWhile, for, switch, break, continue, goto, Items, none, _then_, _here_}
+use Rattle.language.specs.Decode.{later, placeOf, expressionOf, expressionBy, expressionAt, partOf, ifOf, statementOf, itemsOf, treesOf, treesBy, statementAt, itemsAt, Forward, listAt, partAt}
 
 later-same : {A : Type 0} (other : A) (row : ℕ) (f g : ℕ → A) → ((l : ℕ) → row < l → f l ≡ g l) → (l : ℕ) → later other row f l ≡ later other row g l
 later-same {A} other row f g h l = by (ltb row l) refl
@@ -28,86 +27,15 @@ later-same {A} other row f g h l = by (ltb row l) refl
     by true e = h l (ltb-true row l e)
     by false e = refl
 
--- Row l is absent, or later than row.
-abbrev pub Forward : ℕ → ℕ → Type 0
-Forward row l = 0 < l → row < l
-
--- The list that begins at a link; 0 is the empty list.
-abbrev pub listAt : List ℤ → ℕ → Items
-listAt rows zero = none
-listAt rows (suc l) = itemsAt rows (suc l)
-
--- The part of a for at a link; 0 is absent.
-abbrev pub partAt : List ℤ → ℕ → Part
-partAt rows zero = absent
-partAt rows (suc l) = present (expressionAt rows (suc l))
-
 pub part-some : (rows : List ℤ) (l : ℕ) → 0 < l → partAt rows l ≡ present (expressionAt rows l)
 part-some rows zero h = absurd (omega arith)
 part-some rows (suc l) h = refl
 
--- The kinds of statements, marks apart.
-abbrev pub isStatement : Kind → Bool
-isStatement Constant = false
-isStatement Variable = false
-isStatement Element = false
-isStatement Minus = false
-isStatement Not = false
-isStatement (Binary o) = false
-isStatement And = false
-isStatement Or = false
-isStatement Conditional = false
-isStatement Comma = false
-isStatement Assign = false
-isStatement (Compound o) = false
-isStatement (Prefix o) = false
-isStatement (Postfix o) = false
-isStatement Empty = true
-isStatement Express = true
-isStatement Block = true
-isStatement If = true
-isStatement While = true
-isStatement Do = true
-isStatement For = true
-isStatement Switch = true
-isStatement Case = false
-isStatement Default = false
-isStatement Break = true
-isStatement Continue = true
-isStatement Goto = true
-isStatement Label = false
-isStatement Other = false
-
-items-statement : (k : Kind) (word : ℕ → ℤ) (s : Statement) (is : Items) → isStatement k ≡ true → itemsOf k word s is ≡ s then is
+items-statement : (k : Kind) (word : ℕ → ℤ) (s : Statement) (is : Items) → isStatementKind k ≡ true → itemsOf k word s is ≡ s then is
 unfolding itemsOf
-items-statement Constant word s is e = absurd (false≢true e)
-items-statement Variable word s is e = absurd (false≢true e)
-items-statement Element word s is e = absurd (false≢true e)
-items-statement Minus word s is e = absurd (false≢true e)
-items-statement Not word s is e = absurd (false≢true e)
-items-statement (Binary o) word s is e = absurd (false≢true e)
-items-statement And word s is e = absurd (false≢true e)
-items-statement Or word s is e = absurd (false≢true e)
-items-statement Conditional word s is e = absurd (false≢true e)
-items-statement Comma word s is e = absurd (false≢true e)
-items-statement Assign word s is e = absurd (false≢true e)
-items-statement (Compound o) word s is e = absurd (false≢true e)
-items-statement (Prefix o) word s is e = absurd (false≢true e)
-items-statement (Postfix o) word s is e = absurd (false≢true e)
-items-statement Empty word s is e = refl
-items-statement Express word s is e = refl
-items-statement Block word s is e = refl
-items-statement If word s is e = refl
-items-statement While word s is e = refl
-items-statement Do word s is e = refl
-items-statement For word s is e = refl
-items-statement Switch word s is e = refl
-items-statement Case word s is e = absurd (false≢true e)
-items-statement Default word s is e = absurd (false≢true e)
-items-statement Break word s is e = refl
-items-statement Continue word s is e = refl
-items-statement Goto word s is e = refl
-items-statement Label word s is e = absurd (false≢true e)
+items-statement (OfExpression k) word s is e = refl
+items-statement (OfStatement k) word s is e = refl
+items-statement (OfMark k) word s is e = absurd (false≢true e)
 items-statement Other word s is e = absurd (false≢true e)
 
 if-some : (l : ℕ) (e : Expression) (s t : Statement) → 0 < l → ifOf l e s t ≡ ifElse e s t
@@ -188,59 +116,59 @@ module _ (rows : List ℤ) (whole : Whole rows) where
 
     -- ---- kinds 1 to 30
 
-    pub at-constant : kindAt rows row ≡ Constant → expressionAt rows row ≡ constant (wordAt rows row 1)
+    pub at-constant : kindAt rows row ≡ OfExpression Constant → expressionAt rows row ≡ constant (wordAt rows row 1)
     unfolding expressionOf
     at-constant k = rw (expression-at row, k)
 
-    pub at-variable : kindAt rows row ≡ Variable → expressionAt rows row ≡ read (variable a)
+    pub at-variable : kindAt rows row ≡ OfExpression Variable → expressionAt rows row ≡ read (variable a)
     unfolding expressionOf numberAt
     at-variable k = rw (expression-at row, k)
 
-    pub at-element : kindAt rows row ≡ Element → row < b → expressionAt rows row ≡ read (element a (e-at b))
+    pub at-element : kindAt rows row ≡ OfExpression Element → row < b → expressionAt rows row ≡ read (element a (e-at b))
     unfolding expressionOf numberAt
     at-element k p = rw (expression-at row, k, lt-ltb row b p)
 
-    pub at-minus : kindAt rows row ≡ Minus → row < a → expressionAt rows row ≡ minus (e-at a)
+    pub at-minus : kindAt rows row ≡ OfExpression Minus → row < a → expressionAt rows row ≡ minus (e-at a)
     unfolding expressionOf numberAt
     at-minus k p = rw (expression-at row, k, lt-ltb row a p)
 
-    pub at-not : kindAt rows row ≡ Not → row < a → expressionAt rows row ≡ not (e-at a)
+    pub at-not : kindAt rows row ≡ OfExpression Not → row < a → expressionAt rows row ≡ not (e-at a)
     unfolding expressionOf numberAt
     at-not k p = rw (expression-at row, k, lt-ltb row a p)
 
-    pub at-binary : (o : Operator) → kindAt rows row ≡ Binary o → row < a → row < b → expressionAt rows row ≡ binary o (e-at a) (e-at b)
+    pub at-binary : (o : Operator) → kindAt rows row ≡ OfExpression (Binary o) → row < a → row < b → expressionAt rows row ≡ binary o (e-at a) (e-at b)
     unfolding expressionOf numberAt
     at-binary o k p q = rw (expression-at row, k, lt-ltb row a p, lt-ltb row b q)
 
-    pub at-and : kindAt rows row ≡ And → row < a → row < b → expressionAt rows row ≡ and (e-at a) (e-at b)
+    pub at-and : kindAt rows row ≡ OfExpression And → row < a → row < b → expressionAt rows row ≡ and (e-at a) (e-at b)
     unfolding expressionOf numberAt
     at-and k p q = rw (expression-at row, k, lt-ltb row a p, lt-ltb row b q)
 
-    pub at-or : kindAt rows row ≡ Or → row < a → row < b → expressionAt rows row ≡ or (e-at a) (e-at b)
+    pub at-or : kindAt rows row ≡ OfExpression Or → row < a → row < b → expressionAt rows row ≡ or (e-at a) (e-at b)
     unfolding expressionOf numberAt
     at-or k p q = rw (expression-at row, k, lt-ltb row a p, lt-ltb row b q)
 
-    pub at-comma : kindAt rows row ≡ Comma → row < a → row < b → expressionAt rows row ≡ comma (e-at a) (e-at b)
+    pub at-comma : kindAt rows row ≡ OfExpression Comma → row < a → row < b → expressionAt rows row ≡ comma (e-at a) (e-at b)
     unfolding expressionOf numberAt
     at-comma k p q = rw (expression-at row, k, lt-ltb row a p, lt-ltb row b q)
 
-    pub at-conditional : kindAt rows row ≡ Conditional → row < a → row < b → row < c → expressionAt rows row ≡ conditional (e-at a) (e-at b) (e-at c)
+    pub at-conditional : kindAt rows row ≡ OfExpression Conditional → row < a → row < b → row < c → expressionAt rows row ≡ conditional (e-at a) (e-at b) (e-at c)
     unfolding expressionOf numberAt
     at-conditional k p q r = rw (expression-at row, k, lt-ltb row a p, lt-ltb row b q, lt-ltb row c r)
 
-    pub at-assign : kindAt rows row ≡ Assign → row < a → row < b → expressionAt rows row ≡ assign (placeOf (e-at a)) (e-at b)
+    pub at-assign : kindAt rows row ≡ OfExpression Assign → row < a → row < b → expressionAt rows row ≡ assign (placeOf (e-at a)) (e-at b)
     unfolding expressionOf numberAt
     at-assign k p q = rw (expression-at row, k, lt-ltb row a p, lt-ltb row b q)
 
-    pub at-compound : (o : Operator) → kindAt rows row ≡ Compound o → row < a → row < b → expressionAt rows row ≡ compound o (placeOf (e-at a)) (e-at b)
+    pub at-compound : (o : Operator) → kindAt rows row ≡ OfExpression (Compound o) → row < a → row < b → expressionAt rows row ≡ compound o (placeOf (e-at a)) (e-at b)
     unfolding expressionOf numberAt
     at-compound o k p q = rw (expression-at row, k, lt-ltb row a p, lt-ltb row b q)
 
-    pub at-prefix : (o : Operator) → kindAt rows row ≡ Prefix o → row < a → expressionAt rows row ≡ prefix o (placeOf (e-at a))
+    pub at-prefix : (o : Operator) → kindAt rows row ≡ OfExpression (Prefix o) → row < a → expressionAt rows row ≡ prefix o (placeOf (e-at a))
     unfolding expressionOf numberAt
     at-prefix o k p = rw (expression-at row, k, lt-ltb row a p)
 
-    pub at-postfix : (o : Operator) → kindAt rows row ≡ Postfix o → row < a → expressionAt rows row ≡ postfix o (placeOf (e-at a))
+    pub at-postfix : (o : Operator) → kindAt rows row ≡ OfExpression (Postfix o) → row < a → expressionAt rows row ≡ postfix o (placeOf (e-at a))
     unfolding expressionOf numberAt
     at-postfix o k p = rw (expression-at row, k, lt-ltb row a p)
 
@@ -249,52 +177,52 @@ module _ (rows : List ℤ) (whole : Whole rows) where
     abbrev s-at : ℕ → Statement
     s-at l = statementAt rows l
 
-    pub at-empty : kindAt rows row ≡ Empty → statementAt rows row ≡ empty
+    pub at-empty : kindAt rows row ≡ OfStatement Empty → statementAt rows row ≡ empty
     unfolding statementOf
     at-empty k = rw (statement-at row, k)
 
-    pub at-express : kindAt rows row ≡ Express → row < a → statementAt rows row ≡ express (e-at a)
+    pub at-express : kindAt rows row ≡ OfStatement Express → row < a → statementAt rows row ≡ express (e-at a)
     unfolding statementOf numberAt
     at-express k p = rw (statement-at row, k, lt-ltb row a p)
 
-    pub at-block : kindAt rows row ≡ Block → Forward row a → statementAt rows row ≡ block (listAt rows a)
+    pub at-block : kindAt rows row ≡ OfStatement Block → Forward row a → statementAt rows row ≡ block (listAt rows a)
     unfolding statementOf numberAt
     at-block k p = rw (statement-at row, k) (ap block (later-list row a p))
 
-    pub at-ifThen : kindAt rows row ≡ If → row < a → row < b → c ≡ 0 → statementAt rows row ≡ ifThen (e-at a) (s-at b)
+    pub at-ifThen : kindAt rows row ≡ OfStatement If → row < a → row < b → c ≡ 0 → statementAt rows row ≡ ifThen (e-at a) (s-at b)
     unfolding statementOf numberAt
     at-ifThen k p q z = rw (statement-at row, k, lt-ltb row a p, lt-ltb row b q, z)
 
-    pub at-ifElse : kindAt rows row ≡ If → row < a → row < b → row < c → statementAt rows row ≡ ifElse (e-at a) (s-at b) (s-at c)
+    pub at-ifElse : kindAt rows row ≡ OfStatement If → row < a → row < b → row < c → statementAt rows row ≡ ifElse (e-at a) (s-at b) (s-at c)
     unfolding statementOf numberAt
     at-ifElse k p q r = rw (statement-at row, k, lt-ltb row a p, lt-ltb row b q, lt-ltb row c r) (if-some c (e-at a) (s-at b) (s-at c) (omega arith))
 
-    pub at-while : kindAt rows row ≡ While → row < a → row < b → statementAt rows row ≡ while (e-at a) (s-at b)
+    pub at-while : kindAt rows row ≡ OfStatement While → row < a → row < b → statementAt rows row ≡ while (e-at a) (s-at b)
     unfolding statementOf numberAt
     at-while k p q = rw (statement-at row, k, lt-ltb row a p, lt-ltb row b q)
 
-    pub at-doWhile : kindAt rows row ≡ Do → row < a → row < b → statementAt rows row ≡ doWhile (s-at a) (e-at b)
+    pub at-doWhile : kindAt rows row ≡ OfStatement Do → row < a → row < b → statementAt rows row ≡ doWhile (s-at a) (e-at b)
     unfolding statementOf numberAt
     at-doWhile k p q = rw (statement-at row, k, lt-ltb row a p, lt-ltb row b q)
 
-    pub at-for : kindAt rows row ≡ For → Forward row a → Forward row b → Forward row c → row < d
+    pub at-for : kindAt rows row ≡ OfStatement For → Forward row a → Forward row b → Forward row c → row < d
         → statementAt rows row ≡ for (partAt rows a) (partAt rows b) (partAt rows c) (s-at d)
     unfolding statementOf numberAt
     at-for k p q r t = rw (statement-at row, k, lt-ltb row d t) (ap₃ (λ x y z. for x y z (s-at d)) (later-part row a p) (later-part row b q) (later-part row c r))
 
-    pub at-switch : kindAt rows row ≡ Switch → row < a → Forward row b → statementAt rows row ≡ switch (e-at a) (listAt rows b)
+    pub at-switch : kindAt rows row ≡ OfStatement Switch → row < a → Forward row b → statementAt rows row ≡ switch (e-at a) (listAt rows b)
     unfolding statementOf numberAt
     at-switch k p q = rw (statement-at row, k, lt-ltb row a p) (ap (switch (e-at a)) (later-list row b q))
 
-    pub at-break : kindAt rows row ≡ Break → statementAt rows row ≡ break
+    pub at-break : kindAt rows row ≡ OfStatement Break → statementAt rows row ≡ break
     unfolding statementOf
     at-break k = rw (statement-at row, k)
 
-    pub at-continue : kindAt rows row ≡ Continue → statementAt rows row ≡ continue
+    pub at-continue : kindAt rows row ≡ OfStatement Continue → statementAt rows row ≡ continue
     unfolding statementOf
     at-continue k = rw (statement-at row, k)
 
-    pub at-goto : kindAt rows row ≡ Goto → statementAt rows row ≡ goto a
+    pub at-goto : kindAt rows row ≡ OfStatement Goto → statementAt rows row ≡ goto a
     unfolding statementOf numberAt
     at-goto k = rw (statement-at row, k)
 
@@ -303,17 +231,17 @@ module _ (rows : List ℤ) (whole : Whole rows) where
     abbrev behind : ℕ
     behind = numberAt rows row 5
 
-    pub at-item : isStatement (kindAt rows row) ≡ true → Forward row behind → itemsAt rows row ≡ statementAt rows row then listAt rows behind
+    pub at-item : isStatementKind (kindAt rows row) ≡ true → Forward row behind → itemsAt rows row ≡ statementAt rows row then listAt rows behind
     at-item k p = items-at row ∙ items-statement (kindAt rows row) (wordAt rows row) (statementAt rows row) _ k ∙ ap (λ l. statementAt rows row then l) (later-list row behind p)
 
-    pub at-case : kindAt rows row ≡ Case → Forward row behind → itemsAt rows row ≡ case (wordAt rows row 1) here listAt rows behind
+    pub at-case : kindAt rows row ≡ OfMark Case → Forward row behind → itemsAt rows row ≡ case (wordAt rows row 1) here listAt rows behind
     unfolding itemsOf
     at-case k p = rw (items-at row, k) (ap (λ l. case (wordAt rows row 1) here l) (later-list row behind p))
 
-    pub at-default : kindAt rows row ≡ Default → Forward row behind → itemsAt rows row ≡ default here listAt rows behind
+    pub at-default : kindAt rows row ≡ OfMark Default → Forward row behind → itemsAt rows row ≡ default here listAt rows behind
     unfolding itemsOf
     at-default k p = rw (items-at row, k) (ap (λ l. default here l) (later-list row behind p))
 
-    pub at-label : kindAt rows row ≡ Label → Forward row behind → itemsAt rows row ≡ label a here listAt rows behind
+    pub at-label : kindAt rows row ≡ OfMark Label → Forward row behind → itemsAt rows row ≡ label a here listAt rows behind
     unfolding itemsOf numberAt
     at-label k p = rw (items-at row, k) (ap (λ l. label a here l) (later-list row behind p))

@@ -32,6 +32,8 @@ pub mod TreeLaws
 pub mod WellFormed
 -- Sound tables: what a run asks of a table.
 pub mod Sound
+-- Laws of sound tables: what a row's field holds, by the row's kind.
+pub mod SoundLaws
 -- Laws of decode: a row's tree by its kind.
 pub mod DecodeLaws
 -- Laws of the runs of programs: enough budget.

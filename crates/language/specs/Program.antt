@@ -9,8 +9,7 @@ use Rattle.words.specs.declared.Ending.{Ending}
 use Rattle.computation.specs.Computation.{Computation}
 use Rattle.computation.specs.Run.{Result, Limit, steps, run, start, final, endingOf}
 use Rattle.language.specs.Trees.{Items}
-use Rattle.language.specs.Decode.{decode}
-use Rattle.language.specs.DecodeLaws.{listAt}
+use Rattle.language.specs.Decode.{decode, listAt}
 use Rattle.language.specs.Meaning.{Signal, exec}
 
 -- A program is its items: "Row 0 is a block", and its list begins at field a.

@@ -6,7 +6,7 @@ use lib.Dec.{eqb}
 use lib.IntN.{ℤ}
 use Rattle.words.specs.Word.{pick}
 use Rattle.words.specs.Table.{numberAt}
-use Rattle.structure.specs.Grammar.{between}
+use Rattle.words.specs.Kinds.{between}
 use Rattle.structure.specs.Links.{note}
 use Rattle.source_check.specs.declared.Note.{Note}
 use Rattle.source_check.specs.declared.Note.the-variants.{InLoop, InLoopOrSwitch, SwitchItem, MarkBefore}

@@ -9,7 +9,8 @@ use Rattle.words.specs.Word.{pick}
 use Rattle.words.specs.Table.{rowCount, numberAt}
 use Rattle.words.specs.Layout.{layoutOf, storeSize, storeWords}
 use Rattle.words.specs.declared.Form.{Form}
-use Rattle.structure.specs.Grammar.{unused, variable, array, label, expression, optionalExpression, place, optionalItem, sortAt, inLanguage, isExpression, isPlace, isStatement, isLink, isRequired}
+use Rattle.words.specs.Kinds.{unused, variable, array, label, expression, optionalExpression, place, optionalItem, sortAt, inLanguage, isLink, isRequired}
+use Rattle.structure.specs.Grammar.{isExpression, isPlace, isStatement}
 use Rattle.structure.specs.declared.Bounds.{Bounds}
 
 -- Cause 3: "kind not in the language, or unused field not 0". Field 0 is the kind.

@@ -1,16 +1,17 @@
 -- Packed: the table of kinds as the code holds it, a row a number, a hexadecimal digit a field.
 use mathlib.Core.Path.{_≡_, refl}
-use mathlib.Core.Bool.{Bool, true, false, _||_, not}
+use mathlib.Core.Bool.{Bool, true, false, not, _||_, true≢false}
 use mathlib.Core.List.{List, [], _∷_}
-use Prim.Native.Nat.{ℕ, zero, suc, _+_, _*_, _/_, _%_, _≤_, _<_}
+use Prim.Native.Nat.{ℕ, zero, suc, _+_, _*_, _/_, _%_, _<_}
 use native.Mathlib.Omega.{arith}
-use native.Mathlib.Decide.{decLt}
 use lib.Dec.{leb, eqb}
-use borrow.Author.Tests.{leb-false, eqb-true}
-use Rattle.structure.specs.Grammar.{grammar, sortOf}
-use Rattle.structure.specs.GrammarLaws.{sort-beyond, no-kind-has}
-use Rattle.structure.specs.Search.{some}
-use Rattle.structure.specs.SearchLaws.{some-all}
+use borrow.Author.Tests.{leb-false, not-true}
+use Rattle.words.specs.Kinds.{kinds, kindIn, kindOf, kindRow, expressionFields, statementFields, markFields, sortIn, sortOf}
+use Rattle.words.specs.KindLaws.{everyLine, every-number}
+use Rattle.words.specs.declared.Kind.{Kind}
+use Rattle.words.specs.declared.Kind.the-variants.{Other}
+use Rattle.structure.specs.Search.{some, someField}
+use Rattle.structure.specs.SearchLaws.{someField-all}
 
 -- What the row is, then a, b, c, d and next.
 unfoldable pub packedRow : ℕ → ℕ
@@ -28,14 +29,11 @@ digitAt row (suc (suc (suc (suc (suc field))))) = row % 16
 
 -- ---- every sort is a digit
 
-none-large : some (λ field. some (λ kind. leb 16 (sortOf kind field)) 0 54) 0 6 ≡ false
-unfolding sortOf grammar some
-none-large = refl
-
 small : (kind field : ℕ) → field < 6 → sortOf kind field < 16
+unfolding everyLine kinds sortIn sortOf kindRow expressionFields statementFields markFields someField some
 small kind field h =
-    let column = some-all (λ (f : ℕ). some (λ kind. leb 16 (sortOf kind f)) 0 54) 6 0 none-large field (omega arith) h in
-    leb-false 16 (sortOf kind field) (no-kind-has (λ (sort : ℕ). leb 16 sort) field column refl kind)
+    let passed = every-number (λ number kind. not (someField (λ field. leb 16 (sortIn kind field)))) refl (λ number. refl) kind in
+    leb-false 16 (sortOf kind field) (someField-all (λ (field : ℕ). leb 16 (sortOf kind field)) (not-true _ passed) field h)
 
 pub digit-is-sort : (kind field : ℕ) → field < 6 → digitAt (packedRow kind) field ≡ sortOf kind field
 unfolding packedRow digitAt
@@ -72,31 +70,22 @@ digit-last row (suc (suc (suc (suc (suc field))))) n0 n1 n2 n3 n4 = refl
 
 -- ---- the kinds that have a row
 
-abbrev pub kindNumbers : List ℕ
-kindNumbers =
-    1 ∷ 2 ∷ 3 ∷ 4 ∷ 5 ∷ 6 ∷ 7 ∷ 8 ∷ 9 ∷ 10 ∷ 11 ∷ 12 ∷ 13 ∷ 14 ∷ 15 ∷ 16 ∷ 17 ∷ 18 ∷ 19 ∷ 20 ∷ 21 ∷ 22 ∷ 23 ∷ 24 ∷ 25 ∷ 26 ∷ 27 ∷ 28 ∷ 29 ∷ 30 ∷ 40 ∷ 41 ∷ 42 ∷ 43 ∷ 44 ∷ 45 ∷ 46 ∷ 47 ∷ 48 ∷ 49 ∷ 50 ∷ 51 ∷ 52 ∷ 53 ∷ []
+unfoldable pub numbersIn : List (ℕ × Kind) → List ℕ
+numbersIn [] = []
+numbersIn (k ∷ ks) = k .0 ∷ numbersIn ks
 
 unfoldable pub isIn : List ℕ → ℕ → Bool
 isIn [] number = false
 isIn (k ∷ ks) number = eqb number k || isIn ks number
 
-beyond : (kind : ℕ) → 54 ≤ kind → packedRow kind ≡ 0
-unfolding packedRow
-beyond kind h =
-    rw (sort-beyond kind 0 h, sort-beyond kind 1 h, sort-beyond kind 2 h, sort-beyond kind 3 h, sort-beyond kind 4 h, sort-beyond kind 5 h)
+neither : (a b : Bool) → (a || b) ≡ false → (a ≡ false) × (b ≡ false)
+neither true b e = absurd (true≢false e)
+neither false b e = (refl, e)
 
-none-below : some (λ kind. not (eqb (packedRow kind) 0 || isIn kindNumbers kind)) 0 54 ≡ false
-unfolding some packedRow sortOf grammar isIn
-none-below = refl
-
-either : (a b : Bool) → not (a || b) ≡ false → b ≡ false → a ≡ true
-either true b e h = refl
-either false true e h = absurd (let z : _≡_ {A = ℕ} 0 1 = cc in omega arith)
-either false false e h = absurd (let z : _≡_ {A = ℕ} 0 1 = cc in omega arith)
-
-pub no-row : (kind : ℕ) → isIn kindNumbers kind ≡ false → 0 ≡ packedRow kind
-no-row kind none = go (decLt kind 54)
+pub no-row : (number : ℕ) → isIn (numbersIn kinds) number ≡ false → 0 ≡ packedRow number
+unfolding packedRow sortOf sortIn kindRow kindOf kindIn isIn numbersIn
+no-row number none = rw (go kinds none) refl
   where
-    go : Dec (kind < 54) → 0 ≡ packedRow kind
-    go (yes h) = let zero-row = eqb-true (packedRow kind) 0 (either _ _ (some-all (λ (k : ℕ). not (eqb (packedRow k) 0 || isIn kindNumbers k)) 54 0 none-below kind (omega arith) (omega arith)) none) in omega (arith, zero-row)
-    go (no h) = let zero-row = beyond kind (let l : 54 ≤ kind = omega (arith, h) in l) in omega (arith, zero-row)
+    go : (ks : List (ℕ × Kind)) → isIn (numbersIn ks) number ≡ false → kindIn ks number ≡ Other
+    go [] e = refl
+    go (k ∷ ks) e = let apart = neither (eqb number (k .0)) (isIn (numbersIn ks) number) e in rw (apart .0) (go ks (apart .1))

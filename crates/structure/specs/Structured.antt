@@ -8,7 +8,8 @@ use lib.ListN.{length}
 use Rattle.words.specs.Table.{rowCount, numberAt}
 use Rattle.words.specs.Layout.{headerFits, countFits, depthLimit}
 use Rattle.words.specs.declared.Form.{Form}
-use Rattle.structure.specs.Grammar.{unused, sortAt, inLanguage, isRequired, link}
+use Rattle.words.specs.Kinds.{unused, sortAt, inLanguage, isRequired}
+use Rattle.structure.specs.Grammar.{link}
 use Rattle.structure.specs.Fields.{fits, boundsOf, numberFits}
 use Rattle.structure.specs.Links.{linkCount}
 

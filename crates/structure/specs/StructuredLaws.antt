@@ -15,7 +15,8 @@ use Rattle.words.specs.Layout.{headerFits, countFits}
 use Rattle.words.specs.Laws.{both, rowLimit-most, countFits-facts}
 use Rattle.words.specs.declared.Form.{Form}
 use Rattle.words.specs.declared.Verdict.the-variants.{Accepted}
-use Rattle.structure.specs.Grammar.{unused, variable, array, label, expression, place, branch, sortOf, sortAt, between, inLanguage, isLink, isRequired, link}
+use Rattle.words.specs.Kinds.{unused, variable, array, label, expression, place, branch, sortOf, sortAt, between, inLanguage, isLink, isRequired}
+use Rattle.structure.specs.Grammar.{link}
 use Rattle.structure.specs.Search.{lowestRow, someField}
 use Rattle.structure.specs.SearchLaws.{lowestRow-all, all-lowestRow, someField-all, all-someField}
 use Rattle.structure.specs.Fields.{foreign, fits, leadsRight, mislinked, boundsOf, numberFits, outside}

@@ -6,7 +6,8 @@ ghost use Prim.Native.Nat.{_+_, _*_, _<_};
 ghost use lib.ListN.{length};
 ghost use Rattle.words.specs.declared.Form.the-variants.{Source, Kernel};
 ghost use Rattle.structure.specs.Packed.{packedRow, digitAt};
-ghost use Rattle.structure.specs.Grammar.{sortOf, sortAt, between as betweenOf, inLanguage, isExpression, isPlace, isStatement, isLink, isRequired, link as linkOf};
+ghost use Rattle.words.specs.Kinds.{sortOf, sortAt, between as betweenOf, inLanguage, isLink, isRequired};
+ghost use Rattle.structure.specs.Grammar.{isExpression, isPlace, isStatement, link as linkOf};
 
 // Fields without a link. "Values, variable, array and label numbers may be 0."
 pub const UNUSED: u8 = 0;

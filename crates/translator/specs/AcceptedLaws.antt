@@ -12,7 +12,8 @@ use Rattle.words.specs.Kinds.{kindAt}
 use Rattle.words.specs.Layout.{headerFits, layoutOf, storeSize, storeWords}
 use Rattle.words.specs.Laws.{headerFits-facts, countFits-facts}
 use Rattle.words.specs.declared.Form.the-variants.{Source as SourceForm}
-use Rattle.words.specs.declared.Kind.the-variants.{Block}
+use Rattle.words.specs.declared.Kind.the-variants.{OfStatement}
+use Rattle.words.specs.declared.StatementKind.the-variants.{Block}
 use Rattle.words.specs.declared.Verdict.the-variants.{Accepted}
 use Rattle.language.specs.Trees.{block}
 use Rattle.language.specs.Program.{contents}
@@ -58,7 +59,7 @@ module _ (header rows : List ℤ) (accepted : sourceRefusal header rows ≡ Acce
         few-arrays = h .few-arrays;
       }
 
-  root : kindAt rows 0 ≡ Block
+  root : kindAt rows 0 ≡ OfStatement Block
   root = root-kind SourceForm header rows (legal .structured)
 
   -- "At most 20×n+20 kernel rows and at most 4×n temporaries."

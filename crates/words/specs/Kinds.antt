@@ -1,60 +1,73 @@
--- Kinds: document 01's table of kinds, by number.
+-- Kinds: document 01's table of kinds. First the numbers, then what a row of each kind is, what its fields hold, and in which forms the
+-- kind stands.
+use mathlib.Core.Bool.{Bool, true, false, _&&_, _||_}
 use mathlib.Core.List.{List, [], _∷_}
 use Prim.Native.Nat.{ℕ}
-use lib.Dec.{eqb}
+use lib.Dec.{leb, eqb}
 use lib.IntN.{ℤ}
+use lib.ListN.{getD}
 use Rattle.words.specs.Word.{pick}
 use Rattle.words.specs.Table.{numberAt}
+use Rattle.words.specs.declared.Form.{Form}
+use Rattle.words.specs.declared.Form.the-variants.{Source, Kernel}
 use Rattle.words.specs.declared.Operator.the-variants.{Add, Subtract, Multiply, Divide, Remainder, Less, Greater, LessOrEqual, GreaterOrEqual, Equal, NotEqual}
+use Rattle.words.specs.declared.ExpressionKind.{ExpressionKind}
+use Rattle.words.specs.declared.StatementKind.{StatementKind}
+use Rattle.words.specs.declared.MarkKind.{MarkKind}
+use Rattle.words.specs.declared.ExpressionKind.the-variants.{Constant, Variable, Element, Minus, Not, Binary, And, Or, Conditional, Comma, Assign, Compound, Prefix, Postfix}
+use Rattle.words.specs.declared.StatementKind.the-variants.{Empty, Express, Block, If, While, Do, For, Switch, Break, Continue, Goto}
+use Rattle.words.specs.declared.MarkKind.the-variants.{Case, Default, Label}
 use Rattle.words.specs.declared.Kind.{Kind}
-use Rattle.words.specs.declared.Kind.the-variants.{Constant, Variable, Element, Minus, Not, Binary, And, Or, Conditional, Comma, Assign, Compound, Prefix, Postfix, Empty, Express, Block, If, While, Do, For, Switch, Case, Default, Break, Continue, Goto, Label, Other}
+use Rattle.words.specs.declared.Kind.the-variants.{OfExpression, OfStatement, OfMark, Other}
+
+-- ---- numbers
 
 unfoldable pub kinds : List (ℕ × Kind)
 kinds =
-    (1, Constant) ∷  -- constant
-    (2, Variable) ∷  -- variable
-    (3, Element) ∷  -- element
-    (4, Minus) ∷  -- minus
-    (5, Not) ∷  -- not
-    (6, (Binary Add)) ∷  -- +
-    (7, (Binary Subtract)) ∷  -- −
-    (8, (Binary Multiply)) ∷  -- ×
-    (9, (Binary Divide)) ∷  -- /
-    (10, (Binary Remainder)) ∷  -- %
-    (11, (Binary Less)) ∷  -- <
-    (12, (Binary Greater)) ∷  -- >
-    (13, (Binary LessOrEqual)) ∷  -- <=
-    (14, (Binary GreaterOrEqual)) ∷  -- >=
-    (15, (Binary Equal)) ∷  -- ==
-    (16, (Binary NotEqual)) ∷  -- !=
-    (17, And) ∷  -- and
-    (18, Or) ∷  -- or
-    (19, Conditional) ∷  -- conditional
-    (20, Comma) ∷  -- comma
-    (21, Assign) ∷  -- assign
-    (22, (Compound Add)) ∷  -- +=
-    (23, (Compound Subtract)) ∷  -- −=
-    (24, (Compound Multiply)) ∷  -- ×=
-    (25, (Compound Divide)) ∷  -- /=
-    (26, (Compound Remainder)) ∷  -- %=
-    (27, (Prefix Add)) ∷  -- ++e
-    (28, (Prefix Subtract)) ∷  -- −−e
-    (29, (Postfix Add)) ∷  -- e++
-    (30, (Postfix Subtract)) ∷  -- e−−
-    (40, Empty) ∷  -- empty
-    (41, Express) ∷  -- expression statement
-    (42, Block) ∷  -- block
-    (43, If) ∷  -- if
-    (44, While) ∷  -- while
-    (45, Do) ∷  -- do
-    (46, For) ∷  -- for
-    (47, Switch) ∷  -- switch
-    (48, Case) ∷  -- case
-    (49, Default) ∷  -- default
-    (50, Break) ∷  -- break
-    (51, Continue) ∷  -- continue
-    (52, Goto) ∷  -- goto
-    (53, Label) ∷  -- label
+    (1, OfExpression Constant) ∷  -- constant
+    (2, OfExpression Variable) ∷  -- variable
+    (3, OfExpression Element) ∷  -- element
+    (4, OfExpression Minus) ∷  -- minus
+    (5, OfExpression Not) ∷  -- not
+    (6, OfExpression (Binary Add)) ∷  -- +
+    (7, OfExpression (Binary Subtract)) ∷  -- −
+    (8, OfExpression (Binary Multiply)) ∷  -- ×
+    (9, OfExpression (Binary Divide)) ∷  -- /
+    (10, OfExpression (Binary Remainder)) ∷  -- %
+    (11, OfExpression (Binary Less)) ∷  -- <
+    (12, OfExpression (Binary Greater)) ∷  -- >
+    (13, OfExpression (Binary LessOrEqual)) ∷  -- <=
+    (14, OfExpression (Binary GreaterOrEqual)) ∷  -- >=
+    (15, OfExpression (Binary Equal)) ∷  -- ==
+    (16, OfExpression (Binary NotEqual)) ∷  -- !=
+    (17, OfExpression And) ∷  -- and
+    (18, OfExpression Or) ∷  -- or
+    (19, OfExpression Conditional) ∷  -- conditional
+    (20, OfExpression Comma) ∷  -- comma
+    (21, OfExpression Assign) ∷  -- assign
+    (22, OfExpression (Compound Add)) ∷  -- +=
+    (23, OfExpression (Compound Subtract)) ∷  -- −=
+    (24, OfExpression (Compound Multiply)) ∷  -- ×=
+    (25, OfExpression (Compound Divide)) ∷  -- /=
+    (26, OfExpression (Compound Remainder)) ∷  -- %=
+    (27, OfExpression (Prefix Add)) ∷  -- ++e
+    (28, OfExpression (Prefix Subtract)) ∷  -- −−e
+    (29, OfExpression (Postfix Add)) ∷  -- e++
+    (30, OfExpression (Postfix Subtract)) ∷  -- e−−
+    (40, OfStatement Empty) ∷  -- empty
+    (41, OfStatement Express) ∷  -- expression statement
+    (42, OfStatement Block) ∷  -- block
+    (43, OfStatement If) ∷  -- if
+    (44, OfStatement While) ∷  -- while
+    (45, OfStatement Do) ∷  -- do
+    (46, OfStatement For) ∷  -- for
+    (47, OfStatement Switch) ∷  -- switch
+    (48, OfMark Case) ∷  -- case
+    (49, OfMark Default) ∷  -- default
+    (50, OfStatement Break) ∷  -- break
+    (51, OfStatement Continue) ∷  -- continue
+    (52, OfStatement Goto) ∷  -- goto
+    (53, OfMark Label) ∷  -- label
     []
 
 unfoldable pub kindIn : List (ℕ × Kind) → ℕ → Kind
@@ -67,3 +80,189 @@ kindOf number = kindIn kinds number
 
 unfoldable pub kindAt : List ℤ → ℕ → Kind
 kindAt rows row = kindOf (numberAt rows row 0)
+
+-- The kinds of statements, marks apart.
+abbrev pub isStatementKind : Kind → Bool
+isStatementKind (OfExpression kind) = false
+isStatementKind (OfStatement kind) = true
+isStatementKind (OfMark kind) = false
+isStatementKind Other = false
+
+-- ---- sorts: what a field holds, and what a row is
+
+-- Fields without a link. "Values, variable, array and label numbers may be 0."
+abbrev pub unused : ℕ
+unused = 0
+
+abbrev pub value : ℕ
+value = 1
+
+abbrev pub variable : ℕ
+variable = 2
+
+abbrev pub array : ℕ
+array = 3
+
+abbrev pub label : ℕ
+label = 4
+
+-- Links. Optional ones "may be 0". A branch or body has next 0; an item is the first of a list, or the next.
+abbrev pub expression : ℕ
+expression = 5
+
+abbrev pub optionalExpression : ℕ
+optionalExpression = 6
+
+abbrev pub place : ℕ
+place = 7
+
+abbrev pub branch : ℕ
+branch = 8
+
+abbrev pub optionalBranch : ℕ
+optionalBranch = 9
+
+abbrev pub optionalItem : ℕ
+optionalItem = 10
+
+-- What a row is.
+abbrev pub expressionRow : ℕ
+expressionRow = 11
+
+abbrev pub placeRow : ℕ
+placeRow = 12
+
+abbrev pub statementRow : ℕ
+statementRow = 13
+
+abbrev pub noKind : ℕ
+noKind = 0
+
+abbrev pub between : ℕ → ℕ → ℕ → Bool
+between least most number = leb least number && leb number most
+
+unfoldable pub isLink : ℕ → Bool
+isLink sort = between expression optionalItem sort
+
+-- Links that must not be absent.
+unfoldable pub isRequired : ℕ → Bool
+isRequired sort = eqb sort expression || (eqb sort place || eqb sort branch)
+
+-- ---- rows
+
+-- The forms that have a kind.
+pub data Forms : Type 0 where
+  inBoth : Forms
+  inSource : Forms
+  inKernel : Forms
+  inNeither : Forms
+
+abbrev pub standsIn : Forms → Form → Bool
+standsIn inBoth form = true
+standsIn inSource Source = true
+standsIn inSource Kernel = false
+standsIn inKernel Source = false
+standsIn inKernel Kernel = true
+standsIn inNeither form = false
+
+-- What a row of the kind is, the sorts of its fields, and the forms that have the kind.
+pub record KindRow : Type 0 where
+  pub what : ℕ
+  pub a : ℕ
+  pub b : ℕ
+  pub c : ℕ
+  pub d : ℕ
+  pub next : ℕ
+  pub forms : Forms
+
+-- Of an expression. "Expressions have next 0 (it counts as an unused field)"; none has a field d.
+pub record ExpressionRow : Type 0 where
+  pub what : ℕ
+  pub a : ℕ
+  pub b : ℕ
+  pub c : ℕ
+  pub forms : Forms
+
+-- Of a statement. "Items of a block or switch are linked by next."
+pub record StatementRow : Type 0 where
+  pub a : ℕ
+  pub b : ℕ
+  pub c : ℕ
+  pub d : ℕ
+  pub forms : Forms
+
+abbrev pub computing : ℕ → ℕ → ℕ → Forms → ExpressionRow
+computing a b c forms = record { what = expressionRow; a = a; b = b; c = c; forms = forms }
+
+abbrev pub placing : ℕ → ℕ → Forms → ExpressionRow
+placing a b forms = record { what = placeRow; a = a; b = b; c = unused; forms = forms }
+
+abbrev pub stating : ℕ → ℕ → ℕ → ℕ → Forms → StatementRow
+stating a b c d forms = record { a = a; b = b; c = c; d = d; forms = forms }
+
+-- Kernel: "Kinds not named in this paragraph are not in the kernel language."
+unfoldable pub expressionFields : ExpressionKind → ExpressionRow
+expressionFields Constant = computing value unused unused inBoth  -- 1 constant: a value
+expressionFields Variable = placing variable unused inBoth  -- 2 variable: a number
+expressionFields Element = placing array expression inBoth  -- 3 element: a array, b index
+expressionFields Minus = computing expression unused unused inBoth  -- 4 minus: a operand
+expressionFields Not = computing expression unused unused inSource  -- 5 not: a operand
+expressionFields (Binary operator) = computing expression expression unused inBoth  -- 6 to 16: a left, b right
+expressionFields And = computing expression expression unused inSource  -- 17 and: a left, b right
+expressionFields Or = computing expression expression unused inSource  -- 18 or: a left, b right
+expressionFields Conditional = computing expression expression expression inSource  -- 19 conditional: a test, b yes, c no
+expressionFields Comma = computing expression expression unused inSource  -- 20 comma: a, b
+expressionFields Assign = computing place expression unused inBoth  -- 21 assign: a place, b value
+expressionFields (Compound operator) = computing place expression unused inSource  -- 22 to 26: a place, b value
+expressionFields (Prefix operator) = computing place unused unused inSource  -- 27 ++e, 28 −−e: a place
+expressionFields (Postfix operator) = computing place unused unused inSource  -- 29 e++, 30 e−−: a place
+
+-- "52 goto, 53 label (kernel only)".
+unfoldable pub statementFields : StatementKind → StatementRow
+statementFields Empty = stating unused unused unused unused inBoth  -- 40 empty: none
+statementFields Express = stating expression unused unused unused inBoth  -- 41 expression statement: a
+statementFields Block = stating optionalItem unused unused unused inBoth  -- 42 block: a first item or 0
+statementFields If = stating expression branch optionalBranch unused inBoth  -- 43 if: a test, b then, c else or 0
+statementFields While = stating expression branch unused unused inBoth  -- 44 while: a test, b body
+statementFields Do = stating branch expression unused unused inSource  -- 45 do: a body, b test
+statementFields For = stating optionalExpression optionalExpression optionalExpression branch inSource  -- 46 for: a start, b test, c step (each may be 0), d body
+statementFields Switch = stating expression optionalItem unused unused inSource  -- 47 switch: a selector, b first item or 0
+statementFields Break = stating unused unused unused unused inSource  -- 50 break: none
+statementFields Continue = stating unused unused unused unused inSource  -- 51 continue: none
+statementFields Goto = stating label unused unused unused inKernel  -- 52 goto: a label number
+
+unfoldable pub markFields : MarkKind → StatementRow
+markFields Case = stating value unused unused unused inSource  -- 48 case: a value
+markFields Default = stating unused unused unused unused inSource  -- 49 default: none
+markFields Label = stating label unused unused unused inKernel  -- 53 label: a label number
+
+abbrev pub itemRow : StatementRow → KindRow
+itemRow r = record { what = statementRow; a = r .a; b = r .b; c = r .c; d = r .d; next = optionalItem; forms = r .forms }
+
+abbrev pub operandRow : ExpressionRow → KindRow
+operandRow r = record { what = r .what; a = r .a; b = r .b; c = r .c; d = unused; next = unused; forms = r .forms }
+
+unfoldable pub kindRow : Kind → KindRow
+kindRow (OfExpression kind) = operandRow (expressionFields kind)
+kindRow (OfStatement kind) = itemRow (statementFields kind)
+kindRow (OfMark kind) = itemRow (markFields kind)
+kindRow Other = record { what = noKind; a = unused; b = unused; c = unused; d = unused; next = unused; forms = inNeither }
+
+-- ---- what the table says of a kind
+
+-- What a field of a kind holds (1 to 4 are a to d, 5 is next); for field 0, what a row of the kind is.
+unfoldable pub sortIn : Kind → ℕ → ℕ
+sortIn kind field = let r = kindRow kind in getD (r .what ∷ r .a ∷ r .b ∷ r .c ∷ r .d ∷ r .next ∷ []) field unused
+
+unfoldable pub sortOf : ℕ → ℕ → ℕ
+sortOf number field = sortIn (kindOf number) field
+
+unfoldable pub sortAt : List ℤ → ℕ → ℕ → ℕ
+sortAt rows row field = sortOf (numberAt rows row 0) field
+
+unfoldable pub inLanguage : Form → ℕ → Bool
+inLanguage form number = standsIn (kindRow (kindOf number) .forms) form
+
+-- "'Place' means a row of kind 2 or 3."
+unfoldable pub isPlaceKind : Kind → Bool
+isPlaceKind kind = eqb (sortIn kind 0) placeRow

@@ -5,7 +5,7 @@ pub mod Word
 pub mod Table
 -- Forms and layouts: the limits of both forms, the header, the store.
 pub mod Layout
--- Kinds: document 01's table of kinds, by number.
+-- Kinds: document 01's table of kinds: numbers, sorts of fields, forms.
 pub mod Kinds
 -- Arithmetic: the operations on words, with their faults.
 pub mod Arithmetic
@@ -19,3 +19,5 @@ pub mod Answers
 pub mod AnswerLaws
 -- Laws: what follows from these definitions.
 pub mod Laws
+-- Laws of the table of kinds.
+pub mod KindLaws

@@ -70,8 +70,8 @@ pub enum Operator {
     NotEqual,
 }
 
-// The kinds of rows. Kinds that differ in an operator are one variant.
-pub enum Kind {
+// Kinds 1 to 30. Kinds that differ in an operator are one variant.
+pub enum ExpressionKind {
     Constant,
     Variable,
     Element,
@@ -86,6 +86,10 @@ pub enum Kind {
     Compound(Operator),
     Prefix(Operator),
     Postfix(Operator),
+}
+
+// Statements that are no marks.
+pub enum StatementKind {
     Empty,
     Express,
     Block,
@@ -94,12 +98,23 @@ pub enum Kind {
     Do,
     For,
     Switch,
-    Case,
-    Default,
     Break,
     Continue,
     Goto,
+}
+
+// Statements that a jump can go to.
+pub enum MarkKind {
+    Case,
+    Default,
     Label,
+}
+
+// The kinds of rows, in groups: a function that says something of one group has one case for each other group.
+pub enum Kind {
+    OfExpression(ExpressionKind),
+    OfStatement(StatementKind),
+    OfMark(MarkKind),
     Other,
 }
 

@@ -12,8 +12,7 @@ use Rattle.words.specs.Kinds.{kindAt}
 use Rattle.language.specs.Trees.{Expression, Mark, case, default, label, Statement, Items, none, _then_, _here_, _⧺_}
 use Rattle.language.specs.Sizes.{expressionRows, itemsRows}
 use Rattle.language.specs.TreeLaws.{append-none, append-append}
-use Rattle.language.specs.Decode.{statementAt, itemsAt}
-use Rattle.language.specs.DecodeLaws.{listAt}
+use Rattle.language.specs.Decode.{statementAt, itemsAt, listAt}
 use Rattle.translation.specs.Translate.{itemsLabels, caseTests, Exits, itemsCode}
 use Rattle.translation.specs.TranslateSize.{itemsSize, cases}
 use Rattle.translation.specs.TranslateRows.{rows-statement, rows-items}

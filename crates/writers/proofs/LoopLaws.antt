@@ -9,8 +9,7 @@ use Rattle.words.specs.Word.{pick}
 use Rattle.language.specs.Trees.{Expression, Part, absent, present, label, Statement, block, ifElse, goto, Items, none, _then_, _here_, _⧺_}
 use Rattle.language.specs.Sizes.{expressionRows, statementRows, itemsRows}
 use Rattle.language.specs.TreeLaws.{append-append}
-use Rattle.language.specs.Decode.{expressionAt, statementAt}
-use Rattle.language.specs.DecodeLaws.{partAt}
+use Rattle.language.specs.Decode.{expressionAt, statementAt, partAt}
 use Rattle.translation.specs.Translate.{choosing, testCode, loopCode, expressionCode, Exits, exits, statementCode}
 use Rattle.translation.specs.TranslateSize.{partSize, testSize, statementSize}
 use Rattle.translation.specs.TranslateRows.{rows-append, rows-expression, rows-test, rows-statement}

@@ -10,7 +10,7 @@ use Rattle.words.specs.Kinds.{kindAt}
 use Rattle.words.specs.declared.Kind.{Kind}
 use Rattle.words.specs.declared.Kind.the-variants.{Block}
 use Rattle.language.specs.Trees.{Statement, empty, express, block, ifThen, ifElse, while, doWhile, for, switch, break, continue, goto, Items, none, _then_, _here_}
-use Rattle.language.specs.DecodeLaws.{listAt}
+use Rattle.language.specs.Decode.{listAt}
 use Rattle.language.specs.Program.{contents}
 use Rattle.language.specs.Sound.{SoundRow, OptionalLink}
 use Rattle.translation.specs.Translate.{labels, itemsLabels, exits, itemsCode}

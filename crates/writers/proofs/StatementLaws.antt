@@ -9,8 +9,7 @@ use Rattle.words.specs.Word.{pick}
 use Rattle.language.specs.Trees.{Expression, Part, absent, present, default, label, Statement, empty, express, block, ifThen, ifElse, while, doWhile, for, switch, break, continue, goto, Items, none, _then_, _here_, _⧺_}
 use Rattle.language.specs.Sizes.{statementRows, itemsRows}
 use Rattle.language.specs.TreeLaws.{append-none, append-append, statement-some}
-use Rattle.language.specs.Decode.{expressionAt, ifOf, statementAt}
-use Rattle.language.specs.DecodeLaws.{partAt}
+use Rattle.language.specs.Decode.{expressionAt, ifOf, statementAt, partAt}
 use Rattle.translation.specs.Translate.{Atom, number as constantAtom, top, atomOf, taken, atom, labels, labelOf, choosing, orEmpty, partCode, testCode, loopCode, caseTests, expressionCode, Exits, exits, statementCode, itemsCode}
 use Rattle.translation.specs.TranslateSize.{expressionSize, partSize, cases, statementSize, itemsSize}
 use Rattle.translation.specs.TranslateRows.{rows-expression, rows-cases, rows-statement, rows-items}

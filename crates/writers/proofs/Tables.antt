@@ -6,8 +6,7 @@ use native.Mathlib.Omega.{arith}
 use lib.IntN.{ℤ}
 use Rattle.words.specs.Table.{rowCount}
 use Rattle.language.specs.Trees.{case, default, label, sameMark, Items, none, _then_, _here_}
-use Rattle.language.specs.Decode.{statementAt}
-use Rattle.language.specs.DecodeLaws.{listAt}
+use Rattle.language.specs.Decode.{statementAt, listAt}
 use Rattle.translation.specs.Translate.{labels, itemsLabels, labelOf}
 use Rattle.translation.specs.TranslateSize.{statementSize, itemsSize, cases}
 use Rattle.measures.specs.Source.{OptionalOnward}

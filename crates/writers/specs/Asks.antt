@@ -3,8 +3,7 @@ use mathlib.Core.List.{List}
 use Prim.Native.Nat.{ℕ, zero, suc, _+_, _*_, _≤_, _<_, max}
 use lib.IntN.{ℤ}
 use Rattle.words.specs.Table.{rowCount}
-use Rattle.language.specs.Decode.{expressionAt, statementAt, itemsAt}
-use Rattle.language.specs.DecodeLaws.{listAt, partAt}
+use Rattle.language.specs.Decode.{expressionAt, statementAt, itemsAt, listAt, partAt}
 use Rattle.translation.specs.Translate.{labels, itemsLabels}
 use Rattle.translation.specs.TranslateSize.{expressionSize, partSize, testSize, statementSize, itemsSize, cases}
 use Rattle.measures.specs.Source.{Source}

@@ -3,8 +3,7 @@ use mathlib.Core.List.{List}
 use Prim.Native.Nat.{ℕ, zero, suc, _+_}
 use lib.IntN.{ℤ}
 use Rattle.language.specs.Trees.{Part, label, Items, none, _here_, _⧺_}
-use Rattle.language.specs.Decode.{statementAt}
-use Rattle.language.specs.DecodeLaws.{partAt}
+use Rattle.language.specs.Decode.{statementAt, partAt}
 use Rattle.translation.specs.Translate.{testCode, loopCode, Exits, exits, statementCode}
 use Rattle.expression_writers.specs.Code.{operandCode}
 use Rattle.writers.specs.declared.Exits.{Exits as ExitLabels}

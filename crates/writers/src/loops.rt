@@ -16,7 +16,7 @@ ghost use Prim.Native.Nat.{_≤_, _<_};
 ghost use lib.ListN.{length};
 ghost use Rattle.words.specs.Table.{rowCount};
 ghost use Rattle.language.specs.Trees.{none};
-ghost use Rattle.language.specs.DecodeLaws.{partAt};
+ghost use Rattle.language.specs.Decode.{partAt};
 ghost use Rattle.translation.specs.Translate.{testCode};
 ghost use Rattle.translation.specs.TranslateSize.{testSize as testSizeOf};
 ghost use Rattle.emission.specs.Emission.{emitItems};

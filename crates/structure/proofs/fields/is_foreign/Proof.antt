@@ -5,7 +5,7 @@ use denote.Ref.{now}
 use lib.Dec.{eqb}
 use borrow.Author.Tests.{eq-eqb, ne-eqb}
 use Rattle.words.specs.Table.{numberAt}
-use Rattle.structure.specs.Grammar.{unused, sortAt, inLanguage}
+use Rattle.words.specs.Kinds.{unused, sortAt, inLanguage}
 use Rattle.structure.specs.Fields.{foreign}
 use borrow.Author.Needs.{needs}
 use Rattle.structure.proofs.fields.is_foreign.Statement.{statement}

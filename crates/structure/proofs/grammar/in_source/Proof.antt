@@ -1,5 +1,6 @@
 -- `in_source` makes its definition's tests in order.
-use Rattle.structure.specs.Grammar.{inLanguage}
+use Rattle.structure.specs.GrammarLaws.{inRanges, in-ranges}
+use Rattle.words.specs.declared.Form.the-variants.{Source}
 use borrow.Author.Needs.{needs}
 use Rattle.structure.proofs.grammar.in_source.Statement.{statement}
 use Rattle.structure.proofs.grammar.in_source.Tie as tie
@@ -8,17 +9,17 @@ between-requires : tie.Need-between-requires
 between-requires c κs = search needs
 
 returns : tie.Need-returns
-unfolding inLanguage
+unfolding inRanges
 returns c =
-    rw (← c .before .between .ensures, c .if1 .taken)
+    rw (in-ranges Source _, ← c .before .between .ensures, c .if1 .taken)
 
 between-requires-2 : tie.Need-between-requires-2
 between-requires-2 c κs = search needs
 
 returns-2 : tie.Need-returns-2
-unfolding inLanguage
+unfolding inRanges
 returns-2 c =
-    rw (← c .before .before .between .ensures, c .before .if1 .left) (c .between2 .ensures)
+    rw (in-ranges Source _, ← c .before .before .between .ensures, c .before .if1 .left) (c .between2 .ensures)
 
 pub in-source-spec : {M : Type 1} → statement M
 in-source-spec = tie.close (tie.spec between-requires returns between-requires-2 returns-2)

@@ -1,6 +1,6 @@
 -- `is_link` makes its definition's two tests in order.
 use borrow.Author.Tests.{le-leb, lt-leb}
-use Rattle.structure.specs.Grammar.{isLink}
+use Rattle.words.specs.Kinds.{isLink}
 use Rattle.structure.proofs.grammar.is_link.Statement.{statement}
 use Rattle.structure.proofs.grammar.is_link.Tie as tie
 

@@ -1,6 +1,6 @@
 -- `is_required` makes its definition's three tests in order.
 use borrow.Author.Tests.{eq-eqb, ne-eqb}
-use Rattle.structure.specs.Grammar.{isRequired}
+use Rattle.words.specs.Kinds.{isRequired}
 use Rattle.structure.proofs.grammar.is_required.Statement.{statement}
 use Rattle.structure.proofs.grammar.is_required.Tie as tie
 

@@ -4,8 +4,8 @@ use mathlib.Core.Bool.{false}
 use mathlib.Core.List.{List, [], _∷_}
 use Prim.Native.Nat.{ℕ}
 use borrow.Author.Tests.{ne-eqb}
-use Rattle.structure.specs.Grammar.{sortOf, grammar}
-use Rattle.structure.specs.Packed.{packedRow, kindNumbers, isIn, no-row}
+use Rattle.words.specs.Kinds.{kinds, kindIn, kindOf, kindRow, expressionFields, statementFields, markFields, sortIn, sortOf}
+use Rattle.structure.specs.Packed.{packedRow, numbersIn, isIn, no-row}
 use Rattle.structure.proofs.grammar.row_of.Statement.{statement}
 use Rattle.structure.proofs.grammar.row_of.Tie as tie
 
@@ -26,7 +26,7 @@ arm : (kind key : ℕ) → kind ≡ key → packedRow key ≡ packedRow kind
 arm kind key e = ap packedRow (sym e)
 
 pub row-of-spec : {M : Type 1} → statement M
-unfolding packedRow sortOf grammar
+unfolding packedRow sortOf sortIn kinds kindIn kindOf kindRow expressionFields statementFields markFields numbersIn
 row-of-spec =
     tie.close
     (tie.spec
@@ -74,4 +74,4 @@ row-of-spec =
     (λ c. arm _ 51 (c .match .keys42))
     (λ c. arm _ 52 (c .match .keys43))
     (λ c. arm _ 53 (c .match .keys44))
-    (λ c. no-row _ (no-arm kindNumbers _ _ (c .match .rest) .0)))
+    (λ c. no-row _ (no-arm (numbersIn kinds) _ _ (c .match .rest) .0)))

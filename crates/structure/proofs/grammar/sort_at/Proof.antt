@@ -1,5 +1,5 @@
 -- `sort_at` reads the kind, then the table.
-use Rattle.structure.specs.Grammar.{sortAt}
+use Rattle.words.specs.Kinds.{sortAt}
 use borrow.Author.Needs.{needs}
 use Rattle.structure.proofs.grammar.sort_at.Statement.{statement}
 use Rattle.structure.proofs.grammar.sort_at.Tie as tie

@@ -3,7 +3,7 @@ use borrow.Author.Needs.{needs}
 use mathlib.Core.Path.{_∙_}
 use Prim.Native.Nat.{ℕ, _+_}
 use native.Mathlib.Omega.{arith}
-use Rattle.language.specs.DecodeLaws.{listAt}
+use Rattle.language.specs.Decode.{listAt}
 use Rattle.writers.specs.Code.{exitsOf}
 use Rattle.leaves.proofs.Words.{pick-most}
 use Rattle.writers.proofs.Sequence.{back-length, room-behind}

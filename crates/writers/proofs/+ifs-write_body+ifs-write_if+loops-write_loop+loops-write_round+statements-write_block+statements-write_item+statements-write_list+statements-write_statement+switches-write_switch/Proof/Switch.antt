@@ -2,8 +2,7 @@
 use mathlib.Core.Path.{_∙_}
 use Prim.Native.Nat.{ℕ, _+_, _*_}
 use native.Mathlib.Omega.{arith}
-use Rattle.language.specs.Decode.{expressionAt}
-use Rattle.language.specs.DecodeLaws.{listAt}
+use Rattle.language.specs.Decode.{expressionAt, listAt}
 use Rattle.translation.specs.Translate.{atomOf}
 use Rattle.writers.specs.Code.{exitsOf}
 use Rattle.leaves.specs.Chain.{Reach, back-in, room-less}

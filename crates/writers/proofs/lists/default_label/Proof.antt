@@ -1,7 +1,7 @@
 -- The label of a list's default, from its place in the table; where it has none, the other label.
 use mathlib.Core.Path.{sym}
 use native.Mathlib.Omega.{arith}
-use Rattle.language.specs.DecodeLaws.{listAt}
+use Rattle.language.specs.Decode.{listAt}
 use Rattle.writers.proofs.Tables.{default-at, word-asks, default-of-list}
 use borrow.Author.Needs.{needs}
 use Rattle.writers.proofs.lists.default_label.Statement.{statement}

@@ -1,6 +1,6 @@
 -- The rows of a loop's test: those of its expression and five more.
 use native.Mathlib.Omega.{arith}
-use Rattle.language.specs.DecodeLaws.{partAt}
+use Rattle.language.specs.Decode.{partAt}
 use Rattle.writers.proofs.LoopLaws.{test-some, test-most}
 use borrow.Author.Needs.{needs}
 use Rattle.writers.proofs.loops.test_size.Statement.{statement}

@@ -2,7 +2,7 @@
 use Prim.Native.Nat.{_+_}
 use Rattle.leaves.specs.Chain.{back-in}
 use Rattle.writers.proofs.Sequence.{back-length, room-behind}
-use Rattle.language.specs.DecodeLaws.{partAt}
+use Rattle.language.specs.Decode.{partAt}
 use mathlib.Core.Path.{_∙_}
 use native.Mathlib.Omega.{arith}
 use Rattle.writers.proofs.LoopLaws.{round-end-done}

@@ -2,7 +2,7 @@
 use mathlib.Core.Path.{sym, ap}
 use native.Mathlib.Omega.{arith}
 use Rattle.language.specs.Trees.{none}
-use Rattle.language.specs.DecodeLaws.{partAt}
+use Rattle.language.specs.Decode.{partAt}
 use Rattle.translation.specs.Translate.{testCode}
 use Rattle.emission.specs.Emission.{emitItems}
 use Rattle.words.specs.Over.{over}

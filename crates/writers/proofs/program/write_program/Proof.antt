@@ -1,7 +1,7 @@
 -- A program: the block at row 0.
 use mathlib.Core.Path.{ap}
 use native.Mathlib.Omega.{arith}
-use Rattle.language.specs.DecodeLaws.{listAt}
+use Rattle.language.specs.Decode.{listAt}
 use Rattle.language.specs.Program.{contents}
 use Rattle.translation.specs.TranslateSize.{itemsSize}
 use Rattle.leaves.specs.Chain.{room-less}

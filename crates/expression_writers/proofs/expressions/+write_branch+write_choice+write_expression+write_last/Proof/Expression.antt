@@ -3,7 +3,7 @@
 use mathlib.Core.Path.{sym, ap}
 use Prim.Native.Nat.{ℕ}
 use native.Mathlib.Omega.{arith}
-use Rattle.language.specs.DecodeLaws.{partAt}
+use Rattle.language.specs.Decode.{partAt}
 use Rattle.measures.specs.MeasureLaws.{whole-behind}
 use Rattle.leaves.specs.LeafLaws.{recoded, nothing-wrote}
 use Rattle.expression_writers.specs.Code.{operandCode}

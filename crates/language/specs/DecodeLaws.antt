@@ -1,6 +1,6 @@
 -- Laws of decode: a row's tree by its kind, where its links lead to later rows.
 use mathlib.Core.Path.{_≡_, refl, sym, _∙_, ap, ap₂, fun-ext}
-use mathlib.Core.Bool.{Bool, true, false, false≢true}
+use mathlib.Core.Bool.{Bool, true, false, false≢true, true≢false}
 use mathlib.Core.List.{List}
 use Prim.Native.Nat.{ℕ, zero, suc, _+_, _*_, _≤_, _<_}
 use native.Mathlib.Omega.{arith}
@@ -10,7 +10,7 @@ use lib.IntN.{ℤ, pos}
 use lib.ListN.{length, List·getD-eq-default}
 use Rattle.words.specs.Word.{natural, pick}
 use Rattle.words.specs.Table.{rowCount, Whole, wordAt, numberAt}
-use Rattle.words.specs.Kinds.{kinds, kindIn, kindOf, kindAt, isStatementKind}
+use Rattle.words.specs.Kinds.{kinds, kindIn, kindOf, kindAt, isExpressionKind, isStatementKind}
 use Rattle.words.specs.declared.Operator.{Operator}
 use Rattle.words.specs.declared.Kind.{Kind}
 use Rattle.words.specs.declared.Kind.the-variants.{OfExpression, OfStatement, OfMark, Other}
@@ -30,6 +30,22 @@ later-same {A} other row f g h l = by (ltb row l) refl
 pub part-some : (rows : List ℤ) (l : ℕ) → 0 < l → partAt rows l ≡ present (expressionAt rows l)
 part-some rows zero h = absurd (omega arith)
 part-some rows (suc l) h = refl
+
+-- A row that is no expression, or no statement, decodes to something harmless.
+no-expression-of : (k : Kind) (word : ℕ → ℤ) (tree : ℕ → Expression) → isExpressionKind k ≡ false → expressionOf k word tree ≡ constant (pos 0)
+unfolding expressionOf
+no-expression-of (OfExpression k) word tree e = absurd (true≢false e)
+no-expression-of (OfStatement k) word tree e = refl
+no-expression-of (OfMark k) word tree e = refl
+no-expression-of Other word tree e = refl
+
+no-statement-of : (k : Kind) (word : ℕ → ℤ) (expression : ℕ → Expression) (statement : ℕ → Statement) (items : ℕ → Items) → isStatementKind k ≡ false
+    → statementOf k word expression statement items ≡ empty
+unfolding statementOf
+no-statement-of (OfExpression k) word expression statement items e = refl
+no-statement-of (OfStatement k) word expression statement items e = absurd (true≢false e)
+no-statement-of (OfMark k) word expression statement items e = refl
+no-statement-of Other word expression statement items e = refl
 
 items-statement : (k : Kind) (word : ℕ → ℤ) (s : Statement) (is : Items) → isStatementKind k ≡ true → itemsOf k word s is ≡ s then is
 unfolding itemsOf
@@ -116,6 +132,9 @@ module _ (rows : List ℤ) (whole : Whole rows) where
 
     -- ---- kinds 1 to 30
 
+    pub at-no-expression : isExpressionKind (kindAt rows row) ≡ false → expressionAt rows row ≡ constant (pos 0)
+    at-no-expression k = expression-at row ∙ no-expression-of (kindAt rows row) (wordAt rows row) _ k
+
     pub at-constant : kindAt rows row ≡ OfExpression Constant → expressionAt rows row ≡ constant (wordAt rows row 1)
     unfolding expressionOf
     at-constant k = rw (expression-at row, k)
@@ -176,6 +195,9 @@ module _ (rows : List ℤ) (whole : Whole rows) where
 
     abbrev s-at : ℕ → Statement
     s-at l = statementAt rows l
+
+    pub at-no-statement : isStatementKind (kindAt rows row) ≡ false → statementAt rows row ≡ empty
+    at-no-statement k = statement-at row ∙ no-statement-of (kindAt rows row) (wordAt rows row) _ _ _ k
 
     pub at-empty : kindAt rows row ≡ OfStatement Empty → statementAt rows row ≡ empty
     unfolding statementOf

@@ -1,16 +1,20 @@
 -- Laws of the table of kinds: what holds of every kind is tested over the table.
-use mathlib.Core.Path.{_≡_, refl}
+use mathlib.Core.Path.{_≡_, refl, sym, ap, _∙_}
 use mathlib.Core.Bool.{Bool, true, false, _&&_, _||_}
 use mathlib.Core.List.{List, [], _∷_}
-use mathlib.Core.Logic.{⊎-elim}
-use Prim.Native.Nat.{ℕ}
+use Prim.Native.Nat.{ℕ, zero, suc, _+_, _-_, _≤_}
+use native.Mathlib.Omega.{arith}
 use lib.Dec.{eqb}
-use borrow.Author.Tests.{eqb-true}
+use lib.IntN.{ℤ}
+use borrow.Author.Tests.{eqb-true, eqb-false, leb-true}
 use Rattle.words.specs.Word.{pick}
-use Rattle.words.specs.Kinds.{kinds, kindIn, kindOf, expression, place, branch, isLink, isRequired}
-use Rattle.words.specs.Laws.{both}
+use Rattle.words.specs.Table.{numberAt}
+use Rattle.words.specs.Kinds.{kinds, kindIn, kindOf, kindAt, operators, operatorOf, isExpressionKind, isStatementKind, between, expression, place, branch, isLink, isRequired, kindRow, expressionFields, statementFields, markFields, sortIn, isPlaceKind}
+use Rattle.words.specs.Laws.{both, by-cases}
+use Rattle.words.specs.declared.Operator.{Operator}
 use Rattle.words.specs.declared.Kind.{Kind}
-use Rattle.words.specs.declared.Kind.the-variants.{Other}
+use Rattle.words.specs.declared.Kind.the-variants.{OfExpression, Other}
+use Rattle.words.specs.declared.ExpressionKind.the-variants.{Binary, Compound, Prefix, Postfix}
 
 -- A test that every line of the table passes.
 unfoldable pub everyLine : (ℕ → Kind → Bool) → List (ℕ × Kind) → Bool
@@ -42,3 +46,85 @@ required-link sort r = by (eqb sort expression) refl r
         by-place : (t : Bool) → eqb sort place ≡ t → (t || eqb sort branch) ≡ true → isLink sort ≡ true
         by-place true e r = rw (eqb-true sort place e)
         by-place false e r = rw (eqb-true sort branch r)
+
+-- ---- the kind of a row, from its number
+
+pub kind-numbered : (rows : List ℤ) (row : ℕ) {number : ℕ} → number ≡ numberAt rows row 0 → (key : ℕ) → number ≡ key → kindAt rows row ≡ kindOf key
+unfolding kindAt
+kind-numbered rows row p key e = ap kindOf (sym p ∙ e)
+
+-- The numbers that some kinds have: `these` tells the kinds, `numbers` their numbers.
+numbers-of : (these : Kind → Bool) (numbers : ℕ → Bool) → everyLine (λ number kind. pick (these kind) (numbers number) true) kinds ≡ true → these Other ≡ false
+    → (number : ℕ) → these (kindOf number) ≡ true → numbers number ≡ true
+numbers-of these numbers passed other number t = rw t at (every-number (λ number kind. pick (these kind) (numbers number) true) passed (λ number. rw other) number)
+
+between-both : (least most number : ℕ) → between least most number ≡ true → (least ≤ number) × (number ≤ most)
+between-both least most number e = let parts = both _ _ e in (leb-true least number (parts .0), leb-true number most (parts .1))
+
+-- A number that no expression has, and one that no statement has.
+pub no-expression : (number : ℕ) → ((1 ≤ number) × (number ≤ 30) → ⊥) → isExpressionKind (kindOf number) ≡ false
+unfolding everyLine kinds
+no-expression number beyond =
+    by-cases (isExpressionKind (kindOf number)) (λ e. absurd (beyond (between-both 1 30 number (numbers-of isExpressionKind (between 1 30) refl refl number e)))) (λ e. e)
+
+pub no-statement : (number : ℕ) → ((40 ≤ number) × (number ≤ 47) → ⊥) → ((50 ≤ number) × (number ≤ 52) → ⊥) → isStatementKind (kindOf number) ≡ false
+unfolding everyLine kinds
+no-statement number beyond behind =
+    by-cases (isStatementKind (kindOf number))
+    (λ e. let inside = numbers-of isStatementKind (λ n. between 40 47 n || between 50 52 n) refl refl number e in
+    by-cases (between 40 47 number) (λ t. absurd (beyond (between-both 40 47 number t))) (λ t. absurd (behind (between-both 50 52 number (rw t at inside)))))
+    (λ e. e)
+
+-- A place is a variable or an element.
+pub place-cases : {A : Type 0} (number : ℕ) → isPlaceKind (kindOf number) ≡ true → (number ≡ 2 → A) → (number ≡ 3 → A) → A
+unfolding everyLine kinds isPlaceKind sortIn kindRow expressionFields statementFields markFields
+place-cases number e f g =
+    let inside = between-both 2 3 number (numbers-of isPlaceKind (between 2 3) refl refl number e) in
+    by-cases (eqb number 2) (λ t. f (eqb-true number 2 t)) (λ t. g (omega (arith, eqb-false number 2 t, inside .0, inside .1)))
+
+-- ---- kinds that differ in an operator
+
+-- What holds of so many numbers more from one on.
+abbrev Each : ℕ → ℕ → (ℕ → Type 0) → Type 0
+Each from zero holds = holds from
+Each from (suc more) holds = holds from × Each (suc from) more holds
+
+each : (from more : ℕ) (holds : ℕ → Type 0) → Each from more holds → (k : ℕ) → from ≤ k → k ≤ from + more → holds k
+each from zero holds e k p q = let same : k ≡ from = omega arith in rw same e
+each from (suc more) holds e k p q =
+    by-cases (eqb k from) (λ t. rw (eqb-true k from t) (e .0)) (λ t. each (suc from) more holds (e .1) k (omega (arith, eqb-false k from t)) (omega arith))
+
+-- The kinds from `first` to `last` have the operators in their order.
+ranged : (first last : ℕ) (kind : Operator → Kind) → Each first (last - first) (λ n. kindOf n ≡ kind (operatorOf (n - first)))
+    → (number : ℕ) → first ≤ number → number ≤ last → kindOf number ≡ kind (operatorOf (number - first))
+ranged first last kind lines number p q = each first (last - first) (λ n. kindOf n ≡ kind (operatorOf (n - first))) lines number p (omega arith)
+
+module _ (number : ℕ) where
+  pub binary-kind : 6 ≤ number → number ≤ 16 → kindOf number ≡ OfExpression (Binary (operatorOf (number - 6)))
+  unfolding kinds kindIn kindOf operators operatorOf
+  binary-kind p q = ranged 6 16 (λ o. OfExpression (Binary o)) (refl, (refl, (refl, (refl, (refl, (refl, (refl, (refl, (refl, (refl, refl)))))))))) number p q
+
+  pub compound-kind : 22 ≤ number → number ≤ 26 → kindOf number ≡ OfExpression (Compound (operatorOf (number - 22)))
+  unfolding kinds kindIn kindOf operators operatorOf
+  compound-kind p q = ranged 22 26 (λ o. OfExpression (Compound o)) (refl, (refl, (refl, (refl, refl)))) number p q
+
+  pub prefix-kind : 27 ≤ number → number ≤ 28 → kindOf number ≡ OfExpression (Prefix (operatorOf (number - 27)))
+  unfolding kinds kindIn kindOf operators operatorOf
+  prefix-kind p q = ranged 27 28 (λ o. OfExpression (Prefix o)) (refl, refl) number p q
+
+  pub postfix-kind : 29 ≤ number → number ≤ 30 → kindOf number ≡ OfExpression (Postfix (operatorOf (number - 29)))
+  unfolding kinds kindIn kindOf operators operatorOf
+  postfix-kind p q = ranged 29 30 (λ o. OfExpression (Postfix o)) (refl, refl) number p q
+
+-- ---- what the last arm of a match knows: the number is none of those before it
+
+-- So many numbers from one on were passed; `known` is what was known before.
+abbrev pub Passed : ℕ → ℕ → ℕ → Type 0 → Type 0
+Passed from zero number known = known
+Passed from (suc more) number known = Passed (suc from) more number (known × (number ≡ from → ⊥))
+
+pub passed : (from more number : ℕ) (known : Type 0) → Passed from more number known → known × (from ≤ number → from + more ≤ number)
+passed from zero number known rest = (rest, λ h. omega arith)
+passed from (suc more) number known rest =
+    let later = passed (suc from) more number (known × (number ≡ from → ⊥)) rest in
+    (later .0 .0, λ h. let beyond : suc from ≤ number = omega (arith, later .0 .1) in omega (arith, later .1 beyond))

@@ -10,6 +10,7 @@ use Rattle.words.specs.Word.{pick}
 use Rattle.words.specs.Table.{numberAt}
 use Rattle.words.specs.declared.Form.{Form}
 use Rattle.words.specs.declared.Form.the-variants.{Source, Kernel}
+use Rattle.words.specs.declared.Operator.{Operator}
 use Rattle.words.specs.declared.Operator.the-variants.{Add, Subtract, Multiply, Divide, Remainder, Less, Greater, LessOrEqual, GreaterOrEqual, Equal, NotEqual}
 use Rattle.words.specs.declared.ExpressionKind.{ExpressionKind}
 use Rattle.words.specs.declared.StatementKind.{StatementKind}
@@ -80,6 +81,21 @@ kindOf number = kindIn kinds number
 
 unfoldable pub kindAt : List ℤ → ℕ → Kind
 kindAt rows row = kindOf (numberAt rows row 0)
+
+-- Kinds that differ in an operator stand in the order of the operators: kinds 6 to 16 for all of them, 22 to 26, 27 and 28, 29 and 30 for
+-- the first ones.
+unfoldable pub operators : List Operator
+operators = Add ∷ Subtract ∷ Multiply ∷ Divide ∷ Remainder ∷ Less ∷ Greater ∷ LessOrEqual ∷ GreaterOrEqual ∷ Equal ∷ NotEqual ∷ []
+
+-- The operator at a position of that order.
+unfoldable pub operatorOf : ℕ → Operator
+operatorOf position = getD operators position NotEqual
+
+abbrev pub isExpressionKind : Kind → Bool
+isExpressionKind (OfExpression kind) = true
+isExpressionKind (OfStatement kind) = false
+isExpressionKind (OfMark kind) = false
+isExpressionKind Other = false
 
 -- The kinds of statements, marks apart.
 abbrev pub isStatementKind : Kind → Bool

@@ -8,7 +8,7 @@ use super::table::number_at;
 ghost use mathlib.Core.Path.{_≡_};
 ghost use Prim.Native.Nat.{_*_, _<_};
 ghost use lib.ListN.{length};
-ghost use Rattle.words.specs.Kinds.{kindOf, kindAt};
+ghost use Rattle.words.specs.Kinds.{kindOf, kindAt, operatorOf};
 
 // The kind with this number.
 pub fn kind_of(number: usize) -> Kind
@@ -68,4 +68,23 @@ pub fn kind_at(rows: &[i32], row: usize) -> Kind
     ensures { λ r. ⌜ r ≡ kindAt (now (rows .entry)) row ⌝ }
 {
     kind_of(number_at(rows, row, 0))
+}
+
+// The operator at a position of their order: kinds that differ in an operator stand in this order.
+pub fn operator_of(position: usize) -> Operator
+    ensures { λ r. ⌜ r ≡ operatorOf position ⌝ }
+{
+    match position {
+        0 => Operator::Add,
+        1 => Operator::Subtract,
+        2 => Operator::Multiply,
+        3 => Operator::Divide,
+        4 => Operator::Remainder,
+        5 => Operator::Less,
+        6 => Operator::Greater,
+        7 => Operator::LessOrEqual,
+        8 => Operator::GreaterOrEqual,
+        9 => Operator::Equal,
+        _ => Operator::NotEqual,
+    }
 }

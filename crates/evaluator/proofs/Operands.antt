@@ -27,9 +27,10 @@ use Rattle.evaluator.specs.declared.Operand.{Operand}
 use Rattle.evaluator.specs.declared.Operand.the-variants.{Value, Halted}
 use Rattle.evaluator.specs.declared.Position.{Position}
 use Rattle.evaluator.specs.declared.Position.the-variants.{At, Nowhere}
-use Rattle.words.specs.declared.Kind.the-variants.{Element}
+use Rattle.words.specs.declared.Kind.the-variants.{OfExpression}
+use Rattle.words.specs.declared.ExpressionKind.the-variants.{Element}
 use Rattle.evaluator.proofs.Decoding.{handed, handed-is}
-use Rattle.evaluator.proofs.Rows.{field-inside, sound-row}
+use Rattle.evaluator.proofs.Rows.{field-inside, element-array}
 
 -- ---- answers: `m` is the part of the run that the call did, `f` the rest of it
 
@@ -113,12 +114,12 @@ module _ {rows : List ℤ} {bounds : List ℕ} {words row : ℕ} (here : Ready r
     linked-place q = record { ready = linked (link .0) e q; place-is = rw e (link .1) }
 
 -- the number of an element's array
-module _ {rows : List ℤ} {bounds : List ℕ} {words row : ℕ} (here : Entered rows bounds words row Element) where
+module _ {rows : List ℤ} {bounds : List ℕ} {words row : ℕ} (here : Entered rows bounds words row (OfExpression Element)) where
   pub array-asks : (6 * row + 1 < length rows) × (numberAt rows row 1 < 2147483648)
-  array-asks = (field-inside (here .ready) 1 (omega arith), omega (arith, sound-row here .0, here .ready .setting .few-arrays))
+  array-asks = (field-inside (here .ready) 1 (omega arith), omega (arith, element-array here, here .ready .setting .few-arrays))
 
   pub array-is : {array : ℕ} → array ≡ numberAt rows row 1 → array < length (layoutFrom bounds .lengths)
-  array-is e = rw e (sound-row here .0)
+  array-is e = rw e (element-array here)
 
 -- ---- tests
 

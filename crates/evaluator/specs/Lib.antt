@@ -3,8 +3,6 @@
 pub mod Bounds
 -- Answers: what the code's answers say of a run.
 pub mod Answers
--- Kinds: the kinds of expressions.
-pub mod Kinds
 -- Rows: what is done at a row.
 pub mod Rows
 -- Ready: what the code asks of a table, a row and a store.

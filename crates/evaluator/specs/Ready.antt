@@ -6,9 +6,9 @@ use Prim.Native.Nat.{ℕ, _+_, _<_, _≤_}
 use lib.IntN.{ℤ}
 use lib.ListN.{length, getD}
 use Rattle.words.specs.Table.{rowCount}
-use Rattle.words.specs.Kinds.{kindAt}
+use Rattle.words.specs.Kinds.{kindAt, isPlaceKind}
 use Rattle.words.specs.declared.Kind.{Kind}
-use Rattle.language.specs.Sound.{Sound, isPlace}
+use Rattle.language.specs.Sound.{Sound}
 use Rattle.evaluator.specs.Bounds.{boundsOf, layoutFrom}
 
 -- An array's own bound and the next one are in the list, in order, and small.
@@ -33,7 +33,7 @@ pub record Ready (rows : List ℤ) (bounds : List ℕ) (words row : ℕ) : Type 
 -- And it is a place.
 pub record ReadyPlace (rows : List ℤ) (bounds : List ℕ) (words row : ℕ) : Type 0 where
   pub ready : Ready rows bounds words row
-  pub place-is : isPlace (kindAt rows row) ≡ true
+  pub place-is : isPlaceKind (kindAt rows row) ≡ true
 
 -- The row is of this kind, and was entered.
 pub record Entered (rows : List ℤ) (bounds : List ℕ) (words row : ℕ) (kind : Kind) : Type 0 where

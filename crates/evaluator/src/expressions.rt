@@ -7,18 +7,17 @@ use super::SPENT;
 use super::answers::operand;
 use super::answers::position;
 use super::answers::settled;
-use super::kinds::expression_kind_at;
 use super::operations::decides;
 use super::operations::link_at;
 use super::operations::operate;
 use super::operations::update;
 use super::operations::within;
-use words::Kind;
 use words::Operator;
 use words::arithmetic::bit;
 use words::arithmetic::is_true;
 use words::arithmetic::logical_not;
-use words::arithmetic::minus as minus_word;
+use words::arithmetic::minus;
+use words::kinds::operator_of;
 use words::table::number_at;
 use words::table::word_at;
 ghost use mathlib.Core.Path.{_≡_};
@@ -27,7 +26,8 @@ ghost use Prim.Native.Nat.{ℕ, _+_, _*_, _<_};
 ghost use lib.IntN.{ℤ};
 ghost use lib.ListN.{length};
 ghost use Rattle.words.specs.Word.{pick};
-ghost use Rattle.words.specs.declared.Kind as kinds;
+ghost use Rattle.words.specs.declared.Kind.the-variants.{OfExpression};
+ghost use Rattle.words.specs.declared.ExpressionKind.the-variants.{Variable, Element, Minus, Not, Binary, And, Or, Conditional, Comma, Assign, Compound, Prefix, Postfix};
 ghost use Rattle.words.specs.Table.{wordAt};
 ghost use Rattle.computation.specs.Remaining.{gives, spend};
 ghost use Rattle.evaluator.specs.Answers.{answered, placed};
@@ -54,27 +54,44 @@ pub fn eval(rows: &[i32], bounds: &[usize], row: usize, store: &mut [i32], left:
     compute(&*rows, &*bounds, row, store, left)
 }
 
-// A row that was entered: what follows, by its kind. A row that is no expression has the value 0.
+// A row that was entered: what follows, by the number of its kind; the kind itself would come back through memory. A row that is no
+// expression has the value 0.
 pub fn compute(rows: &[i32], bounds: &[usize], row: usize, store: &mut [i32], left: &mut u32) -> i64
     requires { ⌜ Ready (now rows) (now bounds) (length (now store)) row ⌝ }
     ensures { λ r. ⌜ answered r (now (left .exit)) (now (store .exit)) ≡ spend (evaluateAt (now (rows .entry)) (now (bounds .entry)) row) (now (left .entry)) (now (store .entry)) ⌝ }
 {
-    let kind = expression_kind_at(rows, row);
-    match kind {
-        Kind::Constant => constant(rows, row),
-        Kind::Variable => variable(rows, bounds, row, store),
-        Kind::Element => element(&*rows, &*bounds, row, store, left),
-        Kind::Minus => minus(&*rows, &*bounds, row, store, left),
-        Kind::Not => not(&*rows, &*bounds, row, store, left),
-        Kind::Binary(operator) => binary(&*rows, &*bounds, row, operator, store, left),
-        Kind::And => logical(&*rows, &*bounds, row, false, store, left),
-        Kind::Or => logical(&*rows, &*bounds, row, true, store, left),
-        Kind::Conditional => conditional(&*rows, &*bounds, row, store, left),
-        Kind::Comma => comma(&*rows, &*bounds, row, store, left),
-        Kind::Assign => assign(&*rows, &*bounds, row, store, left),
-        Kind::Compound(operator) => compound(&*rows, &*bounds, row, operator, store, left),
-        Kind::Prefix(operator) => increment(&*rows, &*bounds, row, operator, false, store, left),
-        Kind::Postfix(operator) => increment(&*rows, &*bounds, row, operator, true, store, left),
+    let number = number_at(rows, row, 0);
+    match number {
+        1 => constant(rows, row),
+        2 => variable(rows, bounds, row, store),
+        3 => element(&*rows, &*bounds, row, store, left),
+        4 => unary(&*rows, &*bounds, row, false, store, left),
+        5 => unary(&*rows, &*bounds, row, true, store, left),
+        6..=16 => binary(&*rows, &*bounds, row, operator_of(number - 6), store, left),
+        17 => logical(&*rows, &*bounds, row, false, store, left),
+        18 => logical(&*rows, &*bounds, row, true, store, left),
+        19 => ternary(&*rows, &*bounds, row, store, left),
+        20 => comma(&*rows, &*bounds, row, store, left),
+        21 => assign(&*rows, &*bounds, row, store, left),
+        22..=26 => compound(&*rows, &*bounds, row, operator_of(number - 22), store, left),
+        27..=28 => increment(
+            &*rows,
+            &*bounds,
+            row,
+            operator_of(number - 27),
+            false,
+            store,
+            left,
+        ),
+        29..=30 => increment(
+            &*rows,
+            &*bounds,
+            row,
+            operator_of(number - 29),
+            true,
+            store,
+            left,
+        ),
         _ => 0,
     }
 }
@@ -109,7 +126,7 @@ fn constant(rows: &[i32], row: usize) -> i64
 
 // A variable's row, entered: its word of the store.
 fn variable(rows: &[i32], bounds: &[usize], row: usize, store: &[i32]) -> i64
-    requires { ⌜ Entered (now rows) (now bounds) (length (now store)) row kinds.Kind.Variable ⌝ }
+    requires { ⌜ Entered (now rows) (now bounds) (length (now store)) row (OfExpression Variable) ⌝ }
     ensures { λ r. ⌜ ((n : ℕ) → answered r n (now (store .entry)) ≡ spend (evaluateAt (now (rows .entry)) (now (bounds .entry)) row) n (now (store .entry))) ⌝ }
 {
     let at = link_at(rows, row, 1);
@@ -118,7 +135,7 @@ fn variable(rows: &[i32], bounds: &[usize], row: usize, store: &[i32]) -> i64
 
 // An element's row, entered: the element's word of the store.
 fn element(rows: &[i32], bounds: &[usize], row: usize, store: &mut [i32], left: &mut u32) -> i64
-    requires { ⌜ Entered (now rows) (now bounds) (length (now store)) row kinds.Kind.Element ⌝ }
+    requires { ⌜ Entered (now rows) (now bounds) (length (now store)) row (OfExpression Element) ⌝ }
     ensures { λ r. ⌜ answered r (now (left .exit)) (now (store .exit)) ≡ spend (evaluateAt (now (rows .entry)) (now (bounds .entry)) row) (now (left .entry)) (now (store .entry)) ⌝ }
 {
     let answer = locate(&*rows, &*bounds, row, store, left);
@@ -131,7 +148,7 @@ fn element(rows: &[i32], bounds: &[usize], row: usize, store: &mut [i32], left: 
 
 // An element's row, entered: the index, then the bounds test.
 fn locate(rows: &[i32], bounds: &[usize], row: usize, store: &mut [i32], left: &mut u32) -> i64
-    requires { ⌜ Entered (now rows) (now bounds) (length (now store)) row kinds.Kind.Element ⌝ }
+    requires { ⌜ Entered (now rows) (now bounds) (length (now store)) row (OfExpression Element) ⌝ }
     ensures { λ r. ⌜ placed r (now (left .exit)) (now (store .exit)) ≡ spend (locateAt (now (rows .entry)) (now (bounds .entry)) row) (now (left .entry)) (now (store .entry)) ⌝ }
 {
     let answer = eval(&*rows, &*bounds, link_at(rows, row, 2), store, left);
@@ -159,8 +176,16 @@ fn place(rows: &[i32], bounds: &[usize], row: usize, store: &mut [i32], left: &m
     word_at(rows, row, 1) as i64
 }
 
-fn minus(rows: &[i32], bounds: &[usize], row: usize, store: &mut [i32], left: &mut u32) -> i64
-    requires { ⌜ Entered (now rows) (now bounds) (length (now store)) row kinds.Kind.Minus ⌝ }
+// Minus and not: the operand, then its negation or its truth.
+fn unary(
+    rows: &[i32],
+    bounds: &[usize],
+    row: usize,
+    truth: bool,
+    store: &mut [i32],
+    left: &mut u32,
+) -> i64
+    requires { ⌜ Entered (now rows) (now bounds) (length (now store)) row (OfExpression (pick truth Not Minus)) ⌝ }
     ensures { λ r. ⌜ answered r (now (left .exit)) (now (store .exit)) ≡ spend (evaluateAt (now (rows .entry)) (now (bounds .entry)) row) (now (left .entry)) (now (store .entry)) ⌝ }
 {
     let answer = eval(&*rows, &*bounds, link_at(rows, row, 1), store, left);
@@ -168,19 +193,10 @@ fn minus(rows: &[i32], bounds: &[usize], row: usize, store: &mut [i32], left: &m
     let Operand::Value(value) = first else {
         return answer;
     };
-    settled(minus_word(value))
-}
-
-fn not(rows: &[i32], bounds: &[usize], row: usize, store: &mut [i32], left: &mut u32) -> i64
-    requires { ⌜ Entered (now rows) (now bounds) (length (now store)) row kinds.Kind.Not ⌝ }
-    ensures { λ r. ⌜ answered r (now (left .exit)) (now (store .exit)) ≡ spend (evaluateAt (now (rows .entry)) (now (bounds .entry)) row) (now (left .entry)) (now (store .entry)) ⌝ }
-{
-    let answer = eval(&*rows, &*bounds, link_at(rows, row, 1), store, left);
-    let first = operand(answer);
-    let Operand::Value(value) = first else {
-        return answer;
-    };
-    logical_not(value) as i64
+    if truth {
+        return logical_not(value) as i64;
+    }
+    settled(minus(value))
 }
 
 // Kinds 6 to 16: "right operand, then left, then the operation".
@@ -192,7 +208,7 @@ fn binary(
     store: &mut [i32],
     left: &mut u32,
 ) -> i64
-    requires { ⌜ Entered (now rows) (now bounds) (length (now store)) row (kinds.Kind.Binary operator) ⌝ }
+    requires { ⌜ Entered (now rows) (now bounds) (length (now store)) row (OfExpression (Binary operator)) ⌝ }
     ensures { λ r. ⌜ answered r (now (left .exit)) (now (store .exit)) ≡ spend (evaluateAt (now (rows .entry)) (now (bounds .entry)) row) (now (left .entry)) (now (store .entry)) ⌝ }
 {
     let right_answer = eval(&*rows, &*bounds, link_at(rows, row, 2), store, left);
@@ -217,7 +233,7 @@ fn logical(
     store: &mut [i32],
     left: &mut u32,
 ) -> i64
-    requires { ⌜ Entered (now rows) (now bounds) (length (now store)) row (pick decided kinds.Kind.Or kinds.Kind.And) ⌝ }
+    requires { ⌜ Entered (now rows) (now bounds) (length (now store)) row (OfExpression (pick decided Or And)) ⌝ }
     ensures { λ r. ⌜ answered r (now (left .exit)) (now (store .exit)) ≡ spend (evaluateAt (now (rows .entry)) (now (bounds .entry)) row) (now (left .entry)) (now (store .entry)) ⌝ }
 {
     let left_answer = eval(&*rows, &*bounds, link_at(rows, row, 1), store, left);
@@ -236,8 +252,9 @@ fn logical(
     bit(is_true(right)) as i64
 }
 
-fn conditional(rows: &[i32], bounds: &[usize], row: usize, store: &mut [i32], left: &mut u32) -> i64
-    requires { ⌜ Entered (now rows) (now bounds) (length (now store)) row kinds.Kind.Conditional ⌝ }
+// Kind 19: the test, then one branch.
+fn ternary(rows: &[i32], bounds: &[usize], row: usize, store: &mut [i32], left: &mut u32) -> i64
+    requires { ⌜ Entered (now rows) (now bounds) (length (now store)) row (OfExpression Conditional) ⌝ }
     ensures { λ r. ⌜ answered r (now (left .exit)) (now (store .exit)) ≡ spend (evaluateAt (now (rows .entry)) (now (bounds .entry)) row) (now (left .entry)) (now (store .entry)) ⌝ }
 {
     let answer = eval(&*rows, &*bounds, link_at(rows, row, 1), store, left);
@@ -252,7 +269,7 @@ fn conditional(rows: &[i32], bounds: &[usize], row: usize, store: &mut [i32], le
 }
 
 fn comma(rows: &[i32], bounds: &[usize], row: usize, store: &mut [i32], left: &mut u32) -> i64
-    requires { ⌜ Entered (now rows) (now bounds) (length (now store)) row kinds.Kind.Comma ⌝ }
+    requires { ⌜ Entered (now rows) (now bounds) (length (now store)) row (OfExpression Comma) ⌝ }
     ensures { λ r. ⌜ answered r (now (left .exit)) (now (store .exit)) ≡ spend (evaluateAt (now (rows .entry)) (now (bounds .entry)) row) (now (left .entry)) (now (store .entry)) ⌝ }
 {
     let answer = eval(&*rows, &*bounds, link_at(rows, row, 1), store, left);
@@ -265,7 +282,7 @@ fn comma(rows: &[i32], bounds: &[usize], row: usize, store: &mut [i32], left: &m
 
 // "Value, then the place's index, then the bounds test, then the store. The result is the value stored."
 fn assign(rows: &[i32], bounds: &[usize], row: usize, store: &mut [i32], left: &mut u32) -> i64
-    requires { ⌜ Entered (now rows) (now bounds) (length (now store)) row kinds.Kind.Assign ⌝ }
+    requires { ⌜ Entered (now rows) (now bounds) (length (now store)) row (OfExpression Assign) ⌝ }
     ensures { λ r. ⌜ answered r (now (left .exit)) (now (store .exit)) ≡ spend (evaluateAt (now (rows .entry)) (now (bounds .entry)) row) (now (left .entry)) (now (store .entry)) ⌝ }
 {
     let value_answer = eval(&*rows, &*bounds, link_at(rows, row, 2), store, left);
@@ -291,7 +308,7 @@ fn compound(
     store: &mut [i32],
     left: &mut u32,
 ) -> i64
-    requires { ⌜ Entered (now rows) (now bounds) (length (now store)) row (kinds.Kind.Compound operator) ⌝ }
+    requires { ⌜ Entered (now rows) (now bounds) (length (now store)) row (OfExpression (Compound operator)) ⌝ }
     ensures { λ r. ⌜ answered r (now (left .exit)) (now (store .exit)) ≡ spend (evaluateAt (now (rows .entry)) (now (bounds .entry)) row) (now (left .entry)) (now (store .entry)) ⌝ }
 {
     let value_answer = eval(&*rows, &*bounds, link_at(rows, row, 2), store, left);
@@ -317,7 +334,7 @@ fn increment(
     store: &mut [i32],
     left: &mut u32,
 ) -> i64
-    requires { ⌜ Entered (now rows) (now bounds) (length (now store)) row (pick old (kinds.Kind.Postfix operator) (kinds.Kind.Prefix operator)) ⌝ }
+    requires { ⌜ Entered (now rows) (now bounds) (length (now store)) row (OfExpression (pick old (Postfix operator) (Prefix operator))) ⌝ }
     ensures { λ r. ⌜ answered r (now (left .exit)) (now (store .exit)) ≡ spend (evaluateAt (now (rows .entry)) (now (bounds .entry)) row) (now (left .entry)) (now (store .entry)) ⌝ }
 {
     let place_answer = place(&*rows, &*bounds, link_at(rows, row, 1), store, left);

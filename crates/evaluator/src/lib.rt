@@ -2,7 +2,6 @@
 // is the value, and the numbers behind the words say why the run stops: the greatest word and the ending's number.
 pub mod answers; // answers.rt: what an answer says
 pub mod expressions; // expressions.rt: evaluation by recursion down links
-pub mod kinds; // kinds.rt: the kind of an expression's row
 pub mod operations; // operations.rt: what an evaluation does without entering a row
 
 pub const GREATEST_WORD: i64 = 2147483647;

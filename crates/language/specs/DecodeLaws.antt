@@ -253,6 +253,9 @@ module _ (rows : List ℤ) (whole : Whole rows) where
     abbrev behind : ℕ
     behind = numberAt rows row 5
 
+    pub at-items : Forward row behind → itemsAt rows row ≡ itemsOf (kindAt rows row) (wordAt rows row) (statementAt rows row) (listAt rows behind)
+    at-items p = items-at row ∙ ap (itemsOf (kindAt rows row) (wordAt rows row) (statementAt rows row)) (later-list row behind p)
+
     pub at-item : isStatementKind (kindAt rows row) ≡ true → Forward row behind → itemsAt rows row ≡ statementAt rows row then listAt rows behind
     at-item k p = items-at row ∙ items-statement (kindAt rows row) (wordAt rows row) (statementAt rows row) _ k ∙ ap (λ l. statementAt rows row then l) (later-list row behind p)
 

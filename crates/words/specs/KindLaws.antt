@@ -13,7 +13,9 @@ use Rattle.words.specs.Kinds.{kinds, kindIn, kindOf, kindAt, operators, 
 use Rattle.words.specs.Laws.{both, by-cases}
 use Rattle.words.specs.declared.Operator.{Operator}
 use Rattle.words.specs.declared.Kind.{Kind}
-use Rattle.words.specs.declared.Kind.the-variants.{OfExpression, Other}
+use Rattle.words.specs.declared.Kind.the-variants.{OfExpression, OfStatement, OfMark, Other}
+use Rattle.words.specs.declared.MarkKind.{MarkKind}
+use Rattle.words.specs.declared.MarkKind.the-variants.{Case, Default, Label}
 use Rattle.words.specs.declared.ExpressionKind.the-variants.{Binary, Compound, Prefix, Postfix}
 
 -- A test that every line of the table passes.
@@ -81,6 +83,22 @@ unfolding everyLine kinds isPlaceKind sortIn kindRow expressionFields statementF
 place-cases number e f g =
     let inside = between-both 2 3 number (numbers-of isPlaceKind (between 2 3) refl refl number e) in
     by-cases (eqb number 2) (λ t. f (eqb-true number 2 t)) (λ t. g (omega (arith, eqb-false number 2 t, inside .0, inside .1)))
+
+-- The number of a mark.
+abbrev pub markNumber : MarkKind → ℕ
+markNumber Case = 48
+markNumber Default = 49
+markNumber Label = 53
+
+abbrev ownNumber : ℕ → Kind → Bool
+ownNumber number (OfExpression kind) = true
+ownNumber number (OfStatement kind) = true
+ownNumber number (OfMark kind) = eqb number (markNumber kind)
+ownNumber number Other = true
+
+pub mark-number : (number : ℕ) {kind : MarkKind} → kindOf number ≡ OfMark kind → number ≡ markNumber kind
+unfolding everyLine kinds
+mark-number number {kind} k = eqb-true number (markNumber kind) (rw k at (every-number ownNumber refl (λ n. refl) number))
 
 -- ---- kinds that differ in an operator
 

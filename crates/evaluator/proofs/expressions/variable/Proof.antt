@@ -4,24 +4,24 @@ use native.Mathlib.Omega.{arith}
 use lib.IntN.{pos}
 use lib.ListN.{getD}
 use Rattle.evaluator.proofs.Decoding.{wide-fits, answered-wide}
-use Rattle.evaluator.proofs.Rows.{sound-row, field-inside, variable-row}
+use Rattle.evaluator.proofs.Rows.{variable-inside, field-inside, variable-row}
 use Rattle.evaluator.proofs.expressions.variable.Statement.{statement}
 use Rattle.evaluator.proofs.expressions.variable.Tie as tie
 
 link-at-requires : tie.Need-link-at-requires
 link-at-requires c κs =
     let here = c .before .pre in
-    (field-inside (here .ready) 1 (omega arith), omega (arith, sound-row here, here .ready .setting .few-words))
+    (field-inside (here .ready) 1 (omega arith), omega (arith, variable-inside here, here .ready .setting .few-words))
 
 mul-result : tie.Need-mul-result
 mul-result c =
     let here = c .before .before .pre in
-    omega (arith, sound-row here, here .ready .setting .few-words)
+    omega (arith, variable-inside here, here .ready .setting .few-words)
 
 shared-slice-copy-out-result : tie.Need-shared-slice-copy-out-result
 shared-slice-copy-out-result c =
     let here = c .before .before .pre in
-    omega (arith, sound-row here)
+    omega (arith, variable-inside here)
 
 cast-result : tie.Need-cast-result
 cast-result c =

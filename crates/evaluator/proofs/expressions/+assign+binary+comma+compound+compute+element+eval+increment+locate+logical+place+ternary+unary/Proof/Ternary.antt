@@ -6,37 +6,37 @@ use native.Mathlib.Omega.{arith}
 use Rattle.words.specs.Arithmetic.{isTrue}
 use Rattle.words.specs.Laws.{back}
 use Rattle.evaluator.proofs.Operands.{goes, hands-up, handed-on, link-asks, linked, nearer, chosen-true, chosen-false}
-use Rattle.evaluator.proofs.Rows.{sound-row, conditional-row}
-use Rattle.evaluator.proofs.expressions.conditional.Reads as reads
-use Rattle.evaluator.proofs.expressions.+assign+binary+comma+compound+compute+conditional+element+eval+increment+locate+logical+minus+not+place.Lts-conditional as lts
-use Rattle.evaluator.proofs.expressions.+assign+binary+comma+compound+compute+conditional+element+eval+increment+locate+logical+minus+not+place.Proof.Claims.{conditional-claims, conditional-at}
+use Rattle.evaluator.proofs.Rows.{ternary-links, ternary-row}
+use Rattle.evaluator.proofs.expressions.ternary.Reads as reads
+use Rattle.evaluator.proofs.expressions.+assign+binary+comma+compound+compute+element+eval+increment+locate+logical+place+ternary+unary.Lts-ternary as lts
+use Rattle.evaluator.proofs.expressions.+assign+binary+comma+compound+compute+element+eval+increment+locate+logical+place+ternary+unary.Proof.Claims.{ternary-claims, ternary-at}
 
-pub link-at-requires : (t : ℕ) → lts.Need-link-at-requires (conditional-claims t) (conditional-at t) reads.Post
+pub link-at-requires : (t : ℕ) → lts.Need-link-at-requires (ternary-claims t) (ternary-at t) reads.Post
 link-at-requires t c κs =
     let start = c .before in
     let here = start .pre .1 in
-    link-asks (here .ready) (sound-row here .0) (omega arith)
+    link-asks (here .ready) (ternary-links here .0) (omega arith)
 
-pub eval-requires : (t : ℕ) → lts.Need-eval-requires (conditional-claims t) (conditional-at t) reads.Post
+pub eval-requires : (t : ℕ) → lts.Need-eval-requires (ternary-claims t) (ternary-at t) reads.Post
 eval-requires t c κs =
     let start = c .before .before .before .before in
     let past-link-at = c .before .before .link-at in
     let here = start .pre .1 in
-    (omega (arith, nearer (here .ready) (sound-row here .0) (past-link-at .ensures) 3 1 (omega arith), start .pre .0), linked (here .ready) (sound-row here .0) (past-link-at .ensures) (refl))
+    (omega (arith, nearer (here .ready) (ternary-links here .0) (past-link-at .ensures) 3 1 (omega arith), start .pre .0), linked (here .ready) (ternary-links here .0) (past-link-at .ensures) (refl))
 
-pub operand-requires : (t : ℕ) → lts.Need-operand-requires (conditional-claims t) (conditional-at t) reads.Post
+pub operand-requires : (t : ℕ) → lts.Need-operand-requires (ternary-claims t) (ternary-at t) reads.Post
 operand-requires t c κs = search needs
 
-pub enum-known-test : (t : ℕ) → lts.Need-enum-known-test (conditional-claims t) (conditional-at t) reads.Post
+pub enum-known-test : (t : ℕ) → lts.Need-enum-known-test (ternary-claims t) (ternary-at t) reads.Post
 enum-known-test t c = search needs
 
-pub enum-told : (t : ℕ) → lts.Need-enum-told (conditional-claims t) (conditional-at t) reads.Post
+pub enum-told : (t : ℕ) → lts.Need-enum-told (ternary-claims t) (ternary-at t) reads.Post
 enum-told t c = search needs
 
-pub same-length : (t : ℕ) → lts.Need-same-length (conditional-claims t) (conditional-at t) reads.Post
+pub same-length : (t : ℕ) → lts.Need-same-length (ternary-claims t) (ternary-at t) reads.Post
 same-length t c = search needs
 
-pub returns : (t : ℕ) → lts.Need-returns (conditional-claims t) (conditional-at t) reads.Post
+pub returns : (t : ℕ) → lts.Need-returns (ternary-claims t) (ternary-at t) reads.Post
 returns t c =
     let start = c .before .before .before .before .before .before .before .before .before in
     let past-link-at = c .before .before .before .before .before .before .before .link-at in
@@ -44,29 +44,29 @@ returns t c =
     let past-operand = c .before .before .operand in
     let past-enum-told = c .enum-told in
     let here = start .pre .1 in
-    hands-up (past-eval .result) (past-eval .last .1 .1 .1 .1 .0) (past-eval .last .1 .1 .1 .0) (past-eval .ok) (past-eval .ensures) (past-operand .result) (past-operand .ensures) (past-enum-told .given .1) _ ∙ sym (conditional-row here (past-link-at .ensures) refl refl (start .args .left .now) (start .args .store .now))
+    hands-up (past-eval .result) (past-eval .last .1 .1 .1 .1 .0) (past-eval .last .1 .1 .1 .0) (past-eval .ok) (past-eval .ensures) (past-operand .result) (past-operand .ensures) (past-enum-told .given .1) _ ∙ sym (ternary-row here (past-link-at .ensures) refl refl (start .args .left .now) (start .args .store .now))
 
-pub is-true-requires : (t : ℕ) → lts.Need-is-true-requires (conditional-claims t) (conditional-at t) reads.Post
+pub is-true-requires : (t : ℕ) → lts.Need-is-true-requires (ternary-claims t) (ternary-at t) reads.Post
 is-true-requires t c κs = search needs
 
-pub link-at-requires-2 : (t : ℕ) → lts.Need-link-at-requires-2 (conditional-claims t) (conditional-at t) reads.Post
+pub link-at-requires-2 : (t : ℕ) → lts.Need-link-at-requires-2 (ternary-claims t) (ternary-at t) reads.Post
 link-at-requires-2 t c κs =
     let start = c .before .before .before .before .before .before .before .before .before .before .before .before in
     let here = start .pre .1 in
-    link-asks (here .ready) (sound-row here .1) (omega arith)
+    link-asks (here .ready) (ternary-links here .1) (omega arith)
 
-pub eval-requires-2 : (t : ℕ) → lts.Need-eval-requires-2 (conditional-claims t) (conditional-at t) reads.Post
+pub eval-requires-2 : (t : ℕ) → lts.Need-eval-requires-2 (ternary-claims t) (ternary-at t) reads.Post
 eval-requires-2 t c κs =
     let start = c .before .before .before .before .before .before .before .before .before .before .before .before .before .before .before in
     let past-eval = c .before .before .before .before .before .before .before .before .before .before .eval in
     let past-link-at2 = c .before .before .link-at2 in
     let here = start .pre .1 in
-    (omega (arith, nearer (here .ready) (sound-row here .1) (past-link-at2 .ensures) 3 1 (omega arith), start .pre .0), linked (here .ready) (sound-row here .1) (past-link-at2 .ensures) (past-eval .kept .1 .1 .1 .0))
+    (omega (arith, nearer (here .ready) (ternary-links here .1) (past-link-at2 .ensures) 3 1 (omega arith), start .pre .0), linked (here .ready) (ternary-links here .1) (past-link-at2 .ensures) (past-eval .kept .1 .1 .1 .0))
 
-pub same-length-2 : (t : ℕ) → lts.Need-same-length-2 (conditional-claims t) (conditional-at t) reads.Post
+pub same-length-2 : (t : ℕ) → lts.Need-same-length-2 (ternary-claims t) (ternary-at t) reads.Post
 same-length-2 t c = search needs
 
-pub returns-2 : (t : ℕ) → lts.Need-returns-2 (conditional-claims t) (conditional-at t) reads.Post
+pub returns-2 : (t : ℕ) → lts.Need-returns-2 (ternary-claims t) (ternary-at t) reads.Post
 returns-2 t c =
     let start = c .before .before .before .before .before .before .before .before .before .before .before .before .before .before .before .before .before in
     let past-link-at = c .before .before .before .before .before .before .before .before .before .before .before .before .before .before .before .link-at in
@@ -80,26 +80,26 @@ returns-2 t c =
     let past-eval2 = c .before .eval2 in
     let here = start .pre .1 in
     handed-on (past-eval2 .result) _ _ (past-eval2 .ok) ∙ past-eval2 .ensures
-    ∙ sym (conditional-row here (past-link-at .ensures) (past-link-at2 .ensures) refl (start .args .left .now) (start .args .store .now) ∙ goes _ (past-eval .result) (past-eval .last .1 .1 .1 .1 .0) (past-eval .last .1 .1 .1 .0) (past-eval .ok) (past-eval .ensures) (past-operand .result) (past-operand .ensures) (past-test .given .0 .0) (past-test .given .1) ∙ chosen-true _ _ _ (sym (ap isTrue (back (past-test .given .0 .0) (past-known-told .given .0 .1))) ∙ sym (past-is-true .ensures) ∙ past-if1 .taken))
+    ∙ sym (ternary-row here (past-link-at .ensures) (past-link-at2 .ensures) refl (start .args .left .now) (start .args .store .now) ∙ goes _ (past-eval .result) (past-eval .last .1 .1 .1 .1 .0) (past-eval .last .1 .1 .1 .0) (past-eval .ok) (past-eval .ensures) (past-operand .result) (past-operand .ensures) (past-test .given .0 .0) (past-test .given .1) ∙ chosen-true _ _ _ (sym (ap isTrue (back (past-test .given .0 .0) (past-known-told .given .0 .1))) ∙ sym (past-is-true .ensures) ∙ past-if1 .taken))
 
-pub link-at-requires-3 : (t : ℕ) → lts.Need-link-at-requires-3 (conditional-claims t) (conditional-at t) reads.Post
+pub link-at-requires-3 : (t : ℕ) → lts.Need-link-at-requires-3 (ternary-claims t) (ternary-at t) reads.Post
 link-at-requires-3 t c κs =
     let start = c .before .before .before .before .before .before .before .before .before .before .before .before in
     let here = start .pre .1 in
-    link-asks (here .ready) (sound-row here .2) (omega arith)
+    link-asks (here .ready) (ternary-links here .2) (omega arith)
 
-pub eval-requires-3 : (t : ℕ) → lts.Need-eval-requires-3 (conditional-claims t) (conditional-at t) reads.Post
+pub eval-requires-3 : (t : ℕ) → lts.Need-eval-requires-3 (ternary-claims t) (ternary-at t) reads.Post
 eval-requires-3 t c κs =
     let start = c .before .before .before .before .before .before .before .before .before .before .before .before .before .before .before in
     let past-eval = c .before .before .before .before .before .before .before .before .before .before .eval in
     let past-link-at3 = c .before .before .link-at3 in
     let here = start .pre .1 in
-    (omega (arith, nearer (here .ready) (sound-row here .2) (past-link-at3 .ensures) 3 1 (omega arith), start .pre .0), linked (here .ready) (sound-row here .2) (past-link-at3 .ensures) (past-eval .kept .1 .1 .1 .0))
+    (omega (arith, nearer (here .ready) (ternary-links here .2) (past-link-at3 .ensures) 3 1 (omega arith), start .pre .0), linked (here .ready) (ternary-links here .2) (past-link-at3 .ensures) (past-eval .kept .1 .1 .1 .0))
 
-pub same-length-3 : (t : ℕ) → lts.Need-same-length-3 (conditional-claims t) (conditional-at t) reads.Post
+pub same-length-3 : (t : ℕ) → lts.Need-same-length-3 (ternary-claims t) (ternary-at t) reads.Post
 same-length-3 t c = search needs
 
-pub returns-3 : (t : ℕ) → lts.Need-returns-3 (conditional-claims t) (conditional-at t) reads.Post
+pub returns-3 : (t : ℕ) → lts.Need-returns-3 (ternary-claims t) (ternary-at t) reads.Post
 returns-3 t c =
     let start = c .before .before .before .before .before .before .before .before .before .before .before .before .before .before .before .before .before in
     let past-link-at = c .before .before .before .before .before .before .before .before .before .before .before .before .before .before .before .link-at in
@@ -113,4 +113,4 @@ returns-3 t c =
     let past-eval3 = c .before .eval3 in
     let here = start .pre .1 in
     handed-on (past-eval3 .result) _ _ (past-eval3 .ok) ∙ past-eval3 .ensures
-    ∙ sym (conditional-row here (past-link-at .ensures) refl (past-link-at3 .ensures) (start .args .left .now) (start .args .store .now) ∙ goes _ (past-eval .result) (past-eval .last .1 .1 .1 .1 .0) (past-eval .last .1 .1 .1 .0) (past-eval .ok) (past-eval .ensures) (past-operand .result) (past-operand .ensures) (past-test .given .0 .0) (past-test .given .1) ∙ chosen-false _ _ _ (sym (ap isTrue (back (past-test .given .0 .0) (past-known-told .given .0 .1))) ∙ sym (past-is-true .ensures) ∙ past-if1 .left))
+    ∙ sym (ternary-row here (past-link-at .ensures) refl (past-link-at3 .ensures) (start .args .left .now) (start .args .store .now) ∙ goes _ (past-eval .result) (past-eval .last .1 .1 .1 .1 .0) (past-eval .last .1 .1 .1 .0) (past-eval .ok) (past-eval .ensures) (past-operand .result) (past-operand .ensures) (past-test .given .0 .0) (past-test .given .1) ∙ chosen-false _ _ _ (sym (ap isTrue (back (past-test .given .0 .0) (past-known-told .given .0 .1))) ∙ sym (past-is-true .ensures) ∙ past-if1 .left))

@@ -4,23 +4,23 @@ use mathlib.Core.Path.{refl, sym, _∙_}
 use Prim.Native.Nat.{ℕ, _-_}
 use native.Mathlib.Omega.{arith}
 use Rattle.evaluator.proofs.Operands.{goes, hands-up, handed-on, link-asks, linked, nearer}
-use Rattle.evaluator.proofs.Rows.{sound-row, comma-row}
+use Rattle.evaluator.proofs.Rows.{comma-links, comma-row}
 use Rattle.evaluator.proofs.expressions.comma.Reads as reads
-use Rattle.evaluator.proofs.expressions.+assign+binary+comma+compound+compute+conditional+element+eval+increment+locate+logical+minus+not+place.Lts-comma as lts
-use Rattle.evaluator.proofs.expressions.+assign+binary+comma+compound+compute+conditional+element+eval+increment+locate+logical+minus+not+place.Proof.Claims.{comma-claims, comma-at}
+use Rattle.evaluator.proofs.expressions.+assign+binary+comma+compound+compute+element+eval+increment+locate+logical+place+ternary+unary.Lts-comma as lts
+use Rattle.evaluator.proofs.expressions.+assign+binary+comma+compound+compute+element+eval+increment+locate+logical+place+ternary+unary.Proof.Claims.{comma-claims, comma-at}
 
 pub link-at-requires : (t : ℕ) → lts.Need-link-at-requires (comma-claims t) (comma-at t) reads.Post
 link-at-requires t c κs =
     let start = c .before in
     let here = start .pre .1 in
-    link-asks (here .ready) (sound-row here .0) (omega arith)
+    link-asks (here .ready) (comma-links here .0) (omega arith)
 
 pub eval-requires : (t : ℕ) → lts.Need-eval-requires (comma-claims t) (comma-at t) reads.Post
 eval-requires t c κs =
     let start = c .before .before .before .before in
     let past-link-at = c .before .before .link-at in
     let here = start .pre .1 in
-    (omega (arith, nearer (here .ready) (sound-row here .0) (past-link-at .ensures) 3 1 (omega arith), start .pre .0), linked (here .ready) (sound-row here .0) (past-link-at .ensures) (refl))
+    (omega (arith, nearer (here .ready) (comma-links here .0) (past-link-at .ensures) 3 1 (omega arith), start .pre .0), linked (here .ready) (comma-links here .0) (past-link-at .ensures) (refl))
 
 pub operand-requires : (t : ℕ) → lts.Need-operand-requires (comma-claims t) (comma-at t) reads.Post
 operand-requires t c κs = search needs
@@ -48,7 +48,7 @@ pub link-at-requires-2 : (t : ℕ) → lts.Need-link-at-requires-2 (comma-claims
 link-at-requires-2 t c κs =
     let start = c .before .before .before .before .before .before .before .before .before in
     let here = start .pre .1 in
-    link-asks (here .ready) (sound-row here .1) (omega arith)
+    link-asks (here .ready) (comma-links here .1) (omega arith)
 
 pub eval-requires-2 : (t : ℕ) → lts.Need-eval-requires-2 (comma-claims t) (comma-at t) reads.Post
 eval-requires-2 t c κs =
@@ -56,7 +56,7 @@ eval-requires-2 t c κs =
     let past-eval = c .before .before .before .before .before .before .before .eval in
     let past-link-at2 = c .before .before .link-at2 in
     let here = start .pre .1 in
-    (omega (arith, nearer (here .ready) (sound-row here .1) (past-link-at2 .ensures) 3 1 (omega arith), start .pre .0), linked (here .ready) (sound-row here .1) (past-link-at2 .ensures) (past-eval .kept .1 .1 .1 .0))
+    (omega (arith, nearer (here .ready) (comma-links here .1) (past-link-at2 .ensures) 3 1 (omega arith), start .pre .0), linked (here .ready) (comma-links here .1) (past-link-at2 .ensures) (past-eval .kept .1 .1 .1 .0))
 
 pub same-length-2 : (t : ℕ) → lts.Need-same-length-2 (comma-claims t) (comma-at t) reads.Post
 same-length-2 t c = search needs

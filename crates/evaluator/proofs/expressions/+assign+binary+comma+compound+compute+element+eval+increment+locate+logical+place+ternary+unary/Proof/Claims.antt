@@ -7,52 +7,48 @@ use borrow.Fn.Kinds.{In}
 use borrow.Fn.PlainCycle.{Measures, is, falls, and}
 use Rattle.evaluator.proofs.expressions.assign.Reads as assign
 use Rattle.evaluator.proofs.expressions.assign.Kinds as assign-kinds
-use Rattle.evaluator.proofs.expressions.+assign+binary+comma+compound+compute+conditional+element+eval+increment+locate+logical+minus+not+place.Lts-assign as assign-lts
+use Rattle.evaluator.proofs.expressions.+assign+binary+comma+compound+compute+element+eval+increment+locate+logical+place+ternary+unary.Lts-assign as assign-lts
 use Rattle.evaluator.proofs.expressions.binary.Reads as binary
 use Rattle.evaluator.proofs.expressions.binary.Kinds as binary-kinds
-use Rattle.evaluator.proofs.expressions.+assign+binary+comma+compound+compute+conditional+element+eval+increment+locate+logical+minus+not+place.Lts-binary as binary-lts
+use Rattle.evaluator.proofs.expressions.+assign+binary+comma+compound+compute+element+eval+increment+locate+logical+place+ternary+unary.Lts-binary as binary-lts
 use Rattle.evaluator.proofs.expressions.comma.Reads as comma
 use Rattle.evaluator.proofs.expressions.comma.Kinds as comma-kinds
-use Rattle.evaluator.proofs.expressions.+assign+binary+comma+compound+compute+conditional+element+eval+increment+locate+logical+minus+not+place.Lts-comma as comma-lts
+use Rattle.evaluator.proofs.expressions.+assign+binary+comma+compound+compute+element+eval+increment+locate+logical+place+ternary+unary.Lts-comma as comma-lts
 use Rattle.evaluator.proofs.expressions.compound.Reads as compound
 use Rattle.evaluator.proofs.expressions.compound.Kinds as compound-kinds
-use Rattle.evaluator.proofs.expressions.+assign+binary+comma+compound+compute+conditional+element+eval+increment+locate+logical+minus+not+place.Lts-compound as compound-lts
+use Rattle.evaluator.proofs.expressions.+assign+binary+comma+compound+compute+element+eval+increment+locate+logical+place+ternary+unary.Lts-compound as compound-lts
 use Rattle.evaluator.proofs.expressions.compute.Reads as compute
 use Rattle.evaluator.proofs.expressions.compute.Kinds as compute-kinds
-use Rattle.evaluator.proofs.expressions.+assign+binary+comma+compound+compute+conditional+element+eval+increment+locate+logical+minus+not+place.Lts-compute as compute-lts
-use Rattle.evaluator.proofs.expressions.conditional.Reads as conditional
-use Rattle.evaluator.proofs.expressions.conditional.Kinds as conditional-kinds
-use Rattle.evaluator.proofs.expressions.+assign+binary+comma+compound+compute+conditional+element+eval+increment+locate+logical+minus+not+place.Lts-conditional as conditional-lts
+use Rattle.evaluator.proofs.expressions.+assign+binary+comma+compound+compute+element+eval+increment+locate+logical+place+ternary+unary.Lts-compute as compute-lts
 use Rattle.evaluator.proofs.expressions.element.Reads as element
 use Rattle.evaluator.proofs.expressions.element.Kinds as element-kinds
-use Rattle.evaluator.proofs.expressions.+assign+binary+comma+compound+compute+conditional+element+eval+increment+locate+logical+minus+not+place.Lts-element as element-lts
+use Rattle.evaluator.proofs.expressions.+assign+binary+comma+compound+compute+element+eval+increment+locate+logical+place+ternary+unary.Lts-element as element-lts
 use Rattle.evaluator.proofs.expressions.eval.Reads as eval
 use Rattle.evaluator.proofs.expressions.eval.Kinds as eval-kinds
-use Rattle.evaluator.proofs.expressions.+assign+binary+comma+compound+compute+conditional+element+eval+increment+locate+logical+minus+not+place.Lts-eval as eval-lts
+use Rattle.evaluator.proofs.expressions.+assign+binary+comma+compound+compute+element+eval+increment+locate+logical+place+ternary+unary.Lts-eval as eval-lts
 use Rattle.evaluator.proofs.expressions.increment.Reads as increment
 use Rattle.evaluator.proofs.expressions.increment.Kinds as increment-kinds
-use Rattle.evaluator.proofs.expressions.+assign+binary+comma+compound+compute+conditional+element+eval+increment+locate+logical+minus+not+place.Lts-increment as increment-lts
+use Rattle.evaluator.proofs.expressions.+assign+binary+comma+compound+compute+element+eval+increment+locate+logical+place+ternary+unary.Lts-increment as increment-lts
 use Rattle.evaluator.proofs.expressions.locate.Reads as locate
 use Rattle.evaluator.proofs.expressions.locate.Kinds as locate-kinds
-use Rattle.evaluator.proofs.expressions.+assign+binary+comma+compound+compute+conditional+element+eval+increment+locate+logical+minus+not+place.Lts-locate as locate-lts
+use Rattle.evaluator.proofs.expressions.+assign+binary+comma+compound+compute+element+eval+increment+locate+logical+place+ternary+unary.Lts-locate as locate-lts
 use Rattle.evaluator.proofs.expressions.logical.Reads as logical
 use Rattle.evaluator.proofs.expressions.logical.Kinds as logical-kinds
-use Rattle.evaluator.proofs.expressions.+assign+binary+comma+compound+compute+conditional+element+eval+increment+locate+logical+minus+not+place.Lts-logical as logical-lts
-use Rattle.evaluator.proofs.expressions.minus.Reads as minus
-use Rattle.evaluator.proofs.expressions.minus.Kinds as minus-kinds
-use Rattle.evaluator.proofs.expressions.+assign+binary+comma+compound+compute+conditional+element+eval+increment+locate+logical+minus+not+place.Lts-minus as minus-lts
-use Rattle.evaluator.proofs.expressions.not.Reads as not
-use Rattle.evaluator.proofs.expressions.not.Kinds as not-kinds
-use Rattle.evaluator.proofs.expressions.+assign+binary+comma+compound+compute+conditional+element+eval+increment+locate+logical+minus+not+place.Lts-not as not-lts
+use Rattle.evaluator.proofs.expressions.+assign+binary+comma+compound+compute+element+eval+increment+locate+logical+place+ternary+unary.Lts-logical as logical-lts
 use Rattle.evaluator.proofs.expressions.place.Reads as place
 use Rattle.evaluator.proofs.expressions.place.Kinds as place-kinds
-use Rattle.evaluator.proofs.expressions.+assign+binary+comma+compound+compute+conditional+element+eval+increment+locate+logical+minus+not+place.Lts-place as place-lts
+use Rattle.evaluator.proofs.expressions.+assign+binary+comma+compound+compute+element+eval+increment+locate+logical+place+ternary+unary.Lts-place as place-lts
+use Rattle.evaluator.proofs.expressions.ternary.Reads as ternary
+use Rattle.evaluator.proofs.expressions.ternary.Kinds as ternary-kinds
+use Rattle.evaluator.proofs.expressions.+assign+binary+comma+compound+compute+element+eval+increment+locate+logical+place+ternary+unary.Lts-ternary as ternary-lts
+use Rattle.evaluator.proofs.expressions.unary.Reads as unary
+use Rattle.evaluator.proofs.expressions.unary.Kinds as unary-kinds
+use Rattle.evaluator.proofs.expressions.+assign+binary+comma+compound+compute+element+eval+increment+locate+logical+place+ternary+unary.Lts-unary as unary-lts
 use Rattle.evaluator.proofs.answers.operand.Reads as operand-reads
 use Rattle.evaluator.proofs.answers.position.Reads as position-reads
 use Rattle.evaluator.proofs.answers.settled.Reads as settled-reads
 use Rattle.evaluator.proofs.expressions.constant.Reads as constant-reads
 use Rattle.evaluator.proofs.expressions.variable.Reads as variable-reads
-use Rattle.evaluator.proofs.kinds.expression_kind_at.Reads as expression-kind-at-reads
 use Rattle.evaluator.proofs.operations.decides.Reads as decides-reads
 use Rattle.evaluator.proofs.operations.link_at.Reads as link-at-reads
 use Rattle.evaluator.proofs.operations.operate.Reads as operate-reads
@@ -62,6 +58,7 @@ use Rattle.words.proofs.arithmetic.bit.Reads as bit-reads
 use Rattle.words.proofs.arithmetic.is_true.Reads as is-true-reads
 use Rattle.words.proofs.arithmetic.logical_not.Reads as logical-not-reads
 use Rattle.words.proofs.arithmetic.minus.Reads as minus-reads
+use Rattle.words.proofs.kinds.operator_of.Reads as operator-of-reads
 use Rattle.words.proofs.table.number_at.Reads as number-at-reads
 use Rattle.words.proofs.table.word_at.Reads as word-at-reads
 
@@ -80,9 +77,6 @@ abbrev pub μ-compound : Measures 4 compound-kinds.ps ℕ
 abbrev pub μ-compute : Measures 4 compute-kinds.ps ℕ
 μ-compute κs a = 4 * (rowCount (a .0 .now) - a .1 .1 .0) + 2
 
-abbrev pub μ-conditional : Measures 4 conditional-kinds.ps ℕ
-μ-conditional κs a = 4 * (rowCount (a .0 .now) - a .1 .1 .0) + 1
-
 abbrev pub μ-element : Measures 4 element-kinds.ps ℕ
 μ-element κs a = 4 * (rowCount (a .0 .now) - a .1 .1 .0) + 1
 
@@ -98,14 +92,14 @@ abbrev pub μ-locate : Measures 4 locate-kinds.ps ℕ
 abbrev pub μ-logical : Measures 4 logical-kinds.ps ℕ
 μ-logical κs a = 4 * (rowCount (a .0 .now) - a .1 .1 .0) + 1
 
-abbrev pub μ-minus : Measures 4 minus-kinds.ps ℕ
-μ-minus κs a = 4 * (rowCount (a .0 .now) - a .1 .1 .0) + 1
-
-abbrev pub μ-not : Measures 4 not-kinds.ps ℕ
-μ-not κs a = 4 * (rowCount (a .0 .now) - a .1 .1 .0) + 1
-
 abbrev pub μ-place : Measures 4 place-kinds.ps ℕ
 μ-place κs a = 4 * (rowCount (a .0 .now) - a .1 .1 .0) + 1
+
+abbrev pub μ-ternary : Measures 4 ternary-kinds.ps ℕ
+μ-ternary κs a = 4 * (rowCount (a .0 .now) - a .1 .1 .0) + 1
+
+abbrev pub μ-unary : Measures 4 unary-kinds.ps ℕ
+μ-unary κs a = 4 * (rowCount (a .0 .now) - a .1 .1 .0) + 1
 
 abbrev pub assign-at : ℕ → In 4 assign-kinds.ps
 assign-at t = and 4 assign-kinds.ps (is 4 assign-kinds.ps μ-assign t) assign.Pre
@@ -138,14 +132,6 @@ compute-at t = and 4 compute-kinds.ps (is 4 compute-kinds.ps μ-compute t) compu
 abbrev pub compute-below : ℕ → In 4 compute-kinds.ps
 compute-below t = and 4 compute-kinds.ps (falls 4 compute-kinds.ps _<_ μ-compute t) compute.Pre
 
-abbrev pub conditional-at : ℕ → In 4 conditional-kinds.ps
-conditional-at t =
-    and 4 conditional-kinds.ps (is 4 conditional-kinds.ps μ-conditional t) conditional.Pre
-
-abbrev pub conditional-below : ℕ → In 4 conditional-kinds.ps
-conditional-below t =
-    and 4 conditional-kinds.ps (falls 4 conditional-kinds.ps _<_ μ-conditional t) conditional.Pre
-
 abbrev pub element-at : ℕ → In 4 element-kinds.ps
 element-at t = and 4 element-kinds.ps (is 4 element-kinds.ps μ-element t) element.Pre
 
@@ -177,23 +163,23 @@ logical-at t = and 4 logical-kinds.ps (is 4 logical-kinds.ps μ-logical t) logic
 abbrev pub logical-below : ℕ → In 4 logical-kinds.ps
 logical-below t = and 4 logical-kinds.ps (falls 4 logical-kinds.ps _<_ μ-logical t) logical.Pre
 
-abbrev pub minus-at : ℕ → In 4 minus-kinds.ps
-minus-at t = and 4 minus-kinds.ps (is 4 minus-kinds.ps μ-minus t) minus.Pre
-
-abbrev pub minus-below : ℕ → In 4 minus-kinds.ps
-minus-below t = and 4 minus-kinds.ps (falls 4 minus-kinds.ps _<_ μ-minus t) minus.Pre
-
-abbrev pub not-at : ℕ → In 4 not-kinds.ps
-not-at t = and 4 not-kinds.ps (is 4 not-kinds.ps μ-not t) not.Pre
-
-abbrev pub not-below : ℕ → In 4 not-kinds.ps
-not-below t = and 4 not-kinds.ps (falls 4 not-kinds.ps _<_ μ-not t) not.Pre
-
 abbrev pub place-at : ℕ → In 4 place-kinds.ps
 place-at t = and 4 place-kinds.ps (is 4 place-kinds.ps μ-place t) place.Pre
 
 abbrev pub place-below : ℕ → In 4 place-kinds.ps
 place-below t = and 4 place-kinds.ps (falls 4 place-kinds.ps _<_ μ-place t) place.Pre
+
+abbrev pub ternary-at : ℕ → In 4 ternary-kinds.ps
+ternary-at t = and 4 ternary-kinds.ps (is 4 ternary-kinds.ps μ-ternary t) ternary.Pre
+
+abbrev pub ternary-below : ℕ → In 4 ternary-kinds.ps
+ternary-below t = and 4 ternary-kinds.ps (falls 4 ternary-kinds.ps _<_ μ-ternary t) ternary.Pre
+
+abbrev pub unary-at : ℕ → In 4 unary-kinds.ps
+unary-at t = and 4 unary-kinds.ps (is 4 unary-kinds.ps μ-unary t) unary.Pre
+
+abbrev pub unary-below : ℕ → In 4 unary-kinds.ps
+unary-below t = and 4 unary-kinds.ps (falls 4 unary-kinds.ps _<_ μ-unary t) unary.Pre
 
 abbrev pub assign-claims : ℕ → assign-lts.Claims
 assign-claims t = (link-at-reads.Asked, link-at-reads.Learnt, eval-below t, eval.Post, operand-reads.Asked, operand-reads.Learnt, place-below t, place.Post, position-reads.Asked, position-reads.Learnt)
@@ -208,10 +194,7 @@ abbrev pub compound-claims : ℕ → compound-lts.Claims
 compound-claims t = (link-at-reads.Asked, link-at-reads.Learnt, eval-below t, eval.Post, operand-reads.Asked, operand-reads.Learnt, place-below t, place.Post, position-reads.Asked, position-reads.Learnt, update-reads.Asked, update-reads.Learnt)
 
 abbrev pub compute-claims : ℕ → compute-lts.Claims
-compute-claims t = (expression-kind-at-reads.Asked, expression-kind-at-reads.Learnt, constant-reads.Asked, constant-reads.Learnt, variable-reads.Asked, variable-reads.Learnt, element-below t, element.Post, minus-below t, minus.Post, not-below t, not.Post, binary-below t, binary.Post, logical-below t, logical.Post, conditional-below t, conditional.Post, comma-below t, comma.Post, assign-below t, assign.Post, compound-below t, compound.Post, increment-below t, increment.Post)
-
-abbrev pub conditional-claims : ℕ → conditional-lts.Claims
-conditional-claims t = (link-at-reads.Asked, link-at-reads.Learnt, eval-below t, eval.Post, operand-reads.Asked, operand-reads.Learnt, is-true-reads.Asked, is-true-reads.Learnt)
+compute-claims t = (number-at-reads.Asked, number-at-reads.Learnt, constant-reads.Asked, constant-reads.Learnt, variable-reads.Asked, variable-reads.Learnt, element-below t, element.Post, unary-below t, unary.Post, logical-below t, logical.Post, ternary-below t, ternary.Post, comma-below t, comma.Post, assign-below t, assign.Post, operator-of-reads.Asked, operator-of-reads.Learnt, binary-below t, binary.Post, compound-below t, compound.Post, increment-below t, increment.Post)
 
 abbrev pub element-claims : ℕ → element-lts.Claims
 element-claims t = (locate-below t, locate.Post, position-reads.Asked, position-reads.Learnt)
@@ -228,11 +211,11 @@ locate-claims t = (link-at-reads.Asked, link-at-reads.Learnt, eval-below t, eval
 abbrev pub logical-claims : ℕ → logical-lts.Claims
 logical-claims t = (link-at-reads.Asked, link-at-reads.Learnt, eval-below t, eval.Post, operand-reads.Asked, operand-reads.Learnt, decides-reads.Asked, decides-reads.Learnt, bit-reads.Asked, bit-reads.Learnt, is-true-reads.Asked, is-true-reads.Learnt)
 
-abbrev pub minus-claims : ℕ → minus-lts.Claims
-minus-claims t = (link-at-reads.Asked, link-at-reads.Learnt, eval-below t, eval.Post, operand-reads.Asked, operand-reads.Learnt, minus-reads.Asked, minus-reads.Learnt, settled-reads.Asked, settled-reads.Learnt)
-
-abbrev pub not-claims : ℕ → not-lts.Claims
-not-claims t = (link-at-reads.Asked, link-at-reads.Learnt, eval-below t, eval.Post, operand-reads.Asked, operand-reads.Learnt, logical-not-reads.Asked, logical-not-reads.Learnt)
-
 abbrev pub place-claims : ℕ → place-lts.Claims
 place-claims t = (number-at-reads.Asked, number-at-reads.Learnt, locate-below t, locate.Post, word-at-reads.Asked, word-at-reads.Learnt)
+
+abbrev pub ternary-claims : ℕ → ternary-lts.Claims
+ternary-claims t = (link-at-reads.Asked, link-at-reads.Learnt, eval-below t, eval.Post, operand-reads.Asked, operand-reads.Learnt, is-true-reads.Asked, is-true-reads.Learnt)
+
+abbrev pub unary-claims : ℕ → unary-lts.Claims
+unary-claims t = (link-at-reads.Asked, link-at-reads.Learnt, eval-below t, eval.Post, operand-reads.Asked, operand-reads.Learnt, logical-not-reads.Asked, logical-not-reads.Learnt, minus-reads.Asked, minus-reads.Learnt, settled-reads.Asked, settled-reads.Learnt)

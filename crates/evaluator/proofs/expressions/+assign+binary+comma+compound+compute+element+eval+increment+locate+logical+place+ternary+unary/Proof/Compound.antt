@@ -9,23 +9,23 @@ use Rattle.computation.specs.Remaining.{spend}
 use Rattle.language.specs.Meaning.{update, newValue}
 use Rattle.evaluator.proofs.Operands.{goes, hands-up, found, lost, handed-on, link-asks, linked, nearer, linked-place}
 use Rattle.evaluator.proofs.Positions.{given-at, place-inside}
-use Rattle.evaluator.proofs.Rows.{sound-row, compound-row}
+use Rattle.evaluator.proofs.Rows.{compound-links, compound-row}
 use Rattle.evaluator.proofs.expressions.compound.Reads as reads
-use Rattle.evaluator.proofs.expressions.+assign+binary+comma+compound+compute+conditional+element+eval+increment+locate+logical+minus+not+place.Lts-compound as lts
-use Rattle.evaluator.proofs.expressions.+assign+binary+comma+compound+compute+conditional+element+eval+increment+locate+logical+minus+not+place.Proof.Claims.{compound-claims, compound-at}
+use Rattle.evaluator.proofs.expressions.+assign+binary+comma+compound+compute+element+eval+increment+locate+logical+place+ternary+unary.Lts-compound as lts
+use Rattle.evaluator.proofs.expressions.+assign+binary+comma+compound+compute+element+eval+increment+locate+logical+place+ternary+unary.Proof.Claims.{compound-claims, compound-at}
 
 pub link-at-requires : (t : ℕ) → lts.Need-link-at-requires (compound-claims t) (compound-at t) reads.Post
 link-at-requires t c κs =
     let start = c .before in
     let here = start .pre .1 in
-    link-asks (here .ready) (sound-row here .1) (omega arith)
+    link-asks (here .ready) (compound-links here .1) (omega arith)
 
 pub eval-requires : (t : ℕ) → lts.Need-eval-requires (compound-claims t) (compound-at t) reads.Post
 eval-requires t c κs =
     let start = c .before .before .before .before in
     let past-link-at = c .before .before .link-at in
     let here = start .pre .1 in
-    (omega (arith, nearer (here .ready) (sound-row here .1) (past-link-at .ensures) 3 1 (omega arith), start .pre .0), linked (here .ready) (sound-row here .1) (past-link-at .ensures) (refl))
+    (omega (arith, nearer (here .ready) (compound-links here .1) (past-link-at .ensures) 3 1 (omega arith), start .pre .0), linked (here .ready) (compound-links here .1) (past-link-at .ensures) (refl))
 
 pub operand-requires : (t : ℕ) → lts.Need-operand-requires (compound-claims t) (compound-at t) reads.Post
 operand-requires t c κs = search needs
@@ -53,7 +53,7 @@ pub link-at-requires-2 : (t : ℕ) → lts.Need-link-at-requires-2 (compound-cla
 link-at-requires-2 t c κs =
     let start = c .before .before .before .before .before .before .before .before .before .before in
     let here = start .pre .1 in
-    link-asks (here .ready) (sound-row here .0 .0) (omega arith)
+    link-asks (here .ready) (compound-links here .0 .0) (omega arith)
 
 pub place-requires : (t : ℕ) → lts.Need-place-requires (compound-claims t) (compound-at t) reads.Post
 place-requires t c κs =
@@ -61,7 +61,7 @@ place-requires t c κs =
     let past-eval = c .before .before .before .before .before .before .before .before .eval in
     let past-link-at2 = c .before .before .link-at2 in
     let here = start .pre .1 in
-    (omega (arith, nearer (here .ready) ((sound-row here .0) .0) (past-link-at2 .ensures) 1 1 (omega arith), start .pre .0), linked-place (here .ready) (sound-row here .0) (past-link-at2 .ensures) (past-eval .kept .1 .1 .1 .0))
+    (omega (arith, nearer (here .ready) ((compound-links here .0) .0) (past-link-at2 .ensures) 1 1 (omega arith), start .pre .0), linked-place (here .ready) (compound-links here .0) (past-link-at2 .ensures) (past-eval .kept .1 .1 .1 .0))
 
 pub position-requires : (t : ℕ) → lts.Need-position-requires (compound-claims t) (compound-at t) reads.Post
 position-requires t c κs = search needs
@@ -99,7 +99,7 @@ update-requires t c κs =
     let past-first = c .before .before .first in
     let start = c .before .before .before .before .before .before .before .before .before .before .before .before .before .before .before .before .before .before .before .before in
     let here = start .pre .1 in
-    let inside = place-inside (linked-place (here .ready) (sound-row here .0) (past-link-at2 .ensures) (past-eval .kept .1 .1 .1 .0)) (past-eval .last .1 .1 .1 .1 .0) (past-eval .last .1 .1 .1 .0) (past-first .given .0 .0) (past-place .last .1 .1 .1 .1 .0) (past-place .last .1 .1 .1 .0) (given-at (past-place .result) (past-place .last .1 .1 .1 .1 .0) (past-place .last .1 .1 .1 .0) (past-place .ok) (past-place .ensures) (past-position .result) (past-position .ensures) (past-first .given .0 .0) (past-first .given .1)) in omega (arith, inside, past-place .kept .1 .1 .1 .0)
+    let inside = place-inside (linked-place (here .ready) (compound-links here .0) (past-link-at2 .ensures) (past-eval .kept .1 .1 .1 .0)) (past-eval .last .1 .1 .1 .1 .0) (past-eval .last .1 .1 .1 .0) (past-first .given .0 .0) (past-place .last .1 .1 .1 .1 .0) (past-place .last .1 .1 .1 .0) (given-at (past-place .result) (past-place .last .1 .1 .1 .1 .0) (past-place .last .1 .1 .1 .0) (past-place .ok) (past-place .ensures) (past-position .result) (past-position .ensures) (past-first .given .0 .0) (past-first .given .1)) in omega (arith, inside, past-place .kept .1 .1 .1 .0)
 
 pub same-length-3 : (t : ℕ) → lts.Need-same-length-3 (compound-claims t) (compound-at t) reads.Post
 same-length-3 t c = search needs

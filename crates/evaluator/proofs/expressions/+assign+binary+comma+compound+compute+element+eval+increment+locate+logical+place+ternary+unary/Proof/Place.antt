@@ -4,21 +4,19 @@ use mathlib.Core.Path.{sym, ap, _∙_}
 use Prim.Native.Nat.{ℕ, _-_}
 use native.Mathlib.Omega.{arith}
 use lib.IntN.{ℤ}
-use lib.ListN.{length}
 use Rattle.words.specs.Word.{natural}
 use Rattle.words.specs.Table.{numberAt}
-use Rattle.words.specs.declared.Kind.the-variants.{Variable}
+use Rattle.words.specs.Kinds.{kinds, kindIn, kindOf}
 use Rattle.computation.specs.Remaining.{gives}
-use Rattle.evaluator.specs.Ready.{Entered}
 use Rattle.evaluator.specs.Rows.{locateAt}
 use Rattle.evaluator.proofs.Decoding.{wide-fits, placed-wide, placed-spent}
 use Rattle.evaluator.proofs.Enter.{entered, not-entered}
 use Rattle.evaluator.proofs.Operands.{handed-on-placed}
-use Rattle.evaluator.proofs.Rows.{field-inside, place-variable-row}
-use Rattle.evaluator.proofs.Tags.{number-element, place-variable-kind}
+use Rattle.evaluator.proofs.Positions.{place-variable}
+use Rattle.evaluator.proofs.Rows.{field-inside, numbered, place-variable-row}
 use Rattle.evaluator.proofs.expressions.place.Reads as reads
-use Rattle.evaluator.proofs.expressions.+assign+binary+comma+compound+compute+conditional+element+eval+increment+locate+logical+minus+not+place.Lts-place as lts
-use Rattle.evaluator.proofs.expressions.+assign+binary+comma+compound+compute+conditional+element+eval+increment+locate+logical+minus+not+place.Proof.Claims.{place-claims, place-at}
+use Rattle.evaluator.proofs.expressions.+assign+binary+comma+compound+compute+element+eval+increment+locate+logical+place+ternary+unary.Lts-place as lts
+use Rattle.evaluator.proofs.expressions.+assign+binary+comma+compound+compute+element+eval+increment+locate+logical+place+ternary+unary.Proof.Claims.{place-claims, place-at}
 
 pub returns : (t : ℕ) → lts.Need-returns (place-claims t) (place-at t) reads.Post
 returns t c =
@@ -36,12 +34,13 @@ number-at-requires t c κs =
     field-inside (here .ready) 0 (omega arith)
 
 pub locate-requires : (t : ℕ) → lts.Need-locate-requires (place-claims t) (place-at t) reads.Post
+unfolding kinds kindIn kindOf
 locate-requires t c κs =
     let start = c .before .before .before .before .before .before .before in
     let past-number-at = c .before .before .before .number-at in
     let past-if2 = c .before .before .if2 in
     let here = start .pre .1 in
-    (omega (arith, start .pre .0), record { ready = here .ready; kind-is = number-element _ _ _ (past-number-at .ensures) (past-if2 .taken) })
+    (omega (arith, start .pre .0), numbered (here .ready) (past-number-at .ensures) 3 (past-if2 .taken))
 
 pub same-length : (t : ℕ) → lts.Need-same-length (place-claims t) (place-at t) reads.Post
 same-length t c = search needs
@@ -73,6 +72,6 @@ returns-3 t c =
     let past-if2 = c .before .if2 in
     let past-word-at = c .word-at in
     let here = start .pre .1 in
-    let entry : Entered (start .args .rows .now) (start .args .bounds .now) (length (start .args .store .now)) (start .args .row) Variable = record { ready = here .ready; kind-is = place-variable-kind _ _ _ (past-number-at .ensures) (here .place-is) (past-if2 .left) } in
+    let entry = place-variable here (past-number-at .ensures) (past-if2 .left) in
     placed-wide (past-word-at .result) (past-word-at .ok) _ _ ∙ ap (λ (z : ℤ). gives (natural z) ((start .args .left .now) - 1) (start .args .store .now)) (past-word-at .ensures) ∙ sym (place-variable-row entry ((start .args .left .now) - 1) (start .args .store .now))
     ∙ sym (entered (locateAt (start .args .rows .now) (start .args .bounds .now) (start .args .row)) (start .args .store .now) (start .args .left .now) (past-if1 .left))

@@ -10,8 +10,8 @@ use Rattle.evaluator.proofs.Operands.{found, lost}
 use Rattle.evaluator.proofs.Positions.{given-at, locate-inside}
 use Rattle.evaluator.proofs.Rows.{element-row}
 use Rattle.evaluator.proofs.expressions.element.Reads as reads
-use Rattle.evaluator.proofs.expressions.+assign+binary+comma+compound+compute+conditional+element+eval+increment+locate+logical+minus+not+place.Lts-element as lts
-use Rattle.evaluator.proofs.expressions.+assign+binary+comma+compound+compute+conditional+element+eval+increment+locate+logical+minus+not+place.Proof.Claims.{element-claims, element-at}
+use Rattle.evaluator.proofs.expressions.+assign+binary+comma+compound+compute+element+eval+increment+locate+logical+place+ternary+unary.Lts-element as lts
+use Rattle.evaluator.proofs.expressions.+assign+binary+comma+compound+compute+element+eval+increment+locate+logical+place+ternary+unary.Proof.Claims.{element-claims, element-at}
 
 pub locate-requires : (t : ℕ) → lts.Need-locate-requires (element-claims t) (element-at t) reads.Post
 locate-requires t c κs =

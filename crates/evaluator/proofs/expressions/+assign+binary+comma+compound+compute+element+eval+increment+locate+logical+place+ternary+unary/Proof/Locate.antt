@@ -5,23 +5,23 @@ use Prim.Native.Nat.{ℕ, _-_}
 use native.Mathlib.Omega.{arith}
 use Rattle.evaluator.proofs.Bounds.{lies}
 use Rattle.evaluator.proofs.Operands.{goes, hands-placed, handed-on-placed, element-handed, link-asks, linked, nearer, array-asks, array-is}
-use Rattle.evaluator.proofs.Rows.{sound-row, locate-row}
+use Rattle.evaluator.proofs.Rows.{element-index, locate-row}
 use Rattle.evaluator.proofs.expressions.locate.Reads as reads
-use Rattle.evaluator.proofs.expressions.+assign+binary+comma+compound+compute+conditional+element+eval+increment+locate+logical+minus+not+place.Lts-locate as lts
-use Rattle.evaluator.proofs.expressions.+assign+binary+comma+compound+compute+conditional+element+eval+increment+locate+logical+minus+not+place.Proof.Claims.{locate-claims, locate-at}
+use Rattle.evaluator.proofs.expressions.+assign+binary+comma+compound+compute+element+eval+increment+locate+logical+place+ternary+unary.Lts-locate as lts
+use Rattle.evaluator.proofs.expressions.+assign+binary+comma+compound+compute+element+eval+increment+locate+logical+place+ternary+unary.Proof.Claims.{locate-claims, locate-at}
 
 pub link-at-requires : (t : ℕ) → lts.Need-link-at-requires (locate-claims t) (locate-at t) reads.Post
 link-at-requires t c κs =
     let start = c .before in
     let here = start .pre .1 in
-    link-asks (here .ready) (sound-row here .1) (omega arith)
+    link-asks (here .ready) (element-index here) (omega arith)
 
 pub eval-requires : (t : ℕ) → lts.Need-eval-requires (locate-claims t) (locate-at t) reads.Post
 eval-requires t c κs =
     let start = c .before .before .before .before in
     let past-link-at = c .before .before .link-at in
     let here = start .pre .1 in
-    (omega (arith, nearer (here .ready) (sound-row here .1) (past-link-at .ensures) 3 0 (omega arith), start .pre .0), linked (here .ready) (sound-row here .1) (past-link-at .ensures) (refl))
+    (omega (arith, nearer (here .ready) (element-index here) (past-link-at .ensures) 3 0 (omega arith), start .pre .0), linked (here .ready) (element-index here) (past-link-at .ensures) (refl))
 
 pub operand-requires : (t : ℕ) → lts.Need-operand-requires (locate-claims t) (locate-at t) reads.Post
 operand-requires t c κs = search needs

@@ -13,8 +13,8 @@ use Rattle.evaluator.proofs.Decoding.{wide-fits, answered-wide}
 use Rattle.evaluator.proofs.Operands.{goes, hands-up, link-asks, linked, nearer, decided-left, decided-right, decided-bit, truth-is}
 use Rattle.evaluator.proofs.Rows.{logical-row, logical-links}
 use Rattle.evaluator.proofs.expressions.logical.Reads as reads
-use Rattle.evaluator.proofs.expressions.+assign+binary+comma+compound+compute+conditional+element+eval+increment+locate+logical+minus+not+place.Lts-logical as lts
-use Rattle.evaluator.proofs.expressions.+assign+binary+comma+compound+compute+conditional+element+eval+increment+locate+logical+minus+not+place.Proof.Claims.{logical-claims, logical-at}
+use Rattle.evaluator.proofs.expressions.+assign+binary+comma+compound+compute+element+eval+increment+locate+logical+place+ternary+unary.Lts-logical as lts
+use Rattle.evaluator.proofs.expressions.+assign+binary+comma+compound+compute+element+eval+increment+locate+logical+place+ternary+unary.Proof.Claims.{logical-claims, logical-at}
 
 pub link-at-requires : (t : ℕ) → lts.Need-link-at-requires (logical-claims t) (logical-at t) reads.Post
 link-at-requires t c κs =

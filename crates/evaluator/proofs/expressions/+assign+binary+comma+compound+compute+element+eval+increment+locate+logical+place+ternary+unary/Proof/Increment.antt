@@ -8,8 +8,8 @@ use Rattle.evaluator.proofs.Operands.{found, lost, handed-on, link-asks
 use Rattle.evaluator.proofs.Positions.{given-at, place-inside}
 use Rattle.evaluator.proofs.Rows.{increment-link, increment-row}
 use Rattle.evaluator.proofs.expressions.increment.Reads as reads
-use Rattle.evaluator.proofs.expressions.+assign+binary+comma+compound+compute+conditional+element+eval+increment+locate+logical+minus+not+place.Lts-increment as lts
-use Rattle.evaluator.proofs.expressions.+assign+binary+comma+compound+compute+conditional+element+eval+increment+locate+logical+minus+not+place.Proof.Claims.{increment-claims, increment-at}
+use Rattle.evaluator.proofs.expressions.+assign+binary+comma+compound+compute+element+eval+increment+locate+logical+place+ternary+unary.Lts-increment as lts
+use Rattle.evaluator.proofs.expressions.+assign+binary+comma+compound+compute+element+eval+increment+locate+logical+place+ternary+unary.Proof.Claims.{increment-claims, increment-at}
 
 pub link-at-requires : (t : ℕ) → lts.Need-link-at-requires (increment-claims t) (increment-at t) reads.Post
 link-at-requires t c κs =

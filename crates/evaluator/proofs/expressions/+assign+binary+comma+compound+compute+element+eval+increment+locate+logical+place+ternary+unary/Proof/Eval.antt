@@ -3,18 +3,15 @@ use borrow.Author.Needs.{needs}
 use mathlib.Core.Path.{sym, _∙_}
 use Prim.Native.Nat.{ℕ, _-_}
 use native.Mathlib.Omega.{arith}
-use lib.ListN.{length}
-use Rattle.words.specs.declared.Kind.the-variants.{Constant}
-use Rattle.evaluator.specs.Ready.{Entered}
+use Rattle.words.specs.Kinds.{kinds, kindIn, kindOf}
 use Rattle.evaluator.specs.Rows.{evaluateAt}
 use Rattle.evaluator.proofs.Decoding.{answered-spent}
 use Rattle.evaluator.proofs.Enter.{entered, not-entered}
 use Rattle.evaluator.proofs.Operands.{handed-on}
-use Rattle.evaluator.proofs.Rows.{field-inside, constant-row}
-use Rattle.evaluator.proofs.Tags.{number-constant, number-variable}
+use Rattle.evaluator.proofs.Rows.{field-inside, numbered, constant-row}
 use Rattle.evaluator.proofs.expressions.eval.Reads as reads
-use Rattle.evaluator.proofs.expressions.+assign+binary+comma+compound+compute+conditional+element+eval+increment+locate+logical+minus+not+place.Lts-eval as lts
-use Rattle.evaluator.proofs.expressions.+assign+binary+comma+compound+compute+conditional+element+eval+increment+locate+logical+minus+not+place.Proof.Claims.{eval-claims, eval-at}
+use Rattle.evaluator.proofs.expressions.+assign+binary+comma+compound+compute+element+eval+increment+locate+logical+place+ternary+unary.Lts-eval as lts
+use Rattle.evaluator.proofs.expressions.+assign+binary+comma+compound+compute+element+eval+increment+locate+logical+place+ternary+unary.Proof.Claims.{eval-claims, eval-at}
 
 pub returns : (t : ℕ) → lts.Need-returns (eval-claims t) (eval-at t) reads.Post
 returns t c =
@@ -38,6 +35,7 @@ constant-requires t c κs =
     field-inside here 1 (omega arith)
 
 pub returns-2 : (t : ℕ) → lts.Need-returns-2 (eval-claims t) (eval-at t) reads.Post
+unfolding kinds kindIn kindOf
 returns-2 t c =
     let start = c .before .before .before .before .before .before in
     let past-if1 = c .before .before .before .if1 in
@@ -45,16 +43,16 @@ returns-2 t c =
     let past-if2 = c .before .if2 in
     let past-constant = c .constant in
     let here = start .pre .1 in
-    let entry : Entered (start .args .rows .now) (start .args .bounds .now) (length (start .args .store .now)) (start .args .row) Constant = record { ready = here; kind-is = number-constant _ _ _ (past-number-at .ensures) (past-if2 .taken) } in
-    handed-on (past-constant .result) _ _ (past-constant .ok) ∙ past-constant .ensures _ _ ∙ sym (constant-row entry ((start .args .left .now) - 1) (start .args .store .now)) ∙ sym (entered (evaluateAt (start .args .rows .now) (start .args .bounds .now) (start .args .row)) (start .args .store .now) (start .args .left .now) (past-if1 .left))
+    handed-on (past-constant .result) _ _ (past-constant .ok) ∙ past-constant .ensures _ _ ∙ sym (constant-row (numbered here (past-number-at .ensures) 1 (past-if2 .taken)) ((start .args .left .now) - 1) (start .args .store .now)) ∙ sym (entered (evaluateAt (start .args .rows .now) (start .args .bounds .now) (start .args .row)) (start .args .store .now) (start .args .left .now) (past-if1 .left))
 
 pub variable-requires : (t : ℕ) → lts.Need-variable-requires (eval-claims t) (eval-at t) reads.Post
+unfolding kinds kindIn kindOf
 variable-requires t c κs =
     let past-number-at = c .before .before .before .number-at in
     let past-if3 = c .before .if3 in
     let start = c .before .before .before .before .before .before .before in
     let here = start .pre .1 in
-    record { ready = here; kind-is = number-variable _ _ _ (past-number-at .ensures) (past-if3 .taken) }
+    numbered here (past-number-at .ensures) 2 (past-if3 .taken)
 
 pub same-length : (t : ℕ) → lts.Need-same-length (eval-claims t) (eval-at t) reads.Post
 same-length t c = search needs

@@ -105,7 +105,7 @@ module _ (rows : List ℤ) (whole : Whole rows) where
   items-at row = ap (λ t. t .items) (trees-at row) ∙ ap (λ s. itemsOf (kindAt rows row) (wordAt rows row) s (later none row (itemsAt rows) (natural (wordAt rows row 5)))) (sym (statement-at row))
 
   -- A link is absent or leads to a later row.
-  later-list : (row l : ℕ) → Forward row l → later none row (itemsAt rows) l ≡ listAt rows l
+  pub later-list : (row l : ℕ) → Forward row l → later none row (itemsAt rows) l ≡ listAt rows l
   later-list row zero p = rw (le-ltb row 0 (omega arith))
   later-list row (suc l) p = rw (lt-ltb row (suc l) (p (omega arith)))
 

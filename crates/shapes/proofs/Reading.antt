@@ -1,0 +1,51 @@
+-- What the functions read at a row of a source, from the laws of shapes.
+use mathlib.Core.Path.{_≡_, sym, ap, subst, _∙_}
+use mathlib.Core.List.{List}
+use Prim.Native.Nat.{ℕ, _<_}
+use native.Mathlib.Omega.{arith}
+use lib.IntN.{ℤ}
+use Rattle.words.specs.Table.{rowCount, wordAt, numberAt}
+use Rattle.words.specs.Kinds.{kindAt}
+use Rattle.words.specs.declared.Kind.{Kind}
+use Rattle.words.specs.declared.ExpressionKind.{ExpressionKind}
+use Rattle.words.specs.declared.StatementKind.{StatementKind}
+use Rattle.words.specs.declared.MarkKind.{MarkKind}
+use Rattle.shapes.specs.Shapes.{expressionShape, statementShape, markShape, expressionAs, statementAs, markAs, shapeAs, shapeAt, expressionIn, placeIn, statementIn, itemIn, StatementAt, ItemAt}
+use Rattle.shapes.specs.Source.{Source, PlaceAt, ExpressionAt}
+use Rattle.shapes.specs.ShapeLaws.{expression-found, statement-found, item-found, place-in}
+use Rattle.shapes.specs.declared.PlaceShape.{PlaceShape}
+use Rattle.shapes.specs.declared.ExpressionShape.{ExpressionShape}
+use Rattle.shapes.specs.declared.StatementShape.{StatementShape}
+use Rattle.shapes.specs.declared.Shape.{Shape}
+use Rattle.shapes.specs.declared.Item.{Item}
+
+-- ---- the shape of a row, from the kind and the fields that were read
+
+module _ (rows : List ℤ) (row : ℕ) where
+  pub expression-arm : {kind k : ExpressionKind} (v : ℤ) (a b c : ℕ) → kind ≡ k → v ≡ wordAt rows row 1 → a ≡ numberAt rows row 1 → b ≡ numberAt rows row 2 → c ≡ numberAt rows row 3
+      → expressionShape k v a b c ≡ expressionAs rows row kind
+  expression-arm v a b c e ev ea eb ec = rw (ev, ea, eb, ec) (ap (λ (x : ExpressionKind). expressionAs rows row x) (sym e))
+
+  pub statement-arm : {kind k : StatementKind} (a b c d : ℕ) → kind ≡ k → a ≡ numberAt rows row 1 → b ≡ numberAt rows row 2 → c ≡ numberAt rows row 3 → d ≡ numberAt rows row 4
+      → statementShape k a b c d ≡ statementAs rows row kind
+  statement-arm a b c d e ea eb ec ed = rw (ea, eb, ec, ed) (ap (λ (x : StatementKind). statementAs rows row x) (sym e))
+
+  pub mark-arm : {kind k : MarkKind} (v : ℤ) (a : ℕ) → kind ≡ k → v ≡ wordAt rows row 1 → a ≡ numberAt rows row 1 → markShape k v a ≡ markAs rows row kind
+  mark-arm v a e ev ea = rw (ev, ea) (ap (λ (x : MarkKind). markAs rows row x) (sym e))
+
+  pub shape-arm : {kind k : Kind} → kind ≡ kindAt rows row → kind ≡ k → shapeAs rows row k ≡ shapeAt rows row
+  unfolding shapeAt
+  shape-arm e g = ap (λ (x : Kind). shapeAs rows row x) (sym g ∙ e)
+
+module _ {rows : List ℤ} {row : ℕ} (source : Source rows) (inside : row < rowCount rows) where
+  pub expression-read : {shape : Shape} {e : ExpressionShape} → shape ≡ shapeAt rows row → e ≡ expressionIn shape → ExpressionAt rows row e
+  expression-read {shape} {e} h g = subst (λ (x : ExpressionShape). ExpressionAt rows row x) (sym (g ∙ ap expressionIn h)) (expression-found (source .sound) inside (source .few-words) (source .few-arrays))
+
+  pub statement-read : {shape : Shape} {s : StatementShape} → shape ≡ shapeAt rows row → s ≡ statementIn shape → StatementAt rows row s
+  statement-read {shape} {s} h g = subst (λ (x : StatementShape). StatementAt rows row x) (sym (g ∙ ap statementIn h)) (statement-found (source .sound) inside)
+
+  pub item-read : {shape : Shape} {i : Item} → shape ≡ shapeAt rows row → i ≡ itemIn shape → ItemAt rows row (numberAt rows row 5) i
+  item-read {shape} {i} h g = subst (λ (x : Item). ItemAt rows row (numberAt rows row 5) x) (sym (g ∙ ap itemIn h)) (item-found (source .sound) inside)
+
+pub place-read : {rows : List ℤ} {row : ℕ} {e : ExpressionShape} {p : PlaceShape} → ExpressionAt rows row e → p ≡ placeIn e → PlaceAt rows row p
+place-read {rows} {row} {e} found g = subst (λ (x : PlaceShape). PlaceAt rows row x) (sym g) (place-in e (omega arith) found)

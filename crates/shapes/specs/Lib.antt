@@ -1,0 +1,7 @@
+-- What stands at a row, with its links. A line of comment for each file.
+-- Shapes: what a row of each kind is, the trees that shapes stand for, and that their links lead on.
+pub mod Shapes
+-- Sources: what the translator asks of a table of source rows, and what stands at a row of one.
+pub mod Source
+-- Laws of shapes: what stands at a row of a sound table, kind by kind; and what a match on a shape tells of a row.
+pub mod ShapeLaws

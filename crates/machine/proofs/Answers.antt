@@ -1,18 +1,21 @@
 -- Answers: laws of the answers of statements and rounds: what the numbers say, how they are handed on, and that steps left never rise.
 use mathlib.Core.Path.{_≡_, refl, sym, ap, _∙_}
-use mathlib.Core.Bool.{Bool, true, false, true≢false}
+use mathlib.Core.Bool.{Bool, true, false, _||_, true≢false, false≢true}
 use mathlib.Core.List.{List, [], _∷_}
+use mathlib.Core.Logic.{⊎-elim}
 use Prim.Native.Nat.{ℕ, zero, suc, _-_, _^_, _≤_, _<_}
 use native.Mathlib.Omega.{arith}
 use types.Run.{OneOf}
 use denote.Enum.Declared.{tagOf}
+use lib.Dec.{eqb}
 use lib.IntN.{ℤ, pos, negsuc}
 use lib.Signed.{mag, ltZ}
 use mir.Syntax.{w32}
 use mir.Val.{toZ, ofZ}
-use borrow.Author.Tests.{ltb-true}
+use borrow.Author.Tests.{ltb-true, eq-eqb}
 use Rattle.words.specs.Word.{isWord, sameWord, natural, pick}
-use Rattle.words.specs.Laws.{back, sameWord-refl, sameWord-differ}
+use Rattle.words.specs.Arithmetic.{isTrue}
+use Rattle.words.specs.Laws.{or-right, back, sameWord-refl, sameWord-differ}
 use Rattle.computation.specs.Computation.{Turn, again, leave, Computation, ret}
 use Rattle.computation.specs.Run.{spent}
 use Rattle.computation.specs.Remaining.{Rest, gives, halts, onward, onTurn, spend, leftOf, left-never-rises}
@@ -24,8 +27,7 @@ use Rattle.evaluator.specs.declared.Operand.the-variants.{Value, Halted as Stop
 use Rattle.evaluator.proofs.Decoding.{handed, handed-is, wide, wide-is, operand-word}
 use Rattle.evaluator.proofs.Enter.{entered, not-entered}
 use Rattle.evaluator.proofs.Operands.{stops}
-use Rattle.evaluator.proofs.Tags.{excluded}
-use Rattle.machine.specs.Flows.{passingOf, flowOf, flowRest, ran, turnBy, turned, EndsSwitch, EndsBody}
+use Rattle.machine.specs.Flows.{passingOf, flowOf, flowRest, ran, turnBy, turned, EndsSwitch, EndsBody, EndsRound}
 use Rattle.machine.specs.declared.Flow.{Flow}
 use Rattle.machine.specs.declared.Flow.the-variants.{Next, Break, Continue, Goto, Halted}
 use Rattle.machine.proofs.Flow as declared
@@ -117,6 +119,19 @@ flow-stops z e = rw e
 pub flow-passes : (z v : ℤ) → operandOf z ≡ Value v → flowOf z ≡ passingOf v
 unfolding flowOf
 flow-passes z v e = rw e
+
+-- an arm that several variants share: the tag is one of theirs
+abbrev member : ℕ → List ℕ → Bool
+member x [] = false
+member x (k ∷ ks) = eqb x k || member x ks
+
+one-of : (k : ℕ) (ks : List ℕ) (x : ℕ) → OneOf (k ∷ ks) x → member x (k ∷ ks) ≡ true
+one-of k [] x e = rw (eq-eqb x k e)
+one-of k (l ∷ ks) x h = ⊎-elim (λ e. rw (eq-eqb x k e)) (λ g. or-right (eqb x k) (member x (l ∷ ks)) (one-of l ks x g)) h
+
+excluded : (ks : List ℕ) (x : ℕ) → OneOf ks x → member x ks ≡ false → ⊥
+excluded [] x h m = h
+excluded (k ∷ ks) x h m = false≢true (sym m ∙ one-of k ks x h)
 
 abbrev tag : Flow → ℕ
 tag f = tagOf declared.the-type f
@@ -285,3 +300,9 @@ module _ (r : ℤ) (n : ℕ) (s : List ℤ) (k : ℕ) (t : List ℤ) where
 
   pub answered-least : (m : Computation ℤ) → answered r n s ≡ spend m k t → n ≤ k
   answered-least m h = let l : n ≡ leftOf (spend m k t) = sym (answered-left r n s) ∙ ap leftOf h in omega (arith, left-never-rises m k t)
+
+-- the last part of a round, whose value was handed on
+pub round-ends : (decides : Bool) (v r : ℤ) → mag v < 2 ^ 31 → mag r < 2 ^ 63 → EndsRound decides (toZ w32 (ofZ w32 v)) r → (n : ℕ) (s : List ℤ)
+    → turned (handed r) n s ≡ pick decides (pick (isTrue v) (gives again n s) (gives (leave next) n s)) (gives again n s)
+round-ends decides v r h fits ends n s =
+    turned-handed r n s fits ∙ ends n s ∙ ap (λ (z : ℤ). pick decides (pick (isTrue z) (gives again n s) (gives (leave next) n s)) (gives again n s)) (back v h)

@@ -1,5 +1,5 @@
--- What entering a row of each kind of statement does, told by the steps left: the laws that the proofs chain; loops by their
--- unrolling, lists by their items. All by computing `spend` of the meaning.
+-- Loops by their unrolling, lists by their items, told by the steps left: the laws that the proofs chain. All by computing `spend` of
+-- the meaning.
 use mathlib.Core.Path.{_≡_, refl, ap, _∙_}
 use mathlib.Core.Bool.{Bool, true, false, _||_}
 use mathlib.Core.List.{List}
@@ -9,68 +9,14 @@ use lib.IntN.{ℤ, pos}
 use Rattle.words.specs.Word.{pick}
 use Rattle.words.specs.Layout.{Layout}
 use Rattle.words.specs.Arithmetic.{isTrue}
-use Rattle.computation.specs.Computation.{Turn, again, leave, Computation, ret, _>>=_, loop, _>>_}
+use Rattle.computation.specs.Computation.{Turn, again, leave, Computation, ret, _>>=_, loop}
 use Rattle.computation.specs.RunLaws.{turnOf}
 use Rattle.computation.specs.Remaining.{gives, onward, pay, onTurn, spend, spend-unroll}
-use Rattle.language.specs.Trees.{Expression, Part, absent, present, Mark, case, default, label, Statement, empty, express, block, ifThen, ifElse, while, doWhile, for, switch, break, continue, goto, Items, none, _then_, _here_, sameMark, has}
-use Rattle.language.specs.Meaning.{Signal, next, breaking, continuing, seeking, enter, evaluate, value, valueOf, target, afterSwitch, afterBody, afterTest, rounds, perform, items, exec}
+use Rattle.language.specs.Trees.{Part, absent, present, Mark, case, default, Statement, empty, Items, none, _then_, _here_, sameMark, has}
+use Rattle.language.specs.Meaning.{Signal, next, breaking, continuing, seeking, enter, evaluate, value, target, afterSwitch, afterBody, afterTest, perform, items, exec}
 use Rattle.evaluator.proofs.Enter.{onward-same, onward-onward, forks}
 use Rattle.machine.specs.Lists.{from, startOf}
-use Rattle.machine.specs.Rows.{valueOr, roundOf, doRoundOf}
-
-module _ (L : Layout) (n : ℕ) (s : List ℤ) where
-  -- ---- statements, after the entry of their row
-
-  pub enter-empty : spend (perform L empty) n s ≡ gives next n s
-  unfolding spend perform
-  enter-empty = refl
-
-  pub enter-express : (e : Expression) → spend (perform L (express e)) n s ≡ onward (spend (value L e) n s) (λ _ n s. gives next n s)
-  unfolding spend perform
-  enter-express e = refl
-
-  pub enter-block : (is : Items) → spend (perform L (block is)) n s ≡ spend (items L is next) n s
-  unfolding perform
-  enter-block is = refl
-
-  pub enter-ifThen : (e : Expression) (y : Statement) → spend (perform L (ifThen e y)) n s ≡ onward (spend (value L e) n s) (λ v n s. pick (isTrue v) (spend (exec L y) n s) (gives next n s))
-  unfolding spend perform
-  enter-ifThen e y = onward-same (spend (value L e) n s) _ _ (λ v. forks (isTrue v) (exec L y) (ret next))
-
-  pub enter-ifElse : (e : Expression) (y z : Statement) → spend (perform L (ifElse e y z)) n s ≡ onward (spend (value L e) n s) (λ v n s. pick (isTrue v) (spend (exec L y) n s) (spend (exec L z) n s))
-  unfolding spend perform
-  enter-ifElse e y z = onward-same (spend (value L e) n s) _ _ (λ v. forks (isTrue v) (exec L y) (exec L z))
-
-  pub enter-while : (e : Expression) (body : Statement) → spend (perform L (while e body)) n s ≡ spend (rounds L (present e) absent (perform L body)) n s
-  unfolding perform
-  enter-while e body = refl
-
-  pub enter-do : (body : Statement) (e : Expression) → spend (perform L (doWhile body e)) n s ≡ spend (loop (doRoundOf L (perform L body) e)) n s
-  unfolding perform
-  enter-do body e = refl
-
-  pub enter-for : (first test action : Part) (body : Statement) → spend (perform L (for first test action body)) n s
-      ≡ onward (spend (valueOr L (pos 0) first) n s) (λ _ n s. spend (rounds L test action (perform L body)) n s)
-  unfolding spend perform
-  enter-for absent test action body = refl
-  enter-for (present e) test action body = refl
-
-  pub enter-switch : (e : Expression) (is : Items) → spend (perform L (switch e is)) n s
-      ≡ onward (spend (value L e) n s) (λ v n s. onward (spend (items L is (target v is)) n s) (λ signal n s. gives (afterSwitch signal) n s))
-  unfolding spend perform
-  enter-switch e is = refl
-
-  pub enter-break : spend (perform L break) n s ≡ gives breaking n s
-  unfolding spend perform
-  enter-break = refl
-
-  pub enter-continue : spend (perform L continue) n s ≡ gives continuing n s
-  unfolding spend perform
-  enter-continue = refl
-
-  pub enter-goto : (l : ℕ) → spend (perform L (goto l)) n s ≡ gives (seeking (label l)) n s
-  unfolding spend perform
-  enter-goto l = refl
+use Rattle.machine.specs.Rows.{valueOr, closing, roundOf}
 
 -- ---- loops
 
@@ -85,46 +31,27 @@ loop-round m n s =
     on (leave signal) n s = refl
 
 module _ (L : Layout) where
-  -- a while or a for is a round, and the rounds again or the end
-  pub rounds-round : (test action : Part) (body : Computation Signal) (n : ℕ) (s : List ℤ)
-      → spend (rounds L test action body) n s ≡ onward (spend (enter (roundOf L test action body)) n s) (onTurn (λ n s. spend (rounds L test action body) n s))
-  rounds-round absent action body n s = loop-round (roundOf L absent action body) n s
-  rounds-round (present e) action body n s = loop-round (roundOf L (present e) action body) n s
-
-  -- what follows the body of a while or a for, and of a do
-  abbrev pub stepRest : Part → Computation (Turn Signal)
-  stepRest action = do
-    valueOf L action
-    ret again
-
-  abbrev pub testRest : Expression → Computation (Turn Signal)
-  testRest e = do
-    v ← value L e
-    afterTest (ret again) v
-
-  pub step-rest : (action : Part) (n : ℕ) (s : List ℤ) → spend (stepRest action) n s ≡ onward (spend (valueOr L (pos 0) action) n s) (λ _ n s. gives again n s)
+  -- what follows the body of a loop
+  pub closing-is : (last : Part) (decides : Bool) (n : ℕ) (s : List ℤ) → spend (closing L last decides) n s
+      ≡ onward (spend (valueOr L (pos 0) last) n s) (λ v n s. pick decides (pick (isTrue v) (gives again n s) (gives (leave next) n s)) (gives again n s))
   unfolding spend
-  step-rest absent n s = refl
-  step-rest (present e) n s = refl
+  closing-is last decides n s = by last
+    where
+      turns : (v : ℤ) (n : ℕ) (s : List ℤ) → spend (pick decides (afterTest (ret again) v) (ret again)) n s ≡ pick decides (pick (isTrue v) (gives again n s) (gives (leave next) n s)) (gives again n s)
+      turns v n s = forks decides (afterTest (ret again) v) (ret again) n s ∙ ap (λ r. pick decides r (gives again n s)) (forks (isTrue v) (ret again) (ret (leave next)) n s)
 
-  pub test-rest : (e : Expression) (n : ℕ) (s : List ℤ) → spend (testRest e) n s ≡ onward (spend (value L e) n s) (λ v n s. pick (isTrue v) (gives again n s) (gives (leave next) n s))
-  unfolding spend
-  test-rest e n s = onward-same (spend (value L e) n s) _ _ (λ v. forks (isTrue v) (ret again) (ret (leave next)))
+      by : (p : Part) → spend (closing L p decides) n s ≡ onward (spend (valueOr L (pos 0) p) n s) (λ v n s. pick decides (pick (isTrue v) (gives again n s) (gives (leave next) n s)) (gives again n s))
+      by absent = turns (pos 0) n s
+      by (present e) = onward-same (spend (value L e) n s) _ _ turns
 
-  -- a round of a while or a for: the test, the body, and what follows the body
-  pub round-is : (test action : Part) (body : Computation Signal) (n : ℕ) (s : List ℤ) → spend (enter (roundOf L test action body)) n s
-      ≡ onward (spend (valueOr L (pos 1) test) n s) (λ v n s. pick (isTrue v) (onward (spend (enter body) n s) (λ signal n s. spend (afterBody (stepRest action) signal) n s)) (gives (leave next) n s))
+  -- a round of a loop: the test, the body, and what follows the body
+  pub round-is : (test : Part) (body : Computation Signal) (last : Part) (decides : Bool) (n : ℕ) (s : List ℤ) → spend (enter (roundOf L test body last decides)) n s
+      ≡ onward (spend (valueOr L (pos 1) test) n s) (λ v n s. pick (isTrue v) (onward (spend (enter body) n s) (λ signal n s. spend (afterBody (closing L last decides) signal) n s)) (gives (leave next) n s))
   unfolding spend isTrue
-  round-is absent action body n s = onward-onward (pay n s) (λ _ n s. spend body n s) (λ signal n s. spend (afterBody (stepRest action) signal) n s)
-  round-is (present e) action body n s =
-      onward-onward (pay n s) (λ _ n s. spend (evaluate L e) n s) (λ v n s. spend (afterTest (do signal ← enter body; afterBody (stepRest action) signal) v) n s)
-      ∙ onward-same (spend (value L e) n s) _ _ (λ v. forks (isTrue v) (do signal ← enter body; afterBody (stepRest action) signal) (ret (leave next)))
-
-  -- a round of a do: the body, and what follows it
-  pub do-round-is : (body : Computation Signal) (e : Expression) (n : ℕ) (s : List ℤ) → spend (enter (doRoundOf L body e)) n s
-      ≡ onward (spend (enter body) n s) (λ signal n s. spend (afterBody (testRest e) signal) n s)
-  unfolding spend
-  do-round-is body e n s = onward-onward (pay n s) (λ _ n s. spend body n s) (λ signal n s. spend (afterBody (testRest e) signal) n s)
+  round-is absent body last decides n s = onward-onward (pay n s) (λ _ n s. spend body n s) (λ signal n s. spend (afterBody (closing L last decides) signal) n s)
+  round-is (present e) body last decides n s =
+      onward-onward (pay n s) (λ _ n s. spend (evaluate L e) n s) (λ v n s. spend (afterTest (do signal ← enter body; afterBody (closing L last decides) signal) v) n s)
+      ∙ onward-same (spend (value L e) n s) _ _ (λ v. forks (isTrue v) (do signal ← enter body; afterBody (closing L last decides) signal) (ret (leave next)))
 
   -- ---- lists
 

@@ -1,10 +1,10 @@
 -- Items: the items of a list by the rows that hold them: the item at a row, the list behind it, and the search for a mark.
 use mathlib.Core.Path.{_≡_, refl, sym, ap, _∙_}
-use mathlib.Core.Bool.{Bool, true, false, _||_, false≢true}
+use mathlib.Core.Bool.{Bool, true, false, _||_}
 use mathlib.Core.List.{List}
 use Prim.Native.Nat.{ℕ, zero, suc, _+_, _*_, _-_, _^_, _<_, _≤_}
 use native.Mathlib.Omega.{arith}
-use borrow.Author.Tests.{lt-ltb, le-ltb, eq-eqb, eqb-true}
+use borrow.Author.Tests.{lt-ltb, le-ltb, eqb-true, eqb-false}
 use lib.Dec.{eqb}
 use lib.IntN.{ℤ}
 use lib.Signed.{mag}
@@ -12,16 +12,19 @@ use lib.ListN.{length}
 use Rattle.words.specs.Word.{natural, pick}
 use Rattle.words.specs.Table.{rowCount, wordAt, numberAt}
 use Rattle.words.specs.Kinds.{kinds, kindIn, kindOf, kindAt}
+use Rattle.words.specs.KindLaws.{kind-numbered, markNumber, mark-number}
 use Rattle.words.specs.Layout.{Layout}
 use Rattle.words.specs.declared.Kind.{Kind}
-use Rattle.words.specs.declared.Kind.the-variants.{Constant, Variable, Element, Minus, Not, Binary, And, Or, Conditional, Comma, Assign, Compound, Prefix, Postfix, Empty, Express, Block, If, While, Do, For, Switch, Case, Default, Break, Continue, Goto, Label, Other}
+use Rattle.words.specs.declared.Kind.the-variants.{OfExpression, OfStatement, OfMark, Other}
+use Rattle.words.specs.declared.MarkKind.{MarkKind}
+use Rattle.words.specs.declared.MarkKind.the-variants.{Case, Default, Label}
 use Rattle.computation.specs.Remaining.{Rest, onward, spend}
 use Rattle.language.specs.Trees.{Mark, case, default, label, Statement, empty, Items, none, _then_, _here_, sameMark, has}
-use Rattle.language.specs.Decode.{later, statementOf, itemsOf, statementAt, itemsAt}
-use Rattle.language.specs.DecodeLaws.{Forward, listAt, statement-at, items-at}
+use Rattle.language.specs.Decode.{itemsOf, statementAt, itemsAt, Forward, listAt}
+use Rattle.language.specs.DecodeLaws.{at-no-statement, at-items}
+use Rattle.language.specs.SoundLaws.{behind as next-link}
 use Rattle.language.specs.Meaning.{Signal, next, seeking, items, exec}
 use Rattle.evaluator.proofs.Decoding.{handed}
-use Rattle.evaluator.proofs.Tags.{tag, alone}
 use Rattle.machine.specs.Flows.{flowOf, ran}
 use Rattle.machine.specs.Lists.{marks, from, startOf, InTable, Finds, Starts, Resumes, continued}
 use Rattle.machine.specs.declared.Flow.the-variants.{Next as FlowNext, Break as FlowBreak, Continue as FlowContinue, Goto as FlowGoto, Halted}
@@ -30,36 +33,13 @@ use Rattle.machine.proofs.Enter.{list-none, list-then, list-here, past-
 
 -- an item is a statement or a mark
 item-cases : (k : Kind) (word : ℕ → ℤ) (s : Statement) (is : Items) (P : Items → Type 0) → (k ≡ Other → P none) → P (s then is)
-    → (k ≡ Case → P (case (word 1) here is)) → (k ≡ Default → P (default here is)) → (k ≡ Label → P (label (natural (word 1)) here is)) → P (itemsOf k word s is)
+    → (k ≡ OfMark Case → P (case (word 1) here is)) → (k ≡ OfMark Default → P (default here is)) → (k ≡ OfMark Label → P (label (natural (word 1)) here is)) → P (itemsOf k word s is)
 unfolding itemsOf
-item-cases Constant word s is P o t c d l = t
-item-cases Variable word s is P o t c d l = t
-item-cases Element word s is P o t c d l = t
-item-cases Minus word s is P o t c d l = t
-item-cases Not word s is P o t c d l = t
-item-cases (Binary operator) word s is P o t c d l = t
-item-cases And word s is P o t c d l = t
-item-cases Or word s is P o t c d l = t
-item-cases Conditional word s is P o t c d l = t
-item-cases Comma word s is P o t c d l = t
-item-cases Assign word s is P o t c d l = t
-item-cases (Compound operator) word s is P o t c d l = t
-item-cases (Prefix operator) word s is P o t c d l = t
-item-cases (Postfix operator) word s is P o t c d l = t
-item-cases Empty word s is P o t c d l = t
-item-cases Express word s is P o t c d l = t
-item-cases Block word s is P o t c d l = t
-item-cases If word s is P o t c d l = t
-item-cases While word s is P o t c d l = t
-item-cases Do word s is P o t c d l = t
-item-cases For word s is P o t c d l = t
-item-cases Switch word s is P o t c d l = t
-item-cases Case word s is P o t c d l = c refl
-item-cases Default word s is P o t c d l = d refl
-item-cases Break word s is P o t c d l = t
-item-cases Continue word s is P o t c d l = t
-item-cases Goto word s is P o t c d l = t
-item-cases Label word s is P o t c d l = l refl
+item-cases (OfExpression kind) word s is P o t c d l = t
+item-cases (OfStatement kind) word s is P o t c d l = t
+item-cases (OfMark Case) word s is P o t c d l = c refl
+item-cases (OfMark Default) word s is P o t c d l = d refl
+item-cases (OfMark Label) word s is P o t c d l = l refl
 item-cases Other word s is P o t c d l = o refl
 
 module _ {rows : List ℤ} {row : ℕ} (item : InTable rows row) where
@@ -71,10 +51,10 @@ module _ {rows : List ℤ} {row : ℕ} (item : InTable rows row) where
 
   -- the link to the next item
   pub next-later : Forward row behind
-  next-later h = item .sound .next-sound row (item .below) h .later
+  next-later h = next-link (item .sound) (item .below) h .later
 
   pub next-below : behind < rowCount rows
-  next-below = by behind (λ h. item .sound .next-sound row (item .below) h .inside)
+  next-below = by behind (λ h. next-link (item .sound) (item .below) h .inside)
     where
       by : (l : ℕ) → (0 < l → l < rowCount rows) → l < rowCount rows
       by zero f = item .sound .some-rows
@@ -88,21 +68,17 @@ module _ {rows : List ℤ} {row : ℕ} (item : InTable rows row) where
   next-is e = rw e (next-below, next-later)
 
   pub known-kind : kindAt rows row ≡ Other → ⊥
-  known-kind e = rw e at (item .sound .row-sound row (item .below))
+  known-kind e = item .sound .known row (item .below) e
 
   pub at-row : {r : ℕ} → r < rowCount rows → InTable rows r
   at-row h = record { layout = item .layout; words = item .words; sound = item .sound; few-rows = item .few-rows; below = h }
 
-  later-list : (l : ℕ) → Forward row l → later none row (itemsAt rows) l ≡ listAt rows l
-  later-list zero p = rw (le-ltb row 0 (omega arith))
-  later-list (suc l) p = rw (lt-ltb row (suc l) (p (omega arith)))
-
   items-here : itemsAt rows row ≡ itemsOf (kindAt rows row) (wordAt rows row) (statementAt rows row) (listAt rows behind)
-  items-here = items-at rows whole row ∙ ap (itemsOf (kindAt rows row) (wordAt rows row) (statementAt rows row)) (later-list behind next-later)
+  items-here = at-items rows whole row next-later
 
   by-item : (P : Items → Type 0) → P (statementAt rows row then listAt rows behind)
-      → (kindAt rows row ≡ Case → P (case (wordAt rows row 1) here listAt rows behind)) → (kindAt rows row ≡ Default → P (default here listAt rows behind))
-      → (kindAt rows row ≡ Label → P (label (natural (wordAt rows row 1)) here listAt rows behind)) → P (itemsAt rows row)
+      → (kindAt rows row ≡ OfMark Case → P (case (wordAt rows row 1) here listAt rows behind)) → (kindAt rows row ≡ OfMark Default → P (default here listAt rows behind))
+      → (kindAt rows row ≡ OfMark Label → P (label (natural (wordAt rows row 1)) here listAt rows behind)) → P (itemsAt rows row)
   by-item P t c d l =
       rw items-here (item-cases (kindAt rows row) (wordAt rows row) (statementAt rows row) (listAt rows behind) P (λ e. absurd (known-kind e)) t c d l)
 
@@ -110,13 +86,12 @@ module _ {rows : List ℤ} {row : ℕ} (item : InTable rows row) where
 
   pub run-item : (L : Layout) (n : ℕ) (s : List ℤ)
       → spend (items L (itemsAt rows row) next) n s ≡ onward (spend (exec L (statementAt rows row)) n s) (λ signal n s. spend (items L (listAt rows behind) signal) n s)
-  unfolding statementOf
   run-item L n s =
       by-item (λ i. spend (items L i next) n s ≡ onward (spend (exec L (statementAt rows row)) n s) (λ signal n s. spend (items L (listAt rows behind) signal) n s))
       (list-then L _ _ n s)
-      (λ e. marked _ (statement-at rows whole row ∙ rw e))
-      (λ e. marked _ (statement-at rows whole row ∙ rw e))
-      (λ e. marked _ (statement-at rows whole row ∙ rw e))
+      (λ e. marked _ (at-no-statement rows whole row (rw e)))
+      (λ e. marked _ (at-no-statement rows whole row (rw e)))
+      (λ e. marked _ (at-no-statement rows whole row (rw e)))
     where
       marked : (m : Mark) → statementAt rows row ≡ empty
           → spend (items L (m here listAt rows behind) next) n s ≡ onward (spend (exec L (statementAt rows row)) n s) (λ signal n s. spend (items L (listAt rows behind) signal) n s)
@@ -147,28 +122,28 @@ module _ {rows : List ℤ} {row : ℕ} (item : InTable rows row) where
 
   -- which mark the item is, by its kind
   module _ (v : ℤ) where
-    pub case-is : kindAt rows row ≡ Case → marks (case v) (itemsAt rows row) ≡ sameMark (case v) (case (wordAt rows row 1))
+    pub case-is : kindAt rows row ≡ OfMark Case → marks (case v) (itemsAt rows row) ≡ sameMark (case v) (case (wordAt rows row 1))
     unfolding itemsOf
     case-is e = ap (marks (case v)) items-here ∙ rw e
 
-    pub case-not : (kindAt rows row ≡ Case → ⊥) → marks (case v) (itemsAt rows row) ≡ false
+    pub case-not : (kindAt rows row ≡ OfMark Case → ⊥) → marks (case v) (itemsAt rows row) ≡ false
     unfolding sameMark
     case-not q = by-item (λ i. marks (case v) i ≡ false) refl (λ e. absurd (q e)) (λ e. refl) (λ e. refl)
 
-  pub default-is : kindAt rows row ≡ Default → marks default (itemsAt rows row) ≡ true
+  pub default-is : kindAt rows row ≡ OfMark Default → marks default (itemsAt rows row) ≡ true
   unfolding itemsOf sameMark
   default-is e = ap (marks default) items-here ∙ rw e
 
-  pub default-not : (kindAt rows row ≡ Default → ⊥) → marks default (itemsAt rows row) ≡ false
+  pub default-not : (kindAt rows row ≡ OfMark Default → ⊥) → marks default (itemsAt rows row) ≡ false
   unfolding sameMark
   default-not q = by-item (λ i. marks default i ≡ false) refl (λ e. refl) (λ e. absurd (q e)) (λ e. refl)
 
   module _ (l : ℕ) where
-    pub label-is : kindAt rows row ≡ Label → marks (label l) (itemsAt rows row) ≡ sameMark (label l) (label (numberAt rows row 1))
+    pub label-is : kindAt rows row ≡ OfMark Label → marks (label l) (itemsAt rows row) ≡ sameMark (label l) (label (numberAt rows row 1))
     unfolding itemsOf numberAt
     label-is e = ap (marks (label l)) items-here ∙ rw e
 
-    pub label-not : (kindAt rows row ≡ Label → ⊥) → marks (label l) (itemsAt rows row) ≡ false
+    pub label-not : (kindAt rows row ≡ OfMark Label → ⊥) → marks (label l) (itemsAt rows row) ≡ false
     unfolding sameMark
     label-not q = by-item (λ i. marks (label l) i ≡ false) refl (λ e. refl) (λ e. refl) (λ e. absurd (q e))
 
@@ -215,29 +190,22 @@ ahead-falls count (suc row) (suc r) z h g = let q = g (omega arith) in omega ari
 
 -- ---- marks by their numbers
 
-pub case-number : (rows : List ℤ) (row : ℕ) → kindAt rows row ≡ Case → numberAt rows row 0 ≡ 48
-unfolding kindAt kindOf kinds
-case-number rows row e = alone 22 48 kinds (numberAt rows row 0) refl refl (ap (λ (k : Kind). eqb (tag k) 22) e)
+module _ (rows : List ℤ) (row : ℕ) {n : ℕ} (p : n ≡ numberAt rows row 0) where
+  pub number-case : n ≡ 48 → kindAt rows row ≡ OfMark Case
+  unfolding kinds kindIn kindOf
+  number-case e = kind-numbered rows row p 48 e
 
-pub number-case : (rows : List ℤ) (row n : ℕ) → n ≡ numberAt rows row 0 → n ≡ 48 → kindAt rows row ≡ Case
-unfolding kindAt kindOf kindIn kinds
-number-case rows row n p e = rw (← p, e)
+  pub number-default : n ≡ 49 → kindAt rows row ≡ OfMark Default
+  unfolding kinds kindIn kindOf
+  number-default e = kind-numbered rows row p 49 e
 
-pub default-number : (rows : List ℤ) (row : ℕ) → kindAt rows row ≡ Default → numberAt rows row 0 ≡ 49
-unfolding kindAt kindOf kinds
-default-number rows row e = alone 23 49 kinds (numberAt rows row 0) refl refl (ap (λ (k : Kind). eqb (tag k) 23) e)
+  pub number-label : n ≡ 53 → kindAt rows row ≡ OfMark Label
+  unfolding kinds kindIn kindOf
+  number-label e = kind-numbered rows row p 53 e
 
-pub number-default : (rows : List ℤ) (row n : ℕ) → n ≡ numberAt rows row 0 → n ≡ 49 → kindAt rows row ≡ Default
-unfolding kindAt kindOf kindIn kinds
-number-default rows row n p e = rw (← p, e)
-
-pub label-number : (rows : List ℤ) (row : ℕ) → kindAt rows row ≡ Label → numberAt rows row 0 ≡ 53
-unfolding kindAt kindOf kinds
-label-number rows row e = alone 27 53 kinds (numberAt rows row 0) refl refl (ap (λ (k : Kind). eqb (tag k) 27) e)
-
-pub number-label : (rows : List ℤ) (row n : ℕ) → n ≡ numberAt rows row 0 → n ≡ 53 → kindAt rows row ≡ Label
-unfolding kindAt kindOf kindIn kinds
-number-label rows row n p e = rw (← p, e)
+  -- another number is of another mark
+  pub other-mark : (kind : MarkKind) → (n ≡ markNumber kind → ⊥) → kindAt rows row ≡ OfMark kind → ⊥
+  other-mark kind other k = other (mark-number n (sym (kind-numbered rows row p n refl) ∙ k))
 
 -- the test for a default
 module _ {rows : List ℤ} {row : ℕ} (item : InTable rows row) {n : ℕ} (p : n ≡ numberAt rows row 0) where
@@ -245,8 +213,8 @@ module _ {rows : List ℤ} {row : ℕ} (item : InTable rows row) {n : ℕ} (p : 
   default-test = by (eqb n 49) refl
     where
       by : (b : Bool) → eqb n 49 ≡ b → b ≡ marks default (itemsAt rows row)
-      by true e = sym (default-is item (number-default rows row n p (eqb-true n 49 e)))
-      by false e = sym (default-not item (λ k. false≢true (sym e ∙ eq-eqb n 49 (p ∙ default-number rows row k))))
+      by true e = sym (default-is item (number-default rows row p (eqb-true n 49 e)))
+      by false e = sym (default-not item (other-mark rows row p Default (eqb-false n 49 e)))
 
 -- ---- what the searches give
 

@@ -1,11 +1,11 @@
 -- What the proofs of the functions share. A line of comment for each file.
 -- Answers: laws of the answers of statements and rounds.
 pub mod Answers
--- Enter: what entering a row of each kind of statement does, told by the steps left; loops and lists.
+-- Enter: loops and lists, told by the steps left.
 pub mod Enter
 -- Items: the items of a list by the rows that hold them.
 pub mod Items
--- Rows: the laws of Enter for a row of a sound table, by its kind.
+-- Rows: what follows the entry of a row of a sound table, by its kind.
 pub mod Rows
 -- Bounds: how the list of bounds is written, and that a layout is read off its own bounds.
 pub mod Bounds

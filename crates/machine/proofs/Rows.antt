@@ -1,39 +1,37 @@
--- The laws of Enter for a row of a sound table, by its kind: the tree at the row is that of its kind, and its links lead on. The
--- links are given as the code has them.
+-- What follows the entry of a row of a sound table, by its kind: where the links of the row lead, from the sorts of its fields, and what the tree
+-- at the row does, told by the steps left. The links are given as the code has them.
 use mathlib.Core.Path.{_≡_, refl, sym, ap, _∙_}
-use mathlib.Core.List.{List, [], _∷_}
-use Prim.Native.Nat.{ℕ, zero, suc, _+_, _*_, _<_}
+use mathlib.Core.Bool.{true, false}
+use mathlib.Core.List.{List}
+use Prim.Native.Nat.{ℕ, zero, suc, _+_, _*_, _≤_, _<_}
 use native.Mathlib.Omega.{arith}
-use types.Run.{OneOf}
 use lib.IntN.{ℤ, pos}
 use lib.ListN.{length}
 use Rattle.words.specs.Word.{natural, pick}
 use Rattle.words.specs.Table.{rowCount, wordAt, numberAt}
-use Rattle.words.specs.Kinds.{kinds, kindIn, kindOf, kindAt}
+use Rattle.words.specs.Kinds.{kindOf, isStatementKind, isLink, isRequired, statementFields, kindRow, sortIn}
+use Rattle.words.specs.KindLaws.{kind-numbered, no-statement}
+use Rattle.words.specs.Layout.{Layout}
 use Rattle.words.specs.Arithmetic.{isTrue}
 use Rattle.words.specs.declared.Kind.{Kind}
-use Rattle.words.specs.declared.Kind.the-variants.{Constant, Variable, Element, Minus, Not, Binary, And, Or, Conditional, Comma, Assign, Compound, Prefix, Postfix, Empty, Express, Block, If, While, Do, For, Switch, Case, Default, Break, Continue, Goto, Label, Other}
+use Rattle.words.specs.declared.Kind.the-variants.{OfStatement}
+use Rattle.words.specs.declared.StatementKind.the-variants.{Empty, Express, Block, If, While, Do, For, Switch, Break, Continue, Goto}
+use Rattle.computation.specs.Computation.{Computation, ret, _>>=_, loop}
 use Rattle.computation.specs.Remaining.{Rest, gives, onward, spend}
-use Rattle.language.specs.Trees.{Expression, present, label, Statement, empty, express, block, ifThen, ifElse, while, doWhile, for, switch, Items}
-use Rattle.language.specs.Decode.{statementOf, expressionAt, statementAt}
-use Rattle.language.specs.DecodeLaws.{listAt, partAt, isStatement, statement-at, at-express, at-block, at-ifThen, at-ifElse, at-while, at-doWhile, at-for, at-switch, at-break, at-continue, at-goto, part-some}
+use Rattle.language.specs.Trees.{Part, absent, present, label, Statement, express, block, ifThen, ifElse, while, doWhile, for, switch}
+use Rattle.language.specs.Decode.{expressionAt, statementAt, listAt, partAt}
+use Rattle.language.specs.DecodeLaws.{at-no-statement, at-empty, at-express, at-block, at-ifThen, at-ifElse, at-while, at-doWhile, at-for, at-switch, at-break, at-continue, at-goto, part-some}
 use Rattle.language.specs.Meaning.{Signal, next, breaking, continuing, seeking, perform, items, afterSwitch}
-use Rattle.language.specs.Sound.{OptionalLink}
+use Rattle.language.specs.Sound.{Link, OptionalLink}
+use Rattle.language.specs.SoundLaws.{optional-link-of}
 use Rattle.evaluator.specs.Bounds.{layoutFrom}
-use Rattle.evaluator.specs.Kinds.{kindAmong}
 use Rattle.evaluator.specs.Ready.{Ready, Entered}
 use Rattle.evaluator.specs.Rows.{valueAt}
-use Rattle.evaluator.proofs.Enter.{onward-same}
-use Rattle.evaluator.proofs.Rows.{sound-row}
-use Rattle.evaluator.proofs.Tags.{excluded, tag}
+use Rattle.evaluator.proofs.Enter.{onward-same, forks}
+use Rattle.evaluator.proofs.Rows.{link}
 use Rattle.machine.specs.Lists.{startOf, InTable}
-use Rattle.machine.specs.Rows.{partOr, performAt, execAt, itemsFrom, roundsAt, doAt}
-use Rattle.machine.proofs.Enter.{enter-empty, enter-express, enter-block, enter-ifThen, enter-ifElse, enter-while, enter-do, enter-for, enter-switch, enter-break, enter-continue, enter-goto, switch-starts}
-
--- the kind with this number
-pub number-express : (rows : List ℤ) (row n : ℕ) → n ≡ numberAt rows row 0 → n ≡ 41 → kindAt rows row ≡ Express
-unfolding kindAt kindOf kindIn kinds
-number-express rows row n p e = rw (← p, e)
+use Rattle.machine.specs.Rows.{valueOr, roundOf, partOr, performAt, execAt, itemsFrom, roundsAt}
+use Rattle.machine.proofs.Enter.{switch-starts}
 
 -- the tree at the row is known
 known : (rows : List ℤ) (bounds : List ℕ) (row : ℕ) (t : Statement) (n : ℕ) (s : List ℤ) → statementAt rows row ≡ t
@@ -63,43 +61,6 @@ module _ {rows : List ℤ} {bounds : List ℕ} {words row : ℕ} (here : Ready r
     pub optional : {l size : ℕ} → l ≡ numberAt rows row field → size ≡ words → Ready rows bounds size l
     optional e q = table-row (rw e optional-below) q
 
--- the kinds that are no statements, and those that do nothing
-abbrev pub idle : List ℕ
-idle = 0 ∷ 1 ∷ 2 ∷ 3 ∷ 4 ∷ 5 ∷ 6 ∷ 7 ∷ 8 ∷ 9 ∷ 10 ∷ 11 ∷ 12 ∷ 13 ∷ 14 ∷ 22 ∷ 23 ∷ 27 ∷ 28 ∷ []
-
-module _ (word : ℕ → ℤ) (e : ℕ → Expression) (st : ℕ → Statement) (it : ℕ → Items) where
-  idle-empty : (k : Kind) → OneOf idle (tag (kindAmong isStatement k)) → statementOf k word e st it ≡ empty
-  unfolding statementOf kindAmong
-  idle-empty Constant h = refl
-  idle-empty Variable h = refl
-  idle-empty Element h = refl
-  idle-empty Minus h = refl
-  idle-empty Not h = refl
-  idle-empty (Binary o) h = refl
-  idle-empty And h = refl
-  idle-empty Or h = refl
-  idle-empty Conditional h = refl
-  idle-empty Comma h = refl
-  idle-empty Assign h = refl
-  idle-empty (Compound o) h = refl
-  idle-empty (Prefix o) h = refl
-  idle-empty (Postfix o) h = refl
-  idle-empty Empty h = refl
-  idle-empty Express h = absurd (excluded idle 15 h refl)
-  idle-empty Block h = absurd (excluded idle 16 h refl)
-  idle-empty If h = absurd (excluded idle 17 h refl)
-  idle-empty While h = absurd (excluded idle 18 h refl)
-  idle-empty Do h = absurd (excluded idle 19 h refl)
-  idle-empty For h = absurd (excluded idle 20 h refl)
-  idle-empty Switch h = absurd (excluded idle 21 h refl)
-  idle-empty Case h = refl
-  idle-empty Default h = refl
-  idle-empty Break h = absurd (excluded idle 24 h refl)
-  idle-empty Continue h = absurd (excluded idle 25 h refl)
-  idle-empty Goto h = absurd (excluded idle 26 h refl)
-  idle-empty Label h = refl
-  idle-empty Other h = refl
-
 -- a part of a for, as the code tests for it
 module _ (v : ℤ) (rows : List ℤ) (bounds : List ℕ) (n : ℕ) (s : List ℤ) where
   pub part-absent : (row : ℕ) → row ≡ 0 → spend (partOr v rows bounds row) n s ≡ gives v n s
@@ -123,78 +84,135 @@ module _ (rows : List ℤ) (bounds : List ℕ) (n : ℕ) (s : List ℤ) where
   otherwise-some zero z = absurd (z refl)
   otherwise-some (suc c) z = refl
 
+-- a for: its start, then the rounds
+enter-for : (L : Layout) (n : ℕ) (s : List ℤ) (first test step : Part) (body : Statement) → spend (perform L (for first test step body)) n s
+    ≡ onward (spend (valueOr L (pos 0) first) n s) (λ _ n s. spend (loop (roundOf L test (perform L body) step false)) n s)
+unfolding spend perform
+enter-for L n s absent absent step body = refl
+enter-for L n s absent (present t) step body = refl
+enter-for L n s (present e) absent step body = refl
+enter-for L n s (present e) (present t) step body = refl
+
 module _ {rows : List ℤ} {bounds : List ℕ} {words row : ℕ} where
   module _ {kind : Kind} (here : Entered rows bounds words row kind) where
     abbrev whole : length rows ≡ 6 * rowCount rows
     whole = here .ready .setting .sound .whole
 
-  pub express-row : Entered rows bounds words row Express → {a : ℕ} → a ≡ numberAt rows row 1 → (n : ℕ) (s : List ℤ)
+    -- a field that links a row, or is 0
+    abbrev optional-link : (field : ℕ) → 1 ≤ field → field < 6 → isLink (sortIn kind field) ≡ true → OptionalLink rows (layoutFrom bounds) words row field
+    optional-link = optional-link-of (here .ready .setting .sound) (here .ready .below) (here .kind-is)
+
+  pub empty-row : Entered rows bounds words row (OfStatement Empty) → (n : ℕ) (s : List ℤ) → spend (performAt rows bounds row) n s ≡ gives next n s
+  unfolding spend perform
+  empty-row here n s = known rows bounds row _ n s (at-empty rows (whole here) row (here .kind-is))
+
+  pub express-link : Entered rows bounds words row (OfStatement Express) → Link rows (layoutFrom bounds) words row 1
+  unfolding isLink isRequired sortIn kindRow statementFields
+  express-link here = link here 1 (omega arith) (omega arith) refl
+
+  pub express-row : Entered rows bounds words row (OfStatement Express) → {a : ℕ} → a ≡ numberAt rows row 1 → (n : ℕ) (s : List ℤ)
       → spend (performAt rows bounds row) n s ≡ onward (spend (valueAt rows bounds a) n s) (λ _ n s. gives next n s)
+  unfolding spend perform
   express-row here p n s =
-      known rows bounds row _ n s (at-express rows (whole here) row (here .kind-is) (sound-row here .later) ∙ ap (λ (k : ℕ). express (expressionAt rows k)) (sym p)) ∙ enter-express (layoutFrom bounds) n s _
+      known rows bounds row _ n s (at-express rows (whole here) row (here .kind-is) (express-link here .later) ∙ ap (λ (k : ℕ). express (expressionAt rows k)) (sym p))
 
-  pub block-row : Entered rows bounds words row Block → {a : ℕ} → a ≡ numberAt rows row 1 → (n : ℕ) (s : List ℤ)
+  pub block-link : Entered rows bounds words row (OfStatement Block) → OptionalLink rows (layoutFrom bounds) words row 1
+  unfolding isLink isRequired sortIn kindRow statementFields
+  block-link here = optional-link here 1 (omega arith) (omega arith) refl
+
+  pub block-row : Entered rows bounds words row (OfStatement Block) → {a : ℕ} → a ≡ numberAt rows row 1 → (n : ℕ) (s : List ℤ)
       → spend (performAt rows bounds row) n s ≡ spend (itemsFrom rows bounds a) n s
+  unfolding perform
   block-row here p n s =
-      known rows bounds row _ n s (at-block rows (whole here) row (here .kind-is) (λ h. (sound-row here h) .later) ∙ ap (λ (k : ℕ). block (listAt rows k)) (sym p)) ∙ enter-block (layoutFrom bounds) n s _
+      known rows bounds row _ n s (at-block rows (whole here) row (here .kind-is) (λ h. (block-link here h) .later) ∙ ap (λ (k : ℕ). block (listAt rows k)) (sym p))
 
-  pub if-row : Entered rows bounds words row If → {a b c : ℕ} → a ≡ numberAt rows row 1 → b ≡ numberAt rows row 2 → c ≡ numberAt rows row 3 → (n : ℕ) (s : List ℤ)
+  pub if-links : Entered rows bounds words row (OfStatement If) → Link rows (layoutFrom bounds) words row 1 × Link rows (layoutFrom bounds) words row 2 × OptionalLink rows (layoutFrom bounds) words row 3
+  unfolding isLink isRequired sortIn kindRow statementFields
+  if-links here = (link here 1 (omega arith) (omega arith) refl, link here 2 (omega arith) (omega arith) refl, optional-link here 3 (omega arith) (omega arith) refl)
+
+  pub if-row : Entered rows bounds words row (OfStatement If) → {a b c : ℕ} → a ≡ numberAt rows row 1 → b ≡ numberAt rows row 2 → c ≡ numberAt rows row 3 → (n : ℕ) (s : List ℤ)
       → spend (performAt rows bounds row) n s
       ≡ onward (spend (valueAt rows bounds a) n s) (λ v n s. pick (isTrue v) (spend (execAt rows bounds b) n s) (otherwise rows bounds c n s))
+  unfolding spend perform
   if-row here {a} {b} {c} p q r n s = by c r
     where
       by : (c : ℕ) → c ≡ numberAt rows row 3 → spend (performAt rows bounds row) n s
           ≡ onward (spend (valueAt rows bounds a) n s) (λ v n s. pick (isTrue v) (spend (execAt rows bounds b) n s) (otherwise rows bounds c n s))
       by zero r =
           let t : statementAt rows row ≡ ifThen (expressionAt rows a) (statementAt rows b) =
-          at-ifThen rows (whole here) row (here .kind-is) (sound-row here .0 .later) (sound-row here .1 .later) (sym r) ∙ rw (← p, ← q) in
-          known rows bounds row _ n s t ∙ enter-ifThen (layoutFrom bounds) n s _ _
+          at-ifThen rows (whole here) row (here .kind-is) (if-links here .0 .later) (if-links here .1 .later) (sym r) ∙ rw (← p, ← q) in
+          known rows bounds row _ n s t ∙ onward-same (spend (valueAt rows bounds a) n s) _ _ (λ v. forks (isTrue v) (execAt rows bounds b) (ret next))
       by (suc c) r =
           let t : statementAt rows row ≡ ifElse (expressionAt rows a) (statementAt rows b) (statementAt rows (suc c)) =
-          at-ifElse rows (whole here) row (here .kind-is) (sound-row here .0 .later) (sound-row here .1 .later) ((sound-row here .2 (omega arith)) .later) ∙ rw (← p, ← q, ← r) in
-          known rows bounds row _ n s t ∙ enter-ifElse (layoutFrom bounds) n s _ _ _
+          at-ifElse rows (whole here) row (here .kind-is) (if-links here .0 .later) (if-links here .1 .later) ((if-links here .2 (omega arith)) .later) ∙ rw (← p, ← q, ← r) in
+          known rows bounds row _ n s t ∙ onward-same (spend (valueAt rows bounds a) n s) _ _ (λ v. forks (isTrue v) (execAt rows bounds b) (execAt rows bounds (suc c)))
 
-  pub while-row : Entered rows bounds words row While → {a b : ℕ} → a ≡ numberAt rows row 1 → b ≡ numberAt rows row 2 → (n : ℕ) (s : List ℤ)
-      → spend (performAt rows bounds row) n s ≡ spend (roundsAt rows bounds a 0 b) n s
+  pub while-links : Entered rows bounds words row (OfStatement While) → Link rows (layoutFrom bounds) words row 1 × Link rows (layoutFrom bounds) words row 2
+  unfolding isLink isRequired sortIn kindRow statementFields
+  while-links here = (link here 1 (omega arith) (omega arith) refl, link here 2 (omega arith) (omega arith) refl)
+
+  pub while-row : Entered rows bounds words row (OfStatement While) → {a b : ℕ} → a ≡ numberAt rows row 1 → b ≡ numberAt rows row 2 → (n : ℕ) (s : List ℤ)
+      → spend (performAt rows bounds row) n s ≡ spend (roundsAt rows bounds a b 0 false) n s
+  unfolding perform
   while-row here {a} {b} p q n s =
       let t : statementAt rows row ≡ while (expressionAt rows a) (statementAt rows b) =
-      at-while rows (whole here) row (here .kind-is) (sound-row here .0 .later) (sound-row here .1 .later) ∙ rw (← p, ← q) in
-      known rows bounds row _ n s t ∙ enter-while (layoutFrom bounds) n s _ _ ∙ rw (part-some rows a (omega (arith, sound-row here .0 .later)))
+      at-while rows (whole here) row (here .kind-is) (while-links here .0 .later) (while-links here .1 .later) ∙ rw (← p, ← q) in
+      known rows bounds row _ n s t
+      ∙ ap (λ (test : Part). spend (loop (roundOf (layoutFrom bounds) test (performAt rows bounds b) absent false)) n s) (sym (part-some rows a (omega (arith, p, while-links here .0 .later))))
 
-  pub do-row : Entered rows bounds words row Do → {a b : ℕ} → a ≡ numberAt rows row 1 → b ≡ numberAt rows row 2 → (n : ℕ) (s : List ℤ)
-      → spend (performAt rows bounds row) n s ≡ spend (doAt rows bounds a b) n s
+  pub do-links : Entered rows bounds words row (OfStatement Do) → Link rows (layoutFrom bounds) words row 1 × Link rows (layoutFrom bounds) words row 2
+  unfolding isLink isRequired sortIn kindRow statementFields
+  do-links here = (link here 1 (omega arith) (omega arith) refl, link here 2 (omega arith) (omega arith) refl)
+
+  pub do-row : Entered rows bounds words row (OfStatement Do) → {a b : ℕ} → a ≡ numberAt rows row 1 → b ≡ numberAt rows row 2 → (n : ℕ) (s : List ℤ)
+      → spend (performAt rows bounds row) n s ≡ spend (roundsAt rows bounds 0 a b true) n s
+  unfolding perform
   do-row here {a} {b} p q n s =
       let t : statementAt rows row ≡ doWhile (statementAt rows a) (expressionAt rows b) =
-      at-doWhile rows (whole here) row (here .kind-is) (sound-row here .0 .later) (sound-row here .1 .later) ∙ rw (← p, ← q) in
-      known rows bounds row _ n s t ∙ enter-do (layoutFrom bounds) n s _ _
+      at-doWhile rows (whole here) row (here .kind-is) (do-links here .0 .later) (do-links here .1 .later) ∙ rw (← p, ← q) in
+      known rows bounds row _ n s t
+      ∙ ap (λ (test : Part). spend (loop (roundOf (layoutFrom bounds) absent (performAt rows bounds a) test true)) n s) (sym (part-some rows b (omega (arith, q, do-links here .1 .later))))
 
-  pub for-row : Entered rows bounds words row For → {a b c d : ℕ} → a ≡ numberAt rows row 1 → b ≡ numberAt rows row 2 → c ≡ numberAt rows row 3 → d ≡ numberAt rows row 4 → (n : ℕ) (s : List ℤ)
-      → spend (performAt rows bounds row) n s ≡ onward (spend (partOr (pos 0) rows bounds a) n s) (λ _ n s. spend (roundsAt rows bounds b c d) n s)
+  pub for-links : Entered rows bounds words row (OfStatement For) → OptionalLink rows (layoutFrom bounds) words row 1 × OptionalLink rows (layoutFrom bounds) words row 2 × OptionalLink rows (layoutFrom bounds) words row 3 × Link rows (layoutFrom bounds) words row 4
+  unfolding isLink isRequired sortIn kindRow statementFields
+  for-links here = (optional-link here 1 (omega arith) (omega arith) refl, optional-link here 2 (omega arith) (omega arith) refl, optional-link here 3 (omega arith) (omega arith) refl, link here 4 (omega arith) (omega arith) refl)
+
+  pub for-row : Entered rows bounds words row (OfStatement For) → {a b c d : ℕ} → a ≡ numberAt rows row 1 → b ≡ numberAt rows row 2 → c ≡ numberAt rows row 3 → d ≡ numberAt rows row 4 → (n : ℕ) (s : List ℤ)
+      → spend (performAt rows bounds row) n s ≡ onward (spend (partOr (pos 0) rows bounds a) n s) (λ _ n s. spend (roundsAt rows bounds b d c false) n s)
   for-row here {a} {b} {c} {d} p q r u n s =
       let t : statementAt rows row ≡ for (partAt rows a) (partAt rows b) (partAt rows c) (statementAt rows d) =
-      at-for rows (whole here) row (here .kind-is) (λ h. (sound-row here .0 h) .later) (λ h. (sound-row here .1 h) .later) (λ h. (sound-row here .2 h) .later) (sound-row here .3 .later) ∙ rw (← p, ← q, ← r, ← u) in
-      known rows bounds row _ n s t ∙ enter-for (layoutFrom bounds) n s _ _ _ _
+      at-for rows (whole here) row (here .kind-is) (λ h. (for-links here .0 h) .later) (λ h. (for-links here .1 h) .later) (λ h. (for-links here .2 h) .later) (for-links here .3 .later) ∙ rw (← p, ← q, ← r, ← u) in
+      known rows bounds row _ n s t ∙ enter-for (layoutFrom bounds) n s (partAt rows a) (partAt rows b) (partAt rows c) (statementAt rows d)
 
-  pub switch-row : Entered rows bounds words row Switch → {a b : ℕ} → a ≡ numberAt rows row 1 → b ≡ numberAt rows row 2 → (n : ℕ) (s : List ℤ)
+  pub switch-links : Entered rows bounds words row (OfStatement Switch) → Link rows (layoutFrom bounds) words row 1 × OptionalLink rows (layoutFrom bounds) words row 2
+  unfolding isLink isRequired sortIn kindRow statementFields
+  switch-links here = (link here 1 (omega arith) (omega arith) refl, optional-link here 2 (omega arith) (omega arith) refl)
+
+  pub switch-row : Entered rows bounds words row (OfStatement Switch) → {a b : ℕ} → a ≡ numberAt rows row 1 → b ≡ numberAt rows row 2 → (n : ℕ) (s : List ℤ)
       → spend (performAt rows bounds row) n s
       ≡ onward (spend (valueAt rows bounds a) n s) (λ v n s. onward (spend (items (layoutFrom bounds) (startOf v (listAt rows b)) next) n s) (λ signal n s. gives (afterSwitch signal) n s))
+  unfolding spend perform
   switch-row here {a} {b} p q n s =
       let t : statementAt rows row ≡ switch (expressionAt rows a) (listAt rows b) =
-      at-switch rows (whole here) row (here .kind-is) (sound-row here .0 .later) (λ h. (sound-row here .1 h) .later) ∙ rw (← p, ← q) in
-      known rows bounds row _ n s t ∙ enter-switch (layoutFrom bounds) n s _ _
+      at-switch rows (whole here) row (here .kind-is) (switch-links here .0 .later) (λ h. (switch-links here .1 h) .later) ∙ rw (← p, ← q) in
+      known rows bounds row _ n s t
       ∙ onward-same (spend (valueAt rows bounds a) n s) _ _ (λ v n s. switch-starts (layoutFrom bounds) v (listAt rows b) n s)
 
-  pub break-row : Entered rows bounds words row Break → (n : ℕ) (s : List ℤ) → spend (performAt rows bounds row) n s ≡ gives breaking n s
-  break-row here n s = known rows bounds row _ n s (at-break rows (whole here) row (here .kind-is)) ∙ enter-break (layoutFrom bounds) n s
+  pub break-row : Entered rows bounds words row (OfStatement Break) → (n : ℕ) (s : List ℤ) → spend (performAt rows bounds row) n s ≡ gives breaking n s
+  unfolding spend perform
+  break-row here n s = known rows bounds row _ n s (at-break rows (whole here) row (here .kind-is))
 
-  pub continue-row : Entered rows bounds words row Continue → (n : ℕ) (s : List ℤ) → spend (performAt rows bounds row) n s ≡ gives continuing n s
-  continue-row here n s = known rows bounds row _ n s (at-continue rows (whole here) row (here .kind-is)) ∙ enter-continue (layoutFrom bounds) n s
+  pub continue-row : Entered rows bounds words row (OfStatement Continue) → (n : ℕ) (s : List ℤ) → spend (performAt rows bounds row) n s ≡ gives continuing n s
+  unfolding spend perform
+  continue-row here n s = known rows bounds row _ n s (at-continue rows (whole here) row (here .kind-is))
 
-  pub goto-row : Entered rows bounds words row Goto → (n : ℕ) (s : List ℤ) → spend (performAt rows bounds row) n s ≡ gives (seeking (label (natural (wordAt rows row 1)))) n s
-  unfolding numberAt
-  goto-row here n s = known rows bounds row _ n s (at-goto rows (whole here) row (here .kind-is)) ∙ enter-goto (layoutFrom bounds) n s _
+  pub goto-row : Entered rows bounds words row (OfStatement Goto) → (n : ℕ) (s : List ℤ) → spend (performAt rows bounds row) n s ≡ gives (seeking (label (natural (wordAt rows row 1)))) n s
+  unfolding spend perform numberAt
+  goto-row here n s = known rows bounds row _ n s (at-goto rows (whole here) row (here .kind-is))
 
-  -- a row that does nothing
-  pub idle-row : Ready rows bounds words row → (k : Kind) → k ≡ kindAmong isStatement (kindAt rows row) → OneOf idle (tag k) → (n : ℕ) (s : List ℤ) → spend (performAt rows bounds row) n s ≡ gives next n s
-  idle-row here k e h n s =
-      known rows bounds row empty n s (statement-at rows (here .setting .sound .whole) row ∙ idle-empty _ _ _ _ (kindAt rows row) (rw e at h)) ∙ enter-empty (layoutFrom bounds) n s
+  -- a row whose number no statement has
+  pub other-row : Ready rows bounds words row → {number : ℕ} → number ≡ numberAt rows row 0 → ((40 ≤ number) × (number ≤ 47) → ⊥) → ((50 ≤ number) × (number ≤ 52) → ⊥) → (n : ℕ) (s : List ℤ)
+      → spend (performAt rows bounds row) n s ≡ gives next n s
+  unfolding spend perform
+  other-row here {number} p beyond behind n s =
+      known rows bounds row _ n s (at-no-statement rows (here .setting .sound .whole) row (ap isStatementKind (kind-numbered rows row p number refl) ∙ no-statement number beyond behind))

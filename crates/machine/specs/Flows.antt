@@ -1,10 +1,12 @@
 -- Flows: what a statement's answer says of a run, in the words of `spend`. An answer is one number, so that it comes back in a
 -- register: a word says how the statement ended, and the numbers behind the words say why the run stopped, as an evaluation says it.
 use mathlib.Core.Path.{_≡_}
+use mathlib.Core.Bool.{Bool}
 use mathlib.Core.List.{List}
 use Prim.Native.Nat.{ℕ}
 use lib.IntN.{ℤ, negsuc}
 use Rattle.words.specs.Word.{sameWord, natural, pick}
+use Rattle.words.specs.Arithmetic.{isTrue}
 use Rattle.computation.specs.Computation.{Turn, again, leave, ret}
 use Rattle.computation.specs.Remaining.{Rest, gives, halts, onward, spend}
 use Rattle.language.specs.Trees.{label}
@@ -57,3 +59,7 @@ EndsSwitch answer r = (n : ℕ) (s : List ℤ) → ran r n s ≡ onward (ran ans
 -- r is the answer of a round whose body ends with `answer`, as far as the body.
 abbrev pub EndsBody : ℤ → ℤ → Type 0
 EndsBody answer r = (n : ℕ) (s : List ℤ) → turned r n s ≡ onward (ran answer n s) (λ signal n s. spend (afterBody (ret again) signal) n s)
+
+-- r is the answer of a round whose last part has this value, and decides, in a do, whether another round follows.
+abbrev pub EndsRound : Bool → ℤ → ℤ → Type 0
+EndsRound decides value r = (n : ℕ) (s : List ℤ) → turned r n s ≡ pick decides (pick (isTrue value) (gives again n s) (gives (leave next) n s)) (gives again n s)

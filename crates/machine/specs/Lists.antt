@@ -10,8 +10,7 @@ use Rattle.words.specs.Table.{rowCount, numberAt}
 use Rattle.words.specs.Layout.{Layout}
 use Rattle.computation.specs.Remaining.{Rest, onward, spend}
 use Rattle.language.specs.Trees.{Mark, case, default, label, Items, none, _then_, _here_, sameMark, has}
-use Rattle.language.specs.Decode.{itemsAt}
-use Rattle.language.specs.DecodeLaws.{listAt}
+use Rattle.language.specs.Decode.{itemsAt, listAt}
 use Rattle.language.specs.Meaning.{Signal, next, items}
 use Rattle.language.specs.Sound.{Sound}
 use Rattle.machine.specs.Flows.{ran}

@@ -6,6 +6,7 @@ use super::NEXT;
 use super::NO_LABEL;
 use evaluator::Operand;
 use evaluator::answers::operand;
+use words::arithmetic::is_true;
 use words::table::natural;
 ghost use mathlib.Core.Path.{_≡_};
 ghost use mathlib.Core.List.{List};
@@ -15,7 +16,7 @@ ghost use Rattle.words.specs.Word.{natural as naturalOf};
 ghost use Rattle.language.specs.Trees.{label as labelOf};
 ghost use Rattle.language.specs.Meaning.{seeking};
 ghost use Rattle.computation.specs.Remaining.{gives};
-ghost use Rattle.machine.specs.Flows.{flowOf, passingOf, ran, EndsSwitch, EndsBody};
+ghost use Rattle.machine.specs.Flows.{flowOf, passingOf, ran, EndsSwitch, EndsBody, EndsRound};
 
 // How the statement with this answer ended.
 pub fn flow(answer: i64) -> Flow
@@ -77,4 +78,17 @@ pub fn after_body(answer: i64) -> i64
         Flow::Goto(_) => answer,
         Flow::Halted => answer,
     }
+}
+
+// The answer of a round whose last part has this value.
+pub fn after_last(decides: bool, value: i32) -> i64
+    ensures { λ r. ⌜ EndsRound decides value r ⌝ }
+{
+    if !decides {
+        return CONTINUE;
+    }
+    if is_true(value) {
+        return CONTINUE;
+    }
+    NEXT
 }

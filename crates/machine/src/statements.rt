@@ -5,10 +5,10 @@ use super::CONTINUE;
 use super::Flow;
 use super::NEXT;
 use super::flows::after_body;
+use super::flows::after_last;
 use super::flows::after_switch;
 use super::flows::flow;
 use super::flows::jump;
-use super::kinds::statement_kind_at;
 use super::lists::find_start;
 use super::lists::resume;
 use evaluator::Operand;
@@ -17,18 +17,18 @@ use evaluator::answers::operand;
 use evaluator::expressions::eval;
 use evaluator::expressions::eval_operation;
 use evaluator::operations::link_at;
-use words::Kind;
 use words::arithmetic::is_true;
 use words::table::number_at;
 use words::table::word_at;
 ghost use mathlib.Core.Path.{_≡_};
 ghost use lib.ListN.{length};
-ghost use Rattle.words.specs.declared.Kind as kinds;
+ghost use Rattle.words.specs.declared.Kind.the-variants.{OfStatement};
+ghost use Rattle.words.specs.declared.StatementKind.the-variants.{Express, If, For, Switch};
 ghost use Rattle.computation.specs.Remaining.{spend};
 ghost use Rattle.evaluator.specs.Answers.{answered};
 ghost use Rattle.evaluator.specs.Ready.{Ready, Entered};
 ghost use Rattle.machine.specs.Flows.{ran, turned};
-ghost use Rattle.machine.specs.Rows.{partOr, performAt, execAt, itemsFrom, roundAt, roundsAt, doRoundAt, doAt, ReadyRounds, ReadyDo};
+ghost use Rattle.machine.specs.Rows.{partOr, performAt, execAt, itemsFrom, roundAt, roundsAt, ReadyRounds};
 
 // A part of a for; an absent one has this value.
 fn part(
@@ -50,7 +50,7 @@ fn part(
 
 // An expression statement's row, entered.
 fn express(rows: &[i32], bounds: &[usize], row: usize, store: &mut [i32], left: &mut u32) -> i64
-    requires { ⌜ Entered (now rows) (now bounds) (length (now store)) row kinds.Kind.Express ⌝ }
+    requires { ⌜ Entered (now rows) (now bounds) (length (now store)) row (OfStatement Express) ⌝ }
     ensures { λ r. ⌜ ran r (now (left .exit)) (now (store .exit)) ≡ spend (performAt (now (rows .entry)) (now (bounds .entry)) row) (now (left .entry)) (now (store .entry)) ⌝ }
 {
     let answer = eval_operation(&*rows, &*bounds, link_at(rows, row, 1), store, left);
@@ -62,13 +62,7 @@ fn express(rows: &[i32], bounds: &[usize], row: usize, store: &mut [i32], left: 
 }
 
 // The statement at a row.
-pub fn run_statement(
-    rows: &[i32],
-    bounds: &[usize],
-    row: usize,
-    store: &mut [i32],
-    left: &mut u32,
-) -> i64
+pub fn exec(rows: &[i32], bounds: &[usize], row: usize, store: &mut [i32], left: &mut u32) -> i64
     requires { ⌜ Ready (now rows) (now bounds) (length (now store)) row ⌝ }
     ensures { λ r. ⌜ ran r (now (left .exit)) (now (store .exit)) ≡ spend (execAt (now (rows .entry)) (now (bounds .entry)) row) (now (left .entry)) (now (store .entry)) ⌝ }
 {
@@ -80,44 +74,48 @@ pub fn run_statement(
     perform(&*rows, &*bounds, row, store, left)
 }
 
-// A row that was entered: what follows, by its kind. A row that is no statement does nothing.
+// A row that was entered: what follows, by the number of its kind, as in the evaluator. A row that is no statement does nothing.
 fn perform(rows: &[i32], bounds: &[usize], row: usize, store: &mut [i32], left: &mut u32) -> i64
     requires { ⌜ Ready (now rows) (now bounds) (length (now store)) row ⌝ }
     ensures { λ r. ⌜ ran r (now (left .exit)) (now (store .exit)) ≡ spend (performAt (now (rows .entry)) (now (bounds .entry)) row) (now (left .entry)) (now (store .entry)) ⌝ }
 {
-    let kind = statement_kind_at(rows, row);
-    match kind {
-        Kind::Express => express(&*rows, &*bounds, row, store, left),
-        Kind::Block => run_list(&*rows, &*bounds, link_at(rows, row, 1), store, left),
-        Kind::If => run_if(&*rows, &*bounds, row, store, left),
-        Kind::While => run_rounds(
+    let number = number_at(rows, row, 0);
+    match number {
+        40 => NEXT,
+        41 => express(&*rows, &*bounds, row, store, left),
+        42 => list(&*rows, &*bounds, link_at(rows, row, 1), store, left),
+        43 => branch(&*rows, &*bounds, row, store, left),
+        44 => rounds(
             &*rows,
             &*bounds,
             link_at(rows, row, 1),
+            link_at(rows, row, 2),
             0,
-            link_at(rows, row, 2),
+            false,
             store,
             left,
         ),
-        Kind::Do => run_do(
+        45 => rounds(
             &*rows,
             &*bounds,
+            0,
             link_at(rows, row, 1),
             link_at(rows, row, 2),
+            true,
             store,
             left,
         ),
-        Kind::For => run_for(&*rows, &*bounds, row, store, left),
-        Kind::Switch => run_switch(&*rows, &*bounds, row, store, left),
-        Kind::Break => BREAK,
-        Kind::Continue => CONTINUE,
-        Kind::Goto => jump(word_at(rows, row, 1)),
+        46 => for_loop(&*rows, &*bounds, row, store, left),
+        47 => switch(&*rows, &*bounds, row, store, left),
+        50 => BREAK,
+        51 => CONTINUE,
+        52 => jump(word_at(rows, row, 1)),
         _ => NEXT,
     }
 }
 
 // The statement at a row, where it is most often an expression statement, which needs no call of `perform`: an item of a list.
-fn run_item(rows: &[i32], bounds: &[usize], row: usize, store: &mut [i32], left: &mut u32) -> i64
+fn item(rows: &[i32], bounds: &[usize], row: usize, store: &mut [i32], left: &mut u32) -> i64
     requires { ⌜ Ready (now rows) (now bounds) (length (now store)) row ⌝ }
     ensures { λ r. ⌜ ran r (now (left .exit)) (now (store .exit)) ≡ spend (execAt (now (rows .entry)) (now (bounds .entry)) row) (now (left .entry)) (now (store .entry)) ⌝ }
 {
@@ -134,28 +132,22 @@ fn run_item(rows: &[i32], bounds: &[usize], row: usize, store: &mut [i32], left:
 }
 
 // The list from a first item on; 0 is the empty list.
-pub fn run_list(
-    rows: &[i32],
-    bounds: &[usize],
-    first: usize,
-    store: &mut [i32],
-    left: &mut u32,
-) -> i64
+pub fn list(rows: &[i32], bounds: &[usize], first: usize, store: &mut [i32], left: &mut u32) -> i64
     requires { ⌜ Ready (now rows) (now bounds) (length (now store)) first ⌝ }
     ensures { λ r. ⌜ ran r (now (left .exit)) (now (store .exit)) ≡ spend (itemsFrom (now (rows .entry)) (now (bounds .entry)) first) (now (left .entry)) (now (store .entry)) ⌝ }
 {
     let mut at = first;
     let mut answer = NEXT;
     while at != 0 {
-        answer = run_item(&*rows, &*bounds, at, store, left);
+        answer = item(&*rows, &*bounds, at, store, left);
         at = resume(rows, at, answer);
     }
     answer
 }
 
 // An if's row, entered: the test, then one branch.
-fn run_if(rows: &[i32], bounds: &[usize], row: usize, store: &mut [i32], left: &mut u32) -> i64
-    requires { ⌜ Entered (now rows) (now bounds) (length (now store)) row kinds.Kind.If ⌝ }
+fn branch(rows: &[i32], bounds: &[usize], row: usize, store: &mut [i32], left: &mut u32) -> i64
+    requires { ⌜ Entered (now rows) (now bounds) (length (now store)) row (OfStatement If) ⌝ }
     ensures { λ r. ⌜ ran r (now (left .exit)) (now (store .exit)) ≡ spend (performAt (now (rows .entry)) (now (bounds .entry)) row) (now (left .entry)) (now (store .entry)) ⌝ }
 {
     let answer = eval(&*rows, &*bounds, link_at(rows, row, 1), store, left);
@@ -164,27 +156,29 @@ fn run_if(rows: &[i32], bounds: &[usize], row: usize, store: &mut [i32], left: &
         return answer;
     };
     if is_true(value) {
-        return run_statement(&*rows, &*bounds, link_at(rows, row, 2), store, left);
+        return exec(&*rows, &*bounds, link_at(rows, row, 2), store, left);
     }
     let other = link_at(rows, row, 3);
     if other == 0 {
         return NEXT;
     }
-    run_statement(&*rows, &*bounds, other, store, left)
+    exec(&*rows, &*bounds, other, store, left)
 }
 
-// A round of a while or a for: test, body, step.
+// A round of a loop: the test, the body, the last part. The last part is the step of a for; in a do, which has its test there, it
+// decides whether another round follows.
 fn round(
     rows: &[i32],
     bounds: &[usize],
     test: usize,
-    action: usize,
     body: usize,
+    last: usize,
+    decides: bool,
     store: &mut [i32],
     left: &mut u32,
 ) -> i64
-    requires { ⌜ ReadyRounds (now rows) (now bounds) (length (now store)) test action body ⌝ }
-    ensures { λ r. ⌜ turned r (now (left .exit)) (now (store .exit)) ≡ spend (roundAt (now (rows .entry)) (now (bounds .entry)) test action body) (now (left .entry)) (now (store .entry)) ⌝ }
+    requires { ⌜ ReadyRounds (now rows) (now bounds) (length (now store)) test body last ⌝ }
+    ensures { λ r. ⌜ turned r (now (left .exit)) (now (store .exit)) ≡ spend (roundAt (now (rows .entry)) (now (bounds .entry)) test body last decides) (now (left .entry)) (now (store .entry)) ⌝ }
 {
     let test_answer = part(&*rows, &*bounds, test, 1, store, left);
     let tested = operand(test_answer);
@@ -194,82 +188,35 @@ fn round(
     if !is_true(value) {
         return NEXT;
     }
-    let body_answer = after_body(run_statement(&*rows, &*bounds, body, store, left));
+    let body_answer = after_body(exec(&*rows, &*bounds, body, store, left));
     let turn = flow(body_answer);
     let Flow::Continue = turn else {
         return body_answer;
     };
-    let step_answer = part(&*rows, &*bounds, action, 0, store, left);
-    let stepped = operand(step_answer);
-    let Operand::Value(_) = stepped else {
-        return step_answer;
+    let last_answer = part(&*rows, &*bounds, last, 0, store, left);
+    let closed = operand(last_answer);
+    let Operand::Value(closing) = closed else {
+        return last_answer;
     };
-    CONTINUE
+    after_last(decides, closing)
 }
 
-// The rounds of a while or a for, until one is the last.
-fn run_rounds(
+// The rounds of a loop, until one is the last.
+fn rounds(
     rows: &[i32],
     bounds: &[usize],
     test: usize,
-    action: usize,
     body: usize,
+    last: usize,
+    decides: bool,
     store: &mut [i32],
     left: &mut u32,
 ) -> i64
-    requires { ⌜ ReadyRounds (now rows) (now bounds) (length (now store)) test action body ⌝ }
-    ensures { λ r. ⌜ ran r (now (left .exit)) (now (store .exit)) ≡ spend (roundsAt (now (rows .entry)) (now (bounds .entry)) test action body) (now (left .entry)) (now (store .entry)) ⌝ }
+    requires { ⌜ ReadyRounds (now rows) (now bounds) (length (now store)) test body last ⌝ }
+    ensures { λ r. ⌜ ran r (now (left .exit)) (now (store .exit)) ≡ spend (roundsAt (now (rows .entry)) (now (bounds .entry)) test body last decides) (now (left .entry)) (now (store .entry)) ⌝ }
 {
     loop {
-        let answer = round(&*rows, &*bounds, test, action, body, store, left);
-        let turn = flow(answer);
-        let Flow::Continue = turn else {
-            return answer;
-        };
-    }
-}
-
-// A round of a do: body, test.
-fn do_round(
-    rows: &[i32],
-    bounds: &[usize],
-    body: usize,
-    test: usize,
-    store: &mut [i32],
-    left: &mut u32,
-) -> i64
-    requires { ⌜ ReadyDo (now rows) (now bounds) (length (now store)) body test ⌝ }
-    ensures { λ r. ⌜ turned r (now (left .exit)) (now (store .exit)) ≡ spend (doRoundAt (now (rows .entry)) (now (bounds .entry)) body test) (now (left .entry)) (now (store .entry)) ⌝ }
-{
-    let body_answer = after_body(run_statement(&*rows, &*bounds, body, store, left));
-    let turn = flow(body_answer);
-    let Flow::Continue = turn else {
-        return body_answer;
-    };
-    let test_answer = eval(&*rows, &*bounds, test, store, left);
-    let tested = operand(test_answer);
-    let Operand::Value(value) = tested else {
-        return test_answer;
-    };
-    if is_true(value) {
-        return CONTINUE;
-    }
-    NEXT
-}
-
-fn run_do(
-    rows: &[i32],
-    bounds: &[usize],
-    body: usize,
-    test: usize,
-    store: &mut [i32],
-    left: &mut u32,
-) -> i64
-    requires { ⌜ ReadyDo (now rows) (now bounds) (length (now store)) body test ⌝ }
-    ensures { λ r. ⌜ ran r (now (left .exit)) (now (store .exit)) ≡ spend (doAt (now (rows .entry)) (now (bounds .entry)) body test) (now (left .entry)) (now (store .entry)) ⌝ }
-{
-    loop {
-        let answer = do_round(&*rows, &*bounds, body, test, store, left);
+        let answer = round(&*rows, &*bounds, test, body, last, decides, store, left);
         let turn = flow(answer);
         let Flow::Continue = turn else {
             return answer;
@@ -278,8 +225,8 @@ fn run_do(
 }
 
 // A for's row, entered: the start, then the rounds.
-fn run_for(rows: &[i32], bounds: &[usize], row: usize, store: &mut [i32], left: &mut u32) -> i64
-    requires { ⌜ Entered (now rows) (now bounds) (length (now store)) row kinds.Kind.For ⌝ }
+fn for_loop(rows: &[i32], bounds: &[usize], row: usize, store: &mut [i32], left: &mut u32) -> i64
+    requires { ⌜ Entered (now rows) (now bounds) (length (now store)) row (OfStatement For) ⌝ }
     ensures { λ r. ⌜ ran r (now (left .exit)) (now (store .exit)) ≡ spend (performAt (now (rows .entry)) (now (bounds .entry)) row) (now (left .entry)) (now (store .entry)) ⌝ }
 {
     let answer = part(&*rows, &*bounds, link_at(rows, row, 1), 0, store, left);
@@ -287,20 +234,21 @@ fn run_for(rows: &[i32], bounds: &[usize], row: usize, store: &mut [i32], left: 
     let Operand::Value(_) = start else {
         return answer;
     };
-    run_rounds(
+    rounds(
         &*rows,
         &*bounds,
         link_at(rows, row, 2),
-        link_at(rows, row, 3),
         link_at(rows, row, 4),
+        link_at(rows, row, 3),
+        false,
         store,
         left,
     )
 }
 
 // A switch's row, entered: "go to the case of equal value, else to default, else past the switch; then fall through until break".
-fn run_switch(rows: &[i32], bounds: &[usize], row: usize, store: &mut [i32], left: &mut u32) -> i64
-    requires { ⌜ Entered (now rows) (now bounds) (length (now store)) row kinds.Kind.Switch ⌝ }
+fn switch(rows: &[i32], bounds: &[usize], row: usize, store: &mut [i32], left: &mut u32) -> i64
+    requires { ⌜ Entered (now rows) (now bounds) (length (now store)) row (OfStatement Switch) ⌝ }
     ensures { λ r. ⌜ ran r (now (left .exit)) (now (store .exit)) ≡ spend (performAt (now (rows .entry)) (now (bounds .entry)) row) (now (left .entry)) (now (store .entry)) ⌝ }
 {
     let answer = eval(&*rows, &*bounds, link_at(rows, row, 1), store, left);
@@ -309,5 +257,5 @@ fn run_switch(rows: &[i32], bounds: &[usize], row: usize, store: &mut [i32], lef
         return answer;
     };
     let first = find_start(rows, link_at(rows, row, 2), value);
-    after_switch(run_list(&*rows, &*bounds, first, store, left))
+    after_switch(list(&*rows, &*bounds, first, store, left))
 }

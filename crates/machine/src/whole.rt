@@ -1,5 +1,5 @@
 // The run of a program.
-use super::statements::run_statement;
+use super::statements::exec;
 use evaluator::Operand;
 use evaluator::SPENT;
 use evaluator::answers::beyond;
@@ -64,7 +64,7 @@ fn start(
     ensures { λ r. ⌜ ran r (now (left .exit)) (now (store .exit)) ≡ spend (wholeAt (now (lengths .entry)) variables (now (rows .entry))) (now (left .entry)) (now (store .entry)) ⌝ }
 {
     fill_bounds(lengths, variables, bounds);
-    run_statement(&*rows, &*bounds, 0, store, left)
+    exec(&*rows, &*bounds, 0, store, left)
 }
 
 // The run of a program with a budget.

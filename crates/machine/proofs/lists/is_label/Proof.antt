@@ -2,7 +2,8 @@
 use mathlib.Core.Path.{sym, ap, _∙_}
 use lib.Dec.{eqb}
 use Rattle.language.specs.Trees.{sameMark}
-use Rattle.machine.proofs.Items.{label-is, label-not, label-number, number-label}
+use Rattle.words.specs.declared.MarkKind.the-variants.{Label}
+use Rattle.machine.proofs.Items.{label-is, label-not, number-label, other-mark}
 use borrow.Author.Needs.{needs}
 use Rattle.machine.proofs.lists.is_label.Statement.{statement}
 use Rattle.machine.proofs.lists.is_label.Tie as tie
@@ -18,12 +19,12 @@ unfolding sameMark
 returns c =
     let start = c .before .before .before in
     let past-number-at = c .before .before .number-at in
-    ap (eqb (start .args .label)) (c .number-at2 .ensures) ∙ sym (label-is (start .pre) (start .args .label) (number-label _ _ _ (past-number-at .ensures) (c .before .if1 .taken)))
+    ap (eqb (start .args .label)) (c .number-at2 .ensures) ∙ sym (label-is (start .pre) (start .args .label) (number-label _ _ (past-number-at .ensures) (c .before .if1 .taken)))
 
 returns-2 : tie.Need-returns-2
 returns-2 c =
     let start = c .before .before in
-    sym (label-not (start .pre) (start .args .label) (λ e. c .if1 .left (c .before .number-at .ensures ∙ label-number _ _ e)))
+    sym (label-not (start .pre) (start .args .label) (other-mark _ _ (c .before .number-at .ensures) Label (c .if1 .left)))
 
 pub is-label-spec : {M : Type 1} → statement M
 is-label-spec =

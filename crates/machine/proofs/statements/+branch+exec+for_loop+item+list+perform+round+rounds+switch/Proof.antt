@@ -1,65 +1,55 @@
 -- Statement runs and list runs meet their contracts: each member's answer is what `spend` of the meaning of the tree at its row gives.
 -- Each need is a chain of the laws of a row of its kind, and of what the calls answered. A file for each member.
-use Rattle.machine.proofs.statements.+do_round+perform+round+run_do+run_for+run_if+run_item+run_list+run_rounds+run_statement+run_switch.{statement}
-use Rattle.machine.proofs.statements.+do_round+perform+round+run_do+run_for+run_if+run_item+run_list+run_rounds+run_statement+run_switch.Tie.{close}
-use Rattle.machine.proofs.statements.do_round.Reads as do-round-reads
-use Rattle.machine.proofs.statements.+do_round+perform+round+run_do+run_for+run_if+run_item+run_list+run_rounds+run_statement+run_switch.Lts-do_round as do-round-lts
-use Rattle.machine.proofs.statements.+do_round+perform+round+run_do+run_for+run_if+run_item+run_list+run_rounds+run_statement+run_switch.Proof.DoRound as do-round
+use Rattle.machine.proofs.statements.+branch+exec+for_loop+item+list+perform+round+rounds+switch.{statement}
+use Rattle.machine.proofs.statements.+branch+exec+for_loop+item+list+perform+round+rounds+switch.Tie.{close}
 use Rattle.machine.proofs.statements.perform.Reads as perform-reads
-use Rattle.machine.proofs.statements.+do_round+perform+round+run_do+run_for+run_if+run_item+run_list+run_rounds+run_statement+run_switch.Lts-perform as perform-lts
-use Rattle.machine.proofs.statements.+do_round+perform+round+run_do+run_for+run_if+run_item+run_list+run_rounds+run_statement+run_switch.Proof.Perform as perform
+use Rattle.machine.proofs.statements.+branch+exec+for_loop+item+list+perform+round+rounds+switch.Lts-perform as perform-lts
+use Rattle.machine.proofs.statements.+branch+exec+for_loop+item+list+perform+round+rounds+switch.Proof.Perform as perform
 use Rattle.machine.proofs.statements.round.Reads as round-reads
-use Rattle.machine.proofs.statements.+do_round+perform+round+run_do+run_for+run_if+run_item+run_list+run_rounds+run_statement+run_switch.Lts-round as round-lts
-use Rattle.machine.proofs.statements.+do_round+perform+round+run_do+run_for+run_if+run_item+run_list+run_rounds+run_statement+run_switch.Proof.Round as round
-use Rattle.machine.proofs.statements.run_do.Reads as run-do-reads
-use Rattle.machine.proofs.statements.+do_round+perform+round+run_do+run_for+run_if+run_item+run_list+run_rounds+run_statement+run_switch.Lts-run_do as run-do-lts
-use Rattle.machine.proofs.statements.+do_round+perform+round+run_do+run_for+run_if+run_item+run_list+run_rounds+run_statement+run_switch.Proof.RunDo as run-do
-use Rattle.machine.proofs.statements.run_for.Reads as run-for-reads
-use Rattle.machine.proofs.statements.+do_round+perform+round+run_do+run_for+run_if+run_item+run_list+run_rounds+run_statement+run_switch.Lts-run_for as run-for-lts
-use Rattle.machine.proofs.statements.+do_round+perform+round+run_do+run_for+run_if+run_item+run_list+run_rounds+run_statement+run_switch.Proof.RunFor as run-for
-use Rattle.machine.proofs.statements.run_if.Reads as run-if-reads
-use Rattle.machine.proofs.statements.+do_round+perform+round+run_do+run_for+run_if+run_item+run_list+run_rounds+run_statement+run_switch.Lts-run_if as run-if-lts
-use Rattle.machine.proofs.statements.+do_round+perform+round+run_do+run_for+run_if+run_item+run_list+run_rounds+run_statement+run_switch.Proof.RunIf as run-if
-use Rattle.machine.proofs.statements.run_item.Reads as run-item-reads
-use Rattle.machine.proofs.statements.+do_round+perform+round+run_do+run_for+run_if+run_item+run_list+run_rounds+run_statement+run_switch.Lts-run_item as run-item-lts
-use Rattle.machine.proofs.statements.+do_round+perform+round+run_do+run_for+run_if+run_item+run_list+run_rounds+run_statement+run_switch.Proof.RunItem as run-item
-use Rattle.machine.proofs.statements.run_list.Reads as run-list-reads
-use Rattle.machine.proofs.statements.+do_round+perform+round+run_do+run_for+run_if+run_item+run_list+run_rounds+run_statement+run_switch.Lts-run_list as run-list-lts
-use Rattle.machine.proofs.statements.+do_round+perform+round+run_do+run_for+run_if+run_item+run_list+run_rounds+run_statement+run_switch.Proof.RunList as run-list
-use Rattle.machine.proofs.statements.run_rounds.Reads as run-rounds-reads
-use Rattle.machine.proofs.statements.+do_round+perform+round+run_do+run_for+run_if+run_item+run_list+run_rounds+run_statement+run_switch.Lts-run_rounds as run-rounds-lts
-use Rattle.machine.proofs.statements.+do_round+perform+round+run_do+run_for+run_if+run_item+run_list+run_rounds+run_statement+run_switch.Proof.RunRounds as run-rounds
-use Rattle.machine.proofs.statements.run_statement.Reads as run-statement-reads
-use Rattle.machine.proofs.statements.+do_round+perform+round+run_do+run_for+run_if+run_item+run_list+run_rounds+run_statement+run_switch.Lts-run_statement as run-statement-lts
-use Rattle.machine.proofs.statements.+do_round+perform+round+run_do+run_for+run_if+run_item+run_list+run_rounds+run_statement+run_switch.Proof.RunStatement as run-statement
-use Rattle.machine.proofs.statements.run_switch.Reads as run-switch-reads
-use Rattle.machine.proofs.statements.+do_round+perform+round+run_do+run_for+run_if+run_item+run_list+run_rounds+run_statement+run_switch.Lts-run_switch as run-switch-lts
-use Rattle.machine.proofs.statements.+do_round+perform+round+run_do+run_for+run_if+run_item+run_list+run_rounds+run_statement+run_switch.Proof.RunSwitch as run-switch
-use Rattle.machine.proofs.statements.+do_round+perform+round+run_do+run_for+run_if+run_item+run_list+run_rounds+run_statement+run_switch.Proof.Claims.{μ-do-round, μ-perform, μ-round, μ-run-do, μ-run-for, μ-run-if, μ-run-item, μ-run-list, μ-run-rounds, μ-run-statement, μ-run-switch, do-round-claims, do-round-at, perform-claims, perform-at, round-claims, round-at, run-do-claims, run-do-at, run-for-claims, run-for-at, run-if-claims, run-if-at, run-item-claims, run-item-at, run-list-claims, run-list-at, run-rounds-claims, run-rounds-at, run-statement-claims, run-statement-at, run-switch-claims, run-switch-at, run-do-Inv-loop, run-do-μ-loop, run-list-Inv-loop, run-list-μ-loop, run-rounds-Inv-loop, run-rounds-μ-loop}
+use Rattle.machine.proofs.statements.+branch+exec+for_loop+item+list+perform+round+rounds+switch.Lts-round as round-lts
+use Rattle.machine.proofs.statements.+branch+exec+for_loop+item+list+perform+round+rounds+switch.Proof.Round as round
+use Rattle.machine.proofs.statements.for_loop.Reads as for-loop-reads
+use Rattle.machine.proofs.statements.+branch+exec+for_loop+item+list+perform+round+rounds+switch.Lts-for_loop as for-loop-lts
+use Rattle.machine.proofs.statements.+branch+exec+for_loop+item+list+perform+round+rounds+switch.Proof.ForLoop as for-loop
+use Rattle.machine.proofs.statements.branch.Reads as branch-reads
+use Rattle.machine.proofs.statements.+branch+exec+for_loop+item+list+perform+round+rounds+switch.Lts-branch as branch-lts
+use Rattle.machine.proofs.statements.+branch+exec+for_loop+item+list+perform+round+rounds+switch.Proof.Branch as branch
+use Rattle.machine.proofs.statements.item.Reads as item-reads
+use Rattle.machine.proofs.statements.+branch+exec+for_loop+item+list+perform+round+rounds+switch.Lts-item as item-lts
+use Rattle.machine.proofs.statements.+branch+exec+for_loop+item+list+perform+round+rounds+switch.Proof.Item as item
+use Rattle.machine.proofs.statements.list.Reads as list-reads
+use Rattle.machine.proofs.statements.+branch+exec+for_loop+item+list+perform+round+rounds+switch.Lts-list as list-lts
+use Rattle.machine.proofs.statements.+branch+exec+for_loop+item+list+perform+round+rounds+switch.Proof.List as list
+use Rattle.machine.proofs.statements.rounds.Reads as rounds-reads
+use Rattle.machine.proofs.statements.+branch+exec+for_loop+item+list+perform+round+rounds+switch.Lts-rounds as rounds-lts
+use Rattle.machine.proofs.statements.+branch+exec+for_loop+item+list+perform+round+rounds+switch.Proof.Rounds as rounds
+use Rattle.machine.proofs.statements.exec.Reads as exec-reads
+use Rattle.machine.proofs.statements.+branch+exec+for_loop+item+list+perform+round+rounds+switch.Lts-exec as exec-lts
+use Rattle.machine.proofs.statements.+branch+exec+for_loop+item+list+perform+round+rounds+switch.Proof.Exec as exec
+use Rattle.machine.proofs.statements.switch.Reads as switch-reads
+use Rattle.machine.proofs.statements.+branch+exec+for_loop+item+list+perform+round+rounds+switch.Lts-switch as switch-lts
+use Rattle.machine.proofs.statements.+branch+exec+for_loop+item+list+perform+round+rounds+switch.Proof.Switch as switch
+use Rattle.machine.proofs.statements.+branch+exec+for_loop+item+list+perform+round+rounds+switch.Proof.Claims.{μ-perform, μ-round, μ-for-loop, μ-branch, μ-item, μ-list, μ-rounds, μ-exec, μ-switch, perform-claims, perform-at, round-claims, round-at, for-loop-claims, for-loop-at, branch-claims, branch-at, item-claims, item-at, list-claims, list-at, rounds-claims, rounds-at, exec-claims, exec-at, switch-claims, switch-at, list-Inv-loop, list-μ-loop, rounds-Inv-loop, rounds-μ-loop}
 pub mod Claims
-pub mod DoRound
 pub mod Perform
 pub mod Round
-pub mod RunDo
-pub mod RunFor
-pub mod RunIf
-pub mod RunItem
-pub mod RunList
-pub mod RunRounds
-pub mod RunStatement
-pub mod RunSwitch
+pub mod ForLoop
+pub mod Branch
+pub mod Item
+pub mod List
+pub mod Rounds
+pub mod Exec
+pub mod Switch
 
-pub +do-round+perform+round+run-do+run-for+run-if+run-item+run-list+run-rounds+run-statement+run-switch-spec : {M : Type 1} → statement M
-+do-round+perform+round+run-do+run-for+run-if+run-item+run-list+run-rounds+run-statement+run-switch-spec =
-    close μ-do-round μ-perform μ-round μ-run-do μ-run-for μ-run-if μ-run-item μ-run-list μ-run-rounds μ-run-statement μ-run-switch
-    (λ t. do-round-lts.spec (do-round-claims t) (do-round-at t) do-round-reads.Post (do-round.run-statement-requires t) (do-round.after-body-requires t) (do-round.flow-requires t) (do-round.enum-told t) (do-round.same-length t) (do-round.returns t) (do-round.eval-requires t) (do-round.operand-requires t) (do-round.enum-known-tested t) (do-round.enum-told-2 t) (do-round.same-length-2 t) (do-round.returns-2 t) (do-round.is-true-requires t) (do-round.same-length-3 t) (do-round.returns-3 t) (do-round.same-length-4 t) (do-round.returns-4 t))
-    (λ t. perform-lts.spec (perform-claims t) (perform-at t) perform-reads.Post (perform.statement-kind-at-requires t) (perform.enum-told t) (perform.express-requires t) (perform.enum-told-2 t) (perform.link-at-requires t) (perform.run-list-requires t) (perform.enum-told-3 t) (perform.run-if-requires t) (perform.enum-told-4 t) (perform.link-at-requires-2 t) (perform.link-at-requires-3 t) (perform.run-rounds-requires t) (perform.enum-told-5 t) (perform.link-at-requires-4 t) (perform.link-at-requires-5 t) (perform.run-do-requires t) (perform.enum-told-6 t) (perform.run-for-requires t) (perform.enum-told-7 t) (perform.run-switch-requires t) (perform.enum-told-8 t) (perform.enum-told-9 t) (perform.enum-told-10 t) (perform.word-at-requires t) (perform.jump-requires t) (perform.same-length t) (perform.returns t) (perform.same-length-2 t) (perform.returns-2 t) (perform.same-length-3 t) (perform.returns-3 t) (perform.same-length-4 t) (perform.returns-4 t) (perform.same-length-5 t) (perform.returns-5 t) (perform.same-length-6 t) (perform.returns-6 t) (perform.same-length-7 t) (perform.returns-7 t) (perform.returns-8 t) (perform.returns-9 t) (perform.returns-10 t) (perform.returns-11 t))
-    (λ t. round-lts.spec (round-claims t) (round-at t) round-reads.Post (round.part-requires t) (round.operand-requires t) (round.enum-known-tested t) (round.enum-told t) (round.same-length t) (round.returns t) (round.is-true-requires t) (round.same-length-2 t) (round.returns-2 t) (round.run-statement-requires t) (round.after-body-requires t) (round.flow-requires t) (round.enum-told-2 t) (round.same-length-3 t) (round.returns-3 t) (round.part-requires-2 t) (round.operand-requires-2 t) (round.enum-told-3 t) (round.enum-told-4 t) (round.same-length-4 t) (round.returns-4 t) (round.same-length-5 t) (round.returns-5 t))
-    (λ t. run-do-lts.spec (run-do-claims t) (run-do-at t) run-do-reads.Post run-do-Inv-loop run-do-μ-loop (run-do.loop-holds t) (run-do.do-round-requires t) (run-do.flow-requires t) (run-do.enum-told t) (run-do.loop-less t) (run-do.loop-again t) (run-do.same-length t) (run-do.returns t))
-    (λ t. run-for-lts.spec (run-for-claims t) (run-for-at t) run-for-reads.Post (run-for.link-at-requires t) (run-for.part-requires t) (run-for.operand-requires t) (run-for.enum-told t) (run-for.enum-told-2 t) (run-for.same-length t) (run-for.returns t) (run-for.link-at-requires-2 t) (run-for.link-at-requires-3 t) (run-for.link-at-requires-4 t) (run-for.run-rounds-requires t) (run-for.same-length-2 t) (run-for.returns-2 t))
-    (λ t. run-if-lts.spec (run-if-claims t) (run-if-at t) run-if-reads.Post (run-if.link-at-requires t) (run-if.eval-requires t) (run-if.operand-requires t) (run-if.enum-known-test t) (run-if.enum-told t) (run-if.same-length t) (run-if.returns t) (run-if.is-true-requires t) (run-if.link-at-requires-2 t) (run-if.run-statement-requires t) (run-if.same-length-2 t) (run-if.returns-2 t) (run-if.link-at-requires-3 t) (run-if.same-length-3 t) (run-if.returns-3 t) (run-if.run-statement-requires-2 t) (run-if.same-length-4 t) (run-if.returns-4 t))
-    (λ t. run-item-lts.spec (run-item-claims t) (run-item-at t) run-item-reads.Post (run-item.returns t) (run-item.sub-left t) (run-item.number-at-requires t) (run-item.express-requires t) (run-item.same-length t) (run-item.returns-2 t) (run-item.perform-requires t) (run-item.same-length-2 t) (run-item.returns-3 t))
-    (λ t. run-list-lts.spec (run-list-claims t) (run-list-at t) run-list-reads.Post run-list-Inv-loop run-list-μ-loop (run-list.loop-holds t) (run-list.run-item-requires t) (run-list.resume-requires t) (run-list.loop-less t) (run-list.loop-again t) (run-list.same-length t) (run-list.returns t))
-    (λ t. run-rounds-lts.spec (run-rounds-claims t) (run-rounds-at t) run-rounds-reads.Post run-rounds-Inv-loop run-rounds-μ-loop (run-rounds.loop-holds t) (run-rounds.round-requires t) (run-rounds.flow-requires t) (run-rounds.enum-told t) (run-rounds.loop-less t) (run-rounds.loop-again t) (run-rounds.same-length t) (run-rounds.returns t))
-    (λ t. run-statement-lts.spec (run-statement-claims t) (run-statement-at t) run-statement-reads.Post (run-statement.returns t) (run-statement.sub-left t) (run-statement.perform-requires t) (run-statement.same-length t) (run-statement.returns-2 t))
-    (λ t. run-switch-lts.spec (run-switch-claims t) (run-switch-at t) run-switch-reads.Post (run-switch.link-at-requires t) (run-switch.eval-requires t) (run-switch.operand-requires t) (run-switch.enum-known-selector t) (run-switch.enum-told t) (run-switch.same-length t) (run-switch.returns t) (run-switch.link-at-requires-2 t) (run-switch.find-start-requires t) (run-switch.run-list-requires t) (run-switch.after-switch-requires t) (run-switch.same-length-2 t) (run-switch.returns-2 t))
+pub +branch+exec+for-loop+item+list+perform+round+rounds+switch-spec : {M : Type 1} → statement M
++branch+exec+for-loop+item+list+perform+round+rounds+switch-spec =
+    close μ-branch μ-exec μ-for-loop μ-item μ-list μ-perform μ-round μ-rounds μ-switch
+    (λ t. branch-lts.spec (branch-claims t) (branch-at t) branch-reads.Post (branch.link-at-requires t) (branch.eval-requires t) (branch.operand-requires t) (branch.enum-known-test t) (branch.enum-told t) (branch.same-length t) (branch.returns t) (branch.is-true-requires t) (branch.link-at-requires-2 t) (branch.exec-requires t) (branch.same-length-2 t) (branch.returns-2 t) (branch.link-at-requires-3 t) (branch.same-length-3 t) (branch.returns-3 t) (branch.exec-requires-2 t) (branch.same-length-4 t) (branch.returns-4 t))
+    (λ t. exec-lts.spec (exec-claims t) (exec-at t) exec-reads.Post (exec.returns t) (exec.sub-left t) (exec.perform-requires t) (exec.same-length t) (exec.returns-2 t))
+    (λ t. for-loop-lts.spec (for-loop-claims t) (for-loop-at t) for-loop-reads.Post (for-loop.link-at-requires t) (for-loop.part-requires t) (for-loop.operand-requires t) (for-loop.enum-told t) (for-loop.enum-told-2 t) (for-loop.same-length t) (for-loop.returns t) (for-loop.link-at-requires-2 t) (for-loop.link-at-requires-3 t) (for-loop.link-at-requires-4 t) (for-loop.rounds-requires t) (for-loop.same-length-2 t) (for-loop.returns-2 t))
+    (λ t. item-lts.spec (item-claims t) (item-at t) item-reads.Post (item.returns t) (item.sub-left t) (item.number-at-requires t) (item.express-requires t) (item.same-length t) (item.returns-2 t) (item.perform-requires t) (item.same-length-2 t) (item.returns-3 t))
+    (λ t. list-lts.spec (list-claims t) (list-at t) list-reads.Post list-Inv-loop list-μ-loop (list.loop-holds t) (list.item-requires t) (list.resume-requires t) (list.loop-less t) (list.loop-again t) (list.same-length t) (list.returns t))
+    (λ t. perform-lts.spec (perform-claims t) (perform-at t) perform-reads.Post (perform.number-at-requires t) (perform.express-requires t) (perform.link-at-requires t) (perform.list-requires t) (perform.branch-requires t) (perform.link-at-requires-2 t) (perform.link-at-requires-3 t) (perform.rounds-requires t) (perform.link-at-requires-4 t) (perform.link-at-requires-5 t) (perform.rounds-requires-2 t) (perform.for-loop-requires t) (perform.switch-requires t) (perform.word-at-requires t) (perform.jump-requires t) (perform.returns t) (perform.same-length t) (perform.returns-2 t) (perform.same-length-2 t) (perform.returns-3 t) (perform.same-length-3 t) (perform.returns-4 t) (perform.same-length-4 t) (perform.returns-5 t) (perform.same-length-5 t) (perform.returns-6 t) (perform.same-length-6 t) (perform.returns-7 t) (perform.same-length-7 t) (perform.returns-8 t) (perform.returns-9 t) (perform.returns-10 t) (perform.returns-11 t) (perform.returns-12 t))
+    (λ t. round-lts.spec (round-claims t) (round-at t) round-reads.Post (round.part-requires t) (round.operand-requires t) (round.enum-known-tested t) (round.enum-told t) (round.same-length t) (round.returns t) (round.is-true-requires t) (round.same-length-2 t) (round.returns-2 t) (round.exec-requires t) (round.after-body-requires t) (round.flow-requires t) (round.enum-told-2 t) (round.same-length-3 t) (round.returns-3 t) (round.part-requires-2 t) (round.operand-requires-2 t) (round.enum-known-closed t) (round.enum-told-3 t) (round.same-length-4 t) (round.returns-4 t) (round.after-last-requires t) (round.same-length-5 t) (round.returns-5 t))
+    (λ t. rounds-lts.spec (rounds-claims t) (rounds-at t) rounds-reads.Post rounds-Inv-loop rounds-μ-loop (rounds.loop-holds t) (rounds.round-requires t) (rounds.flow-requires t) (rounds.enum-told t) (rounds.loop-less t) (rounds.loop-again t) (rounds.same-length t) (rounds.returns t))
+    (λ t. switch-lts.spec (switch-claims t) (switch-at t) switch-reads.Post (switch.link-at-requires t) (switch.eval-requires t) (switch.operand-requires t) (switch.enum-known-selector t) (switch.enum-told t) (switch.same-length t) (switch.returns t) (switch.link-at-requires-2 t) (switch.find-start-requires t) (switch.list-requires t) (switch.after-switch-requires t) (switch.same-length-2 t) (switch.returns-2 t))

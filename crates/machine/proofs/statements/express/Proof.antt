@@ -2,9 +2,8 @@
 use mathlib.Core.Path.{refl, sym, _∙_}
 use native.Mathlib.Omega.{arith}
 use Rattle.evaluator.proofs.Operands.{goes, link-asks, linked}
-use Rattle.evaluator.proofs.Rows.{sound-row}
 use Rattle.machine.proofs.Answers.{ran-next, hands-flow}
-use Rattle.machine.proofs.Rows.{express-row}
+use Rattle.machine.proofs.Rows.{express-link, express-row}
 use borrow.Author.Needs.{needs}
 use Rattle.machine.proofs.statements.express.Statement.{statement}
 use Rattle.machine.proofs.statements.express.Tie as tie
@@ -12,12 +11,12 @@ use Rattle.machine.proofs.statements.express.Tie as tie
 link-at-requires : tie.Need-link-at-requires
 link-at-requires c κs =
     let here = c .before .pre in
-    link-asks (here .ready) (sound-row here) (omega arith)
+    link-asks (here .ready) (express-link here) (omega arith)
 
 eval-operation-requires : tie.Need-eval-operation-requires
 eval-operation-requires c κs =
     let here = c .before .before .before .before .pre in
-    linked (here .ready) (sound-row here) (c .before .before .link-at .ensures) refl
+    linked (here .ready) (express-link here) (c .before .before .link-at .ensures) refl
 
 operand-requires : tie.Need-operand-requires
 operand-requires c κs = search needs

@@ -14,8 +14,8 @@ fill-bounds-requires c κs =
     let start = c .before .before in
     (start .pre .room, start .pre .small)
 
-run-statement-requires : tie.Need-run-statement-requires
-run-statement-requires c κs =
+exec-requires : tie.Need-exec-requires
+exec-requires c κs =
     let start = c .before .before .before .before .before .before .before .before in
     let past-fill-bounds = c .before .before .before .before .before .fill-bounds in
     record { setting = rw (past-fill-bounds .ensures) (start .pre .setting); below = start .pre .setting .sound .some-rows }
@@ -30,11 +30,11 @@ returns : tie.Need-returns
 returns c =
     let start = c .before .before .before .before .before .before .before .before .before .before in
     let past-fill-bounds = c .before .before .before .before .before .before .before .fill-bounds in
-    let past-run-statement = c .before .run-statement in
-    ran-handed (past-run-statement .result) _ _ (past-run-statement .ok) ∙ past-run-statement .ensures
+    let past-exec = c .before .exec in
+    ran-handed (past-exec .result) _ _ (past-exec .ok) ∙ past-exec .ensures
     ∙ ap (λ (b : List ℕ). spend (execAt (start .args .rows .now) b 0) (start .args .left .now) (start .args .store .now)) (past-fill-bounds .ensures)
 
 pub start-spec : {M : Type 1} → statement M
 start-spec =
     tie.close
-    (tie.spec fill-bounds-requires run-statement-requires same-length same-length-2 returns)
+    (tie.spec fill-bounds-requires exec-requires same-length same-length-2 returns)

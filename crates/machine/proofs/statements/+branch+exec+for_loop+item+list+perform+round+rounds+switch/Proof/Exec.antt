@@ -6,29 +6,29 @@ use native.Mathlib.Omega.{arith}
 use Rattle.evaluator.proofs.Enter.{entered, not-entered}
 use Rattle.machine.specs.Rows.{performAt}
 use Rattle.machine.proofs.Answers.{ran-spent, ran-handed}
-use Rattle.machine.proofs.statements.run_statement.Reads as reads
-use Rattle.machine.proofs.statements.+do_round+perform+round+run_do+run_for+run_if+run_item+run_list+run_rounds+run_statement+run_switch.Lts-run_statement as lts
-use Rattle.machine.proofs.statements.+do_round+perform+round+run_do+run_for+run_if+run_item+run_list+run_rounds+run_statement+run_switch.Proof.Claims.{run-statement-claims, run-statement-at}
+use Rattle.machine.proofs.statements.exec.Reads as reads
+use Rattle.machine.proofs.statements.+branch+exec+for_loop+item+list+perform+round+rounds+switch.Lts-exec as lts
+use Rattle.machine.proofs.statements.+branch+exec+for_loop+item+list+perform+round+rounds+switch.Proof.Claims.{exec-claims, exec-at}
 
-pub returns : (t : ℕ) → lts.Need-returns (run-statement-claims t) (run-statement-at t) reads.Post
+pub returns : (t : ℕ) → lts.Need-returns (exec-claims t) (exec-at t) reads.Post
 returns t c =
     let start = c .before .before .before in
     let past-if1 = c .if1 in
     ran-spent (start .args .left .now) (start .args .store .now) ∙ sym (not-entered (performAt (start .args .rows .now) (start .args .bounds .now) (start .args .row)) (start .args .store .now) (start .args .left .now) (past-if1 .taken))
 
-pub sub-left : (t : ℕ) → lts.Need-sub-left (run-statement-claims t) (run-statement-at t) reads.Post
+pub sub-left : (t : ℕ) → lts.Need-sub-left (exec-claims t) (exec-at t) reads.Post
 sub-left t c = search needs
 
-pub perform-requires : (t : ℕ) → lts.Need-perform-requires (run-statement-claims t) (run-statement-at t) reads.Post
+pub perform-requires : (t : ℕ) → lts.Need-perform-requires (exec-claims t) (exec-at t) reads.Post
 perform-requires t c κs =
     let start = c .before .before .before .before .before in
     let past-if1 = c .before .before .if1 in
     (omega (arith, start .pre .0, past-if1 .left), start .pre .1)
 
-pub same-length : (t : ℕ) → lts.Need-same-length (run-statement-claims t) (run-statement-at t) reads.Post
+pub same-length : (t : ℕ) → lts.Need-same-length (exec-claims t) (exec-at t) reads.Post
 same-length t c = search needs
 
-pub returns-2 : (t : ℕ) → lts.Need-returns-2 (run-statement-claims t) (run-statement-at t) reads.Post
+pub returns-2 : (t : ℕ) → lts.Need-returns-2 (exec-claims t) (exec-at t) reads.Post
 returns-2 t c =
     let start = c .before .before .before .before .before .before .before in
     let past-if1 = c .before .before .before .before .if1 in

@@ -5,40 +5,39 @@ use Prim.Native.Nat.{ℕ}
 use native.Mathlib.Omega.{arith}
 use lib.IntN.{pos}
 use Rattle.evaluator.proofs.Operands.{goes, link-asks, linked}
-use Rattle.evaluator.proofs.Rows.{sound-row}
 use Rattle.machine.specs.Rows.{partOr}
 use Rattle.machine.proofs.Answers.{ran-handed, hands-flow, answered-least}
-use Rattle.machine.proofs.Rows.{optional-asks, optional, for-row}
-use Rattle.machine.proofs.statements.run_for.Reads as reads
-use Rattle.machine.proofs.statements.+do_round+perform+round+run_do+run_for+run_if+run_item+run_list+run_rounds+run_statement+run_switch.Lts-run_for as lts
-use Rattle.machine.proofs.statements.+do_round+perform+round+run_do+run_for+run_if+run_item+run_list+run_rounds+run_statement+run_switch.Proof.Claims.{run-for-claims, run-for-at}
+use Rattle.machine.proofs.Rows.{optional-asks, optional, for-links, for-row}
+use Rattle.machine.proofs.statements.for_loop.Reads as reads
+use Rattle.machine.proofs.statements.+branch+exec+for_loop+item+list+perform+round+rounds+switch.Lts-for_loop as lts
+use Rattle.machine.proofs.statements.+branch+exec+for_loop+item+list+perform+round+rounds+switch.Proof.Claims.{for-loop-claims, for-loop-at}
 
-pub link-at-requires : (t : ℕ) → lts.Need-link-at-requires (run-for-claims t) (run-for-at t) reads.Post
+pub link-at-requires : (t : ℕ) → lts.Need-link-at-requires (for-loop-claims t) (for-loop-at t) reads.Post
 link-at-requires t c κs =
     let start = c .before in
     let here = start .pre .1 in
-    optional-asks (here .ready) (sound-row here .0) (omega arith)
+    optional-asks (here .ready) (for-links here .0) (omega arith)
 
-pub part-requires : (t : ℕ) → lts.Need-part-requires (run-for-claims t) (run-for-at t) reads.Post
+pub part-requires : (t : ℕ) → lts.Need-part-requires (for-loop-claims t) (for-loop-at t) reads.Post
 part-requires t c κs =
     let start = c .before .before .before .before in
     let past-link-at = c .before .before .link-at in
     let here = start .pre .1 in
-    optional (here .ready) (sound-row here .0) (past-link-at .ensures) refl
+    optional (here .ready) (for-links here .0) (past-link-at .ensures) refl
 
-pub operand-requires : (t : ℕ) → lts.Need-operand-requires (run-for-claims t) (run-for-at t) reads.Post
+pub operand-requires : (t : ℕ) → lts.Need-operand-requires (for-loop-claims t) (for-loop-at t) reads.Post
 operand-requires t c κs = search needs
 
-pub enum-told : (t : ℕ) → lts.Need-enum-told (run-for-claims t) (run-for-at t) reads.Post
+pub enum-told : (t : ℕ) → lts.Need-enum-told (for-loop-claims t) (for-loop-at t) reads.Post
 enum-told t c = search needs
 
-pub enum-told-2 : (t : ℕ) → lts.Need-enum-told-2 (run-for-claims t) (run-for-at t) reads.Post
+pub enum-told-2 : (t : ℕ) → lts.Need-enum-told-2 (for-loop-claims t) (for-loop-at t) reads.Post
 enum-told-2 t c = search needs
 
-pub same-length : (t : ℕ) → lts.Need-same-length (run-for-claims t) (run-for-at t) reads.Post
+pub same-length : (t : ℕ) → lts.Need-same-length (for-loop-claims t) (for-loop-at t) reads.Post
 same-length t c = search needs
 
-pub returns : (t : ℕ) → lts.Need-returns (run-for-claims t) (run-for-at t) reads.Post
+pub returns : (t : ℕ) → lts.Need-returns (for-loop-claims t) (for-loop-at t) reads.Post
 returns t c =
     let start = c .before .before .before .before .before .before .before .before .before in
     let past-link-at = c .before .before .before .before .before .before .before .link-at in
@@ -48,26 +47,26 @@ returns t c =
     let here = start .pre .1 in
     hands-flow (past-part .result) (past-part .last .1 .1 .1 .1 .1 .0) (past-part .last .1 .1 .1 .1 .0) (past-part .ok) (past-part .ensures) (past-operand .result) (past-operand .ensures) (past-enum-told2 .given .1) _ ∙ sym (for-row here (past-link-at .ensures) refl refl refl (start .args .left .now) (start .args .store .now))
 
-pub link-at-requires-2 : (t : ℕ) → lts.Need-link-at-requires-2 (run-for-claims t) (run-for-at t) reads.Post
+pub link-at-requires-2 : (t : ℕ) → lts.Need-link-at-requires-2 (for-loop-claims t) (for-loop-at t) reads.Post
 link-at-requires-2 t c κs =
     let start = c .before .before .before .before .before .before .before .before .before in
     let here = start .pre .1 in
-    optional-asks (here .ready) (sound-row here .1) (omega arith)
+    optional-asks (here .ready) (for-links here .1) (omega arith)
 
-pub link-at-requires-3 : (t : ℕ) → lts.Need-link-at-requires-3 (run-for-claims t) (run-for-at t) reads.Post
+pub link-at-requires-3 : (t : ℕ) → lts.Need-link-at-requires-3 (for-loop-claims t) (for-loop-at t) reads.Post
 link-at-requires-3 t c κs =
     let start = c .before .before .before .before .before .before .before .before .before .before in
     let here = start .pre .1 in
-    optional-asks (here .ready) (sound-row here .2) (omega arith)
+    link-asks (here .ready) (for-links here .3) (omega arith)
 
-pub link-at-requires-4 : (t : ℕ) → lts.Need-link-at-requires-4 (run-for-claims t) (run-for-at t) reads.Post
+pub link-at-requires-4 : (t : ℕ) → lts.Need-link-at-requires-4 (for-loop-claims t) (for-loop-at t) reads.Post
 link-at-requires-4 t c κs =
     let start = c .before .before .before .before .before .before .before .before .before .before .before in
     let here = start .pre .1 in
-    link-asks (here .ready) (sound-row here .3) (omega arith)
+    optional-asks (here .ready) (for-links here .2) (omega arith)
 
-pub run-rounds-requires : (t : ℕ) → lts.Need-run-rounds-requires (run-for-claims t) (run-for-at t) reads.Post
-run-rounds-requires t c κs =
+pub rounds-requires : (t : ℕ) → lts.Need-rounds-requires (for-loop-claims t) (for-loop-at t) reads.Post
+rounds-requires t c κs =
     let start = c .before .before .before .before .before .before .before .before .before .before .before .before .before .before in
     let past-link-at = c .before .before .before .before .before .before .before .before .before .before .before .before .link-at in
     let past-part = c .before .before .before .before .before .before .before .before .before .part in
@@ -77,16 +76,16 @@ run-rounds-requires t c κs =
     let here = start .pre .1 in (
       omega (arith, start .pre .0, answered-least (past-part .result) (past-part .last .1 .1 .1 .1 .1 .0) (past-part .last .1 .1 .1 .1 .0) (start .args .left .now) (start .args .store .now) (partOr (pos 0) (start .args .rows .now) (start .args .bounds .now) (past-link-at .result)) (past-part .ensures)),
       record {
-        test-ready = optional (here .ready) (sound-row here .1) (past-link-at2 .ensures) (past-part .kept .1 .1 .1 .1 .0);
-        action-ready = optional (here .ready) (sound-row here .2) (past-link-at3 .ensures) (past-part .kept .1 .1 .1 .1 .0);
-        body-ready = linked (here .ready) (sound-row here .3) (past-link-at4 .ensures) (past-part .kept .1 .1 .1 .1 .0);
+        test-ready = optional (here .ready) (for-links here .1) (past-link-at2 .ensures) (past-part .kept .1 .1 .1 .1 .0);
+        body-ready = linked (here .ready) (for-links here .3) (past-link-at3 .ensures) (past-part .kept .1 .1 .1 .1 .0);
+        last-ready = optional (here .ready) (for-links here .2) (past-link-at4 .ensures) (past-part .kept .1 .1 .1 .1 .0);
       },
     )
 
-pub same-length-2 : (t : ℕ) → lts.Need-same-length-2 (run-for-claims t) (run-for-at t) reads.Post
+pub same-length-2 : (t : ℕ) → lts.Need-same-length-2 (for-loop-claims t) (for-loop-at t) reads.Post
 same-length-2 t c = search needs
 
-pub returns-2 : (t : ℕ) → lts.Need-returns-2 (run-for-claims t) (run-for-at t) reads.Post
+pub returns-2 : (t : ℕ) → lts.Need-returns-2 (for-loop-claims t) (for-loop-at t) reads.Post
 returns-2 t c =
     let start = c .before .before .before .before .before .before .before .before .before .before .before .before .before .before .before .before in
     let past-link-at = c .before .before .before .before .before .before .before .before .before .before .before .before .before .before .link-at in
@@ -96,7 +95,7 @@ returns-2 t c =
     let past-link-at2 = c .before .before .before .before .before .before .link-at2 in
     let past-link-at3 = c .before .before .before .before .before .link-at3 in
     let past-link-at4 = c .before .before .before .before .link-at4 in
-    let past-run-rounds = c .before .run-rounds in
+    let past-rounds = c .before .rounds in
     let here = start .pre .1 in
-    ran-handed (past-run-rounds .result) _ _ (past-run-rounds .ok) ∙ past-run-rounds .ensures
-    ∙ sym (for-row here (past-link-at .ensures) (past-link-at2 .ensures) (past-link-at3 .ensures) (past-link-at4 .ensures) (start .args .left .now) (start .args .store .now) ∙ goes _ (past-part .result) (past-part .last .1 .1 .1 .1 .1 .0) (past-part .last .1 .1 .1 .1 .0) (past-part .ok) (past-part .ensures) (past-operand .result) (past-operand .ensures) (past-enum-told .given .0 .0) (past-enum-told .given .1))
+    ran-handed (past-rounds .result) _ _ (past-rounds .ok) ∙ past-rounds .ensures
+    ∙ sym (for-row here (past-link-at .ensures) (past-link-at2 .ensures) (past-link-at4 .ensures) (past-link-at3 .ensures) (start .args .left .now) (start .args .store .now) ∙ goes _ (past-part .result) (past-part .last .1 .1 .1 .1 .1 .0) (past-part .last .1 .1 .1 .1 .0) (past-part .ok) (past-part .ensures) (past-operand .result) (past-operand .ensures) (past-enum-told .given .0 .0) (past-enum-told .given .1))

@@ -1,4 +1,4 @@
--- A round of a while or a for: the test, the body, the step.
+-- A round of a loop: the test, the body, the last part.
 use borrow.Author.Needs.{needs}
 use mathlib.Core.Path.{sym, ap, _∙_}
 use Prim.Native.Nat.{ℕ}
@@ -8,16 +8,16 @@ use borrow.Author.Tests.{not-true, not-false}
 use Rattle.words.specs.Arithmetic.{isTrue}
 use Rattle.words.specs.Laws.{back}
 use Rattle.computation.specs.Remaining.{spend}
-use Rattle.language.specs.DecodeLaws.{partAt}
+use Rattle.language.specs.Decode.{partAt}
 use Rattle.evaluator.specs.Bounds.{layoutFrom}
 use Rattle.evaluator.proofs.Operands.{goes, chosen-true, chosen-false}
-use Rattle.machine.specs.Rows.{partOr, performAt}
-use Rattle.machine.proofs.Answers.{turned-last, turned-again, hands-turn, not-continue, body-turns, goes-on, ends-round, answered-least}
-use Rattle.machine.proofs.Enter.{stepRest, step-rest, round-is}
+use Rattle.machine.specs.Rows.{closing, partOr, performAt}
+use Rattle.machine.proofs.Answers.{turned-last, hands-turn, not-continue, body-turns, goes-on, ends-round, answered-least, round-ends}
+use Rattle.machine.proofs.Enter.{closing-is, round-is}
 use Rattle.machine.proofs.Rows.{table-row}
 use Rattle.machine.proofs.statements.round.Reads as reads
-use Rattle.machine.proofs.statements.+do_round+perform+round+run_do+run_for+run_if+run_item+run_list+run_rounds+run_statement+run_switch.Lts-round as lts
-use Rattle.machine.proofs.statements.+do_round+perform+round+run_do+run_for+run_if+run_item+run_list+run_rounds+run_statement+run_switch.Proof.Claims.{round-claims, round-at}
+use Rattle.machine.proofs.statements.+branch+exec+for_loop+item+list+perform+round+rounds+switch.Lts-round as lts
+use Rattle.machine.proofs.statements.+branch+exec+for_loop+item+list+perform+round+rounds+switch.Proof.Claims.{round-claims, round-at}
 
 pub part-requires : (t : ℕ) → lts.Need-part-requires (round-claims t) (round-at t) reads.Post
 part-requires t c κs =
@@ -42,7 +42,7 @@ returns t c =
     let past-part = c .before .before .before .before .part in
     let past-operand = c .before .before .operand in
     let past-enum-told = c .enum-told in
-    hands-turn (past-part .result) (past-part .last .1 .1 .1 .1 .1 .0) (past-part .last .1 .1 .1 .1 .0) (past-part .ok) (past-part .ensures) (past-operand .result) (past-operand .ensures) (past-enum-told .given .1) _ ∙ sym (round-is (layoutFrom (start .args .bounds .now)) (partAt (start .args .rows .now) (start .args .test)) (partAt (start .args .rows .now) (start .args .action)) (performAt (start .args .rows .now) (start .args .bounds .now) (start .args .body)) (start .args .left .now) (start .args .store .now))
+    hands-turn (past-part .result) (past-part .last .1 .1 .1 .1 .1 .0) (past-part .last .1 .1 .1 .1 .0) (past-part .ok) (past-part .ensures) (past-operand .result) (past-operand .ensures) (past-enum-told .given .1) _ ∙ sym (round-is (layoutFrom (start .args .bounds .now)) (partAt (start .args .rows .now) (start .args .test)) (performAt (start .args .rows .now) (start .args .bounds .now) (start .args .body)) (partAt (start .args .rows .now) (start .args .last)) (start .args .decides) (start .args .left .now) (start .args .store .now))
 
 pub is-true-requires : (t : ℕ) → lts.Need-is-true-requires (round-claims t) (round-at t) reads.Post
 is-true-requires t c κs = search needs
@@ -59,10 +59,10 @@ returns-2 t c =
     let past-known-told = c .before .before .known-told in
     let past-is-true = c .before .is-true in
     let past-if1 = c .if1 in
-    turned-last _ _ ∙ sym (round-is (layoutFrom (start .args .bounds .now)) (partAt (start .args .rows .now) (start .args .test)) (partAt (start .args .rows .now) (start .args .action)) (performAt (start .args .rows .now) (start .args .bounds .now) (start .args .body)) (start .args .left .now) (start .args .store .now) ∙ goes _ (past-part .result) (past-part .last .1 .1 .1 .1 .1 .0) (past-part .last .1 .1 .1 .1 .0) (past-part .ok) (past-part .ensures) (past-operand .result) (past-operand .ensures) (past-tested .given .0 .0) (past-tested .given .1) ∙ chosen-false _ _ _ (sym (ap isTrue (back (past-tested .given .0 .0) (past-known-told .given .0 .1))) ∙ sym (past-is-true .ensures) ∙ not-true _ (past-if1 .taken)))
+    turned-last _ _ ∙ sym (round-is (layoutFrom (start .args .bounds .now)) (partAt (start .args .rows .now) (start .args .test)) (performAt (start .args .rows .now) (start .args .bounds .now) (start .args .body)) (partAt (start .args .rows .now) (start .args .last)) (start .args .decides) (start .args .left .now) (start .args .store .now) ∙ goes _ (past-part .result) (past-part .last .1 .1 .1 .1 .1 .0) (past-part .last .1 .1 .1 .1 .0) (past-part .ok) (past-part .ensures) (past-operand .result) (past-operand .ensures) (past-tested .given .0 .0) (past-tested .given .1) ∙ chosen-false _ _ _ (sym (ap isTrue (back (past-tested .given .0 .0) (past-known-told .given .0 .1))) ∙ sym (past-is-true .ensures) ∙ not-true _ (past-if1 .taken)))
 
-pub run-statement-requires : (t : ℕ) → lts.Need-run-statement-requires (round-claims t) (round-at t) reads.Post
-run-statement-requires t c κs =
+pub exec-requires : (t : ℕ) → lts.Need-exec-requires (round-claims t) (round-at t) reads.Post
+exec-requires t c κs =
     let start = c .before .before .before .before .before .before .before .before .before .before .before .before .before in
     let past-part = c .before .before .before .before .before .before .before .before .before .part in
     let here = start .pre .1 in
@@ -89,30 +89,30 @@ returns-3 t c =
     let past-known-told = c .before .before .before .before .before .before .before .before .before .known-told in
     let past-is-true = c .before .before .before .before .before .before .before .before .is-true in
     let past-if1 = c .before .before .before .before .before .before .before .if1 in
-    let past-run-statement = c .before .before .before .before .run-statement in
+    let past-exec = c .before .before .before .before .exec in
     let past-after-body = c .before .before .after-body in
     let past-flow = c .before .flow in
     let past-match2 = c .match2 in
-    sym (round-is (layoutFrom (start .args .bounds .now)) (partAt (start .args .rows .now) (start .args .test)) (partAt (start .args .rows .now) (start .args .action)) (performAt (start .args .rows .now) (start .args .bounds .now) (start .args .body)) (start .args .left .now) (start .args .store .now) ∙ goes _ (past-part .result) (past-part .last .1 .1 .1 .1 .1 .0) (past-part .last .1 .1 .1 .1 .0) (past-part .ok) (past-part .ensures) (past-operand .result) (past-operand .ensures) (past-tested .given .0 .0) (past-tested .given .1) ∙ chosen-true _ _ _ (sym (ap isTrue (back (past-tested .given .0 .0) (past-known-told .given .0 .1))) ∙ sym (past-is-true .ensures) ∙ not-false _ (past-if1 .left))
-    ∙ body-turns (past-run-statement .result) (past-run-statement .last .1 .1 .1 .1 .0) (past-run-statement .last .1 .1 .1 .0) (past-run-statement .ok) (past-run-statement .ensures) (past-after-body .result) (past-after-body .ensures) (stepRest (layoutFrom (start .args .bounds .now)) (partAt (start .args .rows .now) (start .args .action)))
-    ∙ ends-round (past-after-body .result) (past-run-statement .last .1 .1 .1 .1 .0) (past-run-statement .last .1 .1 .1 .0) (past-after-body .ok) (past-flow .result) (past-flow .ensures) (not-continue (past-flow .result) (past-match2 .keys2)) _)
+    sym (round-is (layoutFrom (start .args .bounds .now)) (partAt (start .args .rows .now) (start .args .test)) (performAt (start .args .rows .now) (start .args .bounds .now) (start .args .body)) (partAt (start .args .rows .now) (start .args .last)) (start .args .decides) (start .args .left .now) (start .args .store .now) ∙ goes _ (past-part .result) (past-part .last .1 .1 .1 .1 .1 .0) (past-part .last .1 .1 .1 .1 .0) (past-part .ok) (past-part .ensures) (past-operand .result) (past-operand .ensures) (past-tested .given .0 .0) (past-tested .given .1) ∙ chosen-true _ _ _ (sym (ap isTrue (back (past-tested .given .0 .0) (past-known-told .given .0 .1))) ∙ sym (past-is-true .ensures) ∙ not-false _ (past-if1 .left))
+    ∙ body-turns (past-exec .result) (past-exec .last .1 .1 .1 .1 .0) (past-exec .last .1 .1 .1 .0) (past-exec .ok) (past-exec .ensures) (past-after-body .result) (past-after-body .ensures) (closing (layoutFrom (start .args .bounds .now)) (partAt (start .args .rows .now) (start .args .last)) (start .args .decides))
+    ∙ ends-round (past-after-body .result) (past-exec .last .1 .1 .1 .1 .0) (past-exec .last .1 .1 .1 .0) (past-after-body .ok) (past-flow .result) (past-flow .ensures) (not-continue (past-flow .result) (past-match2 .keys2)) _)
 
 pub part-requires-2 : (t : ℕ) → lts.Need-part-requires-2 (round-claims t) (round-at t) reads.Post
 part-requires-2 t c κs =
     let start = c .before .before .before .before .before .before .before .before .before .before .before .before .before .before .before .before .before .before .before .before .before in
     let past-part = c .before .before .before .before .before .before .before .before .before .before .before .before .before .before .before .before .before .part in
-    let past-run-statement = c .before .before .before .before .before .before .before .run-statement in
+    let past-exec = c .before .before .before .before .before .before .before .exec in
     let here = start .pre .1 in
-    table-row (here .action-ready) (here .action-ready .below) (past-run-statement .kept .1 .1 .1 .0 ∙ past-part .kept .1 .1 .1 .1 .0)
+    table-row (here .last-ready) (here .last-ready .below) (past-exec .kept .1 .1 .1 .0 ∙ past-part .kept .1 .1 .1 .1 .0)
 
 pub operand-requires-2 : (t : ℕ) → lts.Need-operand-requires-2 (round-claims t) (round-at t) reads.Post
 operand-requires-2 t c κs = search needs
 
+pub enum-known-closed : (t : ℕ) → lts.Need-enum-known-closed (round-claims t) (round-at t) reads.Post
+enum-known-closed t c = search needs
+
 pub enum-told-3 : (t : ℕ) → lts.Need-enum-told-3 (round-claims t) (round-at t) reads.Post
 enum-told-3 t c = search needs
-
-pub enum-told-4 : (t : ℕ) → lts.Need-enum-told-4 (round-claims t) (round-at t) reads.Post
-enum-told-4 t c = search needs
 
 pub same-length-4 : (t : ℕ) → lts.Need-same-length-4 (round-claims t) (round-at t) reads.Post
 same-length-4 t c = search needs
@@ -126,36 +126,42 @@ returns-4 t c =
     let past-known-told = c .before .before .before .before .before .before .before .before .before .before .before .before .before .before .before .before .before .known-told in
     let past-is-true = c .before .before .before .before .before .before .before .before .before .before .before .before .before .before .before .before .is-true in
     let past-if1 = c .before .before .before .before .before .before .before .before .before .before .before .before .before .before .before .if1 in
-    let past-run-statement = c .before .before .before .before .before .before .before .before .before .before .before .before .run-statement in
-    let past-after-body = c .before .before .before .before .before .before .before .before .before .before .after-body in
-    let past-flow = c .before .before .before .before .before .before .before .before .before .flow in
-    let past-enum-told2 = c .before .before .before .before .before .before .before .enum-told2 in
-    let past-part2 = c .before .before .before .before .part2 in
-    let past-operand2 = c .before .before .operand2 in
-    let past-enum-told4 = c .enum-told4 in
-    hands-turn (past-part2 .result) (past-part2 .last .1 .1 .1 .1 .1 .0) (past-part2 .last .1 .1 .1 .1 .0) (past-part2 .ok) (past-part2 .ensures) (past-operand2 .result) (past-operand2 .ensures) (past-enum-told4 .given .1) _ ∙ sym (round-is (layoutFrom (start .args .bounds .now)) (partAt (start .args .rows .now) (start .args .test)) (partAt (start .args .rows .now) (start .args .action)) (performAt (start .args .rows .now) (start .args .bounds .now) (start .args .body)) (start .args .left .now) (start .args .store .now) ∙ goes _ (past-part .result) (past-part .last .1 .1 .1 .1 .1 .0) (past-part .last .1 .1 .1 .1 .0) (past-part .ok) (past-part .ensures) (past-operand .result) (past-operand .ensures) (past-tested .given .0 .0) (past-tested .given .1) ∙ chosen-true _ _ _ (sym (ap isTrue (back (past-tested .given .0 .0) (past-known-told .given .0 .1))) ∙ sym (past-is-true .ensures) ∙ not-false _ (past-if1 .left))
-    ∙ body-turns (past-run-statement .result) (past-run-statement .last .1 .1 .1 .1 .0) (past-run-statement .last .1 .1 .1 .0) (past-run-statement .ok) (past-run-statement .ensures) (past-after-body .result) (past-after-body .ensures) (stepRest (layoutFrom (start .args .bounds .now)) (partAt (start .args .rows .now) (start .args .action)))
-    ∙ goes-on (past-after-body .result) (past-run-statement .last .1 .1 .1 .1 .0) (past-run-statement .last .1 .1 .1 .0) (past-after-body .ok) (past-flow .result) (past-flow .ensures) (past-enum-told2 .given .1) (spend (stepRest (layoutFrom (start .args .bounds .now)) (partAt (start .args .rows .now) (start .args .action)))) ∙ step-rest (layoutFrom (start .args .bounds .now)) (partAt (start .args .rows .now) (start .args .action)) _ _)
-
-pub same-length-5 : (t : ℕ) → lts.Need-same-length-5 (round-claims t) (round-at t) reads.Post
-same-length-5 t c = search needs
-
-pub returns-5 : (t : ℕ) → lts.Need-returns-5 (round-claims t) (round-at t) reads.Post
-returns-5 t c =
-    let start = c .before .before .before .before .before .before .before .before .before .before .before .before .before .before .before .before .before .before .before .before .before .before .before .before .before .before in
-    let past-part = c .before .before .before .before .before .before .before .before .before .before .before .before .before .before .before .before .before .before .before .before .before .before .part in
-    let past-operand = c .before .before .before .before .before .before .before .before .before .before .before .before .before .before .before .before .before .before .before .before .operand in
-    let past-tested = c .before .before .before .before .before .before .before .before .before .before .before .before .before .before .before .before .before .before .tested in
-    let past-known-told = c .before .before .before .before .before .before .before .before .before .before .before .before .before .before .before .before .before .known-told in
-    let past-is-true = c .before .before .before .before .before .before .before .before .before .before .before .before .before .before .before .before .is-true in
-    let past-if1 = c .before .before .before .before .before .before .before .before .before .before .before .before .before .before .before .if1 in
-    let past-run-statement = c .before .before .before .before .before .before .before .before .before .before .before .before .run-statement in
+    let past-exec = c .before .before .before .before .before .before .before .before .before .before .before .before .exec in
     let past-after-body = c .before .before .before .before .before .before .before .before .before .before .after-body in
     let past-flow = c .before .before .before .before .before .before .before .before .before .flow in
     let past-enum-told2 = c .before .before .before .before .before .before .before .enum-told2 in
     let past-part2 = c .before .before .before .before .part2 in
     let past-operand2 = c .before .before .operand2 in
     let past-enum-told3 = c .enum-told3 in
-    turned-again _ _ ∙ sym (round-is (layoutFrom (start .args .bounds .now)) (partAt (start .args .rows .now) (start .args .test)) (partAt (start .args .rows .now) (start .args .action)) (performAt (start .args .rows .now) (start .args .bounds .now) (start .args .body)) (start .args .left .now) (start .args .store .now) ∙ goes _ (past-part .result) (past-part .last .1 .1 .1 .1 .1 .0) (past-part .last .1 .1 .1 .1 .0) (past-part .ok) (past-part .ensures) (past-operand .result) (past-operand .ensures) (past-tested .given .0 .0) (past-tested .given .1) ∙ chosen-true _ _ _ (sym (ap isTrue (back (past-tested .given .0 .0) (past-known-told .given .0 .1))) ∙ sym (past-is-true .ensures) ∙ not-false _ (past-if1 .left))
-    ∙ body-turns (past-run-statement .result) (past-run-statement .last .1 .1 .1 .1 .0) (past-run-statement .last .1 .1 .1 .0) (past-run-statement .ok) (past-run-statement .ensures) (past-after-body .result) (past-after-body .ensures) (stepRest (layoutFrom (start .args .bounds .now)) (partAt (start .args .rows .now) (start .args .action)))
-    ∙ goes-on (past-after-body .result) (past-run-statement .last .1 .1 .1 .1 .0) (past-run-statement .last .1 .1 .1 .0) (past-after-body .ok) (past-flow .result) (past-flow .ensures) (past-enum-told2 .given .1) (spend (stepRest (layoutFrom (start .args .bounds .now)) (partAt (start .args .rows .now) (start .args .action)))) ∙ step-rest (layoutFrom (start .args .bounds .now)) (partAt (start .args .rows .now) (start .args .action)) _ _ ∙ goes _ (past-part2 .result) (past-part2 .last .1 .1 .1 .1 .1 .0) (past-part2 .last .1 .1 .1 .1 .0) (past-part2 .ok) (past-part2 .ensures) (past-operand2 .result) (past-operand2 .ensures) (past-enum-told3 .given .0 .0) (past-enum-told3 .given .1))
+    hands-turn (past-part2 .result) (past-part2 .last .1 .1 .1 .1 .1 .0) (past-part2 .last .1 .1 .1 .1 .0) (past-part2 .ok) (past-part2 .ensures) (past-operand2 .result) (past-operand2 .ensures) (past-enum-told3 .given .1) _ ∙ sym (round-is (layoutFrom (start .args .bounds .now)) (partAt (start .args .rows .now) (start .args .test)) (performAt (start .args .rows .now) (start .args .bounds .now) (start .args .body)) (partAt (start .args .rows .now) (start .args .last)) (start .args .decides) (start .args .left .now) (start .args .store .now) ∙ goes _ (past-part .result) (past-part .last .1 .1 .1 .1 .1 .0) (past-part .last .1 .1 .1 .1 .0) (past-part .ok) (past-part .ensures) (past-operand .result) (past-operand .ensures) (past-tested .given .0 .0) (past-tested .given .1) ∙ chosen-true _ _ _ (sym (ap isTrue (back (past-tested .given .0 .0) (past-known-told .given .0 .1))) ∙ sym (past-is-true .ensures) ∙ not-false _ (past-if1 .left))
+    ∙ body-turns (past-exec .result) (past-exec .last .1 .1 .1 .1 .0) (past-exec .last .1 .1 .1 .0) (past-exec .ok) (past-exec .ensures) (past-after-body .result) (past-after-body .ensures) (closing (layoutFrom (start .args .bounds .now)) (partAt (start .args .rows .now) (start .args .last)) (start .args .decides))
+    ∙ goes-on (past-after-body .result) (past-exec .last .1 .1 .1 .1 .0) (past-exec .last .1 .1 .1 .0) (past-after-body .ok) (past-flow .result) (past-flow .ensures) (past-enum-told2 .given .1) (spend (closing (layoutFrom (start .args .bounds .now)) (partAt (start .args .rows .now) (start .args .last)) (start .args .decides))) ∙ closing-is (layoutFrom (start .args .bounds .now)) (partAt (start .args .rows .now) (start .args .last)) (start .args .decides) _ _)
+
+pub after-last-requires : (t : ℕ) → lts.Need-after-last-requires (round-claims t) (round-at t) reads.Post
+after-last-requires t c κs = search needs
+
+pub same-length-5 : (t : ℕ) → lts.Need-same-length-5 (round-claims t) (round-at t) reads.Post
+same-length-5 t c = search needs
+
+pub returns-5 : (t : ℕ) → lts.Need-returns-5 (round-claims t) (round-at t) reads.Post
+returns-5 t c =
+    let start = c .before .before .before .before .before .before .before .before .before .before .before .before .before .before .before .before .before .before .before .before .before .before .before .before .before .before .before .before in
+    let past-part = c .before .before .before .before .before .before .before .before .before .before .before .before .before .before .before .before .before .before .before .before .before .before .before .before .part in
+    let past-operand = c .before .before .before .before .before .before .before .before .before .before .before .before .before .before .before .before .before .before .before .before .before .before .operand in
+    let past-tested = c .before .before .before .before .before .before .before .before .before .before .before .before .before .before .before .before .before .before .before .before .tested in
+    let past-known-told = c .before .before .before .before .before .before .before .before .before .before .before .before .before .before .before .before .before .before .before .known-told in
+    let past-is-true = c .before .before .before .before .before .before .before .before .before .before .before .before .before .before .before .before .before .before .is-true in
+    let past-if1 = c .before .before .before .before .before .before .before .before .before .before .before .before .before .before .before .before .before .if1 in
+    let past-exec = c .before .before .before .before .before .before .before .before .before .before .before .before .before .before .exec in
+    let past-after-body = c .before .before .before .before .before .before .before .before .before .before .before .before .after-body in
+    let past-flow = c .before .before .before .before .before .before .before .before .before .before .before .flow in
+    let past-enum-told2 = c .before .before .before .before .before .before .before .before .before .enum-told2 in
+    let past-part2 = c .before .before .before .before .before .before .part2 in
+    let past-operand2 = c .before .before .before .before .operand2 in
+    let past-closed = c .before .before .closed in
+    let past-known-told2 = c .before .known-told2 in
+    let past-after-last = c .after-last in
+    round-ends (start .args .decides) (past-closed .given .0 .0) (past-after-last .result) (past-known-told2 .given .0 .1) (past-after-last .ok) (past-after-last .ensures) _ _
+    ∙ sym (round-is (layoutFrom (start .args .bounds .now)) (partAt (start .args .rows .now) (start .args .test)) (performAt (start .args .rows .now) (start .args .bounds .now) (start .args .body)) (partAt (start .args .rows .now) (start .args .last)) (start .args .decides) (start .args .left .now) (start .args .store .now) ∙ goes _ (past-part .result) (past-part .last .1 .1 .1 .1 .1 .0) (past-part .last .1 .1 .1 .1 .0) (past-part .ok) (past-part .ensures) (past-operand .result) (past-operand .ensures) (past-tested .given .0 .0) (past-tested .given .1) ∙ chosen-true _ _ _ (sym (ap isTrue (back (past-tested .given .0 .0) (past-known-told .given .0 .1))) ∙ sym (past-is-true .ensures) ∙ not-false _ (past-if1 .left))
+    ∙ body-turns (past-exec .result) (past-exec .last .1 .1 .1 .1 .0) (past-exec .last .1 .1 .1 .0) (past-exec .ok) (past-exec .ensures) (past-after-body .result) (past-after-body .ensures) (closing (layoutFrom (start .args .bounds .now)) (partAt (start .args .rows .now) (start .args .last)) (start .args .decides))
+    ∙ goes-on (past-after-body .result) (past-exec .last .1 .1 .1 .1 .0) (past-exec .last .1 .1 .1 .0) (past-after-body .ok) (past-flow .result) (past-flow .ensures) (past-enum-told2 .given .1) (spend (closing (layoutFrom (start .args .bounds .now)) (partAt (start .args .rows .now) (start .args .last)) (start .args .decides))) ∙ closing-is (layoutFrom (start .args .bounds .now)) (partAt (start .args .rows .now) (start .args .last)) (start .args .decides) _ _ ∙ goes _ (past-part2 .result) (past-part2 .last .1 .1 .1 .1 .1 .0) (past-part2 .last .1 .1 .1 .1 .0) (past-part2 .ok) (past-part2 .ensures) (past-operand2 .result) (past-operand2 .ensures) (past-closed .given .0 .0) (past-closed .given .1))

@@ -1,23 +1,21 @@
--- The rounds of a while or a for: each leaves the loop, or the loop goes on with fewer steps left.
+-- The rounds of a loop: each leaves the loop, or the loop goes on with fewer steps left.
 use borrow.Author.Needs.{needs}
 use mathlib.Core.Path.{refl, sym, _∙_}
 use Prim.Native.Nat.{ℕ}
 use native.Mathlib.Omega.{arith}
 use Rattle.computation.specs.Remaining.{spend}
-use Rattle.language.specs.DecodeLaws.{partAt}
-use Rattle.evaluator.specs.Bounds.{layoutFrom}
-use Rattle.machine.specs.Rows.{performAt, roundOf, roundsAt}
+use Rattle.machine.specs.Rows.{turnAt, roundsAt}
 use Rattle.machine.proofs.Answers.{not-continue, goes-round, round-falls, leaves}
-use Rattle.machine.proofs.Enter.{rounds-round}
+use Rattle.machine.proofs.Enter.{loop-round}
 use Rattle.machine.proofs.Rows.{table-row}
-use Rattle.machine.proofs.statements.run_rounds.Reads as reads
-use Rattle.machine.proofs.statements.+do_round+perform+round+run_do+run_for+run_if+run_item+run_list+run_rounds+run_statement+run_switch.Lts-run_rounds as lts
-use Rattle.machine.proofs.statements.+do_round+perform+round+run_do+run_for+run_if+run_item+run_list+run_rounds+run_statement+run_switch.Proof.Claims.{run-rounds-claims, run-rounds-at, run-rounds-Inv-loop, run-rounds-μ-loop}
+use Rattle.machine.proofs.statements.rounds.Reads as reads
+use Rattle.machine.proofs.statements.+branch+exec+for_loop+item+list+perform+round+rounds+switch.Lts-rounds as lts
+use Rattle.machine.proofs.statements.+branch+exec+for_loop+item+list+perform+round+rounds+switch.Proof.Claims.{rounds-claims, rounds-at, rounds-Inv-loop, rounds-μ-loop}
 
-pub loop-holds : (t : ℕ) → lts.Need-loop-holds (run-rounds-claims t) (run-rounds-at t) reads.Post run-rounds-Inv-loop run-rounds-μ-loop
+pub loop-holds : (t : ℕ) → lts.Need-loop-holds (rounds-claims t) (rounds-at t) reads.Post rounds-Inv-loop rounds-μ-loop
 loop-holds t c = (refl, omega arith, refl)
 
-pub round-requires : (t : ℕ) → lts.Need-round-requires (run-rounds-claims t) (run-rounds-at t) reads.Post run-rounds-Inv-loop run-rounds-μ-loop
+pub round-requires : (t : ℕ) → lts.Need-round-requires (rounds-claims t) (rounds-at t) reads.Post rounds-Inv-loop rounds-μ-loop
 round-requires t c κs =
     let start = c .before .before .before .before in
     let past-loop = c .before .before .loop in
@@ -25,46 +23,46 @@ round-requires t c κs =
       omega (arith, past-loop .inv .1, start .pre .0),
       record {
         test-ready = table-row (here .test-ready) (here .test-ready .below) (past-loop .inv .0);
-        action-ready = table-row (here .action-ready) (here .action-ready .below) (past-loop .inv .0);
         body-ready = table-row (here .body-ready) (here .body-ready .below) (past-loop .inv .0);
+        last-ready = table-row (here .last-ready) (here .last-ready .below) (past-loop .inv .0);
       },
     )
 
-pub flow-requires : (t : ℕ) → lts.Need-flow-requires (run-rounds-claims t) (run-rounds-at t) reads.Post run-rounds-Inv-loop run-rounds-μ-loop
+pub flow-requires : (t : ℕ) → lts.Need-flow-requires (rounds-claims t) (rounds-at t) reads.Post rounds-Inv-loop rounds-μ-loop
 flow-requires t c κs = search needs
 
-pub enum-told : (t : ℕ) → lts.Need-enum-told (run-rounds-claims t) (run-rounds-at t) reads.Post run-rounds-Inv-loop run-rounds-μ-loop
+pub enum-told : (t : ℕ) → lts.Need-enum-told (rounds-claims t) (rounds-at t) reads.Post rounds-Inv-loop rounds-μ-loop
 enum-told t c = search needs
 
-pub loop-less : (t : ℕ) → lts.Need-loop-less (run-rounds-claims t) (run-rounds-at t) reads.Post run-rounds-Inv-loop run-rounds-μ-loop
+pub loop-less : (t : ℕ) → lts.Need-loop-less (rounds-claims t) (rounds-at t) reads.Post rounds-Inv-loop rounds-μ-loop
 loop-less t c =
     let start = c .before .before .before .before .before .before .before .before .before in
     let past-loop = c .before .before .before .before .before .before .before .loop in
     let past-round = c .before .before .before .before .round in
     let past-flow = c .before .before .flow in
     let past-enum-told = c .enum-told in
-    round-falls (past-round .result) (past-round .last .1 .1 .1 .1 .1 .1 .0) (past-round .last .1 .1 .1 .1 .1 .0) (past-round .ok) (past-flow .result) (past-flow .ensures) (past-enum-told .given .1) (roundOf (layoutFrom (start .args .bounds .now)) (partAt (start .args .rows .now) (start .args .test)) (partAt (start .args .rows .now) (start .args .action)) (performAt (start .args .rows .now) (start .args .bounds .now) (start .args .body))) (past-loop .left) (past-loop .store) (past-round .ensures)
+    round-falls (past-round .result) (past-round .last .1 .1 .1 .1 .1 .1 .1 .0) (past-round .last .1 .1 .1 .1 .1 .1 .0) (past-round .ok) (past-flow .result) (past-flow .ensures) (past-enum-told .given .1) (turnAt (start .args .rows .now) (start .args .bounds .now) (start .args .test) (start .args .body) (start .args .last) (start .args .decides)) (past-loop .left) (past-loop .store) (past-round .ensures)
 
-pub loop-again : (t : ℕ) → lts.Need-loop-again (run-rounds-claims t) (run-rounds-at t) reads.Post run-rounds-Inv-loop run-rounds-μ-loop
+pub loop-again : (t : ℕ) → lts.Need-loop-again (rounds-claims t) (rounds-at t) reads.Post rounds-Inv-loop rounds-μ-loop
 loop-again t c =
     let start = c .before .before .before .before .before .before .before .before .before in
     let past-loop = c .before .before .before .before .before .before .before .loop in
     let past-round = c .before .before .before .before .round in
     let past-flow = c .before .before .flow in
     let past-enum-told = c .enum-told in (
-      past-round .kept .1 .1 .1 .1 .1 .0 ∙ past-loop .inv .0,
-      omega (arith, past-loop .inv .1, round-falls (past-round .result) (past-round .last .1 .1 .1 .1 .1 .1 .0) (past-round .last .1 .1 .1 .1 .1 .0) (past-round .ok) (past-flow .result) (past-flow .ensures) (past-enum-told .given .1) (roundOf (layoutFrom (start .args .bounds .now)) (partAt (start .args .rows .now) (start .args .test)) (partAt (start .args .rows .now) (start .args .action)) (performAt (start .args .rows .now) (start .args .bounds .now) (start .args .body))) (past-loop .left) (past-loop .store) (past-round .ensures)),
-      past-loop .inv .2 ∙ rounds-round (layoutFrom (start .args .bounds .now)) (partAt (start .args .rows .now) (start .args .test)) (partAt (start .args .rows .now) (start .args .action)) (performAt (start .args .rows .now) (start .args .bounds .now) (start .args .body)) (past-loop .left) (past-loop .store) ∙ goes-round (past-round .result) (past-round .last .1 .1 .1 .1 .1 .1 .0) (past-round .last .1 .1 .1 .1 .1 .0) (past-round .ok) (past-flow .result) (past-flow .ensures) (past-enum-told .given .1) (past-round .ensures) (spend (roundsAt (start .args .rows .now) (start .args .bounds .now) (start .args .test) (start .args .action) (start .args .body))),
+      past-round .kept .1 .1 .1 .1 .1 .1 .0 ∙ past-loop .inv .0,
+      omega (arith, past-loop .inv .1, round-falls (past-round .result) (past-round .last .1 .1 .1 .1 .1 .1 .1 .0) (past-round .last .1 .1 .1 .1 .1 .1 .0) (past-round .ok) (past-flow .result) (past-flow .ensures) (past-enum-told .given .1) (turnAt (start .args .rows .now) (start .args .bounds .now) (start .args .test) (start .args .body) (start .args .last) (start .args .decides)) (past-loop .left) (past-loop .store) (past-round .ensures)),
+      past-loop .inv .2 ∙ loop-round (turnAt (start .args .rows .now) (start .args .bounds .now) (start .args .test) (start .args .body) (start .args .last) (start .args .decides)) (past-loop .left) (past-loop .store) ∙ goes-round (past-round .result) (past-round .last .1 .1 .1 .1 .1 .1 .1 .0) (past-round .last .1 .1 .1 .1 .1 .1 .0) (past-round .ok) (past-flow .result) (past-flow .ensures) (past-enum-told .given .1) (past-round .ensures) (spend (roundsAt (start .args .rows .now) (start .args .bounds .now) (start .args .test) (start .args .body) (start .args .last) (start .args .decides))),
     )
 
-pub same-length : (t : ℕ) → lts.Need-same-length (run-rounds-claims t) (run-rounds-at t) reads.Post run-rounds-Inv-loop run-rounds-μ-loop
+pub same-length : (t : ℕ) → lts.Need-same-length (rounds-claims t) (rounds-at t) reads.Post rounds-Inv-loop rounds-μ-loop
 same-length t c = search needs
 
-pub returns : (t : ℕ) → lts.Need-returns (run-rounds-claims t) (run-rounds-at t) reads.Post run-rounds-Inv-loop run-rounds-μ-loop
+pub returns : (t : ℕ) → lts.Need-returns (rounds-claims t) (rounds-at t) reads.Post rounds-Inv-loop rounds-μ-loop
 returns t c =
     let start = c .before .before .before .before .before .before .before .before in
     let past-loop = c .before .before .before .before .before .before .loop in
     let past-round = c .before .before .before .round in
     let past-flow = c .before .flow in
     let past-match = c .match in
-    sym (past-loop .inv .2 ∙ rounds-round (layoutFrom (start .args .bounds .now)) (partAt (start .args .rows .now) (start .args .test)) (partAt (start .args .rows .now) (start .args .action)) (performAt (start .args .rows .now) (start .args .bounds .now) (start .args .body)) (past-loop .left) (past-loop .store) ∙ leaves (past-round .result) (past-round .last .1 .1 .1 .1 .1 .1 .0) (past-round .last .1 .1 .1 .1 .1 .0) (past-round .ok) (past-flow .result) (past-flow .ensures) (not-continue (past-flow .result) (past-match .keys2)) (past-round .ensures) (spend (roundsAt (start .args .rows .now) (start .args .bounds .now) (start .args .test) (start .args .action) (start .args .body))))
+    sym (past-loop .inv .2 ∙ loop-round (turnAt (start .args .rows .now) (start .args .bounds .now) (start .args .test) (start .args .body) (start .args .last) (start .args .decides)) (past-loop .left) (past-loop .store) ∙ leaves (past-round .result) (past-round .last .1 .1 .1 .1 .1 .1 .1 .0) (past-round .last .1 .1 .1 .1 .1 .1 .0) (past-round .ok) (past-flow .result) (past-flow .ensures) (not-continue (past-flow .result) (past-match .keys2)) (past-round .ensures) (spend (roundsAt (start .args .rows .now) (start .args .bounds .now) (start .args .test) (start .args .body) (start .args .last) (start .args .decides))))

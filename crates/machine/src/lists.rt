@@ -58,13 +58,16 @@ pub fn find_mark(rows: &[i32], first: usize, mark: Mark) -> usize
     ensures { λ r. ⌜ Finds (now (rows .entry)) first (markOf mark) r ⌝ }
 {
     let mut at = first;
-    while at != 0 {
+    let found = loop {
+        if at == 0 {
+            break at;
+        }
         if is_mark(rows, at, mark) {
-            break;
+            break at;
         }
         at = link_at(rows, at, 5);
-    }
-    at
+    };
+    found
 }
 
 // The item at which a switch begins: "the case of equal value, else .. default", or 0.

@@ -27,22 +27,22 @@ loop-less : tie.Need-loop-less Inv-loop μ-loop
 loop-less c =
     let start = c .before .before .before .before .before in
     let past-loop = c .before .before .before .before .loop in
-    ahead-falls (rowCount (start .args .rows .now)) (past-loop .at) (c .link-at .result) (c .before .before .before .loop-test .taken) (past-loop .inv .below) (next-is (at-row (start .pre) (past-loop .inv .below)) (c .link-at .ensures) .1)
+    ahead-falls (rowCount (start .args .rows .now)) (past-loop .at) (c .link-at .result) (c .before .before .before .if1 .left) (past-loop .inv .below) (next-is (at-row (start .pre) (past-loop .inv .below)) (c .link-at .ensures) .1)
 
 loop-again : tie.Need-loop-again Inv-loop μ-loop
 loop-again c =
     let start = c .before .before .before .before .before in
     let past-loop = c .before .before .before .before .loop in
-    sought-next (past-loop .inv) (at-row (start .pre) (past-loop .inv .below)) (c .before .before .before .loop-test .taken) (sym (c .before .before .is-mark .ensures) ∙ c .before .if1 .left) (c .link-at .ensures)
+    sought-next (past-loop .inv) (at-row (start .pre) (past-loop .inv .below)) (c .before .before .before .if1 .left) (sym (c .before .before .is-mark .ensures) ∙ c .before .if2 .left) (c .link-at .ensures)
 
 returns : tie.Need-returns Inv-loop μ-loop
-returns c = finds-none (c .before .loop .inv) (c .loop-test .left)
+returns c = finds-none (c .before .loop .inv) (c .if1 .taken)
 
 returns-2 : tie.Need-returns-2 Inv-loop μ-loop
 returns-2 c =
     let start = c .before .before .before .before in
     let past-loop = c .before .before .before .loop in
-    finds-here (past-loop .inv) (at-row (start .pre) (past-loop .inv .below)) (c .before .before .loop-test .taken) (sym (c .before .is-mark .ensures) ∙ c .if1 .taken)
+    finds-here (past-loop .inv) (at-row (start .pre) (past-loop .inv .below)) (c .before .before .if1 .left) (sym (c .before .is-mark .ensures) ∙ c .if2 .taken)
 
 pub find-mark-spec : {M : Type 1} → statement M
 find-mark-spec =

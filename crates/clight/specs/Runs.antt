@@ -5,6 +5,7 @@ use lib.Dec.{eqb}
 use lib.IntN.{ℤ}
 use lib.ListN.{length}
 use Rattle.words.specs.Word.{pick}
+use Rattle.words.specs.Numbers.{Numbers, runNumbers}
 use Rattle.words.specs.Layout.{storeWords}
 use Rattle.words.specs.declared.Form.{Form}
 use Rattle.words.specs.declared.Form.the-variants.{Source, Kernel}
@@ -22,21 +23,22 @@ abbrev pub refusalOf : Form → List ℤ → List ℤ → Verdict
 refusalOf Source header rows = sourceRefusal header rows
 refusalOf Kernel header rows = kernelRefusal header rows
 
--- What a run gives: its answer, and the store that it leaves.
+-- What a run gives: its answer, that answer in numbers, and the store that it leaves.
 pub record RunResult : Type 0 where
   pub answer : RunVerdict
+  pub numbers : Numbers
   pub store : List ℤ
 
 -- An answer and the store that it leaves.
 abbrev pub answerAndStore : RunVerdict → List ℤ → RunResult
-answerAndStore answer store = record { answer = answer; store = store }
+answerAndStore answer store = record { answer = answer; numbers = runNumbers answer; store = store }
 
 -- A refusal leaves the store as it was.
 abbrev pub runRefused : Refusal → List ℤ → RunResult
-runRefused refusal store = record { answer = RunRefused refusal; store = store }
+runRefused refusal store = answerAndStore (RunRefused refusal) store
 
 abbrev pub ran : Finished → RunResult
-ran finished = record { answer = Ran (record { ending = finished .ending; count = finished .count }); store = finished .store }
+ran finished = answerAndStore (Ran (record { ending = finished .ending; count = finished .count })) (finished .store)
 
 -- The check's causes first; then 11, "store not S (source) or S+T (kernel) words"; then the run.
 abbrev pub runAfter : Verdict → Form → List ℤ → List ℤ → ℕ → List ℤ → RunResult

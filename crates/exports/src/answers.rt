@@ -3,20 +3,19 @@ use super::Answer;
 use text_form::ReadAnswer;
 use text_form::WriteAnswer;
 use translator::TranslateAnswer;
-use words::Ending;
-use words::FaultSort;
 use words::Refusal;
 use words::RunAnswer;
 use words::RunVerdict;
 use words::Verdict;
+use words::endings::ending_number;
 ghost use mathlib.Core.Path.{_≡_};
-ghost use Rattle.words.specs.declared.Ending.the-variants.{Fault};
+ghost use Rattle.words.specs.Numbers.{refused as refusedOf};
 ghost use Rattle.words.specs.declared.RunVerdict.the-variants.{Ran};
 ghost use Rattle.text_form.specs.Answers.{readOutcome, writeOutcome};
-ghost use Rattle.exports.specs.Numbers.{refused as refusedOf, endingNumber, runAnswer, verdictAnswer, outcomeAnswer, translateAnswer};
+ghost use Rattle.exports.specs.Numbers.{answerOf, runAnswer, verdictAnswer, outcomeAnswer, translateAnswer};
 
 pub fn refused(refusal: Refusal) -> Answer
-    ensures { λ r. ⌜ r ≡ refusedOf (refusal .number) (refusal .place) ⌝ }
+    ensures { λ r. ⌜ r ≡ answerOf (refusedOf (refusal .number) (refusal .place)) ⌝ }
 {
     Answer {
         cause: refusal.number,
@@ -38,33 +37,13 @@ pub fn of_verdict(verdict: Verdict) -> Answer
     }
 }
 
-fn fault_number(sort: FaultSort) -> usize
-    ensures { λ r. ⌜ r ≡ endingNumber (Fault sort) ⌝ }
-{
-    match sort {
-        FaultSort::Overflow => 2,
-        FaultSort::ZeroDivisor => 3,
-        FaultSort::Index => 4,
-    }
-}
-
-fn ending_number(ending: Ending) -> usize
-    ensures { λ r. ⌜ r ≡ endingNumber ending ⌝ }
-{
-    match ending {
-        Ending::Plain => 0,
-        Ending::Spent => 1,
-        Ending::Fault(sort) => fault_number(sort),
-    }
-}
-
 fn ran(run: RunAnswer) -> Answer
     ensures { λ r. ⌜ r ≡ runAnswer (Ran run) ⌝ }
 {
     let ending = run.ending;
     Answer {
         cause: 0,
-        first: ending_number(ending),
+        first: ending_number(ending) as usize,
         second: run.count as usize,
     }
 }

@@ -4,7 +4,7 @@ use super::answers::of_translation;
 ghost use mathlib.Core.Path.{_≡_};
 ghost use Rattle.fate.specs.KernelForms.{HasKernelForm};
 ghost use Rattle.translator.specs.Translation.{translateResult};
-ghost use Rattle.exports.specs.Numbers.{translateAnswer};
+ghost use Rattle.exports.specs.Numbers.{answerOf};
 
 // Writes the kernel header and rows of a source program. The last promise is demands 2 and 3 about what is written.
 #[no_mangle]
@@ -14,7 +14,7 @@ pub extern "C" fn clight_translate(
     kernel_header: &mut [i32],
     kernel_rows: &mut [i32],
 ) -> Answer
-    ensures { λ r. ⌜ r ≡ translateAnswer (translateResult (now (header .entry)) (now (rows .entry)) (now («kernel_header» .entry)) (now («kernel_rows» .entry)) .answer) ⌝ }
+    ensures { λ r. ⌜ r ≡ answerOf (translateResult (now (header .entry)) (now (rows .entry)) (now («kernel_header» .entry)) (now («kernel_rows» .entry)) .numbers) ⌝ }
     ensures { λ _. ⌜ now («kernel_header» .exit) ≡ translateResult (now (header .entry)) (now (rows .entry)) (now («kernel_header» .entry)) (now («kernel_rows» .entry)) .header ⌝ }
     ensures { λ _. ⌜ now («kernel_rows» .exit) ≡ translateResult (now (header .entry)) (now (rows .entry)) (now («kernel_header» .entry)) (now («kernel_rows» .entry)) .rows ⌝ }
     ensures { λ _. ⌜ HasKernelForm (now (header .entry)) (now (rows .entry)) ⌝ }

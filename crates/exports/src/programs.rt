@@ -4,21 +4,24 @@ use super::answers::of_run;
 use super::answers::of_verdict;
 ghost use mathlib.Core.Path.{_≡_};
 ghost use Rattle.words.specs.declared.Form.the-variants.{Source, Kernel};
+ghost use Rattle.clight.specs.Acceptance.{NoCauseIfLegal};
 ghost use Rattle.clight.specs.Runs.{refusalOf, runResult};
-ghost use Rattle.exports.specs.Numbers.{verdictAnswer, runAnswer};
+ghost use Rattle.exports.specs.Numbers.{answerOf, verdictAnswer};
 
-// The check of source programs.
+// The check of source programs. The second promise is demand 2: the legal programs alone have cause 0.
 #[no_mangle]
 pub extern "C" fn clight_check(header: &[i32], rows: &[i32]) -> Answer
     ensures { λ r. ⌜ r ≡ verdictAnswer (refusalOf Source (now (header .entry)) (now (rows .entry))) ⌝ }
+    ensures { λ r. ⌜ NoCauseIfLegal Source (now (header .entry)) (now (rows .entry)) (r .cause) ⌝ }
 {
     of_verdict(clight::runs::check(header, rows))
 }
 
-// The check of kernel programs.
+// The check of kernel programs, with the same two promises.
 #[no_mangle]
 pub extern "C" fn clight_kernel_check(header: &[i32], rows: &[i32]) -> Answer
     ensures { λ r. ⌜ r ≡ verdictAnswer (refusalOf Kernel (now (header .entry)) (now (rows .entry))) ⌝ }
+    ensures { λ r. ⌜ NoCauseIfLegal Kernel (now (header .entry)) (now (rows .entry)) (r .cause) ⌝ }
 {
     of_verdict(clight::runs::kernel_check(header, rows))
 }
@@ -26,7 +29,7 @@ pub extern "C" fn clight_kernel_check(header: &[i32], rows: &[i32]) -> Answer
 // Runs a source program on the store.
 #[no_mangle]
 pub extern "C" fn clight_run(header: &[i32], rows: &[i32], store: &mut [i32], budget: u32) -> Answer
-    ensures { λ r. ⌜ r ≡ runAnswer (runResult Source (now (header .entry)) (now (rows .entry)) budget (now (store .entry)) .answer) ⌝ }
+    ensures { λ r. ⌜ r ≡ answerOf (runResult Source (now (header .entry)) (now (rows .entry)) budget (now (store .entry)) .numbers) ⌝ }
     ensures { λ _. ⌜ now (store .exit) ≡ runResult Source (now (header .entry)) (now (rows .entry)) budget (now (store .entry)) .store ⌝ }
 {
     of_run(clight::runs::run(header, rows, store, budget))
@@ -40,7 +43,7 @@ pub extern "C" fn clight_kernel_run(
     store: &mut [i32],
     budget: u32,
 ) -> Answer
-    ensures { λ r. ⌜ r ≡ runAnswer (runResult Kernel (now (header .entry)) (now (rows .entry)) budget (now (store .entry)) .answer) ⌝ }
+    ensures { λ r. ⌜ r ≡ answerOf (runResult Kernel (now (header .entry)) (now (rows .entry)) budget (now (store .entry)) .numbers) ⌝ }
     ensures { λ _. ⌜ now (store .exit) ≡ runResult Kernel (now (header .entry)) (now (rows .entry)) budget (now (store .entry)) .store ⌝ }
 {
     of_run(clight::runs::kernel_run(header, rows, store, budget))

@@ -5,6 +5,7 @@ use lib.Dec.{leb}
 use lib.IntN.{ℤ}
 use lib.ListN.{length}
 use Rattle.words.specs.Word.{pick}
+use Rattle.words.specs.Numbers.{Numbers, done, refused}
 use Rattle.words.specs.declared.Verdict.{Verdict}
 use Rattle.words.specs.declared.Verdict.the-variants.{Accepted, Refused}
 use Rattle.source_check.specs.Refusal.{refusal as sourceRefusal}
@@ -13,15 +14,21 @@ use Rattle.fate.specs.KernelForms.{kernelHeaderOf, kernelRowsOf}
 use Rattle.translator.specs.declared.TranslateAnswer.{TranslateAnswer}
 use Rattle.translator.specs.declared.TranslateAnswer.the-variants.{Translated, Refused as TranslateRefused}
 
--- What a translation gives: its answer, and the tables that it leaves.
+-- A translation in numbers: the words of the kernel header and of the kernel rows, or the refusal.
+abbrev pub translateNumbers : TranslateAnswer → Numbers
+translateNumbers (Translated headerWords rowWords) = done headerWords rowWords
+translateNumbers (TranslateRefused refusal) = refused (refusal .number) (refusal .place)
+
+-- What a translation gives: its answer, that answer in numbers, and the tables that it leaves.
 pub record TranslateResult : Type 0 where
   pub answer : TranslateAnswer
+  pub numbers : Numbers
   pub header : List ℤ
   pub rows : List ℤ
 
 -- An answer and the tables that it leaves.
 abbrev pub answerAndTables : TranslateAnswer → List ℤ → List ℤ → TranslateResult
-answerAndTables answer header rows = record { answer = answer; header = header; rows = rows }
+answerAndTables answer header rows = record { answer = answer; numbers = translateNumbers answer; header = header; rows = rows }
 
 -- Where both tables have room, the kernel header and rows are written from their start: "Rows of an output table .. beyond the
 -- result keep their content." Else cause 10, "output table shorter than its result needs".

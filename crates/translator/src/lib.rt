@@ -51,15 +51,16 @@ fn write_measured(
     TranslateAnswer::Translated(header_words, row_words)
 }
 
-// An accepted program: measured, then written.
-fn translate_accepted(
+// Translates an accepted program, for a caller that has the check's answer: measured, then written; nothing is checked again.
+pub fn translate_accepted(
     header: &[i32],
     rows: &[i32],
     kernel_header: &mut [i32],
     kernel_rows: &mut [i32],
 ) -> TranslateAnswer
     requires { ⌜ sourceRefusal (now header) (now rows) ≡ Accepted ⌝ }
-    ensures { λ r. ⌜ answerAndTables r (now («kernel_header» .exit)) (now («kernel_rows» .exit)) ≡ translateAfter Accepted (now (header .entry)) (now (rows .entry)) (now («kernel_header» .entry)) (now («kernel_rows» .entry)) ⌝ }
+    ensures { λ r. ⌜ answerAndTables r (now («kernel_header» .exit)) (now («kernel_rows» .exit)) ≡ translateResult (now (header .entry)) (now (rows .entry)) (now («kernel_header» .entry)) (now («kernel_rows» .entry)) ⌝ }
+    ensures { λ _. ⌜ HasKernelForm (now (header .entry)) (now (rows .entry)) ⌝ }
 {
     let mut table = [0usize; 22528];
     measure(rows, &mut table);

@@ -17,6 +17,8 @@ pub mod OverLaws
 pub mod Answers
 -- Laws of answers: numbers and names of endings are apart, and short.
 pub mod AnswerLaws
+-- Numbers: an entry's answer in document 01's numbers.
+pub mod Numbers
 -- Laws: what follows from these definitions.
 pub mod Laws
 -- Laws of the table of kinds.

@@ -26,12 +26,7 @@ same-length-2 : tie.Need-same-length-2
 same-length-2 c = search needs
 
 returns : tie.Need-returns
-unfolding translateResult
-returns c =
-    let start = c .before .before .before .before .before .before .before .before in (
-      rw (← c .before .before .before .before .before .before .before .check .ensures, c .before .before .before .before .before .enum-told .given .1) (c .before .before .translate-accepted .ensures),
-      has-kernel-form (start .args .header .now) (start .args .rows .now),
-    )
+returns c = c .before .before .translate-accepted .ensures
 
 returns-2 : tie.Need-returns-2
 unfolding translateResult

@@ -1,6 +1,8 @@
 -- `translate_accepted` measures the program and writes both tables: an accepted program is what the measures ask for.
 use native.Mathlib.Omega.{arith}
 use borrow.Author.Needs.{needs}
+use Rattle.fate.specs.KernelFormLaws.{has-kernel-form}
+use Rattle.translator.specs.Translation.{translateResult}
 use Rattle.translator.specs.AcceptedLaws.{accepted-source}
 use Rattle.translator.proofs.translate_accepted.Statement.{statement}
 use Rattle.translator.proofs.translate_accepted.Tie as tie
@@ -27,7 +29,10 @@ same-length-2 : tie.Need-same-length-2
 same-length-2 c = search needs
 
 returns : tie.Need-returns
-returns c = search needs
+unfolding translateResult
+returns c =
+    let start = c .before .before .before .before .before .before .before .before .before in
+    (rw (start .pre) (c .before .before .write-measured .ensures), has-kernel-form (start .args .header .now) (start .args .rows .now))
 
 pub translate-accepted-spec : {M : Type 1} → statement M
 translate-accepted-spec =

@@ -2,7 +2,7 @@
 -- about the definitions.
 use borrow.Author.Needs.{needs}
 use Rattle.words.specs.declared.Form.the-variants.{Kernel}
-use Rattle.clight.specs.Acceptance.{check-accepts-legal}
+use Rattle.clight.specs.Acceptance.{check-accepts-legal, check-no-cause-if-legal}
 use Rattle.clight.proofs.runs.kernel_check.Statement.{statement}
 use Rattle.clight.proofs.runs.kernel_check.Tie as tie
 
@@ -13,7 +13,9 @@ returns : tie.Need-returns
 returns c =
     let start = c .before in
     let told = c .check .ensures in
-    (told, check-accepts-legal Kernel (start .args .header .now) (start .args .rows .now) _ told)
+    let header = start .args .header .now in
+    let rows = start .args .rows .now in
+    (told, (check-accepts-legal Kernel header rows _ told, rw told (check-no-cause-if-legal Kernel header rows)))
 
 pub kernel-check-spec : {M : Type 1} → statement M
 kernel-check-spec = tie.close (tie.spec check-requires returns)

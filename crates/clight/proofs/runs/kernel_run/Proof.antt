@@ -11,8 +11,8 @@ kernel-check-requires c κs = search needs
 enum-told : tie.Need-enum-told
 enum-told c = search needs
 
-run-accepted-requires : tie.Need-run-accepted-requires
-run-accepted-requires c κs = sym (c .before .before .before .kernel-check .ensures .0) ∙ c .before .enum-told .given .1
+run-on-store-requires : tie.Need-run-on-store-requires
+run-on-store-requires c κs = sym (c .before .before .before .kernel-check .ensures .0) ∙ c .before .enum-told .given .1
 
 enum-known-verdict : tie.Need-enum-known-verdict
 enum-known-verdict c = search needs
@@ -22,7 +22,7 @@ same-length c = search needs
 
 returns : tie.Need-returns
 unfolding runResult
-returns c = rw (← c .before .before .before .before .before .kernel-check .ensures .0, c .before .before .before .enum-told .given .1) (c .before .run-accepted .ensures)
+returns c = rw (← c .before .before .before .before .before .kernel-check .ensures .0, c .before .before .before .enum-told .given .1) (c .before .run-on-store .ensures)
 
 returns-2 : tie.Need-returns-2
 unfolding runResult
@@ -34,7 +34,7 @@ kernel-run-spec =
     (tie.spec
     kernel-check-requires
     enum-told
-    run-accepted-requires
+    run-on-store-requires
     enum-known-verdict
     same-length
     returns

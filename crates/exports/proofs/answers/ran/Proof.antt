@@ -9,8 +9,11 @@ ending-number-requires c κs = search needs
 cast-t4 : tie.Need-cast-t4
 cast-t4 c = search needs
 
+cast-t5 : tie.Need-cast-t5
+cast-t5 c = search needs
+
 returns : tie.Need-returns
 returns c = rw (c .before .ending-number .ensures)
 
 pub ran-spec : {M : Type 1} → statement M
-ran-spec = tie.close (tie.spec ending-number-requires cast-t4 returns)
+ran-spec = tie.close (tie.spec ending-number-requires cast-t4 cast-t5 returns)

@@ -1,7 +1,7 @@
 -- `clight_translate` hands on the entry's answer, as numbers, the tables that it leaves, and what holds of them.
 use mathlib.Core.Path.{ap, _∙_}
 use Rattle.translator.specs.Translation.{TranslateResult}
-use Rattle.exports.specs.Numbers.{translateAnswer}
+use Rattle.exports.specs.Numbers.{answerOf}
 use borrow.Author.Needs.{needs}
 use Rattle.exports.proofs.kernel_form.clight_translate.Statement.{statement}
 use Rattle.exports.proofs.kernel_form.clight_translate.Tie as tie
@@ -21,7 +21,7 @@ same-length-2 c = search needs
 returns : tie.Need-returns
 returns c =
     let result = c .before .before .before .translate .ensures .0 in (
-      c .of-translation .ensures ∙ ap (λ (r : TranslateResult). translateAnswer (r .answer)) result,
+      c .of-translation .ensures ∙ ap (λ (r : TranslateResult). answerOf (r .numbers)) result,
       (ap (λ (r : TranslateResult). r .header) result, (ap (λ (r : TranslateResult). r .rows) result, c .before .before .before .translate .ensures .1)),
     )
 

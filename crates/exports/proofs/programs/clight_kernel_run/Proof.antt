@@ -1,7 +1,7 @@
 -- `clight_kernel_run` hands on the entry's answer, as numbers, and the store that it leaves.
 use mathlib.Core.Path.{ap, _∙_}
 use Rattle.clight.specs.Runs.{RunResult}
-use Rattle.exports.specs.Numbers.{runAnswer}
+use Rattle.exports.specs.Numbers.{answerOf}
 use borrow.Author.Needs.{needs}
 use Rattle.exports.proofs.programs.clight_kernel_run.Statement.{statement}
 use Rattle.exports.proofs.programs.clight_kernel_run.Tie as tie
@@ -18,7 +18,7 @@ same-length c = search needs
 returns : tie.Need-returns
 returns c =
     let result = c .before .before .kernel-run .ensures in
-    (c .of-run .ensures ∙ ap (λ (r : RunResult). runAnswer (r .answer)) result, ap (λ (r : RunResult). r .store) result)
+    (c .of-run .ensures ∙ ap (λ (r : RunResult). answerOf (r .numbers)) result, ap (λ (r : RunResult). r .store) result)
 
 pub clight-kernel-run-spec : {M : Type 1} → statement M
 clight-kernel-run-spec =

@@ -5,34 +5,34 @@ use Rattle.words.specs.declared.FaultSort.the-variants.{Index}
 use Rattle.words.specs.declared.Ending.the-variants.{Plain, Spent, Fault}
 use Rattle.language.specs.Rule.{Rule, row, constant}
 
--- v3 = 5; v4 = v3 + 2; a[1] = v4; v0 = a[1]; with temporaries v3 and v4
+-- v4 = 5; v5 = v4 + 2; a[2] = v5; v0 = a[2]; with temporaries v4 and v5 behind an array of 3
 abbrev pub temporaries : Rule
 temporaries = record {
-  header = pos 1 ∷ pos 2 ∷ pos 2 ∷ [];
+  header = pos 1 ∷ pos 2 ∷ pos 3 ∷ [];
   rows = row 42 1 0 0 0 0
       ++ row 41 2 0 0 0 5
       ++ row 21 3 4 0 0 0
-      ++ row 2 3 0 0 0 0
+      ++ row 2 4 0 0 0 0
       ++ constant (pos 5)
       ++ row 41 6 0 0 0 11
       ++ row 21 7 8 0 0 0
-      ++ row 2 4 0 0 0 0
+      ++ row 2 5 0 0 0 0
       ++ row 6 9 10 0 0 0
-      ++ row 2 3 0 0 0 0
+      ++ row 2 4 0 0 0 0
       ++ constant (pos 2)
       ++ row 41 12 0 0 0 16
       ++ row 21 13 15 0 0 0
       ++ row 3 0 14 0 0 0
-      ++ constant (pos 1)
-      ++ row 2 4 0 0 0 0
+      ++ constant (pos 2)
+      ++ row 2 5 0 0 0 0
       ++ row 41 17 0 0 0 0
       ++ row 21 18 19 0 0 0
       ++ row 2 0 0 0 0 0
       ++ row 3 0 20 0 0 0
-      ++ constant (pos 1);
-  store = pos 0 ∷ pos 8 ∷ pos 9 ∷ pos 1 ∷ pos 1 ∷ [];
+      ++ constant (pos 2);
+  store = pos 0 ∷ pos 8 ∷ pos 9 ∷ pos 6 ∷ pos 1 ∷ pos 1 ∷ [];
   budget = 100;
-  comes-to = record { ending = Plain; count = 21; store = pos 7 ∷ pos 8 ∷ pos 7 ∷ pos 5 ∷ pos 7 ∷ [] };
+  comes-to = record { ending = Plain; count = 21; store = pos 7 ∷ pos 8 ∷ pos 9 ∷ pos 7 ∷ pos 5 ∷ pos 7 ∷ [] };
 }
 
 -- goto 7; v0 = 1; label 7: v1 = 1;
@@ -180,19 +180,19 @@ goto-in-while = record {
   comes-to = record { ending = Plain; count = 34; store = pos 0 ∷ pos 1 ∷ [] };
 }
 
--- a[v0] = 1; with v0 = 2, an array of 2 and a temporary behind it
+-- a[v0] = 1; with v0 = 2, an array of 2 and 3 temporaries behind it
 abbrev pub kernel-index : Rule
 kernel-index = record {
-  header = pos 1 ∷ pos 1 ∷ pos 2 ∷ [];
+  header = pos 1 ∷ pos 3 ∷ pos 2 ∷ [];
   rows = row 42 1 0 0 0 0
       ++ row 41 2 0 0 0 0
       ++ row 21 3 5 0 0 0
       ++ row 3 0 4 0 0 0
       ++ row 2 0 0 0 0 0
       ++ constant (pos 1);
-  store = pos 2 ∷ pos 8 ∷ pos 9 ∷ pos 7 ∷ [];
+  store = pos 2 ∷ pos 8 ∷ pos 9 ∷ pos 7 ∷ pos 7 ∷ pos 7 ∷ [];
   budget = 100;
-  comes-to = record { ending = Fault Index; count = 6; store = pos 2 ∷ pos 8 ∷ pos 9 ∷ pos 7 ∷ [] };
+  comes-to = record { ending = Fault Index; count = 6; store = pos 2 ∷ pos 8 ∷ pos 9 ∷ pos 7 ∷ pos 7 ∷ pos 7 ∷ [] };
 }
 
 -- while (1) {} with budget 9

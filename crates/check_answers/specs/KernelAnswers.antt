@@ -1,0 +1,27 @@
+-- Kernel answers: the kernel check answers each kernel sample as it must, by computing.
+use mathlib.Core.Path.{_≡_, refl}
+use mathlib.Core.List.{map}
+use Rattle.words.specs.Word.{natural}
+use Rattle.words.specs.Table.{wordAt, numberAt}
+use Rattle.words.specs.Layout.{layoutOf, sum, storeSize, storeWords, allWithin, headerFits, countFits}
+use Rattle.words.specs.declared.Verdict.{Verdict}
+use Rattle.structure.specs.Fields.{foreign, fits, leadsRight, mislinked, boundsOf, numberFits, outside}
+use Rattle.structure.specs.Grammar.{grammar, sortOf, sortAt, inLanguage, isExpression, isPlace, isStatement, isLink, isRequired, link}
+use Rattle.structure.specs.Links.{target, linksAmong, linkCount, loneBlock, notOnce, linker, received, noteBy, note, deeper, depthAt, tooDeep}
+use Rattle.structure.specs.Refusal.{at, unless, _next_, rowCauses, structuralRefusal}
+use Rattle.structure.specs.Search.{lowest, some, lowestRow, someField}
+use Rattle.kernel_check.specs.Labels.{isLabel, repeatedLabel, owning, ownerAt, labelBehind, labelAhead, gotoWithoutLabel, labelFault}
+use Rattle.kernel_check.specs.Refusal.{kernelCauses, refusal}
+use Rattle.kernel_check.specs.Statements.{isAtom, isAtomMinus, isAtomOperation, isAtomElement, fitsVariable, isAssignment, isBlock, isKernelIf, isKernelWhile, isKernelExpression, isKernelStatement, notKernelForm}
+use Rattle.check_answers.specs.Sample.{Sample}
+use Rattle.check_answers.specs.KernelSamples.{kernelSamples}
+
+abbrev pub checked : Sample → Verdict
+checked sample = refusal (sample .header) (sample .rows)
+
+abbrev pub expected : Sample → Verdict
+expected sample = sample .answer
+
+pub kernel-answers : map checked kernelSamples ≡ map expected kernelSamples
+unfolding natural wordAt numberAt layoutOf sum storeSize storeWords allWithin headerFits countFits foreign fits leadsRight mislinked boundsOf numberFits outside grammar sortOf sortAt inLanguage isExpression isPlace isStatement isLink isRequired link target linksAmong linkCount loneBlock notOnce linker received noteBy note deeper depthAt tooDeep at unless _next_ rowCauses structuralRefusal lowest some lowestRow someField isLabel repeatedLabel owning ownerAt labelBehind labelAhead gotoWithoutLabel labelFault kernelCauses refusal isAtom isAtomMinus isAtomOperation isAtomElement fitsVariable isAssignment isBlock isKernelIf isKernelWhile isKernelExpression isKernelStatement notKernelForm
+kernel-answers = refl

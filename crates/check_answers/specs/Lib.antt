@@ -1,0 +1,13 @@
+-- What the checks answer of small programs: accepted at each limit, refused beyond it. A line of comment for each file.
+
+-- ---- definitions
+-- Sample: a program as words, and what a check must answer of it.
+pub mod Sample
+-- The samples, worked out from document 01: source programs, kernel programs.
+pub mod SourceSamples
+pub mod KernelSamples
+-- ---- laws
+-- The theorems: the checks answer so; and the limits that are too large for a sample.
+pub mod SourceAnswers
+pub mod KernelAnswers
+pub mod LimitAnswers

@@ -1,0 +1,27 @@
+-- Source answers: the check answers each source sample as it must, by computing.
+use mathlib.Core.Path.{_≡_, refl}
+use mathlib.Core.List.{map}
+use Rattle.words.specs.Word.{sameWord, natural}
+use Rattle.words.specs.Table.{wordAt, numberAt}
+use Rattle.words.specs.Layout.{layoutOf, sum, storeSize, storeWords, allWithin, headerFits, countFits}
+use Rattle.words.specs.declared.Verdict.{Verdict}
+use Rattle.structure.specs.Fields.{foreign, fits, leadsRight, mislinked, boundsOf, numberFits, outside}
+use Rattle.structure.specs.Grammar.{grammar, sortOf, sortAt, inLanguage, isExpression, isPlace, isStatement, isLink, isRequired, link}
+use Rattle.structure.specs.Links.{target, linksAmong, linkCount, loneBlock, notOnce, linker, received, noteBy, note, deeper, depthAt, tooDeep}
+use Rattle.structure.specs.Refusal.{at, unless, _next_, rowCauses, structuralRefusal}
+use Rattle.structure.specs.Search.{lowest, some, lowestRow, someField}
+use Rattle.source_check.specs.Marks.{sameMark, equalAmong, repeated}
+use Rattle.source_check.specs.Places.{handed, noteAt, outOfPlace, misplaced}
+use Rattle.source_check.specs.Refusal.{laterRefusal, refusal}
+use Rattle.check_answers.specs.Sample.{Sample}
+use Rattle.check_answers.specs.SourceSamples.{sourceSamples}
+
+abbrev pub checked : Sample → Verdict
+checked sample = refusal (sample .header) (sample .rows)
+
+abbrev pub expected : Sample → Verdict
+expected sample = sample .answer
+
+pub source-answers : map checked sourceSamples ≡ map expected sourceSamples
+unfolding sameWord natural wordAt numberAt layoutOf sum storeSize storeWords allWithin headerFits countFits foreign fits leadsRight mislinked boundsOf numberFits outside grammar sortOf sortAt inLanguage isExpression isPlace isStatement isLink isRequired link target linksAmong linkCount loneBlock notOnce linker received noteBy note deeper depthAt tooDeep at unless _next_ rowCauses structuralRefusal lowest some lowestRow someField sameMark equalAmong repeated handed noteAt outOfPlace misplaced laterRefusal refusal
+source-answers = refl

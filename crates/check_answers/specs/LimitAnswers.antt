@@ -6,7 +6,8 @@ use Rattle.words.specs.Word.{natural}
 use Rattle.words.specs.Table.{wordAt, numberAt}
 use Rattle.words.specs.Layout.{depthLimit, rowLimit}
 use Rattle.words.specs.declared.Form.the-variants.{Source, Kernel}
-use Rattle.structure.specs.Grammar.{grammar, sortOf, sortAt, isLink, link}
+use Rattle.words.specs.Kinds.{kindOf, kindIn, kinds, sortIn, kindRow, expressionFields, statementFields, markFields, sortOf, sortAt, isLink}
+use Rattle.structure.specs.Grammar.{link}
 use Rattle.structure.specs.Links.{target, linker, received, noteBy, note, deeper, depthAt, tooDeep}
 use Rattle.structure.specs.Search.{lowest}
 use Rattle.check_answers.specs.Sample.{chain}
@@ -20,5 +21,5 @@ pub record Limits : Type 0 where
   pub kernel-rows : rowLimit Kernel ≡ 40980
 
 pub limit-answers : Limits
-unfolding natural wordAt numberAt grammar sortOf sortAt isLink link target linker received noteBy note deeper depthAt tooDeep lowest
+unfolding natural wordAt numberAt kindOf kindIn kinds sortIn kindRow expressionFields statementFields markFields sortOf sortAt isLink link target linker received noteBy note deeper depthAt tooDeep lowest
 limit-answers = record { depth-64 = refl; depth-65 = refl; kernel-depth = refl; kernel-rows = refl }

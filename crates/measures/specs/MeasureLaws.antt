@@ -7,13 +7,17 @@ use lib.IntN.{ℤ}
 use lib.ListN.{length}
 use Rattle.words.specs.Table.{rowCount}
 use Rattle.language.specs.Trees.{Expression, constant, read, minus, not, binary, and, or, comma, conditional, assign, compound, prefix, postfix, variable, element, present, _here_}
-use Rattle.language.specs.Decode.{expressionAt, statementAt}
-use Rattle.language.specs.DecodeLaws.{listAt, partAt}
-use Rattle.translation.specs.Translate.{labels, itemsLabels, expressionLevels, partLevels, statementLevels, itemsLevels}
+use Rattle.language.specs.Decode.{expressionAt, statementAt, listAt, partAt}
+use Rattle.translation.specs.Translate.{top, labels, itemsLabels, expressionLevels, partLevels, statementLevels, itemsLevels}
 use Rattle.translation.specs.TranslateSize.{ownRows, expressionSize, partSize, statementSize, itemsSize, cases}
-use Rattle.measures.specs.Source.{Source, Onward, OptionalOnward}
-use Rattle.measures.specs.Operands.{firstOperand, secondOperand, thirdOperand, fourthOperand, aboveFirst, ownLevels}
-use Rattle.measures.specs.Measures.{limited, defaultPlace, slot, slotAt, LinkMeasured, MeasuredRow, MeasuredFrom, Measured}
+use Rattle.shapes.specs.Shapes.{operationTree, choiceTree, Onward, OptionalOnward}
+use Rattle.shapes.specs.Source.{Source}
+use Rattle.shapes.specs.declared.OperationShape.{OperationShape}
+use Rattle.shapes.specs.declared.OperationShape.the-variants.{Minus, Not, Binary, Comma, Assign, Compound, Prefix, Postfix}
+use Rattle.shapes.specs.declared.ChoiceShape.{ChoiceShape}
+use Rattle.shapes.specs.declared.ChoiceShape.the-variants.{And, Or, Conditional}
+use Rattle.measures.specs.Parts.{firstOperand, secondOperand, thirdOperand, fourthOperand, aboveFirst, ownLevels, plainAtom}
+use Rattle.measures.specs.Measures.{limited, defaultPlace, width, rowsSlot, levelsSlot, valueSlot, statementRowsSlot, statementLevelsSlot, statementLabelsSlot, listRowsSlot, listLevelsSlot, listLabelsSlot, listCasesSlot, listDefaultSlot, slot, slotAt, LinkMeasured, MeasuredRow, MeasuredFrom, Measured}
 
 -- ---- sums that are cut off
 
@@ -44,56 +48,56 @@ module _ (rows : List ℤ) (table : List ℕ) where
   pub link-measured : {row : ℕ} (link : ℕ) → MeasuredFrom rows table (row + 1) → Onward rows row link → MeasuredRow rows table link
   link-measured link m o = m .row-measured link (omega (arith, o .later)) (o .inside)
 
-  pub link-held : {row : ℕ} (link : ℕ) → MeasuredFrom rows table (row + 1) → OptionalOnward rows row link → 0 < link → 11 * link + 11 ≤ length table
+  pub link-held : {row : ℕ} (link : ℕ) → MeasuredFrom rows table (row + 1) → OptionalOnward rows row link → 0 < link → width * link + width ≤ length table
   link-held link m o p = omega (arith, m .room, o p .inside)
 
   module _ {row : ℕ} (m : MeasuredFrom rows table (row + 1)) where
     -- the measures of an expression at a link
-    pub part-rows : (link : ℕ) → OptionalOnward rows row link → slotAt table link 0 ≡ limited (partSize (partAt rows link))
+    pub part-rows : (link : ℕ) → OptionalOnward rows row link → slotAt table link rowsSlot ≡ limited (partSize (partAt rows link))
     unfolding limited
     part-rows zero o = refl
     part-rows (suc link) o = link-measured (suc link) m (o (omega arith)) .expression .rows-are
 
-    pub part-levels : (link : ℕ) → OptionalOnward rows row link → slotAt table link 1 ≡ limited (partLevels (partAt rows link))
+    pub part-levels : (link : ℕ) → OptionalOnward rows row link → slotAt table link levelsSlot ≡ limited (partLevels (partAt rows link))
     unfolding limited
     part-levels zero o = refl
     part-levels (suc link) o = link-measured (suc link) m (o (omega arith)) .expression .levels-are
 
     -- those of a list
-    pub list-rows : (link : ℕ) → OptionalOnward rows row link → slotAt table link 6 ≡ limited (itemsSize (listAt rows link))
+    pub list-rows : (link : ℕ) → OptionalOnward rows row link → slotAt table link listRowsSlot ≡ limited (itemsSize (listAt rows link))
     unfolding limited itemsSize
     list-rows zero o = refl
     list-rows (suc link) o = link-measured (suc link) m (o (omega arith)) .list .rows-are
 
-    pub list-levels : (link : ℕ) → OptionalOnward rows row link → slotAt table link 7 ≡ limited (itemsLevels (listAt rows link))
+    pub list-levels : (link : ℕ) → OptionalOnward rows row link → slotAt table link listLevelsSlot ≡ limited (itemsLevels (listAt rows link))
     unfolding limited itemsLevels
     list-levels zero o = refl
     list-levels (suc link) o = link-measured (suc link) m (o (omega arith)) .list .levels-are
 
-    pub list-labels : (link : ℕ) → OptionalOnward rows row link → slotAt table link 8 ≡ limited (itemsLabels (listAt rows link))
+    pub list-labels : (link : ℕ) → OptionalOnward rows row link → slotAt table link listLabelsSlot ≡ limited (itemsLabels (listAt rows link))
     unfolding limited itemsLabels
     list-labels zero o = refl
     list-labels (suc link) o = link-measured (suc link) m (o (omega arith)) .list .labels-are
 
-    pub list-cases : (link : ℕ) → OptionalOnward rows row link → slotAt table link 9 ≡ limited (cases (listAt rows link))
+    pub list-cases : (link : ℕ) → OptionalOnward rows row link → slotAt table link listCasesSlot ≡ limited (cases (listAt rows link))
     unfolding limited
     list-cases zero o = refl
     list-cases (suc link) o = link-measured (suc link) m (o (omega arith)) .list .cases-are
 
-    pub list-default : (link : ℕ) → OptionalOnward rows row link → slotAt table link 10 ≡ limited (defaultPlace (listAt rows link))
+    pub list-default : (link : ℕ) → OptionalOnward rows row link → slotAt table link listDefaultSlot ≡ limited (defaultPlace (listAt rows link))
     unfolding limited defaultPlace
     list-default zero o = refl
     list-default (suc link) o = link-measured (suc link) m (o (omega arith)) .list .default-is
 
     -- those of a statement
-    pub body-rows : (link : ℕ) → Onward rows row link → slotAt table link 3 ≡ limited (statementSize (statementAt rows link))
-    body-rows link o = at-some table link 3 (omega (arith, o .later)) ∙ link-measured link m o .statement .rows-are
+    pub body-rows : (link : ℕ) → Onward rows row link → slotAt table link statementRowsSlot ≡ limited (statementSize (statementAt rows link))
+    body-rows link o = at-some table link statementRowsSlot (omega (arith, o .later)) ∙ link-measured link m o .statement .rows-are
 
-    pub body-levels : (link : ℕ) → Onward rows row link → slotAt table link 4 ≡ limited (statementLevels (statementAt rows link))
-    body-levels link o = at-some table link 4 (omega (arith, o .later)) ∙ link-measured link m o .statement .levels-are
+    pub body-levels : (link : ℕ) → Onward rows row link → slotAt table link statementLevelsSlot ≡ limited (statementLevels (statementAt rows link))
+    body-levels link o = at-some table link statementLevelsSlot (omega (arith, o .later)) ∙ link-measured link m o .statement .levels-are
 
-    pub body-labels : (link : ℕ) → Onward rows row link → slotAt table link 5 ≡ limited (labels (statementAt rows link))
-    body-labels link o = at-some table link 5 (omega (arith, o .later)) ∙ link-measured link m o .statement .labels-are
+    pub body-labels : (link : ℕ) → Onward rows row link → slotAt table link statementLabelsSlot ≡ limited (labels (statementAt rows link))
+    body-labels link o = at-some table link statementLabelsSlot (omega (arith, o .later)) ∙ link-measured link m o .statement .labels-are
 
 -- ---- an expression's measures, from those of its operands
 
@@ -141,12 +145,29 @@ levels-parts (prefix operator (element array i)) = omega arith
 levels-parts (postfix operator (variable i)) = refl
 levels-parts (postfix operator (element array i)) = omega arith
 
+-- ---- the value of an operation, and that of a choice, stand in a temporary
+
+pub operation-top : (rows : List ℤ) (o : OperationShape) → plainAtom (operationTree rows o) ≡ top
+operation-top rows (Minus a) = refl
+operation-top rows (Not a) = refl
+operation-top rows (Binary operator a b) = refl
+operation-top rows (Comma a b) = refl
+operation-top rows (Assign p e) = refl
+operation-top rows (Compound operator p e) = refl
+operation-top rows (Prefix operator p) = refl
+operation-top rows (Postfix operator p) = refl
+
+pub choice-top : (rows : List ℤ) (c : ChoiceShape) → plainAtom (choiceTree rows c) ≡ top
+choice-top rows (And a b) = refl
+choice-top rows (Or a b) = refl
+choice-top rows (Conditional c a b) = refl
+
 -- ---- what calls ask
 
 pub limited-as : {x : ℕ} (n : ℕ) → x ≡ limited n → x ≤ 65536
 limited-as {x} n e = omega (arith, limited-most n)
 
-measured-small : {rows : List ℤ} {table : List ℕ} {row : ℕ} → Source rows → MeasuredRow rows table row → (k : ℕ) → k < 11 → slot table row k ≤ 65536
+measured-small : {rows : List ℤ} {table : List ℕ} {row : ℕ} → Source rows → MeasuredRow rows table row → (k : ℕ) → k < width → slot table row k ≤ 65536
 measured-small s m zero h = limited-as _ (m .expression .rows-are)
 measured-small s m (suc zero) h = limited-as _ (m .expression .levels-are)
 measured-small s m (suc (suc zero)) h = omega (arith, m .expression .value-inside, s .few-rows)
@@ -165,19 +186,19 @@ measured-less j m h = record { source = m .source; room = m .room; row-measured 
 
 module _ {rows : List ℤ} {table : List ℕ} {row : ℕ} (m : MeasuredFrom rows table (row + 1)) where
   -- a row that a link leads to
-  pub link-asks : {link : ℕ} → Onward rows row link → Source rows × (link < rowCount rows) × (11 * rowCount rows ≤ length table) × MeasuredRow rows table link
+  pub link-asks : {link : ℕ} → Onward rows row link → Source rows × (link < rowCount rows) × (width * rowCount rows ≤ length table) × MeasuredRow rows table link
   link-asks {link} o = (m .source, o .inside, m .room, link-measured rows table link m o)
 
   pub slot-asks : {link : ℕ} → OptionalOnward rows row link → LinkMeasured table link
   slot-asks {link} o k h = record { held = λ p. omega (arith, link-held rows table link m o p); small = slot-small link k h o }
     where
-      slot-small : (link k : ℕ) → k < 11 → OptionalOnward rows row link → slotAt table link k ≤ 65536
+      slot-small : (link k : ℕ) → k < width → OptionalOnward rows row link → slotAt table link k ≤ 65536
       slot-small zero k h o = omega arith
       slot-small (suc link) k h o = measured-small (m .source) (link-measured rows table (suc link) m (o (omega arith))) k h
 
 -- ---- the pass
 
-pub measured-none : {rows : List ℤ} {table : List ℕ} → Source rows → 11 * rowCount rows ≤ length table → MeasuredFrom rows table (rowCount rows)
+pub measured-none : {rows : List ℤ} {table : List ℕ} → Source rows → width * rowCount rows ≤ length table → MeasuredFrom rows table (rowCount rows)
 measured-none s h = record { source = s; room = h; row-measured = λ row l b. absurd (omega arith) }
 
 pub measured-back : {rows : List ℤ} {table : List ℕ} (row : ℕ) → 1 ≤ row → MeasuredFrom rows table row → MeasuredFrom rows table (row - 1 + 1)
@@ -192,7 +213,7 @@ module _ {rows : List ℤ} {table : List ℕ} (m : Measured rows table) where
   pub whole-row : {row : ℕ} → row < rowCount rows → MeasuredRow rows table row
   whole-row {row} h = m .row-measured row (omega arith) h
 
-  pub whole-asks : {row : ℕ} → row < rowCount rows → Source rows × (row < rowCount rows) × (11 * rowCount rows ≤ length table) × MeasuredRow rows table row
+  pub whole-asks : {row : ℕ} → row < rowCount rows → Source rows × (row < rowCount rows) × (width * rowCount rows ≤ length table) × MeasuredRow rows table row
   whole-asks {row} h = (m .source, h, m .room, whole-row h)
 
   -- the rows behind a row
@@ -206,22 +227,22 @@ module _ {rows : List ℤ} {table : List ℕ} (m : Measured rows table) where
       by zero h = omega arith
       by (suc link) h = measured-small (m .source) (whole-row h) k l
 
-  pub whole-part : (link : ℕ) → link < rowCount rows → slotAt table link 0 ≡ limited (partSize (partAt rows link))
+  pub whole-part : (link : ℕ) → link < rowCount rows → slotAt table link rowsSlot ≡ limited (partSize (partAt rows link))
   unfolding limited
   whole-part zero h = refl
   whole-part (suc link) h = whole-row h .expression .rows-are
 
-  pub whole-list : (link : ℕ) → link < rowCount rows → slotAt table link 6 ≡ limited (itemsSize (listAt rows link))
+  pub whole-list : (link : ℕ) → link < rowCount rows → slotAt table link listRowsSlot ≡ limited (itemsSize (listAt rows link))
   unfolding limited itemsSize
   whole-list zero h = refl
   whole-list (suc link) h = whole-row h .list .rows-are
 
-  pub whole-cases : (link : ℕ) → link < rowCount rows → slotAt table link 9 ≡ limited (cases (listAt rows link))
+  pub whole-cases : (link : ℕ) → link < rowCount rows → slotAt table link listCasesSlot ≡ limited (cases (listAt rows link))
   unfolding limited
   whole-cases zero h = refl
   whole-cases (suc link) h = whole-row h .list .cases-are
 
-  pub whole-default : (link : ℕ) → link < rowCount rows → slotAt table link 10 ≡ limited (defaultPlace (listAt rows link))
+  pub whole-default : (link : ℕ) → link < rowCount rows → slotAt table link listDefaultSlot ≡ limited (defaultPlace (listAt rows link))
   unfolding limited defaultPlace
   whole-default zero h = refl
   whole-default (suc link) h = whole-row h .list .default-is

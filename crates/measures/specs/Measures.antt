@@ -1,4 +1,4 @@
--- Measures: what the table of measures holds, eleven words for each source row. Sums are cut off at 65,536, which is above every
+-- Measures: what the table of measures holds, as many words for each source row as it has measures. Sums are cut off at 65,536, which is above every
 -- limit, so that they fit on any table.
 use mathlib.Core.Path.{_≡_}
 use mathlib.Core.List.{List, [], _∷_}
@@ -10,8 +10,8 @@ use Rattle.language.specs.Trees.{Expression, Statement, Items, none, _then_, _h
 use Rattle.language.specs.Decode.{expressionAt, statementAt, itemsAt}
 use Rattle.translation.specs.Translate.{atomOf, labels, itemsLabels, expressionLevels, statementLevels, itemsLevels}
 use Rattle.translation.specs.TranslateSize.{expressionSize, statementSize, itemsSize, cases}
-use Rattle.measures.specs.Source.{Source}
-use Rattle.measures.specs.Operands.{plainAtom}
+use Rattle.shapes.specs.Source.{Source}
+use Rattle.measures.specs.Parts.{plainAtom}
 use Rattle.measures.specs.declared.ExpressionMeasures.{ExpressionMeasures}
 use Rattle.measures.specs.declared.StatementMeasures.{StatementMeasures}
 use Rattle.measures.specs.declared.ListMeasures.{ListMeasures}
@@ -55,8 +55,45 @@ pub record ListMeasured (is : Items) (m : ListMeasures) : Type 0 where
 
 -- ---- the table
 
+-- The words of a row, and where each measure stands among them.
+abbrev pub width : ℕ
+width = 11
+
+abbrev pub rowsSlot : ℕ
+rowsSlot = 0
+
+abbrev pub levelsSlot : ℕ
+levelsSlot = 1
+
+abbrev pub valueSlot : ℕ
+valueSlot = 2
+
+abbrev pub statementRowsSlot : ℕ
+statementRowsSlot = 3
+
+abbrev pub statementLevelsSlot : ℕ
+statementLevelsSlot = 4
+
+abbrev pub statementLabelsSlot : ℕ
+statementLabelsSlot = 5
+
+abbrev pub listRowsSlot : ℕ
+listRowsSlot = 6
+
+abbrev pub listLevelsSlot : ℕ
+listLevelsSlot = 7
+
+abbrev pub listLabelsSlot : ℕ
+listLabelsSlot = 8
+
+abbrev pub listCasesSlot : ℕ
+listCasesSlot = 9
+
+abbrev pub listDefaultSlot : ℕ
+listDefaultSlot = 10
+
 abbrev pub slot : List ℕ → ℕ → ℕ → ℕ
-slot table row k = getD table (11 * row + k) 0
+slot table row k = getD table (width * row + k) 0
 
 -- The same by a link; 0 is absent and measures nothing.
 abbrev pub slotAt : List ℕ → ℕ → ℕ → ℕ
@@ -65,27 +102,27 @@ slotAt table (suc link) k = slot table (suc link) k
 
 -- The word is in the table, and small.
 pub record SlotAsks (table : List ℕ) (link k : ℕ) : Type 0 where
-  pub held : 0 < link → 11 * link + k < length table
+  pub held : 0 < link → width * link + k < length table
   pub small : slotAt table link k ≤ 65536
 
 -- All words of the link.
 abbrev pub LinkMeasured : List ℕ → ℕ → Type 0
-LinkMeasured table link = (k : ℕ) → k < 11 → SlotAsks table link k
+LinkMeasured table link = (k : ℕ) → k < width → SlotAsks table link k
 
 pub record SlotIs (table : List ℕ) (link k r : ℕ) : Type 0 where
   pub is : r ≡ slotAt table link k
   pub small : r ≤ 65536
 
 abbrev pub expressionSlots : List ℕ → ℕ → ExpressionMeasures
-expressionSlots table row = record { rows = slot table row 0; levels = slot table row 1; value = slot table row 2 }
+expressionSlots table row = record { rows = slot table row rowsSlot; levels = slot table row levelsSlot; value = slot table row valueSlot }
 
 abbrev pub statementSlots : List ℕ → ℕ → StatementMeasures
-statementSlots table row = record { rows = slot table row 3; levels = slot table row 4; labels = slot table row 5 }
+statementSlots table row = record { rows = slot table row statementRowsSlot; levels = slot table row statementLevelsSlot; labels = slot table row statementLabelsSlot }
 
 abbrev pub listSlots : List ℕ → ℕ → ListMeasures
-listSlots table row = record { rows = slot table row 6; levels = slot table row 7; labels = slot table row 8; cases = slot table row 9; default = slot table row 10 }
+listSlots table row = record { rows = slot table row listRowsSlot; levels = slot table row listLevelsSlot; labels = slot table row listLabelsSlot; cases = slot table row listCasesSlot; default = slot table row listDefaultSlot }
 
--- The eleven words of a row.
+-- The words of a row.
 abbrev pub rowWords : ExpressionMeasures → StatementMeasures → ListMeasures → List ℕ
 rowWords e s l =
     e .rows ∷ e .levels ∷ e .value ∷ s .rows ∷ s .levels ∷ s .labels ∷ l .rows ∷ l .levels ∷ l .labels ∷ l .cases ∷ l .default ∷ []
@@ -93,7 +130,7 @@ rowWords e s l =
 -- A loop's test: its code and 5 rows, where it is there.
 abbrev pub testSlots : List ℕ → ℕ → ℕ
 testSlots table zero = 0
-testSlots table (suc test) = slot table (suc test) 0 + 5
+testSlots table (suc test) = slot table (suc test) rowsSlot + 5
 
 pub record TestIs (table : List ℕ) (test r : ℕ) : Type 0 where
   pub is : r ≡ testSlots table test
@@ -108,7 +145,7 @@ pub record MeasuredRow (rows : List ℤ) (table : List ℕ) (row : ℕ) : Type 0
 -- The rows from `least` on are measured.
 pub record MeasuredFrom (rows : List ℤ) (table : List ℕ) (least : ℕ) : Type 0 where
   pub source : Source rows
-  pub room : 11 * rowCount rows ≤ length table
+  pub room : width * rowCount rows ≤ length table
   pub row-measured : (row : ℕ) → least ≤ row → row < rowCount rows → MeasuredRow rows table row
 
 abbrev pub Measured : List ℤ → List ℕ → Type 0
@@ -121,11 +158,46 @@ MarkAsks table next cases place = LinkMeasured table next × (cases ≤ 1)
 
 abbrev pub markMeasures : List ℕ → ℕ → ℕ → ℕ → ListMeasures
 markMeasures table next cases place =
-    record { rows = limited (1 + slotAt table next 6); levels = slotAt table next 7; labels = limited (1 + slotAt table next 8); cases = limited (cases + slotAt table next 9); default = place }
+    record { rows = limited (1 + slotAt table next listRowsSlot); levels = slotAt table next listLevelsSlot; labels = limited (1 + slotAt table next listLabelsSlot); cases = limited (cases + slotAt table next listCasesSlot); default = place }
 
 abbrev pub StatementAsks : List ℕ → ℕ → StatementMeasures → Type 0
 StatementAsks table next s = LinkMeasured table next × (s .rows ≤ 65536) × (s .labels ≤ 65536)
 
 abbrev pub statementMeasures : List ℕ → ℕ → StatementMeasures → ListMeasures
 statementMeasures table next s =
-    record { rows = limited (s .rows + slotAt table next 6); levels = max (s .levels) (slotAt table next 7); labels = limited (s .labels + slotAt table next 8); cases = slotAt table next 9; default = limited (pastLabels (s .labels) (slotAt table next 10)) }
+    record { rows = limited (s .rows + slotAt table next listRowsSlot); levels = max (s .levels) (slotAt table next listLevelsSlot); labels = limited (s .labels + slotAt table next listLabelsSlot); cases = slotAt table next listCasesSlot; default = limited (pastLabels (s .labels) (slotAt table next listDefaultSlot)) }
+
+-- ---- what the functions that measure a statement give
+
+abbrev measures : ℕ → ℕ → ℕ → StatementMeasures
+measures n levels marks = record { rows = n; levels = levels; labels = marks }
+
+abbrev pub plainMeasures : StatementMeasures
+plainMeasures = measures 1 0 0
+
+module _ (table : List ℕ) where
+  abbrev pub expressMeasures : ℕ → StatementMeasures
+  expressMeasures e = measures (max 1 (slotAt table e rowsSlot)) (slotAt table e levelsSlot) 0
+
+  abbrev pub blockMeasures : ℕ → StatementMeasures
+  blockMeasures list = measures (limited (1 + slotAt table list listRowsSlot)) (slotAt table list listLevelsSlot) (slotAt table list listLabelsSlot)
+
+  abbrev pub ifMeasures : ℕ → ℕ → ℕ → StatementMeasures
+  ifMeasures e onTrue onFalse =
+      measures (limited (4 + slotAt table e rowsSlot + slotAt table onTrue statementRowsSlot + slotAt table onFalse statementRowsSlot))
+      (max (slotAt table e levelsSlot) (max (slotAt table onTrue statementLevelsSlot) (slotAt table onFalse statementLevelsSlot)))
+      (limited (slotAt table onTrue statementLabelsSlot + slotAt table onFalse statementLabelsSlot))
+
+  -- What stands first, the test, the step, the body.
+  abbrev pub loopMeasures : ℕ → ℕ → ℕ → ℕ → StatementMeasures
+  loopMeasures first test action body =
+      measures (limited (5 + (slotAt table first rowsSlot + testSlots table test) + (slotAt table action rowsSlot + slotAt table body statementRowsSlot)))
+      (max (max (slotAt table first levelsSlot) (slotAt table test levelsSlot)) (max (slotAt table action levelsSlot) (slotAt table body statementLevelsSlot)))
+      (limited (2 + slotAt table body statementLabelsSlot))
+
+  -- `held` is how many temporaries the selector's value takes.
+  abbrev pub switchMeasures : ℕ → ℕ → ℕ → StatementMeasures
+  switchMeasures held e list =
+      measures (limited (2 + slotAt table e rowsSlot + 11 * slotAt table list listCasesSlot + slotAt table list listRowsSlot))
+      (max (held + 1) (max (slotAt table e levelsSlot) (slotAt table list listLevelsSlot)))
+      (limited (1 + slotAt table list listLabelsSlot))

@@ -1,39 +1,109 @@
--- Parts: what the functions that measure an expression find at a row.
+-- Parts: an expression's code in parts. Two operands may be worked out first, the second above the first; two more stand in branches.
+-- What is added up over the code of an expression is added up over these parts. And what the code finds of them at a row.
 use mathlib.Core.Path.{_≡_}
+use mathlib.Core.Bool.{Bool, true, false}
 use mathlib.Core.List.{List}
-use Prim.Native.Nat.{ℕ, _<_}
+use Prim.Native.Nat.{ℕ, _+_, _<_}
 use lib.IntN.{ℤ}
 use Rattle.words.specs.Table.{rowCount}
-use Rattle.language.specs.Decode.{placeOf, expressionAt}
-use Rattle.language.specs.DecodeLaws.{partAt}
-use Rattle.translation.specs.Translate.{atomOf}
-use Rattle.measures.specs.Source.{OptionalOnward}
-use Rattle.measures.specs.Operands.{indexOf, firstOperand, secondOperand, thirdOperand, fourthOperand, plainAtom}
-use Rattle.measures.specs.declared.PlaceShape.{PlaceShape}
-use Rattle.measures.specs.declared.PlaceShape.the-variants.{Variable, Element}
-use Rattle.measures.specs.declared.Operands.{Operands}
+use Rattle.language.specs.Trees.{Expression, constant, read, minus, not, binary, and, or, comma, conditional, assign, compound, prefix, postfix, Place, variable, element, Part, absent, present}
+use Rattle.language.specs.Decode.{placeOf, expressionAt, partAt}
+use Rattle.shapes.specs.Shapes.{OptionalOnward}
+use Rattle.translation.specs.Translate.{Atom, number, top, atomOf, taken}
+use Rattle.translation.specs.TranslateSize.{indexRows, ownRows}
+use Rattle.measures.specs.declared.Own.{Own}
+use Rattle.measures.specs.declared.PlaceOwn.{PlaceOwn}
 
-abbrev pub byPlace : PlaceShape → ℕ → ℕ → ℕ
-byPlace (Variable i) plain indexed = plain
-byPlace (Element array index) plain indexed = indexed
+abbrev pub indexOf : Place → Part
+indexOf (variable i) = absent
+indexOf (element array e) = present e
+
+-- The levels of an update of a place: the result's, and for an element the index's and one above it.
+abbrev pub updateOwn : Place → ℕ
+updateOwn (variable i) = 1
+updateOwn (element array e) = 2 + taken (atomOf e)
+
+pub record Parts : Type 0 where
+  pub first : Part
+  pub second : Part
+  pub third : Part
+  pub fourth : Part
+  -- how far above the first operand the second one is worked out
+  pub above : ℕ
+  -- the levels that the expression's own code names
+  pub levels : ℕ
+  -- the atom of an expression that is neither a comma nor an assignment, whose atoms are those of their right operands
+  pub atom : Atom
+
+abbrev pub parts : Part → Part → Part → Part → ℕ → ℕ → Atom → Parts
+parts first second third fourth above levels atom =
+    record { first = first; second = second; third = third; fourth = fourth; above = above; levels = levels; atom = atom }
+
+abbrev pub partsOf : Expression → Parts
+partsOf (constant v) = parts absent absent absent absent 0 0 (number v)
+partsOf (read p) = parts (indexOf p) absent absent absent 0 1 top
+partsOf (minus e) = parts (present e) absent absent absent 0 1 top
+partsOf (not e) = parts (present e) absent absent absent 0 1 top
+partsOf (binary operator a b) = parts (present b) (present a) absent absent (taken (atomOf b)) 1 top
+partsOf (and a b) = parts (present a) absent (present b) absent 0 1 top
+partsOf (or a b) = parts (present a) absent (present b) absent 0 1 top
+partsOf (comma a b) = parts (present a) (present b) absent absent 0 0 top
+partsOf (conditional c a b) = parts (present c) absent (present a) (present b) 0 1 top
+partsOf (assign p e) = parts (present e) (indexOf p) absent absent (taken (atomOf e)) 0 top
+partsOf (compound operator p e) = parts (present e) (indexOf p) absent absent 1 (updateOwn p) top
+partsOf (prefix operator p) = parts absent (indexOf p) absent absent 1 (updateOwn p) top
+partsOf (postfix operator p) = parts absent (indexOf p) absent absent 1 (updateOwn p) top
+
+abbrev pub firstOperand : Expression → Part
+firstOperand e = partsOf e .first
+
+abbrev pub secondOperand : Expression → Part
+secondOperand e = partsOf e .second
+
+abbrev pub thirdOperand : Expression → Part
+thirdOperand e = partsOf e .third
+
+abbrev pub fourthOperand : Expression → Part
+fourthOperand e = partsOf e .fourth
+
+abbrev pub aboveFirst : Expression → ℕ
+aboveFirst e = partsOf e .above
+
+abbrev pub ownLevels : Expression → ℕ
+ownLevels e = partsOf e .levels
+
+abbrev pub plainAtom : Expression → Atom
+plainAtom e = partsOf e .atom
+
+abbrev pub isNumberAtom : Atom → Bool
+isNumberAtom (number v) = true
+isNumberAtom top = false
+
+-- ---- what the code finds at a row
 
 module _ (rows : List ℤ) (row : ℕ) where
-  -- The row of the index of the place at this row.
-  pub record IndexAt (index : ℕ) : Type 0 where
-    pub is : partAt rows index ≡ indexOf (placeOf (expressionAt rows row))
-    pub onward : OptionalOnward rows row index
+  -- An operand: what it is, and that its link leads on.
+  pub record Operand (link : ℕ) (part : Part) : Type 0 where
+    pub is : partAt rows link ≡ part
+    pub onward : OptionalOnward rows row link
 
-  pub record OperandsAt (o : Operands) : Type 0 where
-    pub first-is : partAt rows (o .first) ≡ firstOperand (expressionAt rows row)
-    pub second-is : partAt rows (o .second) ≡ secondOperand (expressionAt rows row)
-    pub third-is : partAt rows (o .third) ≡ thirdOperand (expressionAt rows row)
-    pub fourth-is : partAt rows (o .fourth) ≡ fourthOperand (expressionAt rows row)
-    pub first-onward : OptionalOnward rows row (o .first)
-    pub second-onward : OptionalOnward rows row (o .second)
-    pub third-onward : OptionalOnward rows row (o .third)
-    pub fourth-onward : OptionalOnward rows row (o .fourth)
+  -- What the row brings, where e is its expression.
+  pub record Brings (e : Expression) (o : Own) : Type 0 where
+    pub first : Operand (o .first) (firstOperand e)
+    pub second : Operand (o .second) (secondOperand e)
+    pub third : Operand (o .third) (thirdOperand e)
+    pub fourth : Operand (o .fourth) (fourthOperand e)
+    pub above-is : o .above ≡ aboveFirst e
+    pub rows-are : o .rows ≡ ownRows e
+    pub levels-are : o .levels ≡ ownLevels e
+    pub value-is : plainAtom (expressionAt rows (o .value)) ≡ atomOf e
+    pub value-inside : o .value < rowCount rows
 
-  -- The row that the value of the expression at this row comes from.
-  pub record ValueAt (value : ℕ) : Type 0 where
-    pub is : plainAtom (expressionAt rows value) ≡ atomOf (expressionAt rows row)
-    pub inside : value < rowCount rows
+  abbrev pub OwnAt : Own → Type 0
+  OwnAt o = Brings (expressionAt rows row) o
+
+  -- What the place at this row brings.
+  pub record PlaceOwnAt (o : PlaceOwn) : Type 0 where
+    pub index : Operand (o .index) (indexOf (placeOf (expressionAt rows row)))
+    pub rows-are : o .rows ≡ indexRows (placeOf (expressionAt rows row))
+    pub levels-are : o .levels ≡ updateOwn (placeOf (expressionAt rows row))

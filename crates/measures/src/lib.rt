@@ -1,67 +1,57 @@
 // Measures: how many kernel rows, temporaries and labels the code of each source row takes, found by one pass before anything is
 // written. So every link of the translation is known when its row is written.
-use words::Operator;
-
 pub mod expressions; // expressions.rt: the measures of an expression
-pub mod lines; // lines.rt: what a row is as a statement and as an item of a list
 pub mod lists; // lists.rt: the measures of a list
+pub mod parts; // parts.rt: what an expression's own row brings
 pub mod pass; // pass.rt: the pass over the rows
-pub mod shapes; // shapes.rt: what a row is as an expression
 pub mod statements; // statements.rt: the measures of a statement
 pub mod table; // table.rt: the words of the table of measures
 
-// A place: the number of a variable; or the number of an array and the row of the index.
-pub enum PlaceShape {
-    Variable(usize),
-    Element(usize, usize),
-}
+// The words of a row in the table of measures, and where each measure stands among them: of the row as an expression, as a statement,
+// and of the list from it on.
+pub const WIDTH: usize = 11;
 
-// What a row is as an expression: its value, its operator and its links. A link to a place is the place's row.
-pub enum Shape {
-    Number(i32),
-    Read(PlaceShape),
-    Minus(usize),
-    Not(usize),
-    Binary(Operator, usize, usize),
-    And(usize, usize),
-    Or(usize, usize),
-    Comma(usize, usize),
-    Conditional(usize, usize, usize),
-    Assign(usize, usize),
-    Compound(Operator, usize, usize),
-    Prefix(Operator, usize),
-    Postfix(Operator, usize),
-}
+pub const ROWS: usize = 0;
 
-// What a row is as a statement, with its links; 0 is absent.
-pub enum Line {
-    Empty,
-    Express(usize),
-    Block(usize),
-    If(usize, usize, usize),
-    While(usize, usize),
-    Do(usize, usize),
-    For(usize, usize, usize, usize),
-    Switch(usize, usize),
-    Break,
-    Continue,
-    Goto(usize),
-}
+pub const LEVELS: usize = 1;
 
-// What a row is as an item of a list: a statement or a mark.
-pub enum Item {
-    Statement,
-    Case(i32),
-    Default,
-    Label(usize),
-}
+pub const VALUE: usize = 2;
 
-// The rows of the operands of an expression; 0 is absent. The first two are worked out before all else, the others in branches.
-pub struct Operands {
+pub const STATEMENT_ROWS: usize = 3;
+
+pub const STATEMENT_LEVELS: usize = 4;
+
+pub const STATEMENT_LABELS: usize = 5;
+
+pub const LIST_ROWS: usize = 6;
+
+pub const LIST_LEVELS: usize = 7;
+
+pub const LIST_LABELS: usize = 8;
+
+pub const LIST_CASES: usize = 9;
+
+pub const LIST_DEFAULT: usize = 10;
+
+// What an expression's own row brings: the rows of its operands, of which 0 is absent, the first two worked out before all else, the
+// second `above` levels above the first, the others in branches; the kernel rows and the levels of its own code; and the row that its
+// value comes from.
+pub struct Own {
     pub first: usize,
     pub second: usize,
     pub third: usize,
     pub fourth: usize,
+    pub above: usize,
+    pub rows: usize,
+    pub levels: usize,
+    pub value: usize,
+}
+
+// What a place's row brings: the row of its index, 0 for a variable; the rows of an index, 1 or 0; the levels of an update.
+pub struct PlaceOwn {
+    pub index: usize,
+    pub rows: usize,
+    pub levels: usize,
 }
 
 // The measures of an expression: kernel rows, levels, and the row that its value comes from.

@@ -1,16 +1,24 @@
 // The measures of a list, from those of its first item and of the list behind it.
-use super::Item;
+use super::LIST_CASES;
+use super::LIST_DEFAULT;
+use super::LIST_LABELS;
+use super::LIST_LEVELS;
+use super::LIST_ROWS;
 use super::ListMeasures;
 use super::StatementMeasures;
-use super::lines::item_at;
 use super::table::larger;
 use super::table::limited;
 use super::table::measure_at;
+use shapes::Item;
+use shapes::MarkShape;
+use shapes::rows::item_at;
 use words::table::number_at;
 ghost use mathlib.Core.Path.{_≡_};
 ghost use Prim.Native.Nat.{_+_, _≤_, _<_};
 ghost use Rattle.words.specs.Table.{rowCount};
 ghost use Rattle.language.specs.Decode.{statementAt, itemsAt};
+ghost use Rattle.shapes.specs.Shapes.{ItemAt};
+ghost use Rattle.shapes.specs.declared.Item.the-variants.{Mark};
 ghost use Rattle.measures.specs.Measures.{limited as limitedTo, pastLabels, MarkAsks, markMeasures, StatementAsks, statementMeasures, MeasuredFrom, StatementMeasured, ListMeasured};
 
 // The place of a default that stands behind `more` labels; 0 stays 0.
@@ -30,10 +38,10 @@ fn behind_mark(table: &[usize], next: usize, cases: usize, default: usize) -> Li
     ensures { λ r. ⌜ r ≡ markMeasures (now (table .entry)) next cases default ⌝ }
 {
     ListMeasures {
-        rows: limited(1 + measure_at(table, next, 6)),
-        levels: measure_at(table, next, 7),
-        labels: limited(1 + measure_at(table, next, 8)),
-        cases: limited(cases + measure_at(table, next, 9)),
+        rows: limited(1 + measure_at(table, next, LIST_ROWS)),
+        levels: measure_at(table, next, LIST_LEVELS),
+        labels: limited(1 + measure_at(table, next, LIST_LABELS)),
+        cases: limited(cases + measure_at(table, next, LIST_CASES)),
         default,
     }
 }
@@ -44,11 +52,43 @@ fn behind_statement(table: &[usize], next: usize, s: StatementMeasures) -> ListM
     ensures { λ r. ⌜ r ≡ statementMeasures (now (table .entry)) next s ⌝ }
 {
     ListMeasures {
-        rows: limited(s.rows + measure_at(table, next, 6)),
-        levels: larger(s.levels, measure_at(table, next, 7)),
-        labels: limited(s.labels + measure_at(table, next, 8)),
-        cases: measure_at(table, next, 9),
-        default: past_labels(s.labels, measure_at(table, next, 10)),
+        rows: limited(s.rows + measure_at(table, next, LIST_ROWS)),
+        levels: larger(s.levels, measure_at(table, next, LIST_LEVELS)),
+        labels: limited(s.labels + measure_at(table, next, LIST_LABELS)),
+        cases: measure_at(table, next, LIST_CASES),
+        default: past_labels(s.labels, measure_at(table, next, LIST_DEFAULT)),
+    }
+}
+
+// The list from a mark on; `next` is the row behind it.
+fn measured_mark(
+    rows: &[i32],
+    table: &[usize],
+    row: usize,
+    next: usize,
+    mark: MarkShape,
+) -> ListMeasures
+    requires { ⌜ MeasuredFrom (now rows) (now table) (row + 1) × ItemAt (now rows) row next (Mark mark) ⌝ }
+    ensures { λ r. ⌜ ListMeasured (itemsAt (now (rows .entry)) row) r ⌝ }
+{
+    match mark {
+        MarkShape::Case(_) => {
+            behind_mark(
+                table,
+                next,
+                1,
+                past_labels(1, measure_at(table, next, LIST_DEFAULT)),
+            )
+        }
+        MarkShape::Default => behind_mark(table, next, 0, 1),
+        MarkShape::Label(_) => {
+            behind_mark(
+                table,
+                next,
+                0,
+                past_labels(1, measure_at(table, next, LIST_DEFAULT)),
+            )
+        }
     }
 }
 
@@ -65,8 +105,6 @@ pub fn measured_list(
     let item = item_at(rows, row);
     match item {
         Item::Statement => behind_statement(table, next, statement),
-        Item::Case(_) => behind_mark(table, next, 1, past_labels(1, measure_at(table, next, 10))),
-        Item::Default => behind_mark(table, next, 0, 1),
-        Item::Label(_) => behind_mark(table, next, 0, past_labels(1, measure_at(table, next, 10))),
+        Item::Mark(mark) => measured_mark(rows, table, row, next, mark),
     }
 }

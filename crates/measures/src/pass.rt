@@ -6,8 +6,8 @@ use super::table::set_measures;
 ghost use Prim.Native.Nat.{_+_, _*_, _≤_, _<_};
 ghost use lib.ListN.{length};
 ghost use Rattle.words.specs.Table.{rowCount};
-ghost use Rattle.measures.specs.Source.{Source};
-ghost use Rattle.measures.specs.Measures.{MeasuredFrom, Measured};
+ghost use Rattle.shapes.specs.Source.{Source};
+ghost use Rattle.measures.specs.Measures.{width, MeasuredFrom, Measured};
 
 fn measure_row(rows: &[i32], table: &mut [usize], row: usize)
     requires { ⌜ MeasuredFrom (now rows) (now table) (row + 1) × (row < rowCount (now rows)) ⌝ }
@@ -21,7 +21,7 @@ fn measure_row(rows: &[i32], table: &mut [usize], row: usize)
 
 // Fills the table of measures.
 pub fn measure(rows: &[i32], table: &mut [usize])
-    requires { ⌜ Source (now rows) × (11 * rowCount (now rows) ≤ length (now table)) ⌝ }
+    requires { ⌜ Source (now rows) × (width * rowCount (now rows) ≤ length (now table)) ⌝ }
     ensures { λ _. ⌜ Measured (now (rows .entry)) (now (table .exit)) ⌝ }
 {
     let mut row = rows.len() / 6;

@@ -1,18 +1,25 @@
-// The measures of a statement.
-use super::Line;
+// The measures of a statement, by its shape, from those of the rows that its links lead to.
+use super::LEVELS;
+use super::LIST_CASES;
+use super::LIST_LABELS;
+use super::LIST_LEVELS;
+use super::LIST_ROWS;
+use super::ROWS;
+use super::STATEMENT_LABELS;
+use super::STATEMENT_LEVELS;
+use super::STATEMENT_ROWS;
 use super::StatementMeasures;
 use super::expressions::taken_at;
-use super::lines::line_at;
 use super::table::larger;
 use super::table::limited;
 use super::table::measure_at;
+use shapes::StatementShape;
+use shapes::rows::statement_at;
 ghost use mathlib.Core.Path.{_≡_};
-ghost use Prim.Native.Nat.{_+_, _<_};
+ghost use Prim.Native.Nat.{_+_, _≤_, _<_};
 ghost use Rattle.words.specs.Table.{rowCount};
 ghost use Rattle.language.specs.Decode.{statementAt};
-ghost use Rattle.translation.specs.Translate.{labels, statementLevels};
-ghost use Rattle.translation.specs.TranslateSize.{statementSize};
-ghost use Rattle.measures.specs.Measures.{limited as limitedTo, LinkMeasured, TestIs, MeasuredFrom, StatementMeasured};
+ghost use Rattle.measures.specs.Measures.{plainMeasures, expressMeasures, blockMeasures, ifMeasures, loopMeasures, switchMeasures, LinkMeasured, TestIs, MeasuredFrom, StatementMeasured};
 
 // The test of a loop takes 5 rows beside its code, where there is one.
 fn test_rows(table: &[usize], test: usize) -> usize
@@ -22,91 +29,105 @@ fn test_rows(table: &[usize], test: usize) -> usize
     if test == 0 {
         return 0;
     }
-    measure_at(table, test, 0) + 5
+    measure_at(table, test, ROWS) + 5
 }
 
-// The kernel rows of the statement at a row.
-fn statement_rows(rows: &[i32], table: &[usize], row: usize) -> usize
-    requires { ⌜ MeasuredFrom (now rows) (now table) (row + 1) × (row < rowCount (now rows)) ⌝ }
-    ensures { λ r. ⌜ r ≡ limitedTo (statementSize (statementAt (now (rows .entry)) row)) ⌝ }
+// A statement of one row.
+fn plain_measures() -> StatementMeasures
+    ensures { λ r. ⌜ r ≡ plainMeasures ⌝ }
 {
-    let line = line_at(rows, row);
-    match line {
-        Line::Empty => 1,
-        Line::Express(e) => larger(1, measure_at(table, e, 0)),
-        Line::Block(list) => limited(1 + measure_at(table, list, 6)),
-        Line::If(e, yes, no) => limited(
-            4 + measure_at(table, e, 0) + measure_at(table, yes, 3) + measure_at(table, no, 3),
-        ),
-        Line::While(e, body) => limited(10 + measure_at(table, e, 0) + measure_at(table, body, 3)),
-        Line::Do(body, e) => limited(10 + measure_at(table, e, 0) + measure_at(table, body, 3)),
-        Line::For(first, test, action, body) => limited(
-            5
-                + measure_at(table, first, 0)
-                + test_rows(table, test)
-                + measure_at(table, action, 0)
-                + measure_at(table, body, 3),
-        ),
-        Line::Switch(e, list) => limited(
-            2
-                + measure_at(table, e, 0)
-                + 11 * measure_at(table, list, 9)
-                + measure_at(table, list, 6),
-        ),
-        Line::Break => 1,
-        Line::Continue => 1,
-        Line::Goto(_) => 1,
+    StatementMeasures {
+        rows: 1,
+        levels: 0,
+        labels: 0,
     }
 }
 
-// The levels of the statement at a row.
-fn statement_levels(rows: &[i32], table: &[usize], row: usize) -> usize
-    requires { ⌜ MeasuredFrom (now rows) (now table) (row + 1) × (row < rowCount (now rows)) ⌝ }
-    ensures { λ r. ⌜ r ≡ limitedTo (statementLevels (statementAt (now (rows .entry)) row)) ⌝ }
+fn express_measures(table: &[usize], e: usize) -> StatementMeasures
+    requires { ⌜ LinkMeasured (now table) e ⌝ }
+    ensures { λ r. ⌜ r ≡ expressMeasures (now (table .entry)) e ⌝ }
 {
-    let line = line_at(rows, row);
-    match line {
-        Line::Empty => 0,
-        Line::Express(e) => measure_at(table, e, 1),
-        Line::Block(list) => measure_at(table, list, 7),
-        Line::If(e, yes, no) => larger(
-            measure_at(table, e, 1),
-            larger(measure_at(table, yes, 4), measure_at(table, no, 4)),
-        ),
-        Line::While(e, body) => larger(measure_at(table, e, 1), measure_at(table, body, 4)),
-        Line::Do(body, e) => larger(measure_at(table, e, 1), measure_at(table, body, 4)),
-        Line::For(first, test, action, body) => larger(
-            larger(measure_at(table, first, 1), measure_at(table, test, 1)),
-            larger(measure_at(table, action, 1), measure_at(table, body, 4)),
-        ),
-        Line::Switch(e, list) => larger(
-            taken_at(rows, table, e) + 1,
-            larger(measure_at(table, e, 1), measure_at(table, list, 7)),
-        ),
-        Line::Break => 0,
-        Line::Continue => 0,
-        Line::Goto(_) => 0,
+    StatementMeasures {
+        rows: larger(1, measure_at(table, e, ROWS)),
+        levels: measure_at(table, e, LEVELS),
+        labels: 0,
     }
 }
 
-// The labels of the statement at a row.
-fn statement_labels(rows: &[i32], table: &[usize], row: usize) -> usize
-    requires { ⌜ MeasuredFrom (now rows) (now table) (row + 1) × (row < rowCount (now rows)) ⌝ }
-    ensures { λ r. ⌜ r ≡ limitedTo (labels (statementAt (now (rows .entry)) row)) ⌝ }
+fn block_measures(table: &[usize], list: usize) -> StatementMeasures
+    requires { ⌜ LinkMeasured (now table) list ⌝ }
+    ensures { λ r. ⌜ r ≡ blockMeasures (now (table .entry)) list ⌝ }
 {
-    let line = line_at(rows, row);
-    match line {
-        Line::Empty => 0,
-        Line::Express(_) => 0,
-        Line::Block(list) => measure_at(table, list, 8),
-        Line::If(_, yes, no) => limited(measure_at(table, yes, 5) + measure_at(table, no, 5)),
-        Line::While(_, body) => limited(2 + measure_at(table, body, 5)),
-        Line::Do(body, _) => limited(2 + measure_at(table, body, 5)),
-        Line::For(_, _, _, body) => limited(2 + measure_at(table, body, 5)),
-        Line::Switch(_, list) => limited(1 + measure_at(table, list, 8)),
-        Line::Break => 0,
-        Line::Continue => 0,
-        Line::Goto(_) => 0,
+    StatementMeasures {
+        rows: limited(1 + measure_at(table, list, LIST_ROWS)),
+        levels: measure_at(table, list, LIST_LEVELS),
+        labels: measure_at(table, list, LIST_LABELS),
+    }
+}
+
+fn if_measures(table: &[usize], e: usize, yes: usize, no: usize) -> StatementMeasures
+    requires { ⌜ LinkMeasured (now table) e × LinkMeasured (now table) yes × LinkMeasured (now table) no ⌝ }
+    ensures { λ r. ⌜ r ≡ ifMeasures (now (table .entry)) e yes no ⌝ }
+{
+    let test = measure_at(table, e, ROWS);
+    let onward = measure_at(table, yes, STATEMENT_ROWS);
+    let other = measure_at(table, no, STATEMENT_ROWS);
+    let levels = larger(
+        measure_at(table, yes, STATEMENT_LEVELS),
+        measure_at(table, no, STATEMENT_LEVELS),
+    );
+    let labels = measure_at(table, yes, STATEMENT_LABELS);
+    StatementMeasures {
+        rows: limited(4 + test + onward + other),
+        levels: larger(measure_at(table, e, LEVELS), levels),
+        labels: limited(labels + measure_at(table, no, STATEMENT_LABELS)),
+    }
+}
+
+// While, do and for: what stands first, the test, the step and the body.
+fn loop_measures(
+    table: &[usize],
+    first: usize,
+    test: usize,
+    step: usize,
+    body: usize,
+) -> StatementMeasures
+    requires { ⌜ LinkMeasured (now table) first × LinkMeasured (now table) test × LinkMeasured (now table) step × LinkMeasured (now table) body ⌝ }
+    ensures { λ r. ⌜ r ≡ loopMeasures (now (table .entry)) first test step body ⌝ }
+{
+    let before = measure_at(table, first, ROWS) + test_rows(table, test);
+    let round = measure_at(table, step, ROWS) + measure_at(table, body, STATEMENT_ROWS);
+    let outer = larger(
+        measure_at(table, first, LEVELS),
+        measure_at(table, test, LEVELS),
+    );
+    let inner = larger(
+        measure_at(table, step, LEVELS),
+        measure_at(table, body, STATEMENT_LEVELS),
+    );
+    StatementMeasures {
+        rows: limited(5 + before + round),
+        levels: larger(outer, inner),
+        labels: limited(2 + measure_at(table, body, STATEMENT_LABELS)),
+    }
+}
+
+// A switch; `taken` is how many temporaries the selector's value takes.
+fn switch_measures(table: &[usize], taken: usize, e: usize, list: usize) -> StatementMeasures
+    requires { ⌜ LinkMeasured (now table) e × LinkMeasured (now table) list × (taken ≤ 1) ⌝ }
+    ensures { λ r. ⌜ r ≡ switchMeasures (now (table .entry)) taken e list ⌝ }
+{
+    let selector = measure_at(table, e, ROWS);
+    let tests = 11 * measure_at(table, list, LIST_CASES);
+    let items = measure_at(table, list, LIST_ROWS);
+    let levels = larger(
+        measure_at(table, e, LEVELS),
+        measure_at(table, list, LIST_LEVELS),
+    );
+    StatementMeasures {
+        rows: limited(2 + selector + tests + items),
+        levels: larger(taken + 1, levels),
+        labels: limited(1 + measure_at(table, list, LIST_LABELS)),
     }
 }
 
@@ -114,9 +135,22 @@ pub fn measured_statement(rows: &[i32], table: &[usize], row: usize) -> Statemen
     requires { ⌜ MeasuredFrom (now rows) (now table) (row + 1) × (row < rowCount (now rows)) ⌝ }
     ensures { λ r. ⌜ StatementMeasured (statementAt (now (rows .entry)) row) r ⌝ }
 {
-    StatementMeasures {
-        rows: statement_rows(rows, table, row),
-        levels: statement_levels(rows, table, row),
-        labels: statement_labels(rows, table, row),
+    let shape = statement_at(rows, row);
+    match shape {
+        StatementShape::Empty => plain_measures(),
+        StatementShape::Express(e) => express_measures(table, e),
+        StatementShape::Block(list) => block_measures(table, list),
+        StatementShape::If(e, yes, no) => if_measures(table, e, yes, no),
+        StatementShape::While(e, body) => loop_measures(table, 0, e, 0, body),
+        StatementShape::Do(body, e) => loop_measures(table, 0, e, 0, body),
+        StatementShape::For(first, test, step, body) => {
+            loop_measures(table, first, test, step, body)
+        }
+        StatementShape::Switch(e, list) => {
+            switch_measures(table, taken_at(rows, table, e), e, list)
+        }
+        StatementShape::Break => plain_measures(),
+        StatementShape::Continue => plain_measures(),
+        StatementShape::Goto(_) => plain_measures(),
     }
 }

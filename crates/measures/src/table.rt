@@ -1,12 +1,24 @@
 // The words of the table of measures.
 use super::ExpressionMeasures;
+use super::LEVELS;
+use super::LIST_CASES;
+use super::LIST_DEFAULT;
+use super::LIST_LABELS;
+use super::LIST_LEVELS;
+use super::LIST_ROWS;
 use super::ListMeasures;
+use super::ROWS;
+use super::STATEMENT_LABELS;
+use super::STATEMENT_LEVELS;
+use super::STATEMENT_ROWS;
 use super::StatementMeasures;
+use super::VALUE;
+use super::WIDTH;
 ghost use mathlib.Core.Path.{_≡_};
 ghost use mathlib.Core.List.{_++_};
 ghost use Prim.Native.Nat.{_+_, _*_, _≤_, max};
 ghost use lib.ListN.{length, take, drop};
-ghost use Rattle.measures.specs.Measures.{limited as limitedTo, SlotAsks, SlotIs, rowWords};
+ghost use Rattle.measures.specs.Measures.{limited as limitedTo, width, SlotAsks, SlotIs, rowWords};
 
 // A sum, cut off above every limit.
 pub fn limited(sum: usize) -> usize
@@ -35,7 +47,7 @@ pub fn measure_at(table: &[usize], link: usize, measure: usize) -> usize
     if link == 0 {
         return 0;
     }
-    table[11 * link + measure]
+    table[WIDTH * link + measure]
 }
 
 // Puts the measures of a row into the table.
@@ -46,19 +58,19 @@ pub fn set_measures(
     statement: StatementMeasures,
     list: ListMeasures,
 )
-    requires { ⌜ 11 * row + 11 ≤ length (now table) ⌝ }
-    ensures { λ _. ⌜ now (table .exit) ≡ take (11 * row) (now (table .entry)) ++ rowWords expression statement list ++ drop (11 * row + 11) (now (table .entry)) ⌝ }
+    requires { ⌜ width * row + width ≤ length (now table) ⌝ }
+    ensures { λ _. ⌜ now (table .exit) ≡ take (width * row) (now (table .entry)) ++ rowWords expression statement list ++ drop (width * row + width) (now (table .entry)) ⌝ }
 {
-    let at = 11 * row;
-    table[at] = expression.rows;
-    table[at + 1] = expression.levels;
-    table[at + 2] = expression.value;
-    table[at + 3] = statement.rows;
-    table[at + 4] = statement.levels;
-    table[at + 5] = statement.labels;
-    table[at + 6] = list.rows;
-    table[at + 7] = list.levels;
-    table[at + 8] = list.labels;
-    table[at + 9] = list.cases;
-    table[at + 10] = list.default;
+    let at = WIDTH * row;
+    table[at + ROWS] = expression.rows;
+    table[at + LEVELS] = expression.levels;
+    table[at + VALUE] = expression.value;
+    table[at + STATEMENT_ROWS] = statement.rows;
+    table[at + STATEMENT_LEVELS] = statement.levels;
+    table[at + STATEMENT_LABELS] = statement.labels;
+    table[at + LIST_ROWS] = list.rows;
+    table[at + LIST_LEVELS] = list.levels;
+    table[at + LIST_LABELS] = list.labels;
+    table[at + LIST_CASES] = list.cases;
+    table[at + LIST_DEFAULT] = list.default;
 }

@@ -5,31 +5,28 @@ use native.Mathlib.Omega.{arith}
 use Rattle.language.specs.Decode.{expressionAt}
 use Rattle.measures.specs.Measures.{limited}
 use Rattle.measures.specs.MeasureLaws.{slot-asks}
-use Rattle.measures.proofs.Parts.{levels-of, above-most}
+use Rattle.measures.proofs.OwnLaws.{levels-of, above-most}
 use borrow.Author.Needs.{needs}
 use Rattle.measures.proofs.expressions.expression_levels.Statement.{statement}
 use Rattle.measures.proofs.expressions.expression_levels.Tie as tie
+use Rattle.measures.proofs.table.larger.Reads as larger-reads
+use Rattle.measures.proofs.table.limited.Reads as limited-reads
+use Rattle.measures.proofs.table.measure_at.Reads as measure-at-reads
 
 measure-at-requires : tie.Need-measure-at-requires
-measure-at-requires c κs = slot-asks (c .before .pre .0) (c .before .pre .2 .first-onward) 1 (omega arith)
-
-above-at-requires : tie.Need-above-at-requires
-above-at-requires c κs = search needs
+measure-at-requires c κs = slot-asks (c .before .pre .0) (c .before .pre .2 .first .onward) 1 (omega arith)
 
 measure-at-requires-2 : tie.Need-measure-at-requires-2
-measure-at-requires-2 c κs = slot-asks (c .before .before .before .pre .0) (c .before .before .before .pre .2 .second-onward) 1 (omega arith)
+measure-at-requires-2 c κs = slot-asks (c .before .before .pre .0) (c .before .before .pre .2 .second .onward) 1 (omega arith)
 
 add-second : tie.Need-add-second
-add-second c = omega (arith, c .measure-at2 .ensures .small, c .before .above-at .ensures, above-most (expressionAt (c .before .before .before .before .args .rows .now) (c .before .before .before .before .args .row)))
+add-second c = omega (arith, c .before .measure-at2 .ensures .small, c .before .before .before .before .pre .2 .above-is, above-most (expressionAt (c .before .before .before .before .args .rows .now) (c .before .before .before .before .args .row)))
 
 measure-at-requires-3 : tie.Need-measure-at-requires-3
-measure-at-requires-3 c κs = slot-asks (c .before .before .before .before .pre .0) (c .before .before .before .before .pre .2 .third-onward) 1 (omega arith)
+measure-at-requires-3 c κs = slot-asks (c .before .before .before .before .pre .0) (c .before .before .before .before .pre .2 .third .onward) 1 (omega arith)
 
 measure-at-requires-4 : tie.Need-measure-at-requires-4
-measure-at-requires-4 c κs = slot-asks (c .before .before .before .before .before .pre .0) (c .before .before .before .before .before .pre .2 .fourth-onward) 1 (omega arith)
-
-own-levels-at-requires : tie.Need-own-levels-at-requires
-own-levels-at-requires c κs = search needs
+measure-at-requires-4 c κs = slot-asks (c .before .before .before .before .before .pre .0) (c .before .before .before .before .before .pre .2 .fourth .onward) 1 (omega arith)
 
 larger-requires : tie.Need-larger-requires
 larger-requires c κs = search needs
@@ -47,22 +44,17 @@ limited-requires : tie.Need-limited-requires
 limited-requires c κs = search needs
 
 returns : tie.Need-returns
-returns c =
-    c .limited .ensures
-    ∙ ap limited (c .before .larger4 .ensures ∙ ap (max (c .before .before .before .before .before .own-levels-at .result)) (c .before .before .larger3 .ensures ∙ ap₂ max (c .before .before .before .before .larger .ensures) (c .before .before .before .larger2 .ensures)))
-    ∙ levels-of _ _ _ (c .before .before .before .before .before .before .before .before .before .before .before .before .pre .0) _ (c .before .before .before .before .before .before .before .before .before .before .before .before .pre .2) _ _ _ _ _ _ (c .before .before .before .before .before .before .before .before .before .before .measure-at .ensures .is) (c .before .before .before .before .before .before .before .before .measure-at2 .ensures .is) (c .before .before .before .before .before .before .before .measure-at3 .ensures .is) (c .before .before .before .before .before .before .measure-at4 .ensures .is) (c .before .before .before .before .before .own-levels-at .ensures) (c .before .before .before .before .before .before .before .before .before .above-at .ensures)
+returns c = c .limited .ensures ∙ ap limited (c .before .larger4 .ensures ∙ ap (max (c .before .before .before .before .before .before .before .before .before .before .before .args .own .levels)) (c .before .before .larger3 .ensures ∙ ap₂ max (c .before .before .before .before .larger .ensures) (c .before .before .before .larger2 .ensures))) ∙ levels-of _ _ _ (c .before .before .before .before .before .before .before .before .before .before .before .pre .0) _ (c .before .before .before .before .before .before .before .before .before .before .before .pre .2) _ _ _ _ _ _ (c .before .before .before .before .before .before .before .before .before .measure-at .ensures .is) (c .before .before .before .before .before .before .before .before .measure-at2 .ensures .is) (c .before .before .before .before .before .before .measure-at3 .ensures .is) (c .before .before .before .before .before .measure-at4 .ensures .is) (c .before .before .before .before .before .before .before .before .before .before .before .pre .2 .levels-are) (c .before .before .before .before .before .before .before .before .before .before .before .pre .2 .above-is)
 
 pub expression-levels-spec : {M : Type 1} → statement M
 expression-levels-spec =
     tie.close
     (tie.spec
     measure-at-requires
-    above-at-requires
     measure-at-requires-2
     add-second
     measure-at-requires-3
     measure-at-requires-4
-    own-levels-at-requires
     larger-requires
     larger-requires-2
     larger-requires-3

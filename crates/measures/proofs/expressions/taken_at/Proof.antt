@@ -1,24 +1,25 @@
 -- Whether a value takes a temporary: by the shape of the row that it comes from.
-use Rattle.measures.proofs.Parts.{taken-of}
-use Rattle.measures.specs.ShapeLaws.{found}
+use Rattle.shapes.specs.ShapeLaws.{expressed}
+use Rattle.measures.proofs.OwnLaws.{taken-of}
 use borrow.Author.Needs.{needs}
 use Rattle.measures.proofs.expressions.taken_at.Statement.{statement}
 use Rattle.measures.proofs.expressions.taken_at.Tie as tie
+use Rattle.shapes.proofs.rows.expression_at.Reads as expression-at-reads
 
-mul-shape-at : tie.Need-mul-shape-at
-mul-shape-at c = search needs
+mul-expression-at : tie.Need-mul-expression-at
+mul-expression-at c = search needs
 
-add-shape-at : tie.Need-add-shape-at
-add-shape-at c = search needs
+add-expression-at : tie.Need-add-expression-at
+add-expression-at c = search needs
 
-mul-shape-at-2 : tie.Need-mul-shape-at-2
-mul-shape-at-2 c = search needs
+mul-expression-at-2 : tie.Need-mul-expression-at-2
+mul-expression-at-2 c = search needs
 
-shared-slice-read-shape-at : tie.Need-shared-slice-read-shape-at
-shared-slice-read-shape-at c = search needs
+shared-slice-read-expression-at : tie.Need-shared-slice-read-expression-at
+shared-slice-read-expression-at c = search needs
 
-shape-at-requires : tie.Need-shape-at-requires
-shape-at-requires c κs = search needs
+expression-at-requires : tie.Need-expression-at-requires
+expression-at-requires c κs = search needs
 
 enum-told : tie.Need-enum-told
 enum-told c = search needs
@@ -32,104 +33,32 @@ enum-told-3 c = search needs
 enum-told-4 : tie.Need-enum-told-4
 enum-told-4 c = search needs
 
-enum-told-5 : tie.Need-enum-told-5
-enum-told-5 c = search needs
-
-enum-told-6 : tie.Need-enum-told-6
-enum-told-6 c = search needs
-
-enum-told-7 : tie.Need-enum-told-7
-enum-told-7 c = search needs
-
-enum-told-8 : tie.Need-enum-told-8
-enum-told-8 c = search needs
-
-enum-told-9 : tie.Need-enum-told-9
-enum-told-9 c = search needs
-
-enum-told-10 : tie.Need-enum-told-10
-enum-told-10 c = search needs
-
-enum-told-11 : tie.Need-enum-told-11
-enum-told-11 c = search needs
-
-enum-told-12 : tie.Need-enum-told-12
-enum-told-12 c = search needs
-
-enum-told-13 : tie.Need-enum-told-13
-enum-told-13 c = search needs
-
 returns : tie.Need-returns
-returns c = taken-of (found (c .before .before .shape-at .ensures) (c .enum-told .given .1)) (c .before .before .before .before .before .pre .3 .expression .value-is)
+returns c = taken-of (expressed (c .before .before .expression-at .ensures) (c .enum-told .given .1)) (c .before .before .before .before .before .pre .3 .expression .value-is)
 
 returns-2 : tie.Need-returns-2
-returns-2 c = taken-of (found (c .before .before .shape-at .ensures) (c .enum-told2 .given .1)) (c .before .before .before .before .before .pre .3 .expression .value-is)
+returns-2 c = taken-of (expressed (c .before .before .expression-at .ensures) (c .enum-told2 .given .1)) (c .before .before .before .before .before .pre .3 .expression .value-is)
 
 returns-3 : tie.Need-returns-3
-returns-3 c = taken-of (found (c .before .before .shape-at .ensures) (c .enum-told3 .given .1)) (c .before .before .before .before .before .pre .3 .expression .value-is)
+returns-3 c = taken-of (expressed (c .before .before .expression-at .ensures) (c .enum-told3 .given .1)) (c .before .before .before .before .before .pre .3 .expression .value-is)
 
 returns-4 : tie.Need-returns-4
-returns-4 c = taken-of (found (c .before .before .shape-at .ensures) (c .enum-told4 .given .1)) (c .before .before .before .before .before .pre .3 .expression .value-is)
-
-returns-5 : tie.Need-returns-5
-returns-5 c = taken-of (found (c .before .before .shape-at .ensures) (c .enum-told5 .given .1)) (c .before .before .before .before .before .pre .3 .expression .value-is)
-
-returns-6 : tie.Need-returns-6
-returns-6 c = taken-of (found (c .before .before .shape-at .ensures) (c .enum-told6 .given .1)) (c .before .before .before .before .before .pre .3 .expression .value-is)
-
-returns-7 : tie.Need-returns-7
-returns-7 c = taken-of (found (c .before .before .shape-at .ensures) (c .enum-told7 .given .1)) (c .before .before .before .before .before .pre .3 .expression .value-is)
-
-returns-8 : tie.Need-returns-8
-returns-8 c = taken-of (found (c .before .before .shape-at .ensures) (c .enum-told8 .given .1)) (c .before .before .before .before .before .pre .3 .expression .value-is)
-
-returns-9 : tie.Need-returns-9
-returns-9 c = taken-of (found (c .before .before .shape-at .ensures) (c .enum-told9 .given .1)) (c .before .before .before .before .before .pre .3 .expression .value-is)
-
-returns-10 : tie.Need-returns-10
-returns-10 c = taken-of (found (c .before .before .shape-at .ensures) (c .enum-told10 .given .1)) (c .before .before .before .before .before .pre .3 .expression .value-is)
-
-returns-11 : tie.Need-returns-11
-returns-11 c = taken-of (found (c .before .before .shape-at .ensures) (c .enum-told11 .given .1)) (c .before .before .before .before .before .pre .3 .expression .value-is)
-
-returns-12 : tie.Need-returns-12
-returns-12 c = taken-of (found (c .before .before .shape-at .ensures) (c .enum-told12 .given .1)) (c .before .before .before .before .before .pre .3 .expression .value-is)
-
-returns-13 : tie.Need-returns-13
-returns-13 c = taken-of (found (c .before .before .shape-at .ensures) (c .enum-told13 .given .1)) (c .before .before .before .before .before .pre .3 .expression .value-is)
+returns-4 c = taken-of (expressed (c .before .before .expression-at .ensures) (c .enum-told4 .given .1)) (c .before .before .before .before .before .pre .3 .expression .value-is)
 
 pub taken-at-spec : {M : Type 1} → statement M
 taken-at-spec =
     tie.close
     (tie.spec
-    mul-shape-at
-    add-shape-at
-    mul-shape-at-2
-    shared-slice-read-shape-at
-    shape-at-requires
+    mul-expression-at
+    add-expression-at
+    mul-expression-at-2
+    shared-slice-read-expression-at
+    expression-at-requires
     enum-told
     enum-told-2
     enum-told-3
     enum-told-4
-    enum-told-5
-    enum-told-6
-    enum-told-7
-    enum-told-8
-    enum-told-9
-    enum-told-10
-    enum-told-11
-    enum-told-12
-    enum-told-13
     returns
     returns-2
     returns-3
-    returns-4
-    returns-5
-    returns-6
-    returns-7
-    returns-8
-    returns-9
-    returns-10
-    returns-11
-    returns-12
-    returns-13)
+    returns-4)

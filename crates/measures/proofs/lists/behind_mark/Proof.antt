@@ -3,7 +3,7 @@ use mathlib.Core.Path.{refl, ap, _∙_}
 use Prim.Native.Nat.{ℕ, _+_}
 use native.Mathlib.Omega.{arith}
 use Rattle.measures.specs.Measures.{limited}
-use Rattle.measures.proofs.LineLaws.{same-measures}
+use Rattle.measures.proofs.StatementLaws.{same-measures}
 use borrow.Author.Needs.{needs}
 use Rattle.measures.proofs.lists.behind_mark.Statement.{statement}
 use Rattle.measures.proofs.lists.behind_mark.Tie as tie

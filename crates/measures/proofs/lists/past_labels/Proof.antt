@@ -1,7 +1,7 @@
 -- The place of a default behind more labels.
 use mathlib.Core.Path.{_∙_}
 use native.Mathlib.Omega.{arith}
-use Rattle.measures.proofs.LineLaws.{past-none, past-some}
+use Rattle.measures.proofs.StatementLaws.{past-none, past-some}
 use borrow.Author.Needs.{needs}
 use Rattle.measures.proofs.lists.past_labels.Statement.{statement}
 use Rattle.measures.proofs.lists.past_labels.Tie as tie

@@ -1,6 +1,6 @@
 -- The rows of a loop's test.
 use native.Mathlib.Omega.{arith}
-use Rattle.measures.proofs.LineLaws.{test-none, test-some}
+use Rattle.measures.proofs.StatementLaws.{test-none, test-some}
 use Rattle.measures.proofs.statements.test_rows.Statement.{statement}
 use Rattle.measures.proofs.statements.test_rows.Tie as tie
 

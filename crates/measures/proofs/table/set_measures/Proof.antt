@@ -1,4 +1,4 @@
--- Eleven stores.
+-- The stores of a row's measures.
 use native.Mathlib.Omega.{arith}
 use lib.ListN.{length-set}
 use Rattle.measures.proofs.Stores.{eleven-stores}
@@ -9,14 +9,17 @@ use Rattle.measures.proofs.table.set_measures.Tie as tie
 mul-at : tie.Need-mul-at
 mul-at c = search needs
 
+add-table : tie.Need-add-table
+add-table c = search needs
+
 mul-table : tie.Need-mul-table
 mul-table c = search needs
 
 slice-write-table : tie.Need-slice-write-table
 slice-write-table c = omega arith
 
-add-table : tie.Need-add-table
-add-table c = search needs
+add-table-2 : tie.Need-add-table-2
+add-table-2 c = search needs
 
 mul-table-2 : tie.Need-mul-table-2
 mul-table-2 c = search needs
@@ -24,8 +27,8 @@ mul-table-2 c = search needs
 slice-write-table-2 : tie.Need-slice-write-table-2
 slice-write-table-2 c = simp length-set (omega arith)
 
-add-table-2 : tie.Need-add-table-2
-add-table-2 c = search needs
+add-table-3 : tie.Need-add-table-3
+add-table-3 c = search needs
 
 mul-table-3 : tie.Need-mul-table-3
 mul-table-3 c = search needs
@@ -33,8 +36,8 @@ mul-table-3 c = search needs
 slice-write-table-3 : tie.Need-slice-write-table-3
 slice-write-table-3 c = simp length-set (omega arith)
 
-add-table-3 : tie.Need-add-table-3
-add-table-3 c = search needs
+add-table-4 : tie.Need-add-table-4
+add-table-4 c = search needs
 
 mul-table-4 : tie.Need-mul-table-4
 mul-table-4 c = search needs
@@ -42,8 +45,8 @@ mul-table-4 c = search needs
 slice-write-table-4 : tie.Need-slice-write-table-4
 slice-write-table-4 c = simp length-set (omega arith)
 
-add-table-4 : tie.Need-add-table-4
-add-table-4 c = search needs
+add-table-5 : tie.Need-add-table-5
+add-table-5 c = search needs
 
 mul-table-5 : tie.Need-mul-table-5
 mul-table-5 c = search needs
@@ -51,8 +54,8 @@ mul-table-5 c = search needs
 slice-write-table-5 : tie.Need-slice-write-table-5
 slice-write-table-5 c = simp length-set (omega arith)
 
-add-table-5 : tie.Need-add-table-5
-add-table-5 c = search needs
+add-table-6 : tie.Need-add-table-6
+add-table-6 c = search needs
 
 mul-table-6 : tie.Need-mul-table-6
 mul-table-6 c = search needs
@@ -60,8 +63,8 @@ mul-table-6 c = search needs
 slice-write-table-6 : tie.Need-slice-write-table-6
 slice-write-table-6 c = simp length-set (omega arith)
 
-add-table-6 : tie.Need-add-table-6
-add-table-6 c = search needs
+add-table-7 : tie.Need-add-table-7
+add-table-7 c = search needs
 
 mul-table-7 : tie.Need-mul-table-7
 mul-table-7 c = search needs
@@ -69,8 +72,8 @@ mul-table-7 c = search needs
 slice-write-table-7 : tie.Need-slice-write-table-7
 slice-write-table-7 c = simp length-set (omega arith)
 
-add-table-7 : tie.Need-add-table-7
-add-table-7 c = search needs
+add-table-8 : tie.Need-add-table-8
+add-table-8 c = search needs
 
 mul-table-8 : tie.Need-mul-table-8
 mul-table-8 c = search needs
@@ -78,8 +81,8 @@ mul-table-8 c = search needs
 slice-write-table-8 : tie.Need-slice-write-table-8
 slice-write-table-8 c = simp length-set (omega arith)
 
-add-table-8 : tie.Need-add-table-8
-add-table-8 c = search needs
+add-table-9 : tie.Need-add-table-9
+add-table-9 c = search needs
 
 mul-table-9 : tie.Need-mul-table-9
 mul-table-9 c = search needs
@@ -87,8 +90,8 @@ mul-table-9 c = search needs
 slice-write-table-9 : tie.Need-slice-write-table-9
 slice-write-table-9 c = simp length-set (omega arith)
 
-add-table-9 : tie.Need-add-table-9
-add-table-9 c = search needs
+add-table-10 : tie.Need-add-table-10
+add-table-10 c = search needs
 
 mul-table-10 : tie.Need-mul-table-10
 mul-table-10 c = search needs
@@ -96,8 +99,8 @@ mul-table-10 c = search needs
 slice-write-table-10 : tie.Need-slice-write-table-10
 slice-write-table-10 c = simp length-set (omega arith)
 
-add-table-10 : tie.Need-add-table-10
-add-table-10 c = search needs
+add-table-11 : tie.Need-add-table-11
+add-table-11 c = search needs
 
 mul-table-11 : tie.Need-mul-table-11
 mul-table-11 c = search needs
@@ -116,36 +119,37 @@ set-measures-spec =
     tie.close
     (tie.spec
     mul-at
+    add-table
     mul-table
     slice-write-table
-    add-table
+    add-table-2
     mul-table-2
     slice-write-table-2
-    add-table-2
+    add-table-3
     mul-table-3
     slice-write-table-3
-    add-table-3
+    add-table-4
     mul-table-4
     slice-write-table-4
-    add-table-4
+    add-table-5
     mul-table-5
     slice-write-table-5
-    add-table-5
+    add-table-6
     mul-table-6
     slice-write-table-6
-    add-table-6
+    add-table-7
     mul-table-7
     slice-write-table-7
-    add-table-7
+    add-table-8
     mul-table-8
     slice-write-table-8
-    add-table-8
+    add-table-9
     mul-table-9
     slice-write-table-9
-    add-table-9
+    add-table-10
     mul-table-10
     slice-write-table-10
-    add-table-10
+    add-table-11
     mul-table-11
     slice-write-table-11
     same-length

@@ -1,4 +1,11 @@
 -- What a table that a check accepts gives to its users. A line of comment for each file.
+
+-- ---- definitions
+-- Worded: trees whose constants and case values are words.
+pub mod Worded
+-- Gives: runs that give a value with a property.
+pub mod Gives
+-- ---- laws
 -- Sorts: the table of kinds by kind: what each field of a row of a kind holds.
 pub mod Sorts
 -- Fields: what a structured table gives at each field of a row, by the row's kind.
@@ -10,8 +17,7 @@ pub mod Expressions
 pub mod Statements
 -- Names: every variable and array number in the tree of a structured table names one.
 pub mod Names
--- Worded: trees whose constants and case values are words. Words: the tree of a structured table is one.
-pub mod Worded
+-- Words: the tree of a structured table is one whose constants and case values are words.
 pub mod Words
 -- Sums: along the links, row 0 gathers the sum over all rows. Rows: the tree of a structured table has as many rows as the table.
 pub mod Sums
@@ -20,8 +26,7 @@ pub mod Rows
 pub mod Depth
 -- Places: in the tree of a legal source program break, continue, case and default stand where they may.
 pub mod Places
--- Gives: runs that give a value with a property. Endings: a source tree's run ends with no break, continue or search under way.
-pub mod Gives
+-- Endings: a source tree's run ends with no break, continue or search under way.
 pub mod Endings
 -- Source: what a legal source program gives to its users.
 pub mod Source

@@ -1,4 +1,6 @@
 -- What a table that the kernel check accepts gives to its users. A line of comment for each file.
+
+-- ---- laws
 -- Jumps: in a kernel tree every jump of a run finds its label.
 pub mod Jumps
 -- Assignments: the expressions of a legal kernel program have kernel form.

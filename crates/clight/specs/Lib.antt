@@ -1,7 +1,10 @@
 -- The public entries: what each answers, for all words it can be lent. A line of comment for each file.
+
+-- ---- definitions
 -- Runs: the answers of run and kernel run, and what they leave in the store.
 pub mod Runs
 -- Acceptance: the second promise of check and kernel check: they accept the legal programs and no others.
 pub mod Acceptance
+-- ---- laws
 -- Laws of accepted programs, of both forms.
 pub mod AcceptedLaws

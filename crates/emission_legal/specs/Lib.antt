@@ -1,6 +1,9 @@
 -- The legality of emitted tables. A line of comment for each file.
+
+-- ---- definitions
 -- Fields that suit their sorts.
 pub mod Suits
+-- ---- laws
 -- Trees of kernel form have the kernel's kinds.
 pub mod FormKinds
 -- Ranges of rows.

@@ -1,4 +1,6 @@
 -- What evaluations answer and ask. A line of comment for each file.
+
+-- ---- definitions
 -- Bounds: where the arrays lie in the store, as a list.
 pub mod Bounds
 -- Answers: what the code's answers say of a run.

@@ -1,3 +1,5 @@
 -- The library for C and Rust: what its answers say. A line of comment for each file.
+
+-- ---- definitions
 -- Numbers: the numbers of each answer.
 pub mod Numbers

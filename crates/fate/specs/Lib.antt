@@ -1,7 +1,10 @@
 -- Demands 2 and 3 about rows and words. A line of comment for each file.
+
+-- ---- definitions
 -- Fate: what it is for two programs to share their fate.
 pub mod Fate
 -- Kernel forms: the kernel header and rows of a source program, and what holds of them.
 pub mod KernelForms
+-- ---- laws
 -- The theorem: every accepted program has such a kernel form.
 pub mod KernelFormLaws

@@ -1,4 +1,6 @@
 -- The check of kernel programs. A line of comment for each file.
+
+-- ---- definitions
 -- Statements: cause 12, "statement not of kernel form".
 pub mod Statements
 -- Labels: cause 13, "goto without its label ahead, or label repeated".
@@ -9,6 +11,7 @@ pub mod Refusal
 pub mod Legal
 -- Passes: what the code's loops for cause 13 compute.
 pub mod Passes
+-- ---- laws
 -- Laws of lists: which rows stand in one list, and who owns them.
 pub mod ListLaws
 -- Laws of labels: the search of cause 13 finds a label exactly where one is ahead.

@@ -1,4 +1,6 @@
 -- What the leaves write. A line of comment for each file.
+
+-- ---- definitions
 -- Room: the part of a table that is free for rows, and whether anything stands behind them.
 pub mod Room
 -- Atoms: the kernel's atoms and places, as the code holds them.
@@ -9,6 +11,7 @@ pub mod Straight
 pub mod Asks
 -- Chains: parts of a table written one behind the other.
 pub mod Chain
+-- ---- laws
 -- Laws of atoms and places.
 pub mod AtomLaws
 -- Laws of the leaves: what they wrote, as lists of kernel items with their rows.

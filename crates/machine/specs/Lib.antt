@@ -1,4 +1,6 @@
 -- What statement runs and list runs answer and ask. A line of comment for each file.
+
+-- ---- definitions
 -- Flows: what a statement's answer says of a run.
 pub mod Flows
 -- Lists: where a list goes on.

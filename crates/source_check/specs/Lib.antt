@@ -1,4 +1,6 @@
 -- The check of source programs. A line of comment for each file.
+
+-- ---- definitions
 -- Places: cause 7, "break, continue, case or default out of place".
 pub mod Places
 -- Marks: cause 8, "second equal case, or second default, in one switch".
@@ -9,6 +11,7 @@ pub mod Refusal
 pub mod Legal
 -- MarkTree: a search tree of marks for each list, by which the first repeated mark is found.
 pub mod MarkTree
+-- ---- laws
 -- Laws of marks: the mark before a row stands at a lower row; a search back through the marks of a list.
 pub mod MarkLaws
 -- Laws of places: cause 7 is document 01's sentence on break, continue, case and default.

@@ -1,4 +1,6 @@
 -- What the checks of both forms share. A line of comment for each file.
+
+-- ---- definitions
 -- Grammar: document 01's table of kinds: what a row of each kind is, and what each of its fields holds.
 pub mod Grammar
 -- Searches: the lowest number, or the lowest row, with a property.
@@ -15,12 +17,13 @@ pub mod Structured
 pub mod Lists
 -- Passes: what the code's loops compute.
 pub mod Passes
+-- Packed: the table of kinds as the code holds it, a row a number, a hexadecimal digit a field.
+pub mod Packed
+-- ---- laws
 -- Laws of searches.
 pub mod SearchLaws
 -- Laws of the grammar: what holds of every kind is tested over the table.
 pub mod GrammarLaws
--- Packed: the table of kinds as the code holds it, a row a number, a hexadecimal digit a field.
-pub mod Packed
 -- Laws of links: in a tree of rows each row but row 0 has one owner, and `linker` finds it.
 pub mod LinkLaws
 -- Laws of notes: in a tree of rows a note is what the owner hands on; and what a pass over the words has written.

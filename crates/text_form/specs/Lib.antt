@@ -1,4 +1,6 @@
 -- The text form: the grammar of texts, and what reader and writer give. A line of comment for each file.
+
+-- ---- definitions
 -- Numbers: how one is written, and which bytes are one.
 pub mod Number
 -- Lines: fields parted by tabs, and the lines of a text.
@@ -11,6 +13,7 @@ pub mod Answers
 pub mod Reader
 -- Writer: what the writer's inner functions leave and count.
 pub mod Writer
+-- ---- laws
 -- Examples: bytes that are numbers and bytes that are not, and the shortest texts.
 pub mod Examples
 -- NumberLaws: what is read as a number is what the number is written with.

@@ -1,4 +1,5 @@
 -- The translation, and what is proved of it. A line of comment for each file.
+
 -- ---- definitions
 -- The translation: source trees to kernel trees, a clause a kind; temporaries.
 pub mod Translate
@@ -6,7 +7,7 @@ pub mod Translate
 pub mod TranslateSize
 -- Kernel form, as a predicate on trees.
 pub mod KernelForm
--- ---- preservation
+-- ---- laws: preservation
 -- The temporaries in use as a stack, and a store laid out with them.
 pub mod Stack
 -- A computation run with what follows it.
@@ -29,7 +30,7 @@ pub mod StatementPreserves
 pub mod TranslateRows
 -- The translation preserves runs: demand 3 on trees.
 pub mod TranslatePreserves
--- ---- kernel form and bounds
+-- ---- laws: kernel form and bounds
 -- Every translation has kernel form: shapes and jumps.
 pub mod TranslateForm
 -- No label stands twice.
@@ -42,6 +43,6 @@ pub mod TranslateBounds
 pub mod TranslateDepth
 -- Every translation is a kernel program's tree.
 pub mod TranslateKernel
--- ---- examples
+-- ---- laws: examples
 -- Document 01's program and a switch, with their translations.
 pub mod WorkedExamples

@@ -1,6 +1,9 @@
 -- What the translation answers and writes. A line of comment for each file.
+
+-- ---- definitions
 -- Translation: the answer, and what stands in both tables after it.
 pub mod Translation
+-- ---- laws
 -- Laws of the translation's answer: which of three it is; a translation that was made stands at the start of both tables.
 pub mod TranslationLaws
 -- Laws of the kernel header: V, T, and the source header's array lengths.

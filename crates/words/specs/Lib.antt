@@ -1,4 +1,6 @@
 -- Words, tables and layouts; the answers that the crates share; 32-bit arithmetic. A line of comment for each file.
+
+-- ---- definitions
 -- Words: what is one, and the number that one names.
 pub mod Word
 -- Tables: the rows of a program, and the words of a row.
@@ -11,14 +13,16 @@ pub mod Kinds
 pub mod Arithmetic
 -- Over: what stands in a table or a buffer after values were written from its start.
 pub mod Over
--- Laws of `over`: values written one after the other, and parts that are lent and given back.
-pub mod OverLaws
 -- Answers: document 01's numbers and words for each case of an enum.
 pub mod Answers
--- Laws of answers: numbers and names of endings are apart, and short.
-pub mod AnswerLaws
 -- Numbers: an entry's answer in document 01's numbers.
 pub mod Numbers
+
+-- ---- laws
+-- Laws of `over`: values written one after the other, and parts that are lent and given back.
+pub mod OverLaws
+-- Laws of answers: numbers and names of endings are apart, and short.
+pub mod AnswerLaws
 -- Laws: what follows from these definitions.
 pub mod Laws
 -- Laws of the table of kinds.

@@ -1,4 +1,6 @@
 -- What the writers of statements write. A line of comment for each file.
+
+-- ---- definitions
 -- Code: the parts of a statement's code that have a writer of their own.
 pub mod Code
 -- Items: what the first item of a list brings to the code of the list.
@@ -7,5 +9,6 @@ pub mod Items
 pub mod Asks
 -- Program: what the writer of a program asks and writes.
 pub mod Program
+-- ---- laws
 -- Laws of a whole program: what is written is its translation; its kernel rows and temporaries are measured at row 0.
 pub mod WholeProgram

@@ -29,7 +29,6 @@ pub mod Sizes
 pub mod WellFormed
 -- Sound tables: what a run asks of a table.
 pub mod Sound
-
 -- ---- laws
 -- The theorem: every rule of both tables holds.
 pub mod RulesHold

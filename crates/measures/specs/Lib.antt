@@ -5,7 +5,6 @@
 pub mod Parts
 -- Measures: what the table of measures holds.
 pub mod Measures
-
 -- ---- laws
 -- Laws of the measures: sums that are cut off, the words of the table, an expression's measures from those of its operands.
 pub mod MeasureLaws

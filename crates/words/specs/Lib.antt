@@ -17,7 +17,6 @@ pub mod Over
 pub mod Answers
 -- Numbers: an entry's answer in document 01's numbers.
 pub mod Numbers
-
 -- ---- laws
 -- Laws of `over`: values written one after the other, and parts that are lent and given back.
 pub mod OverLaws

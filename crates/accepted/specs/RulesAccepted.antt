@@ -1,14 +1,14 @@
 -- Rules accepted: the check accepts every rule of the table, by computing; so each is legal, and the check does not turn all programs
 -- down.
-use mathlib.Core.Path.{_≡_, refl}
-use mathlib.Core.List.{List, [], _∷_, map}
+use mathlib.Core.Path.{_≡_, refl, ap₂}
+use mathlib.Core.List.{List, [], _∷_, _++_, map}
 use Rattle.words.specs.Word.{sameWord, natural}
 use Rattle.words.specs.Table.{wordAt, numberAt}
 use Rattle.words.specs.Layout.{layoutOf, sum, storeSize, storeWords, allWithin, headerFits, countFits}
 use Rattle.words.specs.declared.Verdict.{Verdict}
 use Rattle.words.specs.declared.Verdict.the-variants.{Accepted}
 use Rattle.language.specs.Rule.{Rule}
-use Rattle.language.specs.Rules.{table}
+use Rattle.language.specs.Rules.{starredRules, surprisingOrders, arithmeticRules, comparisonRules, expressionRules, statementRules, loopRules, table}
 use Rattle.structure.specs.Fields.{foreign, fits, leadsRight, mislinked, boundsOf, numberFits, outside}
 use Rattle.words.specs.Kinds.{sortOf, sortAt, inLanguage, isLink, isRequired, kinds, kindIn, kindOf, sortIn, kindRow, expressionFields, statementFields, markFields}
 use Rattle.structure.specs.Grammar.{isExpression, isPlace, isStatement, link}
@@ -28,9 +28,33 @@ checked rule = refusal (rule .header) (rule .rows)
 abbrev pub accepted : Rule → Verdict
 accepted rule = Accepted
 
+-- Of each part of the table by computing.
+mutual
+  unfolding sameWord natural wordAt numberAt layoutOf sum storeSize storeWords allWithin headerFits countFits foreign fits leadsRight mislinked boundsOf numberFits outside kindOf kindIn kinds sortIn kindRow expressionFields statementFields markFields sortOf sortAt inLanguage isExpression isPlace isStatement isLink isRequired link target linksAmong linkCount loneBlock notOnce linker received noteBy note deeper depthAt tooDeep at unless _next_ rowCauses structuralRefusal lowest some lowestRow someField sameMark equalAmong repeated handed noteAt outOfPlace misplaced laterRefusal refusal
+
+  starred-rules-accepted : map checked starredRules ≡ map accepted starredRules
+  starred-rules-accepted = refl
+
+  surprising-orders-accepted : map checked surprisingOrders ≡ map accepted surprisingOrders
+  surprising-orders-accepted = refl
+
+  arithmetic-rules-accepted : map checked arithmeticRules ≡ map accepted arithmeticRules
+  arithmetic-rules-accepted = refl
+
+  comparison-rules-accepted : map checked comparisonRules ≡ map accepted comparisonRules
+  comparison-rules-accepted = refl
+
+  expression-rules-accepted : map checked expressionRules ≡ map accepted expressionRules
+  expression-rules-accepted = refl
+
+  statement-rules-accepted : map checked statementRules ≡ map accepted statementRules
+  statement-rules-accepted = refl
+
+  loop-rules-accepted : map checked loopRules ≡ map accepted loopRules
+  loop-rules-accepted = refl
+
 pub rules-accepted : map checked table ≡ map accepted table
-unfolding sameWord natural wordAt numberAt layoutOf sum storeSize storeWords allWithin headerFits countFits foreign fits leadsRight mislinked boundsOf numberFits outside kindOf kindIn kinds sortIn kindRow expressionFields statementFields markFields sortOf sortAt inLanguage isExpression isPlace isStatement isLink isRequired link target linksAmong linkCount loneBlock notOnce linker received noteBy note deeper depthAt tooDeep at unless _next_ rowCauses structuralRefusal lowest some lowestRow someField sameMark equalAmong repeated handed noteAt outOfPlace misplaced laterRefusal refusal
-rules-accepted = refl
+rules-accepted = ap₂ _++_ starred-rules-accepted (ap₂ _++_ surprising-orders-accepted (ap₂ _++_ arithmetic-rules-accepted (ap₂ _++_ comparison-rules-accepted (ap₂ _++_ expression-rules-accepted (ap₂ _++_ statement-rules-accepted (loop-rules-accepted))))))
 
 -- Each of a list of rules is legal.
 abbrev pub AllLegal : List Rule → Type 0

@@ -1,6 +1,6 @@
 -- The rules on the shelf as one table: first document 01's starred rules, then orders that surprise, then the rules that pin each
 -- clause of the definitions (docs/PINNED.md). Those in kernel form are a table of their own, in KernelRules.
-use mathlib.Core.List.{List, [], _∷_}
+use mathlib.Core.List.{List, [], _∷_, _++_}
 use Rattle.language.specs.Rule.{Rule}
 use Rattle.language.specs.StarredRules.{or-is-truth, and-stops, right-first, compound-reads-last, division, remainder, largest-sum, sum-overflows, index-last, index-beyond, index-negative, fall-through, default-falls, case-over-default, continue-in-do, worked-spent, worked-ends}
 use Rattle.language.specs.SurprisingOrders.{value-before-index, store-needs-its-bounds, own-increment-lost, discarded-fault, index-before-operation, value-fault-first, case-past-others, before-first-mark, continue-to-step, break-leaves-switch, least-by-minus-one, remainder-by-minus-one, remainder-of-least-but-one, remainder-of-least-by-one, remainder-assigned-by-minus-one, element-remainder-by-minus-one, earlier-stores-stay}
@@ -10,8 +10,8 @@ use Rattle.language.specs.ExpressionRules.{and-is-truth, and-right-false
 use Rattle.language.specs.StatementRules.{no-items, empty-and-blocks, if-true, if-false, if-else-true, if-else-false, switch-without-match, switch-ends-by-itself, switch-without-items, switch-without-marks, break-passes-marks, default-last, negative-case, selector-once, marks-of-inner-switch, break-leaves-inner-switch, break-in-block}
 use Rattle.language.specs.LoopRules.{while-never, while-rounds, continue-in-while, break-in-while, break-leaves-inner-loop, do-once, do-rounds, break-in-do, continue-stays-in-inner-loop, continue-leaves-switch, for-without-parts, for-without-test, for-without-step, for-never, break-passes-step, continue-without-test, while-spent, for-spent}
 
-abbrev pub table : List Rule
-table =
+abbrev pub starredRules : List Rule
+starredRules =
     or-is-truth ∷
     and-stops ∷
     right-first ∷
@@ -29,6 +29,10 @@ table =
     continue-in-do ∷
     worked-spent ∷
     worked-ends ∷
+    []
+
+abbrev pub surprisingOrders : List Rule
+surprisingOrders =
     value-before-index ∷
     store-needs-its-bounds ∷
     own-increment-lost ∷
@@ -46,6 +50,10 @@ table =
     remainder-assigned-by-minus-one ∷
     element-remainder-by-minus-one ∷
     earlier-stores-stay ∷
+    []
+
+abbrev pub arithmeticRules : List Rule
+arithmeticRules =
     minus-value ∷
     minus-of-negative ∷
     minus-overflows ∷
@@ -61,6 +69,10 @@ table =
     remainders ∷
     zero-by-zero ∷
     remainder-by-zero ∷
+    []
+
+abbrev pub comparisonRules : List Rule
+comparisonRules =
     less ∷
     greater ∷
     less-or-equal ∷
@@ -68,6 +80,10 @@ table =
     equal ∷
     not-equal ∷
     both-negative ∷
+    []
+
+abbrev pub expressionRules : List Rule
+expressionRules =
     and-is-truth ∷
     and-right-false ∷
     or-stops ∷
@@ -90,6 +106,10 @@ table =
     postfix-gives-old-value ∷
     postfix-index-once ∷
     postfix-overflows ∷
+    []
+
+abbrev pub statementRules : List Rule
+statementRules =
     no-items ∷
     empty-and-blocks ∷
     if-true ∷
@@ -107,6 +127,10 @@ table =
     marks-of-inner-switch ∷
     break-leaves-inner-switch ∷
     break-in-block ∷
+    []
+
+abbrev pub loopRules : List Rule
+loopRules =
     while-never ∷
     while-rounds ∷
     continue-in-while ∷
@@ -126,3 +150,6 @@ table =
     while-spent ∷
     for-spent ∷
     []
+
+abbrev pub table : List Rule
+table = starredRules ++ (surprisingOrders ++ (arithmeticRules ++ (comparisonRules ++ (expressionRules ++ (statementRules ++ (loopRules))))))

@@ -8,6 +8,7 @@ use super::answers::operand;
 use super::answers::position;
 use super::answers::settled;
 use super::operations::decides;
+use super::operations::is_binary;
 use super::operations::link_at;
 use super::operations::operate;
 use super::operations::update;
@@ -54,20 +55,22 @@ pub fn eval(rows: &[i32], bounds: &[usize], row: usize, store: &mut [i32], left:
     compute(&*rows, &*bounds, row, store, left)
 }
 
-// A row that was entered: what follows, by the number of its kind; the kind itself would come back through memory. A row that is no
-// expression has the value 0.
+// A row that was entered: what follows, by the number of its kind; the kind itself would come back through memory. Kinds 6 to 16, the
+// most frequent ones, are told first, so that the compiler builds their operations in. A row that is no expression has the value 0.
 pub fn compute(rows: &[i32], bounds: &[usize], row: usize, store: &mut [i32], left: &mut u32) -> i64
     requires { ⌜ Ready (now rows) (now bounds) (length (now store)) row ⌝ }
     ensures { λ r. ⌜ answered r (now (left .exit)) (now (store .exit)) ≡ spend (evaluateAt (now (rows .entry)) (now (bounds .entry)) row) (now (left .entry)) (now (store .entry)) ⌝ }
 {
     let number = number_at(rows, row, 0);
+    if is_binary(number) {
+        return binary(&*rows, &*bounds, row, operator_of(number - 6), store, left);
+    }
     match number {
         1 => constant(rows, row),
         2 => variable(rows, bounds, row, store),
         3 => element(&*rows, &*bounds, row, store, left),
         4 => unary(&*rows, &*bounds, row, false, store, left),
         5 => unary(&*rows, &*bounds, row, true, store, left),
-        6..=16 => binary(&*rows, &*bounds, row, operator_of(number - 6), store, left),
         17 => logical(&*rows, &*bounds, row, false, store, left),
         18 => logical(&*rows, &*bounds, row, true, store, left),
         19 => ternary(&*rows, &*bounds, row, store, left),

@@ -20,6 +20,7 @@ ghost use Prim.Native.Nat.{ℕ, _+_, _*_, _-_, _<_};
 ghost use lib.ListN.{length, getD};
 ghost use Rattle.words.specs.Word.{pick};
 ghost use Rattle.words.specs.Table.{numberAt};
+ghost use Rattle.words.specs.Kinds.{between};
 ghost use Rattle.words.specs.Arithmetic.{isTrue, apply as applyOf, element as elementOf};
 ghost use Rattle.computation.specs.Remaining.{spend};
 ghost use Rattle.language.specs.Meaning.{update as updateOf, oldValue, newValue};
@@ -32,6 +33,16 @@ pub fn link_at(rows: &[i32], row: usize, field: usize) -> usize
     ensures { λ r. ⌜ r ≡ numberAt (now (rows .entry)) row field ⌝ }
 {
     rows[6 * row + field] as usize
+}
+
+// Whether this is the number of a binary operation: kinds 6 to 16.
+pub fn is_binary(number: usize) -> bool
+    ensures { λ r. ⌜ r ≡ between 6 16 number ⌝ }
+{
+    if number < 6 {
+        return false;
+    }
+    number <= 16
 }
 
 // Whether the left operand of an and (false) or an or (true) decides its value.

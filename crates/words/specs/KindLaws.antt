@@ -60,7 +60,7 @@ numbers-of : (these : Kind → Bool) (numbers : ℕ → Bool) → everyLine (λ 
     → (number : ℕ) → these (kindOf number) ≡ true → numbers number ≡ true
 numbers-of these numbers passed other number t = rw t at (every-number (λ number kind. pick (these kind) (numbers number) true) passed (λ number. rw other) number)
 
-between-both : (least most number : ℕ) → between least most number ≡ true → (least ≤ number) × (number ≤ most)
+pub between-both : (least most number : ℕ) → between least most number ≡ true → (least ≤ number) × (number ≤ most)
 between-both least most number e = let parts = both _ _ e in (leb-true least number (parts .0), leb-true number most (parts .1))
 
 -- A number that no expression has, and one that no statement has.

@@ -64,7 +64,7 @@ pub +assign+binary+comma+compound+compute+element+eval+increment+locate+logical+
     (λ t. binary-lts.spec (binary-claims t) (binary-at t) binary-reads.Post (binary.link-at-requires t) (binary.eval-requires t) (binary.operand-requires t) (binary.enum-known-second t) (binary.enum-told t) (binary.same-length t) (binary.returns t) (binary.link-at-requires-2 t) (binary.eval-requires-2 t) (binary.operand-requires-2 t) (binary.enum-known-first t) (binary.enum-told-2 t) (binary.same-length-2 t) (binary.returns-2 t) (binary.operate-requires t) (binary.same-length-3 t) (binary.returns-3 t))
     (λ t. comma-lts.spec (comma-claims t) (comma-at t) comma-reads.Post (comma.link-at-requires t) (comma.eval-requires t) (comma.operand-requires t) (comma.enum-told t) (comma.enum-told-2 t) (comma.same-length t) (comma.returns t) (comma.link-at-requires-2 t) (comma.eval-requires-2 t) (comma.same-length-2 t) (comma.returns-2 t))
     (λ t. compound-lts.spec (compound-claims t) (compound-at t) compound-reads.Post (compound.link-at-requires t) (compound.eval-requires t) (compound.operand-requires t) (compound.enum-known-second t) (compound.enum-told t) (compound.same-length t) (compound.returns t) (compound.link-at-requires-2 t) (compound.place-requires t) (compound.position-requires t) (compound.enum-known-first t) (compound.enum-told-2 t) (compound.same-length-2 t) (compound.returns-2 t) (compound.update-requires t) (compound.same-length-3 t) (compound.returns-3 t))
-    (λ t. compute-lts.spec (compute-claims t) (compute-at t) compute-reads.Post (compute.number-at-requires t) (compute.constant-requires t) (compute.variable-requires t) (compute.element-requires t) (compute.unary-requires t) (compute.unary-requires-2 t) (compute.logical-requires t) (compute.logical-requires-2 t) (compute.ternary-requires t) (compute.comma-requires t) (compute.assign-requires t) (compute.sub-operator-of t) (compute.operator-of-requires t) (compute.binary-requires t) (compute.sub-operator-of-2 t) (compute.operator-of-requires-2 t) (compute.compound-requires t) (compute.operator-of-requires-3 t) (compute.increment-requires t) (compute.operator-of-requires-4 t) (compute.increment-requires-2 t) (compute.returns t) (compute.same-length t) (compute.returns-2 t) (compute.same-length-2 t) (compute.returns-3 t) (compute.same-length-3 t) (compute.returns-4 t) (compute.same-length-4 t) (compute.returns-5 t) (compute.same-length-5 t) (compute.returns-6 t) (compute.same-length-6 t) (compute.returns-7 t) (compute.same-length-7 t) (compute.returns-8 t) (compute.same-length-8 t) (compute.returns-9 t) (compute.same-length-9 t) (compute.returns-10 t) (compute.same-length-10 t) (compute.returns-11 t) (compute.same-length-11 t) (compute.returns-12 t) (compute.same-length-12 t) (compute.returns-13 t) (compute.same-length-13 t) (compute.returns-14 t) (compute.returns-15 t) (compute.returns-16 t))
+    (λ t. compute-lts.spec (compute-claims t) (compute-at t) compute-reads.Post (compute.number-at-requires t) (compute.is-binary-requires t) (compute.sub-operator-of t) (compute.operator-of-requires t) (compute.binary-requires t) (compute.same-length t) (compute.returns t) (compute.constant-requires t) (compute.variable-requires t) (compute.element-requires t) (compute.unary-requires t) (compute.unary-requires-2 t) (compute.logical-requires t) (compute.logical-requires-2 t) (compute.ternary-requires t) (compute.comma-requires t) (compute.assign-requires t) (compute.sub-operator-of-2 t) (compute.operator-of-requires-2 t) (compute.compound-requires t) (compute.operator-of-requires-3 t) (compute.increment-requires t) (compute.operator-of-requires-4 t) (compute.increment-requires-2 t) (compute.returns-2 t) (compute.same-length-2 t) (compute.returns-3 t) (compute.same-length-3 t) (compute.returns-4 t) (compute.same-length-4 t) (compute.returns-5 t) (compute.same-length-5 t) (compute.returns-6 t) (compute.same-length-6 t) (compute.returns-7 t) (compute.same-length-7 t) (compute.returns-8 t) (compute.same-length-8 t) (compute.returns-9 t) (compute.same-length-9 t) (compute.returns-10 t) (compute.same-length-10 t) (compute.returns-11 t) (compute.same-length-11 t) (compute.returns-12 t) (compute.same-length-12 t) (compute.returns-13 t) (compute.same-length-13 t) (compute.returns-14 t) (compute.returns-15 t) (compute.returns-16 t))
     (λ t. element-lts.spec (element-claims t) (element-at t) element-reads.Post (element.locate-requires t) (element.position-requires t) (element.enum-known-place t) (element.enum-told t) (element.same-length t) (element.returns t) (element.mul-result t) (element.slice-copy-out-result t) (element.cast-result t) (element.same-length-2 t) (element.returns-2 t))
     (λ t. eval-lts.spec (eval-claims t) (eval-at t) eval-reads.Post (eval.returns t) (eval.sub-left t) (eval.number-at-requires t) (eval.constant-requires t) (eval.returns-2 t) (eval.variable-requires t) (eval.same-length t) (eval.returns-3 t) (eval.compute-requires t) (eval.same-length-2 t) (eval.returns-4 t))
     (λ t. increment-lts.spec (increment-claims t) (increment-at t) increment-reads.Post (increment.link-at-requires t) (increment.place-requires t) (increment.position-requires t) (increment.enum-known-first t) (increment.enum-told t) (increment.same-length t) (increment.returns t) (increment.update-requires t) (increment.same-length-2 t) (increment.returns-2 t))

@@ -50,6 +50,7 @@ use Rattle.evaluator.proofs.answers.settled.Reads as settled-reads
 use Rattle.evaluator.proofs.expressions.constant.Reads as constant-reads
 use Rattle.evaluator.proofs.expressions.variable.Reads as variable-reads
 use Rattle.evaluator.proofs.operations.decides.Reads as decides-reads
+use Rattle.evaluator.proofs.operations.is_binary.Reads as is-binary-reads
 use Rattle.evaluator.proofs.operations.link_at.Reads as link-at-reads
 use Rattle.evaluator.proofs.operations.operate.Reads as operate-reads
 use Rattle.evaluator.proofs.operations.update.Reads as update-reads
@@ -194,7 +195,7 @@ abbrev pub compound-claims : ℕ → compound-lts.Claims
 compound-claims t = (link-at-reads.Asked, link-at-reads.Learnt, eval-below t, eval.Post, operand-reads.Asked, operand-reads.Learnt, place-below t, place.Post, position-reads.Asked, position-reads.Learnt, update-reads.Asked, update-reads.Learnt)
 
 abbrev pub compute-claims : ℕ → compute-lts.Claims
-compute-claims t = (number-at-reads.Asked, number-at-reads.Learnt, constant-reads.Asked, constant-reads.Learnt, variable-reads.Asked, variable-reads.Learnt, element-below t, element.Post, unary-below t, unary.Post, logical-below t, logical.Post, ternary-below t, ternary.Post, comma-below t, comma.Post, assign-below t, assign.Post, operator-of-reads.Asked, operator-of-reads.Learnt, binary-below t, binary.Post, compound-below t, compound.Post, increment-below t, increment.Post)
+compute-claims t = (number-at-reads.Asked, number-at-reads.Learnt, is-binary-reads.Asked, is-binary-reads.Learnt, operator-of-reads.Asked, operator-of-reads.Learnt, binary-below t, binary.Post, constant-reads.Asked, constant-reads.Learnt, variable-reads.Asked, variable-reads.Learnt, element-below t, element.Post, unary-below t, unary.Post, logical-below t, logical.Post, ternary-below t, ternary.Post, comma-below t, comma.Post, assign-below t, assign.Post, compound-below t, compound.Post, increment-below t, increment.Post)
 
 abbrev pub element-claims : ℕ → element-lts.Claims
 element-claims t = (locate-below t, locate.Post, position-reads.Asked, position-reads.Learnt)

@@ -8,10 +8,11 @@ use Rattle.language.specs.Decode.{placeOf, expressionAt}
 use Rattle.translation.specs.Translate.{atomOf, atom, kernelPlace}
 use Rattle.translation.specs.TranslateSize.{indexRows as indexRowsOf}
 use Rattle.measures.specs.Measures.{Measured}
-use Rattle.measures.specs.Shapes.{placeTree as placeShapeTree}
-use Rattle.measures.specs.Operands.{isNumberAtom}
-use Rattle.measures.specs.declared.PlaceShape.{PlaceShape}
-use Rattle.measures.specs.declared.PlaceShape.the-variants.{Variable as VariableShape, Element as ElementShape}
+use Rattle.shapes.specs.Source.{mostWords, mostArrays}
+use Rattle.shapes.specs.Shapes.{placeTree as placeShapeTree}
+use Rattle.measures.specs.Parts.{isNumberAtom}
+use Rattle.shapes.specs.declared.PlaceShape.{PlaceShape}
+use Rattle.shapes.specs.declared.PlaceShape.the-variants.{Variable as VariableShape, Element as ElementShape}
 use Rattle.leaves.specs.Room.{Room}
 use Rattle.leaves.specs.Atoms.{atomTree, placeTree, AtomFits, PlaceFits, indexRows, isNumber}
 use Rattle.leaves.specs.Straight.{lastSize}
@@ -39,8 +40,8 @@ pub record AtomAt (S : ℕ) (rows : List ℤ) (row t : ℕ) (x : Atom) : Type 0 
 
 -- The numbers and the index row of a place are inside.
 abbrev pub PlaceInside : List ℤ → PlaceShape → Type 0
-PlaceInside rows (VariableShape i) = i < 8192
-PlaceInside rows (ElementShape array index) = (array < 32) × (index < rowCount rows)
+PlaceInside rows (VariableShape i) = i < mostWords
+PlaceInside rows (ElementShape array index) = (array < mostArrays) × (index < rowCount rows)
 
 -- A place whose index is held at level t.
 pub record HeldPlace (S : ℕ) (rows : List ℤ) (place : PlaceShape) (t : ℕ) (p : KernelPlace) : Type 0 where

@@ -5,19 +5,23 @@ use Prim.Native.Nat.{ℕ, _+_, _<_}
 use native.Mathlib.Omega.{arith}
 use lib.IntN.{ℤ}
 use Rattle.words.specs.Table.{rowCount}
-use Rattle.language.specs.Trees.{Expression, Place, element}
+use Rattle.language.specs.Trees.{Expression, Place, element, none}
 use Rattle.language.specs.Sizes.{expressionRows}
 use Rattle.language.specs.Decode.{expressionAt}
-use Rattle.translation.specs.Translate.{Atom as Held, number, atomOf, atom, kernelPlace}
+use Rattle.translation.specs.Translate.{Atom as Held, number, top, atomOf, atom, kernelPlace}
 use Rattle.translation.specs.TranslateSize.{indexRows as indexRowsOf}
-use Rattle.measures.specs.Shapes.{shapeTree, PlaceOnward, ShapeAt, PlaceAt as ShapePlaceAt}
-use Rattle.measures.specs.Operands.{plainAtom, isNumberAtom}
-use Rattle.measures.specs.declared.PlaceShape.{PlaceShape}
-use Rattle.measures.specs.declared.PlaceShape.the-variants.{Variable as VariableShape, Element as ElementShape}
-use Rattle.measures.specs.declared.Shape.{Shape}
-use Rattle.measures.specs.declared.Shape.the-variants.{Number, Read, Minus, Not, Binary, And, Or, Comma, Conditional, Assign, Compound, Prefix, Postfix}
+use Rattle.shapes.specs.Shapes.{choiceTree, expressionTree, PlaceOnward}
+use Rattle.shapes.specs.Source.{mostWords, mostArrays, ExpressionAt, PlaceAt as ShapePlaceAt}
+use Rattle.measures.specs.Parts.{plainAtom, isNumberAtom}
+use Rattle.measures.specs.MeasureLaws.{operation-top, choice-top}
+use Rattle.shapes.specs.declared.PlaceShape.{PlaceShape}
+use Rattle.shapes.specs.declared.PlaceShape.the-variants.{Variable as VariableShape, Element as ElementShape}
+use Rattle.shapes.specs.declared.ChoiceShape.{ChoiceShape}
+use Rattle.shapes.specs.declared.ChoiceShape.the-variants.{And, Or, Conditional}
+use Rattle.shapes.specs.declared.ExpressionShape.{ExpressionShape}
+use Rattle.shapes.specs.declared.ExpressionShape.the-variants.{Number, Read, Operation, Choice}
 use Rattle.leaves.specs.Room.{Room}
-use Rattle.leaves.specs.Straight.{lastSize}
+use Rattle.leaves.specs.Straight.{straightCode, lastSize}
 use Rattle.leaves.specs.Atoms.{atomTree, AtomFits, isNumber}
 use Rattle.leaves.specs.Asks.{AtomAt, PlaceInside, HeldPlace, PlaceAt}
 use Rattle.leaves.specs.declared.Atom.{Atom}
@@ -26,20 +30,11 @@ use Rattle.leaves.specs.declared.KernelPlace.{KernelPlace}
 use Rattle.leaves.specs.declared.KernelPlace.the-variants.{Variable as VariablePlace, Element}
 
 -- What the code makes of the shape of the row that the value comes from; n is the temporary.
-abbrev pub atomBy : Shape → ℕ → Atom
+abbrev pub atomBy : ExpressionShape → ℕ → Atom
 atomBy (Number v) n = Constant v
 atomBy (Read p) n = Variable n
-atomBy (Minus a) n = Variable n
-atomBy (Not a) n = Variable n
-atomBy (Binary o a b) n = Variable n
-atomBy (And a b) n = Variable n
-atomBy (Or a b) n = Variable n
-atomBy (Comma a b) n = Variable n
-atomBy (Conditional c a b) n = Variable n
-atomBy (Assign p e) n = Variable n
-atomBy (Compound o p e) n = Variable n
-atomBy (Prefix o p) n = Variable n
-atomBy (Postfix o p) n = Variable n
+atomBy (Operation o) n = Variable n
+atomBy (Choice c) n = Variable n
 
 -- An atom that holds what `held` says.
 record Holds (S t : ℕ) (held : Held) (x : Atom) : Type 0 where
@@ -47,22 +42,16 @@ record Holds (S t : ℕ) (held : Held) (x : Atom) : Type 0 where
   pub fits : AtomFits x
   pub number : isNumber x ≡ isNumberAtom held
 
-holds : (S t : ℕ) (rows : List ℤ) (s : Shape) → S + t < 65536 → Holds S t (plainAtom (shapeTree rows s)) (atomBy s (S + t))
+holds-top : (S t : ℕ) {held : Held} → held ≡ top → S + t < 65536 → Holds S t held (Variable (S + t))
+holds-top S t {held} e h = rw e (record { is = refl; fits = h; number = refl })
+
+holds : (S t : ℕ) (rows : List ℤ) (s : ExpressionShape) → S + t < 65536 → Holds S t (plainAtom (expressionTree rows s)) (atomBy s (S + t))
 holds S t rows (Number v) h = record { is = refl; fits = tt; number = refl }
 holds S t rows (Read p) h = record { is = refl; fits = h; number = refl }
-holds S t rows (Minus a) h = record { is = refl; fits = h; number = refl }
-holds S t rows (Not a) h = record { is = refl; fits = h; number = refl }
-holds S t rows (Binary o a b) h = record { is = refl; fits = h; number = refl }
-holds S t rows (And a b) h = record { is = refl; fits = h; number = refl }
-holds S t rows (Or a b) h = record { is = refl; fits = h; number = refl }
-holds S t rows (Comma a b) h = record { is = refl; fits = h; number = refl }
-holds S t rows (Conditional c a b) h = record { is = refl; fits = h; number = refl }
-holds S t rows (Assign p e) h = record { is = refl; fits = h; number = refl }
-holds S t rows (Compound o p e) h = record { is = refl; fits = h; number = refl }
-holds S t rows (Prefix o p) h = record { is = refl; fits = h; number = refl }
-holds S t rows (Postfix o p) h = record { is = refl; fits = h; number = refl }
+holds S t rows (Operation o) h = holds-top S t (operation-top rows o) h
+holds S t rows (Choice c) h = holds-top S t (choice-top rows c) h
 
-pub atom-found : {rows : List ℤ} {row value : ℕ} {s : Shape} (S t : ℕ) {x : Atom} → ShapeAt rows value s → plainAtom (expressionAt rows value) ≡ atomOf (expressionAt rows row) → S + t < 65536 → x ≡ atomBy s (S + t) → AtomAt S rows row t x
+pub atom-found : {rows : List ℤ} {row value : ℕ} {s : ExpressionShape} (S t : ℕ) {x : Atom} → ExpressionAt rows value s → plainAtom (expressionAt rows value) ≡ atomOf (expressionAt rows row) → S + t < 65536 → x ≡ atomBy s (S + t) → AtomAt S rows row t x
 atom-found {rows} {row} {value} {s} S t {x} f h l e =
     let o : Holds S t (atomOf (expressionAt rows row)) x = subst (λ (held : Held). Holds S t held x) (ap plainAtom (sym (f .is)) ∙ h) (rw e (holds S t rows s l)) in
     record { is = o .is; fits = o .fits; number = o .number }
@@ -75,7 +64,7 @@ atom-rows (Variable n) = refl
 
 -- ---- places
 
-pub onward-inside : (rows : List ℤ) (row : ℕ) (p : PlaceShape) → PlaceOnward rows row p → PlaceInside rows p
+pub onward-inside : (rows : List ℤ) (row : ℕ) (p : PlaceShape) → PlaceOnward rows row mostWords mostArrays p → PlaceInside rows p
 onward-inside rows row (VariableShape i) f = f
 onward-inside rows row (ElementShape array index) f = (f .0, f .1 .inside)
 
@@ -103,5 +92,15 @@ place-index rows f e = (subst (λ (p : PlaceShape). PlaceInside rows p) e f) .1
 
 -- ---- room, by the shape
 
-pub room-by-shape : {rows : List ℤ} {row base words : ℕ} {s : Shape} → ShapeAt rows row s → Room (lastSize (expressionAt rows row)) base words → Room (lastSize (shapeTree rows s)) base words
+pub room-by-shape : {rows : List ℤ} {row base words : ℕ} {s : ExpressionShape} → ExpressionAt rows row s → Room (lastSize (expressionAt rows row)) base words → Room (lastSize (expressionTree rows s)) base words
 room-by-shape {rows} {row} {base} {words} f r = subst (λ (e : Expression). Room (lastSize e) base words) (f .is) r
+
+-- ---- a choice does nothing with values by itself
+
+no-code : (S : ℕ) (rows : List ℤ) (c : ChoiceShape) (t : ℕ) → straightCode S (choiceTree rows c) t ≡ none
+no-code S rows (And a b) t = refl
+no-code S rows (Or a b) t = refl
+no-code S rows (Conditional c a b) t = refl
+
+pub choice-none : {rows : List ℤ} {row : ℕ} {c : ChoiceShape} (S t : ℕ) → ExpressionAt rows row (Choice c) → none ≡ straightCode S (expressionAt rows row) t
+choice-none {rows} {row} {c} S t f = sym (no-code S rows c t) ∙ ap (λ (e : Expression). straightCode S e t) (sym (f .is))

@@ -10,7 +10,7 @@ use Rattle.language.specs.Trees.{Expression, constant, read, minus, not, binary
 use Rattle.translation.specs.Translate.{atomOf, taken, placeTaken, atom, temporary, assigning, kernelPlace, updateCode, postfixCode}
 use Rattle.translation.specs.TranslateSize.{partSize, ownRows}
 use Rattle.emission.specs.Emission.{rowOf}
-use Rattle.measures.specs.Operands.{thirdOperand, fourthOperand}
+use Rattle.measures.specs.Parts.{thirdOperand, fourthOperand}
 
 module _ (S : ℕ) where
   -- What an expression does with the values of its first two operands.

@@ -1,12 +1,15 @@
 // Kernel atoms and places, from the source rows.
 use super::Atom;
 use super::KernelPlace;
-use measures::PlaceShape;
-use measures::Shape;
+use measures::ROWS;
+use measures::VALUE;
+use measures::WIDTH;
 use measures::expressions::taken_at;
-use measures::shapes::place_at;
-use measures::shapes::shape_at;
 use measures::table::measure_at;
+use shapes::ExpressionShape;
+use shapes::PlaceShape;
+use shapes::rows::expression_at;
+use shapes::rows::place_at;
 ghost use mathlib.Core.Path.{_≡_};
 ghost use Prim.Native.Nat.{_+_, _≤_, _<_};
 ghost use Rattle.words.specs.Table.{rowCount};
@@ -22,21 +25,12 @@ pub fn atom_at(rows: &[i32], table: &[usize], store: usize, row: usize, level: u
     ensures { λ r. ⌜ AtomAt store (now (rows .entry)) row level r ⌝ }
 {
     let temporary = Atom::Variable(store + level);
-    let shape = shape_at(rows, table[11 * row + 2]);
+    let shape = expression_at(rows, table[WIDTH * row + VALUE]);
     match shape {
-        Shape::Number(value) => Atom::Constant(value),
-        Shape::Read(_) => temporary,
-        Shape::Minus(_) => temporary,
-        Shape::Not(_) => temporary,
-        Shape::Binary(_, _, _) => temporary,
-        Shape::And(_, _) => temporary,
-        Shape::Or(_, _) => temporary,
-        Shape::Comma(_, _) => temporary,
-        Shape::Conditional(_, _, _) => temporary,
-        Shape::Assign(_, _) => temporary,
-        Shape::Compound(_, _, _) => temporary,
-        Shape::Prefix(_, _) => temporary,
-        Shape::Postfix(_, _) => temporary,
+        ExpressionShape::Number(value) => Atom::Constant(value),
+        ExpressionShape::Read(_) => temporary,
+        ExpressionShape::Operation(_) => temporary,
+        ExpressionShape::Choice(_) => temporary,
     }
 }
 
@@ -92,5 +86,5 @@ pub fn operand_size(rows: &[i32], table: &[usize], row: usize) -> usize
     requires { ⌜ Measured (now rows) (now table) × (row < rowCount (now rows)) × (partSize (partAt (now rows) row) ≤ 40980) ⌝ }
     ensures { λ r. ⌜ r ≡ partSize (partAt (now (rows .entry)) row) ⌝ }
 {
-    measure_at(table, row, 0)
+    measure_at(table, row, ROWS)
 }

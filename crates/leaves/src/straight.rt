@@ -11,9 +11,10 @@ use super::atoms::atom_at;
 use super::atoms::held_place;
 use super::atoms::kernel_place;
 use super::atoms::place_taken;
-use measures::Shape;
 use measures::expressions::taken_at;
-use measures::shapes::shape_at;
+use shapes::ExpressionShape;
+use shapes::OperationShape;
+use shapes::rows::expression_at;
 use words::Operator;
 ghost use mathlib.Core.Path.{_≡_};
 ghost use Prim.Native.Nat.{_+_, _*_, _<_};
@@ -279,37 +280,41 @@ pub fn put_straight(
         base,
         follows,
     };
-    let shape = shape_at(rows, row);
+    let shape = expression_at(rows, row);
     match shape {
-        Shape::Number(_) => {}
-        Shape::Read(place) => {
+        ExpressionShape::Number(_) => {}
+        ExpressionShape::Read(place) => {
             let target = held_place(rows, table, store, place, level);
             put_read(number, target, base, follows, out);
         }
-        Shape::Minus(operand) => {
-            let atom = atom_at(rows, table, store, operand, level);
-            put_minus(number, atom, base, follows, out);
-        }
-        Shape::Not(operand) => {
-            let zero = Atom::Constant(0);
-            let atom = atom_at(rows, table, store, operand, level);
-            put_binary(number, Operator::Equal, atom, zero, base, follows, out);
-        }
-        Shape::Binary(operator, left, right) => {
-            put_operator(rows, table, operator, left, right, at, out)
-        }
-        Shape::And(_, _) => {}
-        Shape::Or(_, _) => {}
-        Shape::Comma(_, _) => {}
-        Shape::Conditional(_, _, _) => {}
-        Shape::Assign(place, value) => put_assignment(rows, table, place, value, at, out),
-        Shape::Compound(operator, place, value) => {
-            let atom = atom_at(rows, table, store, value, level);
-            put_operation(rows, table, operator, place, atom, at, out);
-        }
-        Shape::Prefix(operator, place) => {
-            put_operation(rows, table, operator, place, Atom::Constant(1), at, out)
-        }
-        Shape::Postfix(operator, place) => put_step(rows, table, operator, place, at, out),
+        ExpressionShape::Operation(operation) => match operation {
+            OperationShape::Minus(operand) => {
+                let atom = atom_at(rows, table, store, operand, level);
+                put_minus(number, atom, base, follows, out);
+            }
+            OperationShape::Not(operand) => {
+                let zero = Atom::Constant(0);
+                let atom = atom_at(rows, table, store, operand, level);
+                put_binary(number, Operator::Equal, atom, zero, base, follows, out);
+            }
+            OperationShape::Binary(operator, left, right) => {
+                put_operator(rows, table, operator, left, right, at, out)
+            }
+            OperationShape::Comma(_, _) => {}
+            OperationShape::Assign(place, value) => {
+                put_assignment(rows, table, place, value, at, out)
+            }
+            OperationShape::Compound(operator, place, value) => {
+                let atom = atom_at(rows, table, store, value, level);
+                put_operation(rows, table, operator, place, atom, at, out);
+            }
+            OperationShape::Prefix(operator, place) => {
+                put_operation(rows, table, operator, place, Atom::Constant(1), at, out)
+            }
+            OperationShape::Postfix(operator, place) => {
+                put_step(rows, table, operator, place, at, out)
+            }
+        },
+        ExpressionShape::Choice(_) => {}
     }
 }

@@ -1,7 +1,7 @@
 -- The temporaries of an index, by the place.
 use mathlib.Core.Path.{sym, ap, _∙_}
 use Rattle.translation.specs.Translate.{placeTaken}
-use Rattle.measures.specs.ShapeLaws.{placed}
+use Rattle.shapes.specs.ShapeLaws.{placed}
 use Rattle.measures.specs.MeasureLaws.{whole-asks}
 use borrow.Author.Needs.{needs}
 use Rattle.leaves.proofs.atoms.place_taken.Statement.{statement}

@@ -12,11 +12,15 @@ use Rattle.language.specs.Decode.{expressionAt, partAt}
 use Rattle.language.specs.DecodeLaws.{part-some}
 use Rattle.translation.specs.Translate.{Atom as Held, number, top, atomOf, atom, temporary, assigning, choosing, copyCode, expressionCode}
 use Rattle.translation.specs.TranslateSize.{copyRows, partSize, expressionSize}
-use Rattle.measures.specs.Source.{Onward}
-use Rattle.measures.specs.Shapes.{shapeTree, ShapeAt}
-use Rattle.measures.specs.Operands.{isNumberAtom}
-use Rattle.measures.specs.declared.Shape.{Shape}
-use Rattle.measures.specs.declared.Shape.the-variants.{And, Or, Conditional}
+use Rattle.shapes.specs.Shapes.{operationTree, expressionTree, Onward}
+use Rattle.shapes.specs.Source.{ExpressionAt}
+use Rattle.measures.specs.Parts.{isNumberAtom}
+use Rattle.shapes.specs.declared.OperationShape.{OperationShape}
+use Rattle.shapes.specs.declared.OperationShape.the-variants.{Minus, Not, Binary, Comma, Assign, Compound, Prefix, Postfix}
+use Rattle.shapes.specs.declared.ChoiceShape.the-variants.{And, Or, Conditional}
+use Rattle.shapes.specs.declared.ExpressionShape.{ExpressionShape}
+use Rattle.shapes.specs.declared.ExpressionShape.the-variants.{Operation}
+use Rattle.shapes.specs.declared.ExpressionShape.the-variants as expression
 use Rattle.leaves.specs.Atoms.{atomTree, AtomFits, isNumber}
 use Rattle.leaves.specs.Straight.{straightCode, lastSize}
 use Rattle.leaves.specs.Asks.{Writing, AtomAt}
@@ -69,8 +73,21 @@ pub level-small : {S : ℕ} {rows : List ℤ} {table : List ℕ} {row level : �
 level-small asked = omega (arith, asked .level-low, asked .inside, few-rows asked)
 
 module _ (S : ℕ) (rows : List ℤ) (row level : ℕ) where
-  pub straight : {s : Shape} → ShapeAt rows row s → lastCode S (shapeTree rows s) level ≡ straightCode S (shapeTree rows s) level → ChoiceAt S rows row level Straight
+  pub straight : {s : ExpressionShape} → ExpressionAt rows row s → lastCode S (expressionTree rows s) level ≡ straightCode S (expressionTree rows s) level → ChoiceAt S rows row level Straight
   straight {s} f h = record { is = ap (λ (e : Expression). lastCode S e level) (f .is) ∙ h ∙ sym (ap (λ (e : Expression). straightCode S e level) (f .is)); fits = tt }
+
+  operation-code : (o : OperationShape) → lastCode S (operationTree rows o) level ≡ straightCode S (operationTree rows o) level
+  operation-code (Minus a) = refl
+  operation-code (Not a) = refl
+  operation-code (Binary operator a b) = refl
+  operation-code (Comma a b) = refl
+  operation-code (Assign p e) = refl
+  operation-code (Compound operator p e) = refl
+  operation-code (Prefix operator p) = refl
+  operation-code (Postfix operator p) = refl
+
+  pub straight-operation : {o : OperationShape} → ExpressionAt rows row (Operation o) → ChoiceAt S rows row level Straight
+  straight-operation {o} f = straight f (operation-code o)
 
   abbrev branch : ℕ → Bool → Atom → Branch
   branch link truth x = record { row = link; truth = truth; atom = x }
@@ -131,10 +148,10 @@ module _ (S : ℕ) (rows : List ℤ) (row level : ℕ) where
     some-size : {link : ℕ} → Onward rows row link → partSize (partAt rows link) ≡ expressionSize (expressionAt rows link)
     some-size {link} o = ap partSize (part-some rows link (omega (arith, o .later)))
 
-    last-size : {s : Shape} → ShapeAt rows row s → lastSize (expressionAt rows row) ≡ lastSize (shapeTree rows s)
+    last-size : {s : ExpressionShape} → ExpressionAt rows row s → lastSize (expressionAt rows row) ≡ lastSize (expressionTree rows s)
     last-size f = ap lastSize (f .is)
 
-    as-last : {s : Shape} (is : Items) → ShapeAt rows row s → lastCode S (shapeTree rows s) level ≡ is → lastCode S (expressionAt rows row) level ≡ is
+    as-last : {s : ExpressionShape} (is : Items) → ExpressionAt rows row s → lastCode S (expressionTree rows s) level ≡ is → lastCode S (expressionAt rows row) level ≡ is
     as-last is f h = ap (λ (e : Expression). lastCode S e level) (f .is) ∙ h
 
     ap₃ : {A B C D : Type 0} (f : A → B → C → D) {x x′ : A} {y y′ : B} {z z′ : C} → x ≡ x′ → y ≡ y′ → z ≡ z′ → f x y z ≡ f x′ y′ z′
@@ -143,7 +160,7 @@ module _ (S : ℕ) (rows : List ℤ) (row level : ℕ) where
     abbrev if-of : Expression → Items → Items → Items
     if-of test onTrue onFalse = choosing S test onTrue onFalse none
 
-    pub and-choice : {a b : ℕ} {test x : Atom} {no : Branch} → ShapeAt rows row (And a b) → AtomAt S rows a level test → AtomAt S rows b level x → no ≡ numberBranch (pos 0)
+    pub and-choice : {a b : ℕ} {test x : Atom} {no : Branch} → ExpressionAt rows row (expression.Choice (And a b)) → AtomAt S rows a level test → AtomAt S rows b level x → no ≡ numberBranch (pos 0)
         → ChoiceAt S rows row level (Choose test (branch b true x) no)
     and-choice {a} {b} {test} {x} {no} f t y n = rw n (record {
       is = as-last _ f (sym (ap₃ if-of (t .is) (truth-code b x (omega (arith, f .onward .1 .later)) y) (number-code (pos 0))));
@@ -157,7 +174,7 @@ module _ (S : ℕ) (rows : List ℤ) (row level : ℕ) where
       );
     })
 
-    pub or-choice : {a b : ℕ} {test x : Atom} {onTrue : Branch} → ShapeAt rows row (Or a b) → AtomAt S rows a level test → AtomAt S rows b level x → onTrue ≡ numberBranch (pos 1)
+    pub or-choice : {a b : ℕ} {test x : Atom} {onTrue : Branch} → ExpressionAt rows row (expression.Choice (Or a b)) → AtomAt S rows a level test → AtomAt S rows b level x → onTrue ≡ numberBranch (pos 1)
         → ChoiceAt S rows row level (Choose test onTrue (branch b true x))
     or-choice {a} {b} {test} {x} {onTrue} f t y n = rw n (record {
       is = as-last _ f (sym (ap₃ if-of (t .is) (number-code (pos 1)) (truth-code b x (omega (arith, f .onward .1 .later)) y)));
@@ -171,7 +188,7 @@ module _ (S : ℕ) (rows : List ℤ) (row level : ℕ) where
       );
     })
 
-    pub conditional-choice : {c a b : ℕ} {test x y : Atom} → ShapeAt rows row (Conditional c a b) → AtomAt S rows c level test → AtomAt S rows a level x → AtomAt S rows b level y
+    pub conditional-choice : {c a b : ℕ} {test x y : Atom} → ExpressionAt rows row (expression.Choice (Conditional c a b)) → AtomAt S rows c level test → AtomAt S rows a level x → AtomAt S rows b level y
         → ChoiceAt S rows row level (Choose test (branch a false x) (branch b false y))
     conditional-choice {c} {a} {b} {test} {x} {y} f t p q = record {
       is = as-last _ f (sym (ap₃ if-of (t .is) (value-code a x (omega (arith, f .onward .1 .later)) p) (value-code b y (omega (arith, f .onward .2 .later)) q)));

@@ -15,12 +15,12 @@ use Rattle.language.specs.Decode.{expressionAt, partAt}
 use Rattle.language.specs.DecodeLaws.{part-some}
 use Rattle.translation.specs.TranslateSize.{partSize}
 use Rattle.emission.specs.Emission.{emitItems}
-use Rattle.measures.specs.Source.{Source, OptionalOnward}
-use Rattle.measures.specs.Operands.{aboveFirst}
-use Rattle.measures.specs.Parts.{OperandsAt}
+use Rattle.shapes.specs.Shapes.{OptionalOnward}
+use Rattle.shapes.specs.Source.{Source}
+use Rattle.measures.specs.Parts.{aboveFirst, OwnAt}
 use Rattle.measures.specs.MeasureLaws.{size-parts}
-use Rattle.measures.specs.declared.Operands.{Operands}
-use Rattle.measures.proofs.Parts.{above-most}
+use Rattle.measures.specs.declared.Own.{Own}
+use Rattle.measures.proofs.OwnLaws.{above-most}
 use Rattle.leaves.specs.Room.{moreRows}
 use Rattle.leaves.specs.Straight.{lastSize}
 use Rattle.leaves.specs.Asks.{Writing, LastAsks}
@@ -53,25 +53,25 @@ module _ {S : ℕ} {rows : List ℤ} {table : List ℕ} {row level base : ℕ} {
 
   -- ---- the row is not absent, and its operands are known
 
-  pub record OperandsFound (operands : Operands) : Type 0 where
+  pub record OperandsFound (operands : Own) : Type 0 where
     pub some : 0 < row
-    pub at : OperandsAt rows row operands
+    pub at : OwnAt rows row operands
 
 module _ {S : ℕ} {rows : List ℤ} {table : List ℕ} {row level base : ℕ} {out : List ℤ} {asked : ExpressionAsked S rows table row level base out}
-    {operands : Operands} (found : OperandsFound asked operands) where
+    {operands : Own} (found : OperandsFound asked operands) where
   -- The rows of an expression are those of its operands and those behind them.
   all-rows : partSize (partAt rows row) ≡ partSize (partAt rows (operands .first)) + partSize (partAt rows (operands .second)) + lastSize (expressionAt rows row)
   all-rows =
-      omega (arith, ap partSize (part-some rows row (found .some)), size-parts (expressionAt rows row), ap partSize (found .at .first-is), ap partSize (found .at .second-is))
+      omega (arith, ap partSize (part-some rows row (found .some)), size-parts (expressionAt rows row), ap partSize (found .at .first .is), ap partSize (found .at .second .is))
 
   pub first-inside : operands .first < rowCount rows
-  first-inside = inside-of (operands .first) (source asked) (found .at .first-onward)
+  first-inside = inside-of (operands .first) (source asked) (found .at .first .onward)
 
   pub first-small : partSize (partAt rows (operands .first)) ≤ 40980
   first-small = omega (arith, all-rows, all-small asked)
 
   pub second-inside : operands .second < rowCount rows
-  second-inside = inside-of (operands .second) (source asked) (found .at .second-onward)
+  second-inside = inside-of (operands .second) (source asked) (found .at .second .onward)
 
   pub second-small : partSize (partAt rows (operands .second)) ≤ 40980
   second-small = omega (arith, all-rows, all-small asked)
@@ -85,15 +85,15 @@ module _ {S : ℕ} {rows : List ℤ} {table : List ℕ} {row level base : ℕ} {
   above-low e = omega (arith, above-most (expressionAt rows row), asked .asks .level-low (found .some))
 
   pub first-falls : rank rows (operands .first) < rank rows row
-  first-falls = rank-falls rows row (operands .first) (found .some) (asked .asks .inside) (λ h. found .at .first-onward h .later)
+  first-falls = rank-falls rows row (operands .first) (found .some) (asked .asks .inside) (λ h. found .at .first .onward h .later)
 
   pub second-falls : rank rows (operands .second) < rank rows row
-  second-falls = rank-falls rows row (operands .second) (found .some) (asked .asks .inside) (λ h. found .at .second-onward h .later)
+  second-falls = rank-falls rows row (operands .second) (found .some) (asked .asks .inside) (λ h. found .at .second .onward h .later)
 
   pub first-asks : OperandAsks rows (operands .first) level base (length out)
   first-asks = record {
     inside = first-inside;
-    level-low = λ h. omega (arith, found .at .first-onward h .later, asked .asks .level-low (found .some));
+    level-low = λ h. omega (arith, found .at .first .onward h .later, asked .asks .level-low (found .some));
     room = room-less _ (asked .asks .room) (omega (arith, all-rows));
   }
 
@@ -106,7 +106,7 @@ module _ {S : ℕ} {rows : List ℤ} {table : List ℕ} {row level base : ℕ} {
     pub all-is : allRows ≡ partSize (partAt rows row)
 
 module _ {S : ℕ} {rows : List ℤ} {table : List ℕ} {row level base : ℕ} {out : List ℤ} {asked : ExpressionAsked S rows table row level base out}
-    {operands : Operands} {found : OperandsFound asked operands} {above firstRows secondRows allRows : ℕ}
+    {operands : Own} {found : OperandsFound asked operands} {above firstRows secondRows allRows : ℕ}
     (sizes : ExpressionSizes found above firstRows secondRows allRows) where
   pub sizes-within : firstRows + secondRows ≤ allRows
   sizes-within = omega (arith, all-rows found, sizes .first-is, sizes .second-is, sizes .all-is)
@@ -118,7 +118,7 @@ module _ {S : ℕ} {rows : List ℤ} {table : List ℕ} {row level base : ℕ} {
   code-is : (operandCode S (partAt rows (operands .first)) level ⧺ operandCode S (partAt rows (operands .second)) (level + above)) ⧺ lastCode S (expressionAt rows row) level
       ≡ operandCode S (partAt rows row) level
   code-is =
-      rw (found .at .first-is, found .at .second-is, sizes .above-is)
+      rw (found .at .first .is, found .at .second .is, sizes .above-is)
       (code-parts S (expressionAt rows row) level ∙ sym (ap (λ p. operandCode S p level) (part-some rows row (found .some))))
 
   -- ---- the first operand is written
@@ -127,7 +127,7 @@ module _ {S : ℕ} {rows : List ℤ} {table : List ℕ} {row level base : ℕ} {
     pub table-is : firstTable ≡ over (emitItems more (operandCode S (partAt rows (operands .first)) level) base) out
 
 module _ {S : ℕ} {rows : List ℤ} {table : List ℕ} {row level base : ℕ} {out : List ℤ} {asked : ExpressionAsked S rows table row level base out}
-    {operands : Operands} {found : OperandsFound asked operands} {above firstRows secondRows allRows : ℕ}
+    {operands : Own} {found : OperandsFound asked operands} {above firstRows secondRows allRows : ℕ}
     {sizes : ExpressionSizes found above firstRows secondRows allRows} {more : Bool} {firstTable : List ℤ} (written : FirstOperand sizes more firstTable) where
   first-wrote : Wrote more (operandCode S (partAt rows (operands .first)) level) base firstRows out firstTable
   first-wrote = record { table = written .table-is; size = rows-operand S (partAt rows (operands .first)) level ∙ sym (sizes .first-is) }
@@ -138,7 +138,7 @@ module _ {S : ℕ} {rows : List ℤ} {table : List ℕ} {row level base : ℕ} {
   pub second-asks : OperandAsks rows (operands .second) (level + above) (base + firstRows) (length (part firstRows firstTable))
   second-asks = record {
     inside = second-inside found;
-    level-low = λ h. omega (arith, found .at .second-onward h .later, above-low found (sizes .above-is));
+    level-low = λ h. omega (arith, found .at .second .onward h .later, above-low found (sizes .above-is));
     room = put-room _ (wrote-put first-wrote) (asked .asks .room) (omega (arith, all-rows found, sizes .first-is));
   }
 
@@ -149,7 +149,7 @@ module _ {S : ℕ} {rows : List ℤ} {table : List ℕ} {row level base : ℕ} {
     pub table-is : secondWords ≡ over (emitItems then (operandCode S (partAt rows (operands .second)) (level + above)) (base + firstRows)) (part firstRows firstTable)
 
 module _ {S : ℕ} {rows : List ℤ} {table : List ℕ} {row level base : ℕ} {out : List ℤ} {asked : ExpressionAsked S rows table row level base out}
-    {operands : Operands} {found : OperandsFound asked operands} {above firstRows secondRows allRows : ℕ}
+    {operands : Own} {found : OperandsFound asked operands} {above firstRows secondRows allRows : ℕ}
     {sizes : ExpressionSizes found above firstRows secondRows allRows} {more : Bool} {firstTable : List ℤ} {first : FirstOperand sizes more firstTable}
     {then : Bool} {secondWords : List ℤ} (written : SecondOperand first then secondWords) where
   second-wrote : Wrote then (operandCode S (partAt rows (operands .second)) (level + above)) (base + firstRows) secondRows (part firstRows firstTable) secondWords
@@ -177,7 +177,7 @@ module _ {S : ℕ} {rows : List ℤ} {table : List ℕ} {row level base : ℕ} {
         ≡ over (emitItems follows (lastCode S (expressionAt rows row) level) (base + (firstRows + secondRows))) (part (firstRows + secondRows) (back-in firstRows firstTable secondWords))
 
 module _ {S : ℕ} {rows : List ℤ} {table : List ℕ} {row level base : ℕ} {out : List ℤ} {asked : ExpressionAsked S rows table row level base out}
-    {operands : Operands} {found : OperandsFound asked operands} {above firstRows secondRows allRows : ℕ}
+    {operands : Own} {found : OperandsFound asked operands} {above firstRows secondRows allRows : ℕ}
     {sizes : ExpressionSizes found above firstRows secondRows allRows} {more : Bool} {firstTable : List ℤ} {first : FirstOperand sizes more firstTable}
     {then : Bool} {secondWords : List ℤ} {second : SecondOperand first then secondWords} {follows : Bool} {lastWords : List ℤ}
     (rest : LastPart second follows lastWords) where

@@ -15,7 +15,7 @@ use Rattle.translation.specs.TranslateSize.{expressionSize, partSize}
 use Rattle.translation.specs.TranslateRows.{rows-append, rows-expression}
 use Rattle.emission.specs.Emission.{rowOf, emitStatement, emitItems}
 use Rattle.emission.specs.EmissionLaws.{emit-append}
-use Rattle.measures.specs.Operands.{firstOperand, secondOperand, aboveFirst}
+use Rattle.measures.specs.Parts.{firstOperand, secondOperand, aboveFirst}
 use Rattle.measures.specs.MeasureLaws.{size-parts}
 use Rattle.words.specs.Over.{over}
 use Rattle.leaves.specs.Room.{moreRows}

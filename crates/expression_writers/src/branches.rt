@@ -6,8 +6,9 @@ use leaves::assignments::put_binary;
 use leaves::assignments::put_copy;
 use leaves::atoms::atom_at;
 use leaves::atoms::operand_size;
-use measures::Shape;
-use measures::shapes::shape_at;
+use shapes::ChoiceShape;
+use shapes::ExpressionShape;
+use shapes::rows::expression_at;
 use words::Operator;
 ghost use mathlib.Core.Path.{_≡_};
 ghost use mathlib.Core.Bool.{false};
@@ -39,50 +40,45 @@ pub fn choice_at(rows: &[i32], table: &[usize], store: usize, row: usize, level:
     requires { ⌜ Writing (now rows) (now table) store × (row < rowCount (now rows)) × (level ≤ row) ⌝ }
     ensures { λ r. ⌜ ChoiceAt store (now (rows .entry)) row level r ⌝ }
 {
-    let shape = shape_at(rows, row);
+    let shape = expression_at(rows, row);
     match shape {
-        Shape::Number(_) => Choice::Straight,
-        Shape::Read(_) => Choice::Straight,
-        Shape::Minus(_) => Choice::Straight,
-        Shape::Not(_) => Choice::Straight,
-        Shape::Binary(_, _, _) => Choice::Straight,
-        Shape::And(a, b) => {
-            let test = atom_at(rows, table, store, a, level);
-            let yes = Branch {
-                row: b,
-                truth: true,
-                atom: atom_at(rows, table, store, b, level),
-            };
-            Choice::Choose(test, yes, number_branch(0))
-        }
-        Shape::Or(a, b) => {
-            let test = atom_at(rows, table, store, a, level);
-            let no = Branch {
-                row: b,
-                truth: true,
-                atom: atom_at(rows, table, store, b, level),
-            };
-            Choice::Choose(test, number_branch(1), no)
-        }
-        Shape::Comma(_, _) => Choice::Straight,
-        Shape::Conditional(t, a, b) => {
-            let test = atom_at(rows, table, store, t, level);
-            let yes = Branch {
-                row: a,
-                truth: false,
-                atom: atom_at(rows, table, store, a, level),
-            };
-            let no = Branch {
-                row: b,
-                truth: false,
-                atom: atom_at(rows, table, store, b, level),
-            };
-            Choice::Choose(test, yes, no)
-        }
-        Shape::Assign(_, _) => Choice::Straight,
-        Shape::Compound(_, _, _) => Choice::Straight,
-        Shape::Prefix(_, _) => Choice::Straight,
-        Shape::Postfix(_, _) => Choice::Straight,
+        ExpressionShape::Number(_) => Choice::Straight,
+        ExpressionShape::Read(_) => Choice::Straight,
+        ExpressionShape::Operation(_) => Choice::Straight,
+        ExpressionShape::Choice(choice) => match choice {
+            ChoiceShape::And(a, b) => {
+                let test = atom_at(rows, table, store, a, level);
+                let yes = Branch {
+                    row: b,
+                    truth: true,
+                    atom: atom_at(rows, table, store, b, level),
+                };
+                Choice::Choose(test, yes, number_branch(0))
+            }
+            ChoiceShape::Or(a, b) => {
+                let test = atom_at(rows, table, store, a, level);
+                let no = Branch {
+                    row: b,
+                    truth: true,
+                    atom: atom_at(rows, table, store, b, level),
+                };
+                Choice::Choose(test, number_branch(1), no)
+            }
+            ChoiceShape::Conditional(t, a, b) => {
+                let test = atom_at(rows, table, store, t, level);
+                let yes = Branch {
+                    row: a,
+                    truth: false,
+                    atom: atom_at(rows, table, store, a, level),
+                };
+                let no = Branch {
+                    row: b,
+                    truth: false,
+                    atom: atom_at(rows, table, store, b, level),
+                };
+                Choice::Choose(test, yes, no)
+            }
+        },
     }
 }
 

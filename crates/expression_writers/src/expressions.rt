@@ -12,8 +12,7 @@ use leaves::control::put_if;
 use leaves::rows::behind;
 use leaves::rows::more;
 use leaves::straight::put_straight;
-use measures::expressions::above_at;
-use measures::expressions::operands_at;
+use measures::parts::own_at;
 ghost use mathlib.Core.Path.{_≡_};
 ghost use mathlib.Core.Bool.{false};
 ghost use Prim.Native.Nat.{_+_, _*_};
@@ -45,10 +44,10 @@ pub fn write_expression(
     if row == 0 {
         return;
     }
-    let operands = operands_at(rows, row);
-    let first = operands.first;
-    let second = operands.second;
-    let above = level + above_at(rows, table, row);
+    let own = own_at(rows, table, row);
+    let first = own.first;
+    let second = own.second;
+    let above = level + own.above;
     let m = operand_size(rows, table, first);
     let k = operand_size(rows, table, second);
     let n = m + k;

@@ -26,8 +26,7 @@ use Rattle.leaves.proofs.rows.more.Reads as more-reads
 use Rattle.leaves.proofs.control.put_block.Reads as put-block-reads
 use Rattle.leaves.proofs.control.put_if.Reads as put-if-reads
 use Rattle.leaves.proofs.straight.put_straight.Reads as put-straight-reads
-use Rattle.measures.proofs.expressions.above_at.Reads as above-at-reads
-use Rattle.measures.proofs.expressions.operands_at.Reads as operands-at-reads
+use Rattle.measures.proofs.parts.own_at.Reads as own-at-reads
 use Rattle.expression_writers.proofs.Ranks.{rank}
 
 abbrev pub μ-write-branch : Measures 3 write-branch-kinds.ps ℕ
@@ -111,10 +110,8 @@ write-choice-claims t = (
 
 abbrev pub write-expression-claims : ℕ → write-expression-lts.Claims
 write-expression-claims t = (
-  operands-at-reads.Asked,
-  operands-at-reads.Learnt,
-  above-at-reads.Asked,
-  above-at-reads.Learnt,
+  own-at-reads.Asked,
+  own-at-reads.Learnt,
   operand-size-reads.Asked,
   operand-size-reads.Learnt,
   more-reads.Asked,

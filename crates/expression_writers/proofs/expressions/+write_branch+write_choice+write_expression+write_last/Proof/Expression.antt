@@ -8,7 +8,7 @@ use Rattle.measures.specs.MeasureLaws.{whole-behind}
 use Rattle.leaves.specs.LeafLaws.{recoded, nothing-wrote}
 use Rattle.expression_writers.specs.Code.{operandCode}
 use Rattle.expression_writers.proofs.Ranks.{rank-some}
-use Rattle.expression_writers.proofs.ExpressionParts.{ExpressionAsked, source, all-small, row-low}
+use Rattle.expression_writers.proofs.ExpressionParts.{ExpressionAsked, all-small, row-low}
 use Rattle.expression_writers.proofs.ExpressionParts.{OperandsFound, first-inside, first-small, second-inside, second-small, operands-within, above-low, first-falls, second-falls, first-asks}
 use Rattle.expression_writers.proofs.ExpressionParts.{ExpressionSizes, sizes-within, FirstOperand, first-reach, second-asks, SecondOperand, second-reach, last-asks}
 use Rattle.expression_writers.proofs.ExpressionParts.{LastPart, expression-length, expression-written}
@@ -30,15 +30,15 @@ module _ (t : ℕ) where
 
   -- The row is not absent, and its operands are known.
   abbrev Found : Type 0
-  Found = lts.After-operands-at (write-expression-claims t) (write-expression-at t) reads.Post
+  Found = lts.After-own-at (write-expression-claims t) (write-expression-at t) reads.Post
 
   abbrev found-start : Found → Start
   found-start c = c .before .before .before
 
-  at-operands : (c : Found) → OperandsFound (at-start (found-start c)) (c .operands-at .result)
-  at-operands c = record { some = omega (arith, c .before .if1 .left); at = c .operands-at .ensures }
+  at-operands : (c : Found) → OperandsFound (at-start (found-start c)) (c .own-at .result)
+  at-operands c = record { some = omega (arith, c .before .if1 .left); at = c .own-at .ensures }
 
-  -- How many levels higher the second operand is worked out and all sizes are known.
+  -- All sizes are known.
   abbrev Sized : Type 0
   Sized = lts.After-operand-size3 (write-expression-claims t) (write-expression-at t) reads.Post
 
@@ -46,10 +46,10 @@ module _ (t : ℕ) where
   sized-found c = c .before .before .before .before
 
   at-sizes : (c : Sized) →
-      ExpressionSizes (at-operands (sized-found c)) (c .before .before .before .above-at .result)
+      ExpressionSizes (at-operands (sized-found c)) (sized-found c .own-at .result .above)
       (c .before .before .operand-size .result) (c .before .operand-size2 .result) (c .operand-size3 .result)
   at-sizes c = record {
-    above-is = c .before .before .before .above-at .ensures;
+    above-is = sized-found c .own-at .ensures .above-is;
     first-is = c .before .before .operand-size .ensures;
     second-is = c .before .operand-size2 .ensures;
     all-is = c .operand-size3 .ensures;
@@ -106,20 +106,15 @@ module _ (t : ℕ) where
 
   -- ---- the operands and the sizes
 
-  pub operands-at-requires : lts.Need-operands-at-requires (write-expression-claims t) (write-expression-at t) reads.Post
-  operands-at-requires c κs =
+  pub own-at-requires : lts.Need-own-at-requires (write-expression-claims t) (write-expression-at t) reads.Post
+  own-at-requires c κs =
       let asked = at-start (c .before .before) in
-      (source asked, asked .asks .inside)
-
-  pub above-at-requires : lts.Need-above-at-requires (write-expression-claims t) (write-expression-at t) reads.Post
-  above-at-requires c κs =
-      let asked = at-start (found-start c) in
       (whole-behind (asked .writing .measured) _, asked .asks .inside)
 
   pub add-above : lts.Need-add-above (write-expression-claims t) (write-expression-at t) reads.Post
   add-above c =
       let found = c .before in
-      omega (arith, above-low (at-operands found) (c .above-at .ensures), row-low (at-start (found-start found)))
+      omega (arith, above-low (at-operands found) (found .own-at .ensures .above-is), row-low (at-start (found-start found)))
 
   pub operand-size-requires : lts.Need-operand-size-requires (write-expression-claims t) (write-expression-at t) reads.Post
   operand-size-requires c κs =

@@ -7,8 +7,7 @@ use Prim.Native.Nat.{ℕ, zero, suc, _+_, _*_, _-_, _≤_, _<_}
 use native.Mathlib.Omega.{arith}
 use lib.IntN.{ℤ}
 use lib.ListN.{length}
-use Rattle.words.specs.Table.{rowCount, wordAt, numberAt}
-use Rattle.words.specs.Kinds.{kindAt}
+use Rattle.words.specs.Table.{rowCount, numberAt}
 use Rattle.language.specs.Trees.{Expression, Mark, case, default, label, Statement, Items, none, _then_, _here_, _⧺_}
 use Rattle.language.specs.Sizes.{expressionRows, itemsRows}
 use Rattle.language.specs.TreeLaws.{append-none, append-append}
@@ -18,11 +17,11 @@ use Rattle.translation.specs.TranslateSize.{itemsSize, cases}
 use Rattle.translation.specs.TranslateRows.{rows-statement, rows-items}
 use Rattle.emission.specs.Emission.{emitItems}
 use Rattle.emission.specs.EmissionLaws.{orMore}
-use Rattle.measures.specs.Source.{Source, OptionalOnward}
-use Rattle.measures.specs.Shapes.{itemTree, ItemAt}
-use Rattle.measures.specs.declared.Item.{Item}
-use Rattle.measures.specs.declared.Item.the-variants.{Statement as StatementItem, Case, Default, Label}
-use Rattle.measures.proofs.Found.{item-found}
+use Rattle.shapes.specs.Shapes.{itemTree, OptionalOnward, ItemAt}
+use Rattle.shapes.specs.Source.{Source}
+use Rattle.shapes.specs.ShapeLaws.{item-found}
+use Rattle.shapes.specs.declared.Item.{Item}
+use Rattle.shapes.specs.declared.Item.the-variants.{Statement as StatementItem, Mark as MarkItem}
 use Rattle.words.specs.Over.{over}
 use Rattle.leaves.specs.Room.{Room, moreRows}
 use Rattle.writers.specs.Items.{itemSize, itemLabels, itemCases, itemTest, itemCode}
@@ -37,16 +36,14 @@ pub data First : Items → Items → Type 0 where
 
 tree-first : (rows : List ℤ) (item : Item) (s : Statement) (rest : Items) → First (itemTree rows item s rest) rest
 tree-first rows StatementItem s rest = statement
-tree-first rows (Case v) s rest = mark
-tree-first rows Default s rest = mark
-tree-first rows (Label l) s rest = mark
+tree-first rows (MarkItem m) s rest = mark
 
 pub some-list : (rows : List ℤ) (row : ℕ) → 0 < row → listAt rows row ≡ itemsAt rows row
 some-list rows zero h = absurd (omega arith)
 some-list rows (suc row) h = refl
 
 item-at : (rows : List ℤ) (row : ℕ) → Source rows → row < rowCount rows → (item : Item) × ItemAt rows row (numberAt rows row 5) item
-item-at rows row source inside = (_, item-found rows row source inside {kind = kindAt rows row} {k = kindAt rows row} (wordAt rows row 1) (numberAt rows row 1) refl refl refl refl)
+item-at rows row source inside = (_, item-found (source .sound) inside)
 
 -- What an item that a match tells makes of the list.
 pub item-is : {rows : List ℤ} {row next : ℕ} {item told : Item} → ItemAt rows row next item → item ≡ told → itemsAt rows row ≡ itemTree rows told (statementAt rows row) (listAt rows next)

@@ -1,22 +1,22 @@
 -- Programs: the block at row 0, and the labels of its code.
-use mathlib.Core.Path.{_≡_, ap, subst, _∙_}
+use mathlib.Core.Path.{_≡_, refl, ap, _∙_}
 use mathlib.Core.Bool.{false}
 use mathlib.Core.List.{List, append-nil}
 use Prim.Native.Nat.{ℕ, zero, suc, _≤_, _<_}
 use native.Mathlib.Omega.{arith}
 use lib.IntN.{ℤ}
 use Rattle.words.specs.Table.{rowCount, numberAt}
-use Rattle.words.specs.Kinds.{kindAt}
-use Rattle.words.specs.declared.Kind.{Kind}
-use Rattle.words.specs.declared.Kind.the-variants.{Block}
+use Rattle.words.specs.Kinds.{kindAt, isLink, statementFields, kindRow, sortIn}
+use Rattle.words.specs.declared.Kind.the-variants.{OfStatement}
+use Rattle.words.specs.declared.StatementKind.the-variants.{Block}
 use Rattle.language.specs.Trees.{Statement, empty, express, block, ifThen, ifElse, while, doWhile, for, switch, break, continue, goto, Items, none, _then_, _here_}
 use Rattle.language.specs.Decode.{listAt}
 use Rattle.language.specs.Program.{contents}
-use Rattle.language.specs.Sound.{SoundRow, OptionalLink}
+use Rattle.language.specs.SoundLaws.{optional-link-of}
 use Rattle.translation.specs.Translate.{labels, itemsLabels, exits, itemsCode}
 use Rattle.translation.specs.TranslateSize.{statementSize, itemsSize}
 use Rattle.emission.specs.Emission.{emitStatement, emitItems, emit}
-use Rattle.measures.specs.Source.{Source}
+use Rattle.shapes.specs.Source.{Source}
 use Rattle.words.specs.Over.{over}
 use Rattle.writers.specs.Program.{kernelProgram}
 
@@ -43,12 +43,12 @@ mutual
   list-labels-small (s then is) = omega (arith, labels-small s, list-labels-small is)
   list-labels-small (m here is) = omega (arith, list-labels-small is)
 
-module _ (rows : List ℤ) (source : Source rows) (is-block : kindAt rows 0 ≡ Block) where
+module _ (rows : List ℤ) (source : Source rows) (is-block : kindAt rows 0 ≡ OfStatement Block) where
   link-inside : (list : ℕ) → list ≡ numberAt rows 0 1 → list < rowCount rows
+  unfolding sortIn kindRow statementFields isLink
   link-inside zero e = source .sound .some-rows
   link-inside (suc list) e =
-      let link : OptionalLink rows (source .layout) (source .words) 0 1 =
-      subst (λ (k : Kind). SoundRow rows (source .layout) (source .words) 0 k) is-block (source .sound .row-sound 0 (source .sound .some-rows)) in
+      let link = optional-link-of (source .sound) (source .sound .some-rows) is-block 1 (omega arith) (omega arith) refl in
       rw e (link (rw (← e) (omega arith)) .inside)
 
   pub program-inside : {list : ℕ} → list ≡ numberAt rows 0 1 → list < rowCount rows

@@ -18,8 +18,8 @@ use Rattle.emission.specs.EmissionLaws.{emit-append, length-expression, length-
 use Rattle.words.specs.Over.{over}
 use Rattle.leaves.specs.Room.{moreRows}
 use Rattle.leaves.specs.Atoms.{atomTree}
-use Rattle.measures.specs.Shapes.{lineTree, LineAt}
-use Rattle.measures.specs.declared.Line.{Line}
+use Rattle.shapes.specs.Shapes.{statementTree, StatementAt}
+use Rattle.shapes.specs.declared.StatementShape.{StatementShape}
 use Rattle.leaves.specs.Asks.{AtomAt}
 use Rattle.writers.specs.Asks.{bodySize, bodyLabels, loopSize}
 use Rattle.expression_writers.specs.Code.{operandCode}
@@ -238,8 +238,8 @@ module _ (S : ℕ) (rows : List ℤ) where
 -- ---- what a statement at a row is
 
 -- What is written of a line is written of the statement.
-pub line-done : (S : ℕ) (x : Exits) (number base : ℕ) (follows : Bool) (l : List ℤ) {rows : List ℤ} {row : ℕ} {line : Line} {m : List ℤ} → LineAt rows row line
-    → m ≡ over (emitItems follows (statementCode S (lineTree rows line) x number) base) l → m ≡ over (emitItems follows (statementCode S (statementAt rows row) x number) base) l
+pub line-done : (S : ℕ) (x : Exits) (number base : ℕ) (follows : Bool) (l : List ℤ) {rows : List ℤ} {row : ℕ} {line : StatementShape} {m : List ℤ} → StatementAt rows row line
+    → m ≡ over (emitItems follows (statementCode S (statementTree rows line) x number) base) l → m ≡ over (emitItems follows (statementCode S (statementAt rows row) x number) base) l
 line-done S x number base follows l line e = e ∙ sym (ap (λ (s : Statement). over (emitItems follows (statementCode S s x number) base) l) (line .is))
 
 pub if-size : (rows : List ℤ) (onFalse : ℕ) (e : Expression) (s : Statement) → statementSize (ifOf onFalse e s (statementAt rows onFalse)) ≡ 4 + expressionSize e + statementSize s + bodySize rows onFalse

@@ -9,8 +9,8 @@ use Rattle.language.specs.Trees.{case, default, label, sameMark, Items, none, _
 use Rattle.language.specs.Decode.{statementAt, listAt}
 use Rattle.translation.specs.Translate.{labels, itemsLabels, labelOf}
 use Rattle.translation.specs.TranslateSize.{statementSize, itemsSize, cases}
-use Rattle.measures.specs.Source.{OptionalOnward}
-use Rattle.measures.specs.Measures.{pastLabels, defaultPlace, slot, slotAt, SlotAsks, Measured, MeasuredFrom}
+use Rattle.shapes.specs.Shapes.{OptionalOnward}
+use Rattle.measures.specs.Measures.{pastLabels, defaultPlace, statementRowsSlot, statementLabelsSlot, listRowsSlot, listCasesSlot, listDefaultSlot, slot, slotAt, SlotAsks, Measured, MeasuredFrom}
 use Rattle.measures.specs.MeasureLaws.{limited-small, list-rows, list-cases, list-default, slot-asks}
 
 -- ---- the label of a list's default, from its place
@@ -65,17 +65,17 @@ module _ (rows : List ℤ) (table : List ℕ) (measured : Measured rows table) w
   pub word-asks : (link k : ℕ) → link < rowCount rows → k < 11 → SlotAsks table link k
   word-asks link k inside h = slot-asks later-measured (as-link link inside) k h
 
-  pub statement-rows : (row : ℕ) → row < rowCount rows → statementSize (statementAt rows row) ≤ 40980 → slot table row 3 ≡ statementSize (statementAt rows row)
+  pub statement-rows : (row : ℕ) → row < rowCount rows → statementSize (statementAt rows row) ≤ 40980 → slot table row statementRowsSlot ≡ statementSize (statementAt rows row)
   statement-rows row inside h = measured .row-measured row (omega arith) inside .statement .rows-are ∙ limited-small _ (omega arith)
 
-  pub statement-labels : (row : ℕ) → row < rowCount rows → labels (statementAt rows row) ≤ 65535 → slot table row 5 ≡ labels (statementAt rows row)
+  pub statement-labels : (row : ℕ) → row < rowCount rows → labels (statementAt rows row) ≤ 65535 → slot table row statementLabelsSlot ≡ labels (statementAt rows row)
   statement-labels row inside h = measured .row-measured row (omega arith) inside .statement .labels-are ∙ limited-small _ (omega arith)
 
-  pub rows-of-list : (list : ℕ) → list < rowCount rows → itemsSize (listAt rows list) ≤ 40980 → slotAt table list 6 ≡ itemsSize (listAt rows list)
+  pub rows-of-list : (list : ℕ) → list < rowCount rows → itemsSize (listAt rows list) ≤ 40980 → slotAt table list listRowsSlot ≡ itemsSize (listAt rows list)
   rows-of-list list inside h = list-rows rows table later-measured list (as-link list inside) ∙ limited-small _ (omega arith)
 
-  pub cases-of-list : (list : ℕ) → list < rowCount rows → cases (listAt rows list) ≤ 40980 → slotAt table list 9 ≡ cases (listAt rows list)
+  pub cases-of-list : (list : ℕ) → list < rowCount rows → cases (listAt rows list) ≤ 40980 → slotAt table list listCasesSlot ≡ cases (listAt rows list)
   cases-of-list list inside h = list-cases rows table later-measured list (as-link list inside) ∙ limited-small _ (omega arith)
 
-  pub default-of-list : (list : ℕ) → list < rowCount rows → itemsLabels (listAt rows list) ≤ 65535 → slotAt table list 10 ≡ defaultPlace (listAt rows list)
+  pub default-of-list : (list : ℕ) → list < rowCount rows → itemsLabels (listAt rows list) ≤ 65535 → slotAt table list listDefaultSlot ≡ defaultPlace (listAt rows list)
   default-of-list list inside h = list-default rows table later-measured list (as-link list inside) ∙ limited-small _ (omega (arith, default-most (listAt rows list)))

@@ -6,7 +6,7 @@ use Rattle.words.specs.Table.{rowCount}
 use Rattle.language.specs.Decode.{expressionAt, statementAt, itemsAt, listAt, partAt}
 use Rattle.translation.specs.Translate.{labels, itemsLabels}
 use Rattle.translation.specs.TranslateSize.{expressionSize, partSize, testSize, statementSize, itemsSize, cases}
-use Rattle.measures.specs.Source.{Source}
+use Rattle.shapes.specs.Source.{Source}
 use Rattle.leaves.specs.Room.{Room}
 use Rattle.leaves.specs.Atoms.{AtomFits}
 use Rattle.leaves.specs.declared.Atom.{Atom}

@@ -1,11 +1,10 @@
 // Writers: the code that writes the rows of a translation. The output table's part from the free row is lent on to each construct's
 // writer; the table of measures says beforehand how many rows each takes.
-pub mod ifs; // ifs.rt: the writers of an if and of its branches
 pub mod lists; // lists.rt: what statements, items and lists take, by the table of measures
-pub mod loops; // loops.rt: the writers of loops and of their parts
+pub mod loops; // loops.rt: the parts of a loop
 pub mod program; // program.rt: the writer of a program
-pub mod statements; // statements.rt: the writers of statements, blocks and lists
-pub mod switches; // switches.rt: the writers of a switch and of its tests
+pub mod statements; // statements.rt: the writers of statements, blocks and lists, which call each other
+pub mod switches; // switches.rt: the tests of a switch
 
 // The labels to which break and continue go.
 pub struct Exits {

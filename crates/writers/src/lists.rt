@@ -1,7 +1,13 @@
 // What statements, items and lists take, by the table of measures: rows, labels, cases.
-use measures::Item;
-use measures::lines::item_at;
+use measures::LIST_CASES;
+use measures::LIST_DEFAULT;
+use measures::LIST_ROWS;
+use measures::STATEMENT_LABELS;
+use measures::STATEMENT_ROWS;
+use measures::WIDTH;
 use measures::table::measure_at;
+use shapes::Item;
+use shapes::rows::item_at;
 ghost use mathlib.Core.Path.{_≡_};
 ghost use Prim.Native.Nat.{_≤_, _<_};
 ghost use Rattle.words.specs.Table.{rowCount};
@@ -11,14 +17,14 @@ ghost use Rattle.translation.specs.Translate.{labels, labelOf};
 ghost use Rattle.translation.specs.TranslateSize.{statementSize, itemsSize, cases};
 ghost use Rattle.measures.specs.Measures.{Measured};
 ghost use Rattle.writers.specs.Items.{itemSize, itemLabels};
-ghost use Rattle.writers.specs.Asks.{ListInside};
+ghost use Rattle.writers.specs.Asks.{bodySize, ListInside};
 
 // The kernel rows of the statement at a row.
 pub fn statement_size(rows: &[i32], table: &[usize], row: usize) -> usize
     requires { ⌜ Measured (now rows) (now table) × (row < rowCount (now rows)) × (statementSize (statementAt (now rows) row) ≤ 40980) ⌝ }
     ensures { λ r. ⌜ r ≡ statementSize (statementAt (now (rows .entry)) row) ⌝ }
 {
-    table[11 * row + 3]
+    table[WIDTH * row + STATEMENT_ROWS]
 }
 
 // The labels of the statement at a row.
@@ -26,7 +32,18 @@ pub fn statement_labels(rows: &[i32], table: &[usize], row: usize) -> usize
     requires { ⌜ Measured (now rows) (now table) × (row < rowCount (now rows)) × (labels (statementAt (now rows) row) ≤ 65535) ⌝ }
     ensures { λ r. ⌜ r ≡ labels (statementAt (now (rows .entry)) row) ⌝ }
 {
-    table[11 * row + 5]
+    table[WIDTH * row + STATEMENT_LABELS]
+}
+
+// The kernel rows of a branch that may be absent.
+pub fn body_size(rows: &[i32], table: &[usize], row: usize) -> usize
+    requires { ⌜ Measured (now rows) (now table) × (row < rowCount (now rows)) × (bodySize (now rows) row ≤ 40980) ⌝ }
+    ensures { λ r. ⌜ r ≡ bodySize (now (rows .entry)) row ⌝ }
+{
+    if row == 0 {
+        return 0;
+    }
+    statement_size(rows, table, row)
 }
 
 // The kernel rows of the list at a link.
@@ -34,7 +51,7 @@ pub fn list_size(rows: &[i32], table: &[usize], list: usize) -> usize
     requires { ⌜ Measured (now rows) (now table) × (list < rowCount (now rows)) × (itemsSize (listAt (now rows) list) ≤ 40980) ⌝ }
     ensures { λ r. ⌜ r ≡ itemsSize (listAt (now (rows .entry)) list) ⌝ }
 {
-    measure_at(table, list, 6)
+    measure_at(table, list, LIST_ROWS)
 }
 
 // The cases of the list at a link.
@@ -42,7 +59,7 @@ pub fn list_cases(rows: &[i32], table: &[usize], list: usize) -> usize
     requires { ⌜ Measured (now rows) (now table) × (list < rowCount (now rows)) × (cases (listAt (now rows) list) ≤ 40980) ⌝ }
     ensures { λ r. ⌜ r ≡ cases (listAt (now (rows .entry)) list) ⌝ }
 {
-    measure_at(table, list, 9)
+    measure_at(table, list, LIST_CASES)
 }
 
 // The label of the list's default, or `other`.
@@ -56,7 +73,7 @@ pub fn default_label(
     requires { ⌜ Measured (now rows) (now table) × ListInside (now rows) list label ⌝ }
     ensures { λ r. ⌜ r ≡ labelOf default (listAt (now (rows .entry)) list) label other ⌝ }
 {
-    let place = measure_at(table, list, 10);
+    let place = measure_at(table, list, LIST_DEFAULT);
     if place == 0 {
         return other;
     }
@@ -71,9 +88,7 @@ pub fn item_size(rows: &[i32], table: &[usize], row: usize) -> usize
     let item = item_at(rows, row);
     match item {
         Item::Statement => statement_size(rows, table, row),
-        Item::Case(_) => 1,
-        Item::Default => 1,
-        Item::Label(_) => 1,
+        Item::Mark(_) => 1,
     }
 }
 
@@ -85,8 +100,6 @@ pub fn item_labels(rows: &[i32], table: &[usize], row: usize) -> usize
     let item = item_at(rows, row);
     match item {
         Item::Statement => statement_labels(rows, table, row),
-        Item::Case(_) => 1,
-        Item::Default => 1,
-        Item::Label(_) => 1,
+        Item::Mark(_) => 1,
     }
 }

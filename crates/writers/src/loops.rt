@@ -1,14 +1,11 @@
-// The writers of loops: while, do and for have one form, and each of their parts one writer.
-use super::Exits;
+// The parts of a loop: its test, the end of its rounds, and the rows of a round. While, do and for have one form.
 use super::Loop;
 use super::lists::statement_size;
-use super::statements::write_statement;
 use expression_writers::expressions::write_expression;
 use leaves::atoms::atom_at;
 use leaves::atoms::operand_size;
 use leaves::control::put_exit;
 use leaves::control::put_label;
-use leaves::control::put_loop;
 use leaves::rows::more;
 ghost use mathlib.Core.Path.{_≡_};
 ghost use mathlib.Core.Bool.{false};
@@ -22,13 +19,12 @@ ghost use Rattle.translation.specs.TranslateSize.{testSize as testSizeOf};
 ghost use Rattle.emission.specs.Emission.{emitItems};
 ghost use Rattle.measures.specs.Measures.{Measured};
 ghost use Rattle.words.specs.Over.{over};
-ghost use Rattle.leaves.specs.Room.{Room};
 ghost use Rattle.leaves.specs.Asks.{Writing};
-ghost use Rattle.writers.specs.Code.{roundCode, wholeLoop, roundEnd};
-ghost use Rattle.writers.specs.Asks.{roundSize, loopSize, LoopFits, TestAsks, RoundEndAsks};
+ghost use Rattle.writers.specs.Code.{roundEnd};
+ghost use Rattle.writers.specs.Asks.{roundSize, LoopFits, TestAsks, RoundEndAsks};
 
 // The rows of a loop's test; an absent one takes none.
-fn test_size(rows: &[i32], table: &[usize], test: usize) -> usize
+pub fn test_size(rows: &[i32], table: &[usize], test: usize) -> usize
     requires { ⌜ Measured (now rows) (now table) × (test < rowCount (now rows)) × (testSizeOf (partAt (now rows) test) ≤ 40980) ⌝ }
     ensures { λ r. ⌜ r ≡ testSizeOf (partAt (now (rows .entry)) test) ⌝ }
 {
@@ -39,7 +35,7 @@ fn test_size(rows: &[i32], table: &[usize], test: usize) -> usize
 }
 
 // A loop's test: where it is 0, go to the label.
-fn write_test(
+pub fn write_test(
     rows: &[i32],
     table: &[usize],
     store: usize,
@@ -62,7 +58,7 @@ fn write_test(
 }
 
 // The end of a round: the label for continue, the step, and a test behind the body.
-fn write_round_end(
+pub fn write_round_end(
     rows: &[i32],
     table: &[usize],
     store: usize,
@@ -93,41 +89,8 @@ fn write_round_end(
     );
 }
 
-// A loop: its first part, the loop itself, and the label behind it.
-pub fn write_loop(
-    rows: &[i32],
-    table: &[usize],
-    store: usize,
-    parts: Loop,
-    label: usize,
-    base: usize,
-    follows: bool,
-    out: &mut [i32],
-)
-    requires { ⌜ Writing (now rows) (now table) store × LoopFits (now rows) parts label × Room (loopSize (now rows) parts) base (length (now out)) ⌝ }
-    ensures { λ _. ⌜ now (out .exit) ≡ over (emitItems follows (wholeLoop store (now (rows .entry)) parts label) base) (now (out .entry)) ⌝ }
-{
-    let first = parts.first;
-    let k = operand_size(rows, table, first);
-    let n = k + 3;
-    let round = round_size(rows, table, parts);
-    let m = n + round;
-    write_expression(rows, table, store, first, 0, base, true, out);
-    put_loop(base + k, round, &mut out[6 * k..]);
-    write_round(
-        rows,
-        table,
-        store,
-        parts,
-        label,
-        base + n,
-        &mut out[6 * n..],
-    );
-    put_label(label, base + m, follows, &mut out[6 * m..]);
-}
-
 // The rows of a round.
-fn round_size(rows: &[i32], table: &[usize], parts: Loop) -> usize
+pub fn round_size(rows: &[i32], table: &[usize], parts: Loop) -> usize
     requires { ⌜ Measured (now rows) (now table) × LoopFits (now rows) parts 0 × (roundSize (now rows) parts ≤ 40980) ⌝ }
     ensures { λ r. ⌜ r ≡ roundSize (now (rows .entry)) parts ⌝ }
 {
@@ -135,49 +98,4 @@ fn round_size(rows: &[i32], table: &[usize], parts: Loop) -> usize
     let body = statement_size(rows, table, parts.body);
     let end = 1 + operand_size(rows, table, parts.action) + test_size(rows, table, parts.after);
     before + body + end
-}
-
-// A round of a loop.
-fn write_round(
-    rows: &[i32],
-    table: &[usize],
-    store: usize,
-    parts: Loop,
-    label: usize,
-    base: usize,
-    out: &mut [i32],
-)
-    requires { ⌜ Writing (now rows) (now table) store × LoopFits (now rows) parts label × Room (roundSize (now rows) parts) base (length (now out)) ⌝ }
-    ensures { λ _. ⌜ now (out .exit) ≡ over (emitItems false (roundCode store (now (rows .entry)) parts label) base) (now (out .entry)) ⌝ }
-{
-    let before = parts.before;
-    let body = parts.body;
-    let k = test_size(rows, table, before);
-    let n = k + statement_size(rows, table, body);
-    let inner = Exits {
-        breaking: label,
-        continuing: label + 1,
-    };
-    write_test(rows, table, store, before, label, base, true, out);
-    write_statement(
-        rows,
-        table,
-        store,
-        body,
-        inner,
-        label + 2,
-        base + k,
-        true,
-        &mut out[6 * k..],
-    );
-    write_round_end(
-        rows,
-        table,
-        store,
-        parts.action,
-        parts.after,
-        label,
-        base + n,
-        &mut out[6 * n..],
-    );
 }

@@ -1,36 +1,49 @@
-// The writers of statements, blocks and lists.
+// The writers of statements, blocks and lists: the functions that call each other, by what they write.
 use super::Exits;
 use super::Loop;
-use super::ifs::write_if;
+use super::lists::body_size;
+use super::lists::default_label;
 use super::lists::item_labels;
 use super::lists::item_size;
+use super::lists::list_cases;
 use super::lists::list_size;
-use super::loops::write_loop;
-use super::switches::write_switch;
+use super::lists::statement_labels;
+use super::lists::statement_size;
+use super::loops::round_size;
+use super::loops::test_size;
+use super::loops::write_round_end;
+use super::loops::write_test;
+use super::switches::write_cases;
 use expression_writers::expressions::write_expression;
+use leaves::atoms::atom_at;
 use leaves::atoms::operand_size;
 use leaves::control::put_block;
 use leaves::control::put_empty;
 use leaves::control::put_goto;
+use leaves::control::put_if;
 use leaves::control::put_label;
+use leaves::control::put_loop;
 use leaves::rows::behind;
 use leaves::rows::more;
-use measures::Item;
-use measures::Line;
-use measures::lines::item_at;
-use measures::lines::line_at;
+use measures::expressions::taken_at;
+use shapes::Item;
+use shapes::StatementShape;
+use shapes::rows::item_at;
+use shapes::rows::statement_at;
 use words::table::number_at;
 ghost use mathlib.Core.Path.{_≡_};
+ghost use mathlib.Core.Bool.{false};
 ghost use lib.ListN.{length};
-ghost use Rattle.language.specs.Trees.{block, none, _then_};
-ghost use Rattle.language.specs.Decode.{expressionAt, statementAt, itemsAt, listAt};
-ghost use Rattle.translation.specs.Translate.{expressionCode, orEmpty, statementCode, itemsCode};
-ghost use Rattle.emission.specs.Emission.{emitItems};
-ghost use Rattle.words.specs.Over.{over};
+ghost use Rattle.emission.specs.Emission.{emitItems, emitStatement};
+ghost use Rattle.language.specs.Decode.{expressionAt, ifOf, statementAt, itemsAt, listAt};
+ghost use Rattle.language.specs.Trees.{block, none, _then_, switch};
 ghost use Rattle.leaves.specs.Asks.{Writing};
+ghost use Rattle.leaves.specs.Room.{Room};
+ghost use Rattle.translation.specs.Translate.{expressionCode, orEmpty, statementCode, itemsCode};
+ghost use Rattle.words.specs.Over.{over};
+ghost use Rattle.writers.specs.Asks.{BodyAsks, IfAsks, StatementAsks, ListAsks, BlockAsks, ItemAsks, ExpressAsks, SwitchAsks, roundSize, loopSize, LoopFits};
+ghost use Rattle.writers.specs.Code.{exitsOf, bodyCode, roundCode, wholeLoop};
 ghost use Rattle.writers.specs.Items.{itemCode};
-ghost use Rattle.writers.specs.Code.{exitsOf};
-ghost use Rattle.writers.specs.Asks.{StatementAsks, ListAsks, BlockAsks, ItemAsks, ExpressAsks};
 
 // An expression statement: one that leaves nothing to do leaves an empty statement.
 fn write_express(
@@ -68,11 +81,11 @@ pub fn write_statement(
     requires { ⌜ Writing (now rows) (now table) store × StatementAsks (now rows) row exits label base (length (now out)) ⌝ }
     ensures { λ _. ⌜ now (out .exit) ≡ over (emitItems follows (statementCode store (statementAt (now (rows .entry)) row) (exitsOf exits) label) base) (now (out .entry)) ⌝ }
 {
-    let line = line_at(rows, row);
+    let line = statement_at(rows, row);
     match line {
-        Line::Empty => put_empty(base, follows, out),
-        Line::Express(e) => write_express(rows, table, store, e, base, follows, out),
-        Line::Block(list) => write_block(
+        StatementShape::Empty => put_empty(base, follows, out),
+        StatementShape::Express(e) => write_express(rows, table, store, e, base, follows, out),
+        StatementShape::Block(list) => write_block(
             rows,
             table,
             store,
@@ -83,7 +96,7 @@ pub fn write_statement(
             follows,
             out,
         ),
-        Line::If(e, yes, no) => write_if(
+        StatementShape::If(e, yes, no) => write_if(
             rows,
             table,
             store,
@@ -96,7 +109,7 @@ pub fn write_statement(
             follows,
             out,
         ),
-        Line::While(e, body) => write_loop(
+        StatementShape::While(e, body) => write_loop(
             rows,
             table,
             store,
@@ -112,7 +125,7 @@ pub fn write_statement(
             follows,
             out,
         ),
-        Line::Do(body, e) => write_loop(
+        StatementShape::Do(body, e) => write_loop(
             rows,
             table,
             store,
@@ -128,7 +141,7 @@ pub fn write_statement(
             follows,
             out,
         ),
-        Line::For(first, test, action, body) => write_loop(
+        StatementShape::For(first, test, action, body) => write_loop(
             rows,
             table,
             store,
@@ -144,7 +157,7 @@ pub fn write_statement(
             follows,
             out,
         ),
-        Line::Switch(e, list) => write_switch(
+        StatementShape::Switch(e, list) => write_switch(
             rows,
             table,
             store,
@@ -156,11 +169,240 @@ pub fn write_statement(
             follows,
             out,
         ),
-        Line::Break => put_goto(exits.breaking, base, follows, out),
-        Line::Continue => put_goto(exits.continuing, base, follows, out),
-        Line::Goto(_) => put_empty(base, follows, out),
+        StatementShape::Break => put_goto(exits.breaking, base, follows, out),
+        StatementShape::Continue => put_goto(exits.continuing, base, follows, out),
+        StatementShape::Goto(_) => put_empty(base, follows, out),
     }
 }
+
+// ---- ifs
+
+// An if: its test, and a block for each branch.
+fn write_if(
+    rows: &[i32],
+    table: &[usize],
+    store: usize,
+    test: usize,
+    yes: usize,
+    no: usize,
+    exits: Exits,
+    label: usize,
+    base: usize,
+    follows: bool,
+    out: &mut [i32],
+)
+    requires { ⌜ Writing (now rows) (now table) store × IfAsks (now rows) test yes no exits label base (length (now out)) ⌝ }
+    ensures { λ _. ⌜ now (out .exit) ≡ over (emitItems follows (statementCode store (ifOf no (expressionAt (now (rows .entry)) test) (statementAt (now (rows .entry)) yes) (statementAt (now (rows .entry)) no)) (exitsOf exits) label) base) (now (out .entry)) ⌝ }
+{
+    let k = operand_size(rows, table, test);
+    let n = k + 2;
+    let m = n + 1 + statement_size(rows, table, yes);
+    let end = m + 1 + body_size(rows, table, no);
+    let atom = atom_at(rows, table, store, test, 0);
+    let other = label + statement_labels(rows, table, yes);
+    write_expression(rows, table, store, test, 0, base, true, out);
+    put_if(
+        atom,
+        base + k,
+        base + m,
+        behind(follows, base + end),
+        &mut out[6 * k..],
+    );
+    write_body(
+        rows,
+        table,
+        store,
+        yes,
+        exits,
+        label,
+        base + n,
+        &mut out[6 * n..],
+    );
+    write_body(
+        rows,
+        table,
+        store,
+        no,
+        exits,
+        other,
+        base + m,
+        &mut out[6 * m..],
+    );
+}
+
+// A block of the statement at a link, or an empty one.
+fn write_body(
+    rows: &[i32],
+    table: &[usize],
+    store: usize,
+    row: usize,
+    exits: Exits,
+    label: usize,
+    base: usize,
+    out: &mut [i32],
+)
+    requires { ⌜ Writing (now rows) (now table) store × BodyAsks (now rows) row exits label base (length (now out)) ⌝ }
+    ensures { λ _. ⌜ now (out .exit) ≡ over (emitStatement (block (bodyCode store (now (rows .entry)) row (exitsOf exits) label)) base 0) (now (out .entry)) ⌝ }
+{
+    if row == 0 {
+        put_block(0, 0, out);
+        return;
+    }
+    put_block(base + 1, 0, out);
+    write_statement(
+        rows,
+        table,
+        store,
+        row,
+        exits,
+        label,
+        base + 1,
+        false,
+        &mut out[6..],
+    );
+}
+
+// ---- loops: while, do and for have one form
+
+// A loop: its first part, the loop itself, and the label behind it.
+fn write_loop(
+    rows: &[i32],
+    table: &[usize],
+    store: usize,
+    parts: Loop,
+    label: usize,
+    base: usize,
+    follows: bool,
+    out: &mut [i32],
+)
+    requires { ⌜ Writing (now rows) (now table) store × LoopFits (now rows) parts label × Room (loopSize (now rows) parts) base (length (now out)) ⌝ }
+    ensures { λ _. ⌜ now (out .exit) ≡ over (emitItems follows (wholeLoop store (now (rows .entry)) parts label) base) (now (out .entry)) ⌝ }
+{
+    let first = parts.first;
+    let k = operand_size(rows, table, first);
+    let n = k + 3;
+    let round = round_size(rows, table, parts);
+    let m = n + round;
+    write_expression(rows, table, store, first, 0, base, true, out);
+    put_loop(base + k, round, &mut out[6 * k..]);
+    write_round(
+        rows,
+        table,
+        store,
+        parts,
+        label,
+        base + n,
+        &mut out[6 * n..],
+    );
+    put_label(label, base + m, follows, &mut out[6 * m..]);
+}
+
+// A round of a loop.
+fn write_round(
+    rows: &[i32],
+    table: &[usize],
+    store: usize,
+    parts: Loop,
+    label: usize,
+    base: usize,
+    out: &mut [i32],
+)
+    requires { ⌜ Writing (now rows) (now table) store × LoopFits (now rows) parts label × Room (roundSize (now rows) parts) base (length (now out)) ⌝ }
+    ensures { λ _. ⌜ now (out .exit) ≡ over (emitItems false (roundCode store (now (rows .entry)) parts label) base) (now (out .entry)) ⌝ }
+{
+    let before = parts.before;
+    let body = parts.body;
+    let k = test_size(rows, table, before);
+    let n = k + statement_size(rows, table, body);
+    let inner = Exits {
+        breaking: label,
+        continuing: label + 1,
+    };
+    write_test(rows, table, store, before, label, base, true, out);
+    write_statement(
+        rows,
+        table,
+        store,
+        body,
+        inner,
+        label + 2,
+        base + k,
+        true,
+        &mut out[6 * k..],
+    );
+    write_round_end(
+        rows,
+        table,
+        store,
+        parts.action,
+        parts.after,
+        label,
+        base + n,
+        &mut out[6 * n..],
+    );
+}
+
+// ---- switches
+
+// A switch: its selector, the tests, the jump to the default, the items, and the label behind it.
+fn write_switch(
+    rows: &[i32],
+    table: &[usize],
+    store: usize,
+    selector: usize,
+    list: usize,
+    exits: Exits,
+    label: usize,
+    base: usize,
+    follows: bool,
+    out: &mut [i32],
+)
+    requires { ⌜ Writing (now rows) (now table) store × SwitchAsks (now rows) selector list exits label base (length (now out)) ⌝ }
+    ensures { λ _. ⌜ now (out .exit) ≡ over (emitItems follows (statementCode store (switch (expressionAt (now (rows .entry)) selector) (listAt (now (rows .entry)) list)) (exitsOf exits) label) base) (now (out .entry)) ⌝ }
+{
+    let k = operand_size(rows, table, selector);
+    let n = k + 11 * list_cases(rows, table, list);
+    let i = n + 1;
+    let m = i + list_size(rows, table, list);
+    let atom = atom_at(rows, table, store, selector, 0);
+    let level = taken_at(rows, table, selector);
+    let inner = Exits {
+        breaking: label,
+        continuing: exits.continuing,
+    };
+    write_expression(rows, table, store, selector, 0, base, true, out);
+    write_cases(
+        rows,
+        table,
+        list,
+        atom,
+        store,
+        level,
+        label + 1,
+        base + k,
+        &mut out[6 * k..],
+    );
+    put_goto(
+        default_label(rows, table, list, label + 1, label),
+        base + n,
+        true,
+        &mut out[6 * n..],
+    );
+    write_list(
+        rows,
+        table,
+        store,
+        list,
+        inner,
+        label + 1,
+        base + i,
+        true,
+        &mut out[6 * i..],
+    );
+    put_label(label, base + m, follows, &mut out[6 * m..]);
+}
+
+// ---- blocks and lists
 
 // A block of the list at a link.
 pub fn write_block(
@@ -197,7 +439,7 @@ pub fn write_block(
 }
 
 // The code of the list at a link. Its labels begin at `label`.
-pub fn write_list(
+fn write_list(
     rows: &[i32],
     table: &[usize],
     store: usize,
@@ -262,8 +504,6 @@ fn write_item(
             follows,
             out,
         ),
-        Item::Case(_) => put_label(label, base, follows, out),
-        Item::Default => put_label(label, base, follows, out),
-        Item::Label(_) => put_label(label, base, follows, out),
+        Item::Mark(_) => put_label(label, base, follows, out),
     }
 }

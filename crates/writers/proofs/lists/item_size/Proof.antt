@@ -20,23 +20,11 @@ statement-size-requires c κs =
 enum-told-2 : tie.Need-enum-told-2
 enum-told-2 c = search needs
 
-enum-told-3 : tie.Need-enum-told-3
-enum-told-3 c = search needs
-
-enum-told-4 : tie.Need-enum-told-4
-enum-told-4 c = search needs
-
 returns : tie.Need-returns
 returns c = c .statement-size .ensures ∙ sym (ap itemSize (item-is (c .before .before .before .item-at .ensures) (c .before .enum-told .given .1)))
 
 returns-2 : tie.Need-returns-2
 returns-2 c = sym (ap itemSize (item-is (c .before .before .item-at .ensures) (c .enum-told2 .given .1)))
-
-returns-3 : tie.Need-returns-3
-returns-3 c = sym (ap itemSize (item-is (c .before .before .item-at .ensures) (c .enum-told3 .given .1)))
-
-returns-4 : tie.Need-returns-4
-returns-4 c = sym (ap itemSize (item-is (c .before .before .item-at .ensures) (c .enum-told4 .given .1)))
 
 pub item-size-spec : {M : Type 1} → statement M
 item-size-spec =
@@ -46,9 +34,5 @@ item-size-spec =
     enum-told
     statement-size-requires
     enum-told-2
-    enum-told-3
-    enum-told-4
     returns
-    returns-2
-    returns-3
-    returns-4)
+    returns-2)

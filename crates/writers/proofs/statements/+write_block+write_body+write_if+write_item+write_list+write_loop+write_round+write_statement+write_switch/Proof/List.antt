@@ -9,8 +9,8 @@ use Rattle.leaves.specs.Room.{moreRows}
 use Rattle.writers.specs.Code.{exitsOf}
 use Rattle.writers.proofs.ListLaws.{Progress, start as begin, finish, above, above-some, next-less, behind-inside, behind-size, behind-labels, room-item, items-step}
 use Rattle.writers.proofs.statements.write_list.Reads as reads
-use Rattle.writers.proofs.+ifs-write_body+ifs-write_if+loops-write_loop+loops-write_round+statements-write_block+statements-write_item+statements-write_list+statements-write_statement+switches-write_switch.Lts-statements-write_list as lts
-use Rattle.writers.proofs.+ifs-write_body+ifs-write_if+loops-write_loop+loops-write_round+statements-write_block+statements-write_item+statements-write_list+statements-write_statement+switches-write_switch.Proof.Claims.{write-list-claims, write-list-at}
+use Rattle.writers.proofs.statements.+write_block+write_body+write_if+write_item+write_list+write_loop+write_round+write_statement+write_switch.Lts-write_list as lts
+use Rattle.writers.proofs.statements.+write_block+write_body+write_if+write_item+write_list+write_loop+write_round+write_statement+write_switch.Proof.Claims.{write-list-claims, write-list-at}
 
 abbrev pub Inv-loop : lts.InvT-loop
 Inv-loop rows table store list exits label base follows out₀ item₀ from₀ n₀ out item from n =

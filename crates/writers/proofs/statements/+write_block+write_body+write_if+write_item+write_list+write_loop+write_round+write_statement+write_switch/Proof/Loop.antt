@@ -5,9 +5,9 @@ use native.Mathlib.Omega.{arith}
 use Rattle.leaves.specs.Chain.{Reach, back-in, room-less}
 use Rattle.writers.proofs.Sequence.{back-length, room-behind}
 use Rattle.writers.proofs.LoopLaws.{loop-done}
-use Rattle.writers.proofs.loops.write_loop.Reads as reads
-use Rattle.writers.proofs.+ifs-write_body+ifs-write_if+loops-write_loop+loops-write_round+statements-write_block+statements-write_item+statements-write_list+statements-write_statement+switches-write_switch.Lts-loops-write_loop as lts
-use Rattle.writers.proofs.+ifs-write_body+ifs-write_if+loops-write_loop+loops-write_round+statements-write_block+statements-write_item+statements-write_list+statements-write_statement+switches-write_switch.Proof.Claims.{write-loop-claims, write-loop-at}
+use Rattle.writers.proofs.statements.write_loop.Reads as reads
+use Rattle.writers.proofs.statements.+write_block+write_body+write_if+write_item+write_list+write_loop+write_round+write_statement+write_switch.Lts-write_loop as lts
+use Rattle.writers.proofs.statements.+write_block+write_body+write_if+write_item+write_list+write_loop+write_round+write_statement+write_switch.Proof.Claims.{write-loop-claims, write-loop-at}
 
 pub operand-size-requires : (t : ℕ) → lts.Need-operand-size-requires (write-loop-claims t) (write-loop-at t) reads.Post
 operand-size-requires t c κs =

@@ -10,18 +10,18 @@ use Rattle.language.specs.Decode.{expressionAt, statementAt}
 use Rattle.translation.specs.Translate.{labels, statementCode}
 use Rattle.translation.specs.TranslateSize.{statementSize}
 use Rattle.emission.specs.Emission.{emitItems}
-use Rattle.measures.specs.ShapeLaws.{lined}
+use Rattle.shapes.specs.ShapeLaws.{stated}
 use Rattle.words.specs.Over.{over}
 use Rattle.writers.specs.Code.{exitsOf}
 use Rattle.leaves.specs.Chain.{room-less}
 use Rattle.writers.proofs.ListLaws.{above-less, optional-inside}
 use Rattle.writers.proofs.StatementLaws.{line-done, if-size, if-labels, while-size, do-size, for-size, while-code, do-code, for-code}
 use Rattle.writers.proofs.statements.write_statement.Reads as reads
-use Rattle.writers.proofs.+ifs-write_body+ifs-write_if+loops-write_loop+loops-write_round+statements-write_block+statements-write_item+statements-write_list+statements-write_statement+switches-write_switch.Lts-statements-write_statement as lts
-use Rattle.writers.proofs.+ifs-write_body+ifs-write_if+loops-write_loop+loops-write_round+statements-write_block+statements-write_item+statements-write_list+statements-write_statement+switches-write_switch.Proof.Claims.{write-statement-claims, write-statement-at}
+use Rattle.writers.proofs.statements.+write_block+write_body+write_if+write_item+write_list+write_loop+write_round+write_statement+write_switch.Lts-write_statement as lts
+use Rattle.writers.proofs.statements.+write_block+write_body+write_if+write_item+write_list+write_loop+write_round+write_statement+write_switch.Proof.Claims.{write-statement-claims, write-statement-at}
 
-pub line-at-requires : (t : ℕ) → lts.Need-line-at-requires (write-statement-claims t) (write-statement-at t) reads.Post
-line-at-requires t c κs =
+pub statement-at-requires : (t : ℕ) → lts.Need-statement-at-requires (write-statement-claims t) (write-statement-at t) reads.Post
+statement-at-requires t c κs =
     let start = c .before in
     let writing = start .pre .1 .0 in
     let asks = start .pre .1 .1 in
@@ -33,9 +33,9 @@ enum-told t c = search needs
 pub put-empty-requires : (t : ℕ) → lts.Need-put-empty-requires (write-statement-claims t) (write-statement-at t) reads.Post
 unfolding statementSize
 put-empty-requires t c κs =
-    let past-line-at = c .before .before .before .line-at in
+    let past-statement-at = c .before .before .before .statement-at in
     let past-enum-told = c .before .enum-told in
-    let is-empty = lined (past-line-at .ensures) (past-enum-told .given .1) in
+    let is-empty = stated (past-statement-at .ensures) (past-enum-told .given .1) in
     let start = c .before .before .before .before .before in
     let asks = start .pre .1 .1 in
     rw (is-empty .is) at (asks .room)
@@ -46,9 +46,9 @@ enum-known-line t c = search needs
 pub write-express-requires : (t : ℕ) → lts.Need-write-express-requires (write-statement-claims t) (write-statement-at t) reads.Post
 unfolding statementSize
 write-express-requires t c κs =
-    let past-line-at = c .before .before .before .before .line-at in
+    let past-statement-at = c .before .before .before .before .statement-at in
     let past-line = c .before .before .line in
-    let is-express = lined (past-line-at .ensures) (past-line .given .1) in
+    let is-express = stated (past-statement-at .ensures) (past-line .given .1) in
     let start = c .before .before .before .before .before .before in
     let writing = start .pre .1 .0 in
     let asks = start .pre .1 .1 in
@@ -61,9 +61,9 @@ enum-known-line-2 t c = search needs
 pub write-block-requires : (t : ℕ) → lts.Need-write-block-requires (write-statement-claims t) (write-statement-at t) reads.Post
 unfolding statementSize labels
 write-block-requires t c κs =
-    let past-line-at = c .before .before .before .before .line-at in
+    let past-statement-at = c .before .before .before .before .statement-at in
     let past-line2 = c .before .before .line2 in
-    let is-block = lined (past-line-at .ensures) (past-line2 .given .1) in
+    let is-block = stated (past-statement-at .ensures) (past-line2 .given .1) in
     let start = c .before .before .before .before .before .before in
     let args = start .args in
     let asks = start .pre .1 .1 in
@@ -86,9 +86,9 @@ enum-known-line-3 t c = search needs
 
 pub write-if-requires : (t : ℕ) → lts.Need-write-if-requires (write-statement-claims t) (write-statement-at t) reads.Post
 write-if-requires t c κs =
-    let past-line-at = c .before .before .before .before .line-at in
+    let past-statement-at = c .before .before .before .before .statement-at in
     let past-line3 = c .before .before .line3 in
-    let is-if = lined (past-line-at .ensures) (past-line3 .given .1) in
+    let is-if = stated (past-statement-at .ensures) (past-line3 .given .1) in
     let start = c .before .before .before .before .before .before in
     let args = start .args in
     let asks = start .pre .1 .1 in
@@ -121,9 +121,9 @@ enum-known-line-4 t c = search needs
 pub write-loop-requires : (t : ℕ) → lts.Need-write-loop-requires (write-statement-claims t) (write-statement-at t) reads.Post
 unfolding labels
 write-loop-requires t c κs =
-    let past-line-at = c .before .before .before .before .line-at in
+    let past-statement-at = c .before .before .before .before .statement-at in
     let past-line4 = c .before .before .line4 in
-    let is-while = lined (past-line-at .ensures) (past-line4 .given .1) in
+    let is-while = stated (past-statement-at .ensures) (past-line4 .given .1) in
     let start = c .before .before .before .before .before .before in
     let args = start .args in
     let asks = start .pre .1 .1 in
@@ -153,9 +153,9 @@ enum-known-line-5 t c = search needs
 pub write-loop-requires-2 : (t : ℕ) → lts.Need-write-loop-requires-2 (write-statement-claims t) (write-statement-at t) reads.Post
 unfolding labels
 write-loop-requires-2 t c κs =
-    let past-line-at = c .before .before .before .before .line-at in
+    let past-statement-at = c .before .before .before .before .statement-at in
     let past-line5 = c .before .before .line5 in
-    let is-do = lined (past-line-at .ensures) (past-line5 .given .1) in
+    let is-do = stated (past-statement-at .ensures) (past-line5 .given .1) in
     let start = c .before .before .before .before .before .before in
     let args = start .args in
     let asks = start .pre .1 .1 in
@@ -185,9 +185,9 @@ enum-known-line-6 t c = search needs
 pub write-loop-requires-3 : (t : ℕ) → lts.Need-write-loop-requires-3 (write-statement-claims t) (write-statement-at t) reads.Post
 unfolding labels
 write-loop-requires-3 t c κs =
-    let past-line-at = c .before .before .before .before .line-at in
+    let past-statement-at = c .before .before .before .before .statement-at in
     let past-line6 = c .before .before .line6 in
-    let is-for = lined (past-line-at .ensures) (past-line6 .given .1) in
+    let is-for = stated (past-statement-at .ensures) (past-line6 .given .1) in
     let start = c .before .before .before .before .before .before in
     let args = start .args in
     let asks = start .pre .1 .1 in
@@ -217,9 +217,9 @@ enum-known-line-7 t c = search needs
 pub write-switch-requires : (t : ℕ) → lts.Need-write-switch-requires (write-statement-claims t) (write-statement-at t) reads.Post
 unfolding statementSize labels
 write-switch-requires t c κs =
-    let past-line-at = c .before .before .before .before .line-at in
+    let past-statement-at = c .before .before .before .before .statement-at in
     let past-line7 = c .before .before .line7 in
-    let is-switch = lined (past-line-at .ensures) (past-line7 .given .1) in
+    let is-switch = stated (past-statement-at .ensures) (past-line7 .given .1) in
     let start = c .before .before .before .before .before .before in
     let args = start .args in
     let asks = start .pre .1 .1 in
@@ -246,9 +246,9 @@ enum-told-2 t c = search needs
 pub put-goto-requires : (t : ℕ) → lts.Need-put-goto-requires (write-statement-claims t) (write-statement-at t) reads.Post
 unfolding statementSize
 put-goto-requires t c κs =
-    let past-line-at = c .before .before .before .line-at in
+    let past-statement-at = c .before .before .before .statement-at in
     let past-enum-told2 = c .before .enum-told2 in
-    let is-break = lined (past-line-at .ensures) (past-enum-told2 .given .1) in
+    let is-break = stated (past-statement-at .ensures) (past-enum-told2 .given .1) in
     let start = c .before .before .before .before .before in
     let asks = start .pre .1 .1 in
     (rw (is-break .is) at (asks .room), asks .exits-low .0)
@@ -259,9 +259,9 @@ enum-told-3 t c = search needs
 pub put-goto-requires-2 : (t : ℕ) → lts.Need-put-goto-requires-2 (write-statement-claims t) (write-statement-at t) reads.Post
 unfolding statementSize
 put-goto-requires-2 t c κs =
-    let past-line-at = c .before .before .before .line-at in
+    let past-statement-at = c .before .before .before .statement-at in
     let past-enum-told3 = c .before .enum-told3 in
-    let is-continue = lined (past-line-at .ensures) (past-enum-told3 .given .1) in
+    let is-continue = stated (past-statement-at .ensures) (past-enum-told3 .given .1) in
     let start = c .before .before .before .before .before in
     let asks = start .pre .1 .1 in
     (rw (is-continue .is) at (asks .room), asks .exits-low .1)
@@ -272,9 +272,9 @@ enum-told-4 t c = search needs
 pub put-empty-requires-2 : (t : ℕ) → lts.Need-put-empty-requires-2 (write-statement-claims t) (write-statement-at t) reads.Post
 unfolding statementSize
 put-empty-requires-2 t c κs =
-    let past-line-at = c .before .before .before .line-at in
+    let past-statement-at = c .before .before .before .statement-at in
     let past-enum-told4 = c .before .enum-told4 in
-    let is-goto = lined (past-line-at .ensures) (past-enum-told4 .given .1) in
+    let is-goto = stated (past-statement-at .ensures) (past-enum-told4 .given .1) in
     let start = c .before .before .before .before .before in
     let asks = start .pre .1 .1 in
     rw (is-goto .is) at (asks .room)
@@ -287,9 +287,9 @@ unfolding statementCode
 returns t c =
     let start = c .before .before .before .before .before .before .before in
     let args = start .args in
-    let past-line-at = c .before .before .before .before .before .line-at in
+    let past-statement-at = c .before .before .before .before .before .statement-at in
     let past-enum-told = c .before .before .before .enum-told in
-    let is-empty = lined (past-line-at .ensures) (past-enum-told .given .1) in
+    let is-empty = stated (past-statement-at .ensures) (past-enum-told .given .1) in
     let past-put-empty = c .before .put-empty in
     line-done (args .store) (exitsOf (args .exits)) (args .label) (args .base) (args .follows) (args .out .now) is-empty (past-put-empty .ensures)
 
@@ -301,9 +301,9 @@ unfolding statementCode
 returns-2 t c =
     let start = c .before .before .before .before .before .before .before .before in
     let args = start .args in
-    let past-line-at = c .before .before .before .before .before .before .line-at in
+    let past-statement-at = c .before .before .before .before .before .before .statement-at in
     let past-line = c .before .before .before .before .line in
-    let is-express = lined (past-line-at .ensures) (past-line .given .1) in
+    let is-express = stated (past-statement-at .ensures) (past-line .given .1) in
     let past-write-express = c .before .write-express in
     line-done (args .store) (exitsOf (args .exits)) (args .label) (args .base) (args .follows) (args .out .now) is-express (past-write-express .ensures)
 
@@ -315,9 +315,9 @@ unfolding statementCode
 returns-3 t c =
     let start = c .before .before .before .before .before .before .before .before in
     let args = start .args in
-    let past-line-at = c .before .before .before .before .before .before .line-at in
+    let past-statement-at = c .before .before .before .before .before .before .statement-at in
     let past-line2 = c .before .before .before .before .line2 in
-    let is-block = lined (past-line-at .ensures) (past-line2 .given .1) in
+    let is-block = stated (past-statement-at .ensures) (past-line2 .given .1) in
     let past-write-block = c .before .write-block in
     line-done (args .store) (exitsOf (args .exits)) (args .label) (args .base) (args .follows) (args .out .now) is-block (past-write-block .ensures)
 
@@ -328,9 +328,9 @@ pub returns-4 : (t : ℕ) → lts.Need-returns-4 (write-statement-claims t) (wri
 returns-4 t c =
     let start = c .before .before .before .before .before .before .before .before in
     let args = start .args in
-    let past-line-at = c .before .before .before .before .before .before .line-at in
+    let past-statement-at = c .before .before .before .before .before .before .statement-at in
     let past-line3 = c .before .before .before .before .line3 in
-    let is-if = lined (past-line-at .ensures) (past-line3 .given .1) in
+    let is-if = stated (past-statement-at .ensures) (past-line3 .given .1) in
     let past-write-if = c .before .write-if in
     line-done (args .store) (exitsOf (args .exits)) (args .label) (args .base) (args .follows) (args .out .now) is-if (past-write-if .ensures)
 
@@ -341,9 +341,9 @@ pub returns-5 : (t : ℕ) → lts.Need-returns-5 (write-statement-claims t) (wri
 returns-5 t c =
     let start = c .before .before .before .before .before .before .before .before in
     let args = start .args in
-    let past-line-at = c .before .before .before .before .before .before .line-at in
+    let past-statement-at = c .before .before .before .before .before .before .statement-at in
     let past-line4 = c .before .before .before .before .line4 in
-    let is-while = lined (past-line-at .ensures) (past-line4 .given .1) in
+    let is-while = stated (past-statement-at .ensures) (past-line4 .given .1) in
     let items : Items → List ℤ = λ xs. over (emitItems (args .follows) xs (args .base)) (args .out .now) in
     let past-write-loop = c .before .write-loop in
     line-done (args .store) (exitsOf (args .exits)) (args .label) (args .base) (args .follows) (args .out .now) is-while (past-write-loop .ensures ∙ ap items (while-code (args .rows .now) (args .store) (past-line4 .given .0 .0) (past-line4 .given .0 .1 .0) (exitsOf (args .exits)) (args .label) (omega (arith, is-while .onward .0 .later))))
@@ -355,9 +355,9 @@ pub returns-6 : (t : ℕ) → lts.Need-returns-6 (write-statement-claims t) (wri
 returns-6 t c =
     let start = c .before .before .before .before .before .before .before .before in
     let args = start .args in
-    let past-line-at = c .before .before .before .before .before .before .line-at in
+    let past-statement-at = c .before .before .before .before .before .before .statement-at in
     let past-line5 = c .before .before .before .before .line5 in
-    let is-do = lined (past-line-at .ensures) (past-line5 .given .1) in
+    let is-do = stated (past-statement-at .ensures) (past-line5 .given .1) in
     let items : Items → List ℤ = λ xs. over (emitItems (args .follows) xs (args .base)) (args .out .now) in
     let past-write-loop2 = c .before .write-loop2 in
     line-done (args .store) (exitsOf (args .exits)) (args .label) (args .base) (args .follows) (args .out .now) is-do (past-write-loop2 .ensures ∙ ap items (do-code (args .rows .now) (args .store) (past-line5 .given .0 .0) (past-line5 .given .0 .1 .0) (exitsOf (args .exits)) (args .label) (omega (arith, is-do .onward .1 .later))))
@@ -369,9 +369,9 @@ pub returns-7 : (t : ℕ) → lts.Need-returns-7 (write-statement-claims t) (wri
 returns-7 t c =
     let start = c .before .before .before .before .before .before .before .before in
     let args = start .args in
-    let past-line-at = c .before .before .before .before .before .before .line-at in
+    let past-statement-at = c .before .before .before .before .before .before .statement-at in
     let past-line6 = c .before .before .before .before .line6 in
-    let is-for = lined (past-line-at .ensures) (past-line6 .given .1) in
+    let is-for = stated (past-statement-at .ensures) (past-line6 .given .1) in
     let items : Items → List ℤ = λ xs. over (emitItems (args .follows) xs (args .base)) (args .out .now) in
     let past-write-loop3 = c .before .write-loop3 in
     line-done (args .store) (exitsOf (args .exits)) (args .label) (args .base) (args .follows) (args .out .now) is-for (past-write-loop3 .ensures ∙ ap items (for-code (args .rows .now) (args .store) (past-line6 .given .0 .0) (past-line6 .given .0 .1 .0) (past-line6 .given .0 .1 .1 .0) (past-line6 .given .0 .1 .1 .1 .0) (exitsOf (args .exits)) (args .label)))
@@ -383,9 +383,9 @@ pub returns-8 : (t : ℕ) → lts.Need-returns-8 (write-statement-claims t) (wri
 returns-8 t c =
     let start = c .before .before .before .before .before .before .before .before in
     let args = start .args in
-    let past-line-at = c .before .before .before .before .before .before .line-at in
+    let past-statement-at = c .before .before .before .before .before .before .statement-at in
     let past-line7 = c .before .before .before .before .line7 in
-    let is-switch = lined (past-line-at .ensures) (past-line7 .given .1) in
+    let is-switch = stated (past-statement-at .ensures) (past-line7 .given .1) in
     let past-write-switch = c .before .write-switch in
     line-done (args .store) (exitsOf (args .exits)) (args .label) (args .base) (args .follows) (args .out .now) is-switch (past-write-switch .ensures)
 
@@ -397,9 +397,9 @@ unfolding statementCode
 returns-9 t c =
     let start = c .before .before .before .before .before .before .before in
     let args = start .args in
-    let past-line-at = c .before .before .before .before .before .line-at in
+    let past-statement-at = c .before .before .before .before .before .statement-at in
     let past-enum-told2 = c .before .before .before .enum-told2 in
-    let is-break = lined (past-line-at .ensures) (past-enum-told2 .given .1) in
+    let is-break = stated (past-statement-at .ensures) (past-enum-told2 .given .1) in
     let past-put-goto = c .before .put-goto in
     line-done (args .store) (exitsOf (args .exits)) (args .label) (args .base) (args .follows) (args .out .now) is-break (past-put-goto .ensures)
 
@@ -411,9 +411,9 @@ unfolding statementCode
 returns-10 t c =
     let start = c .before .before .before .before .before .before .before in
     let args = start .args in
-    let past-line-at = c .before .before .before .before .before .line-at in
+    let past-statement-at = c .before .before .before .before .before .statement-at in
     let past-enum-told3 = c .before .before .before .enum-told3 in
-    let is-continue = lined (past-line-at .ensures) (past-enum-told3 .given .1) in
+    let is-continue = stated (past-statement-at .ensures) (past-enum-told3 .given .1) in
     let past-put-goto2 = c .before .put-goto2 in
     line-done (args .store) (exitsOf (args .exits)) (args .label) (args .base) (args .follows) (args .out .now) is-continue (past-put-goto2 .ensures)
 
@@ -425,8 +425,8 @@ unfolding statementCode
 returns-11 t c =
     let start = c .before .before .before .before .before .before .before in
     let args = start .args in
-    let past-line-at = c .before .before .before .before .before .line-at in
+    let past-statement-at = c .before .before .before .before .before .statement-at in
     let past-enum-told4 = c .before .before .before .enum-told4 in
-    let is-goto = lined (past-line-at .ensures) (past-enum-told4 .given .1) in
+    let is-goto = stated (past-statement-at .ensures) (past-enum-told4 .given .1) in
     let past-put-empty2 = c .before .put-empty2 in
     line-done (args .store) (exitsOf (args .exits)) (args .label) (args .base) (args .follows) (args .out .now) is-goto (past-put-empty2 .ensures)

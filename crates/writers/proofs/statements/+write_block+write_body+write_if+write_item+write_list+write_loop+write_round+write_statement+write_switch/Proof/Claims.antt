@@ -7,31 +7,31 @@ use borrow.Fn.Kinds.{In}
 use borrow.Fn.PlainCycle.{Measures, is, falls, and}
 use Rattle.writers.proofs.statements.write_block.Reads as write-block
 use Rattle.writers.proofs.statements.write_block.Kinds as write-block-kinds
-use Rattle.writers.proofs.+ifs-write_body+ifs-write_if+loops-write_loop+loops-write_round+statements-write_block+statements-write_item+statements-write_list+statements-write_statement+switches-write_switch.Lts-statements-write_block as write-block-lts
-use Rattle.writers.proofs.ifs.write_body.Reads as write-body
-use Rattle.writers.proofs.ifs.write_body.Kinds as write-body-kinds
-use Rattle.writers.proofs.+ifs-write_body+ifs-write_if+loops-write_loop+loops-write_round+statements-write_block+statements-write_item+statements-write_list+statements-write_statement+switches-write_switch.Lts-ifs-write_body as write-body-lts
-use Rattle.writers.proofs.ifs.write_if.Reads as write-if
-use Rattle.writers.proofs.ifs.write_if.Kinds as write-if-kinds
-use Rattle.writers.proofs.+ifs-write_body+ifs-write_if+loops-write_loop+loops-write_round+statements-write_block+statements-write_item+statements-write_list+statements-write_statement+switches-write_switch.Lts-ifs-write_if as write-if-lts
+use Rattle.writers.proofs.statements.+write_block+write_body+write_if+write_item+write_list+write_loop+write_round+write_statement+write_switch.Lts-write_block as write-block-lts
+use Rattle.writers.proofs.statements.write_body.Reads as write-body
+use Rattle.writers.proofs.statements.write_body.Kinds as write-body-kinds
+use Rattle.writers.proofs.statements.+write_block+write_body+write_if+write_item+write_list+write_loop+write_round+write_statement+write_switch.Lts-write_body as write-body-lts
+use Rattle.writers.proofs.statements.write_if.Reads as write-if
+use Rattle.writers.proofs.statements.write_if.Kinds as write-if-kinds
+use Rattle.writers.proofs.statements.+write_block+write_body+write_if+write_item+write_list+write_loop+write_round+write_statement+write_switch.Lts-write_if as write-if-lts
 use Rattle.writers.proofs.statements.write_item.Reads as write-item
 use Rattle.writers.proofs.statements.write_item.Kinds as write-item-kinds
-use Rattle.writers.proofs.+ifs-write_body+ifs-write_if+loops-write_loop+loops-write_round+statements-write_block+statements-write_item+statements-write_list+statements-write_statement+switches-write_switch.Lts-statements-write_item as write-item-lts
+use Rattle.writers.proofs.statements.+write_block+write_body+write_if+write_item+write_list+write_loop+write_round+write_statement+write_switch.Lts-write_item as write-item-lts
 use Rattle.writers.proofs.statements.write_list.Reads as write-list
 use Rattle.writers.proofs.statements.write_list.Kinds as write-list-kinds
-use Rattle.writers.proofs.+ifs-write_body+ifs-write_if+loops-write_loop+loops-write_round+statements-write_block+statements-write_item+statements-write_list+statements-write_statement+switches-write_switch.Lts-statements-write_list as write-list-lts
-use Rattle.writers.proofs.loops.write_loop.Reads as write-loop
-use Rattle.writers.proofs.loops.write_loop.Kinds as write-loop-kinds
-use Rattle.writers.proofs.+ifs-write_body+ifs-write_if+loops-write_loop+loops-write_round+statements-write_block+statements-write_item+statements-write_list+statements-write_statement+switches-write_switch.Lts-loops-write_loop as write-loop-lts
-use Rattle.writers.proofs.loops.write_round.Reads as write-round
-use Rattle.writers.proofs.loops.write_round.Kinds as write-round-kinds
-use Rattle.writers.proofs.+ifs-write_body+ifs-write_if+loops-write_loop+loops-write_round+statements-write_block+statements-write_item+statements-write_list+statements-write_statement+switches-write_switch.Lts-loops-write_round as write-round-lts
+use Rattle.writers.proofs.statements.+write_block+write_body+write_if+write_item+write_list+write_loop+write_round+write_statement+write_switch.Lts-write_list as write-list-lts
+use Rattle.writers.proofs.statements.write_loop.Reads as write-loop
+use Rattle.writers.proofs.statements.write_loop.Kinds as write-loop-kinds
+use Rattle.writers.proofs.statements.+write_block+write_body+write_if+write_item+write_list+write_loop+write_round+write_statement+write_switch.Lts-write_loop as write-loop-lts
+use Rattle.writers.proofs.statements.write_round.Reads as write-round
+use Rattle.writers.proofs.statements.write_round.Kinds as write-round-kinds
+use Rattle.writers.proofs.statements.+write_block+write_body+write_if+write_item+write_list+write_loop+write_round+write_statement+write_switch.Lts-write_round as write-round-lts
 use Rattle.writers.proofs.statements.write_statement.Reads as write-statement
 use Rattle.writers.proofs.statements.write_statement.Kinds as write-statement-kinds
-use Rattle.writers.proofs.+ifs-write_body+ifs-write_if+loops-write_loop+loops-write_round+statements-write_block+statements-write_item+statements-write_list+statements-write_statement+switches-write_switch.Lts-statements-write_statement as write-statement-lts
-use Rattle.writers.proofs.switches.write_switch.Reads as write-switch
-use Rattle.writers.proofs.switches.write_switch.Kinds as write-switch-kinds
-use Rattle.writers.proofs.+ifs-write_body+ifs-write_if+loops-write_loop+loops-write_round+statements-write_block+statements-write_item+statements-write_list+statements-write_statement+switches-write_switch.Lts-switches-write_switch as write-switch-lts
+use Rattle.writers.proofs.statements.+write_block+write_body+write_if+write_item+write_list+write_loop+write_round+write_statement+write_switch.Lts-write_statement as write-statement-lts
+use Rattle.writers.proofs.statements.write_switch.Reads as write-switch
+use Rattle.writers.proofs.statements.write_switch.Kinds as write-switch-kinds
+use Rattle.writers.proofs.statements.+write_block+write_body+write_if+write_item+write_list+write_loop+write_round+write_statement+write_switch.Lts-write_switch as write-switch-lts
 use Rattle.words.proofs.table.number_at.Reads as number-at-reads
 use Rattle.leaves.proofs.atoms.atom_at.Reads as atom-at-reads
 use Rattle.leaves.proofs.atoms.operand_size.Reads as operand-size-reads
@@ -55,10 +55,10 @@ use Rattle.writers.proofs.switches.write_cases.Reads as write-cases-rea
 use Rattle.writers.proofs.loops.test_size.Reads as test-size-reads
 use Rattle.writers.proofs.loops.write_round_end.Reads as write-round-end-reads
 use Rattle.writers.proofs.loops.write_test.Reads as write-test-reads
-use Rattle.measures.proofs.lines.item_at.Reads as item-at-reads
-use Rattle.measures.proofs.lines.line_at.Reads as line-at-reads
+use Rattle.shapes.proofs.rows.item_at.Reads as item-at-reads
+use Rattle.shapes.proofs.rows.statement_at.Reads as statement-at-reads
 use Rattle.measures.proofs.expressions.taken_at.Reads as taken-at-reads
-use Rattle.writers.proofs.ifs.body_size.Reads as body-size-reads
+use Rattle.writers.proofs.lists.body_size.Reads as body-size-reads
 use Rattle.writers.proofs.loops.round_size.Reads as round-size-reads
 use Rattle.writers.proofs.statements.write_express.Reads as write-express-reads
 
@@ -165,7 +165,7 @@ abbrev pub write-round-claims : ℕ → write-round-lts.Claims
 write-round-claims t = (test-size-reads.Asked, test-size-reads.Learnt, statement-size-reads.Asked, statement-size-reads.Learnt, write-test-reads.Asked, write-test-reads.Learnt, write-statement-below t, write-statement.Post, write-round-end-reads.Asked, write-round-end-reads.Learnt)
 
 abbrev pub write-statement-claims : ℕ → write-statement-lts.Claims
-write-statement-claims t = (line-at-reads.Asked, line-at-reads.Learnt, put-empty-reads.Asked, put-empty-reads.Learnt, write-express-reads.Asked, write-express-reads.Learnt, write-block-below t, write-block.Post, write-if-below t, write-if.Post, write-loop-below t, write-loop.Post, write-switch-below t, write-switch.Post, put-goto-reads.Asked, put-goto-reads.Learnt)
+write-statement-claims t = (statement-at-reads.Asked, statement-at-reads.Learnt, put-empty-reads.Asked, put-empty-reads.Learnt, write-express-reads.Asked, write-express-reads.Learnt, write-block-below t, write-block.Post, write-if-below t, write-if.Post, write-loop-below t, write-loop.Post, write-switch-below t, write-switch.Post, put-goto-reads.Asked, put-goto-reads.Learnt)
 
 abbrev pub write-switch-claims : ℕ → write-switch-lts.Claims
 write-switch-claims t = (operand-size-reads.Asked, operand-size-reads.Learnt, list-cases-reads.Asked, list-cases-reads.Learnt, list-size-reads.Asked, list-size-reads.Learnt, atom-at-reads.Asked, atom-at-reads.Learnt, taken-at-reads.Asked, taken-at-reads.Learnt, write-expression-reads.Asked, write-expression-reads.Learnt, write-cases-reads.Asked, write-cases-reads.Learnt, default-label-reads.Asked, default-label-reads.Learnt, put-goto-reads.Asked, put-goto-reads.Learnt, write-list-below t, write-list.Post, put-label-reads.Asked, put-label-reads.Learnt)

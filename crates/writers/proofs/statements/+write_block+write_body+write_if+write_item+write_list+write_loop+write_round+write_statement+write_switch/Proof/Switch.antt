@@ -10,9 +10,9 @@ use Rattle.writers.proofs.Sequence.{back-length, room-behind}
 use Rattle.writers.proofs.Tables.{default-low}
 use Rattle.translation.specs.TranslateBounds.{taken-most}
 use Rattle.writers.proofs.StatementLaws.{part-size, switch-done}
-use Rattle.writers.proofs.switches.write_switch.Reads as reads
-use Rattle.writers.proofs.+ifs-write_body+ifs-write_if+loops-write_loop+loops-write_round+statements-write_block+statements-write_item+statements-write_list+statements-write_statement+switches-write_switch.Lts-switches-write_switch as lts
-use Rattle.writers.proofs.+ifs-write_body+ifs-write_if+loops-write_loop+loops-write_round+statements-write_block+statements-write_item+statements-write_list+statements-write_statement+switches-write_switch.Proof.Claims.{write-switch-claims, write-switch-at}
+use Rattle.writers.proofs.statements.write_switch.Reads as reads
+use Rattle.writers.proofs.statements.+write_block+write_body+write_if+write_item+write_list+write_loop+write_round+write_statement+write_switch.Lts-write_switch as lts
+use Rattle.writers.proofs.statements.+write_block+write_body+write_if+write_item+write_list+write_loop+write_round+write_statement+write_switch.Proof.Claims.{write-switch-claims, write-switch-at}
 
 pub operand-size-requires : (t : ℕ) → lts.Need-operand-size-requires (write-switch-claims t) (write-switch-at t) reads.Post
 operand-size-requires t c κs =

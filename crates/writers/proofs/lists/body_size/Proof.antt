@@ -3,8 +3,8 @@ use mathlib.Core.Path.{sym, _∙_}
 use native.Mathlib.Omega.{arith}
 use Rattle.writers.proofs.StatementLaws.{body-some}
 use borrow.Author.Needs.{needs}
-use Rattle.writers.proofs.ifs.body_size.Statement.{statement}
-use Rattle.writers.proofs.ifs.body_size.Tie as tie
+use Rattle.writers.proofs.lists.body_size.Statement.{statement}
+use Rattle.writers.proofs.lists.body_size.Tie as tie
 
 returns : tie.Need-returns
 returns c = search needs

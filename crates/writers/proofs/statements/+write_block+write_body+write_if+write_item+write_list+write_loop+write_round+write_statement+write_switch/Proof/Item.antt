@@ -12,8 +12,8 @@ use Rattle.writers.specs.Items.{itemCode}
 use Rattle.writers.specs.Code.{exitsOf}
 use Rattle.writers.proofs.ListLaws.{item-is}
 use Rattle.writers.proofs.statements.write_item.Reads as reads
-use Rattle.writers.proofs.+ifs-write_body+ifs-write_if+loops-write_loop+loops-write_round+statements-write_block+statements-write_item+statements-write_list+statements-write_statement+switches-write_switch.Lts-statements-write_item as lts
-use Rattle.writers.proofs.+ifs-write_body+ifs-write_if+loops-write_loop+loops-write_round+statements-write_block+statements-write_item+statements-write_list+statements-write_statement+switches-write_switch.Proof.Claims.{write-item-claims, write-item-at}
+use Rattle.writers.proofs.statements.+write_block+write_body+write_if+write_item+write_list+write_loop+write_round+write_statement+write_switch.Lts-write_item as lts
+use Rattle.writers.proofs.statements.+write_block+write_body+write_if+write_item+write_list+write_loop+write_round+write_statement+write_switch.Proof.Claims.{write-item-claims, write-item-at}
 
 pub item-at-requires : (t : ℕ) → lts.Need-item-at-requires (write-item-claims t) (write-item-at t) reads.Post
 item-at-requires t c κs =
@@ -48,32 +48,6 @@ put-label-requires t c κs =
     let low = rw is2 at (asks .labels-low) in
     (rw is2 at (asks .room), omega (arith, low))
 
-pub enum-told-3 : (t : ℕ) → lts.Need-enum-told-3 (write-item-claims t) (write-item-at t) reads.Post
-enum-told-3 t c = search needs
-
-pub put-label-requires-2 : (t : ℕ) → lts.Need-put-label-requires-2 (write-item-claims t) (write-item-at t) reads.Post
-put-label-requires-2 t c κs =
-    let past-item-at = c .before .before .before .item-at in
-    let past-enum-told3 = c .before .enum-told3 in
-    let is3 = item-is (past-item-at .ensures) (past-enum-told3 .given .1) in
-    let start = c .before .before .before .before .before in
-    let asks = start .pre .1 .1 in
-    let low = rw is3 at (asks .labels-low) in
-    (rw is3 at (asks .room), omega (arith, low))
-
-pub enum-told-4 : (t : ℕ) → lts.Need-enum-told-4 (write-item-claims t) (write-item-at t) reads.Post
-enum-told-4 t c = search needs
-
-pub put-label-requires-3 : (t : ℕ) → lts.Need-put-label-requires-3 (write-item-claims t) (write-item-at t) reads.Post
-put-label-requires-3 t c κs =
-    let past-item-at = c .before .before .before .item-at in
-    let past-enum-told4 = c .before .enum-told4 in
-    let is4 = item-is (past-item-at .ensures) (past-enum-told4 .given .1) in
-    let start = c .before .before .before .before .before in
-    let asks = start .pre .1 .1 in
-    let low = rw is4 at (asks .labels-low) in
-    (rw is4 at (asks .room), omega (arith, low))
-
 pub same-length : (t : ℕ) → lts.Need-same-length (write-item-claims t) (write-item-at t) reads.Post
 same-length t c = c .before .write-statement .kept .1 .1 .1 .1 .1 .1 .1 .1 .0
 
@@ -101,31 +75,3 @@ returns-2 t c =
     let is2 = item-is (past-item-at .ensures) (past-enum-told2 .given .1) in
     let past-put-label = c .before .put-label in
     past-put-label .ensures ∙ sym (ap table is2)
-
-pub same-length-3 : (t : ℕ) → lts.Need-same-length-3 (write-item-claims t) (write-item-at t) reads.Post
-same-length-3 t c = c .before .put-label2 .kept .1 .1 .1 .0
-
-pub returns-3 : (t : ℕ) → lts.Need-returns-3 (write-item-claims t) (write-item-at t) reads.Post
-returns-3 t c =
-    let start = c .before .before .before .before .before .before .before in
-    let args = start .args in
-    let table : Items → List ℤ = λ is. over (emitItems (args .follows) (itemCode (args .store) is (exitsOf (args .exits)) (args .label)) (args .base)) (args .out .now) in
-    let past-item-at = c .before .before .before .before .before .item-at in
-    let past-enum-told3 = c .before .before .before .enum-told3 in
-    let is3 = item-is (past-item-at .ensures) (past-enum-told3 .given .1) in
-    let past-put-label2 = c .before .put-label2 in
-    past-put-label2 .ensures ∙ sym (ap table is3)
-
-pub same-length-4 : (t : ℕ) → lts.Need-same-length-4 (write-item-claims t) (write-item-at t) reads.Post
-same-length-4 t c = c .before .put-label3 .kept .1 .1 .1 .0
-
-pub returns-4 : (t : ℕ) → lts.Need-returns-4 (write-item-claims t) (write-item-at t) reads.Post
-returns-4 t c =
-    let start = c .before .before .before .before .before .before .before in
-    let args = start .args in
-    let table : Items → List ℤ = λ is. over (emitItems (args .follows) (itemCode (args .store) is (exitsOf (args .exits)) (args .label)) (args .base)) (args .out .now) in
-    let past-item-at = c .before .before .before .before .before .item-at in
-    let past-enum-told4 = c .before .before .before .enum-told4 in
-    let is4 = item-is (past-item-at .ensures) (past-enum-told4 .given .1) in
-    let past-put-label3 = c .before .put-label3 in
-    past-put-label3 .ensures ∙ sym (ap table is4)

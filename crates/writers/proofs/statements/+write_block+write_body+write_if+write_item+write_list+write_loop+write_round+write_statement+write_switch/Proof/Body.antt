@@ -6,9 +6,9 @@ use Rattle.writers.specs.Code.{exitsOf}
 use Rattle.writers.proofs.Sequence.{back-length, room-behind}
 use Rattle.writers.proofs.ListLaws.{above-some}
 use Rattle.writers.proofs.StatementLaws.{body-some, body-labels, body-none, body-done}
-use Rattle.writers.proofs.ifs.write_body.Reads as reads
-use Rattle.writers.proofs.+ifs-write_body+ifs-write_if+loops-write_loop+loops-write_round+statements-write_block+statements-write_item+statements-write_list+statements-write_statement+switches-write_switch.Lts-ifs-write_body as lts
-use Rattle.writers.proofs.+ifs-write_body+ifs-write_if+loops-write_loop+loops-write_round+statements-write_block+statements-write_item+statements-write_list+statements-write_statement+switches-write_switch.Proof.Claims.{write-body-claims, write-body-at}
+use Rattle.writers.proofs.statements.write_body.Reads as reads
+use Rattle.writers.proofs.statements.+write_block+write_body+write_if+write_item+write_list+write_loop+write_round+write_statement+write_switch.Lts-write_body as lts
+use Rattle.writers.proofs.statements.+write_block+write_body+write_if+write_item+write_list+write_loop+write_round+write_statement+write_switch.Proof.Claims.{write-body-claims, write-body-at}
 
 pub put-block-requires : (t : ℕ) → lts.Need-put-block-requires (write-body-claims t) (write-body-at t) reads.Post
 put-block-requires t c κs =

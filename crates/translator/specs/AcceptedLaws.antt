@@ -28,8 +28,8 @@ use Rattle.source_check.specs.Legal.{Legal}
 use Rattle.source_check.specs.AcceptsLegal.{accepts-legal}
 use Rattle.accepted.specs.Source.{legal-sound, legal-rows}
 use Rattle.accepted.specs.Statements.{root-kind}
-use Rattle.measures.specs.Source.{Source}
-use Rattle.measures.specs.Measures.{slot, Measured}
+use Rattle.shapes.specs.Source.{Source}
+use Rattle.measures.specs.Measures.{statementRowsSlot, statementLevelsSlot, slot, Measured}
 use Rattle.writers.specs.Program.{ProgramAsks, kernelProgram}
 use Rattle.writers.specs.WholeProgram.{is-translation, program-rows, program-levels}
 use Rattle.fate.specs.KernelForms.{kernelHeaderOf, kernelRowsOf}
@@ -72,32 +72,32 @@ module _ (header rows : List ℤ) (accepted : sourceRefusal header rows ≡ Acce
   levels-low = omega (arith, temporaries-bound (contents rows), legal-rows header rows legal, few-rows)
 
   module _ {table : List ℕ} (m : Measured rows table) where
-    size-is : slot table 0 3 ≡ 1 + itemsSize (contents rows)
+    size-is : slot table 0 statementRowsSlot ≡ 1 + itemsSize (contents rows)
     size-is = program-rows m root (omega (arith, size-low))
 
-    levels-is : slot table 0 4 ≡ temporaries (contents rows)
+    levels-is : slot table 0 statementLevelsSlot ≡ temporaries (contents rows)
     levels-is = program-levels m root (omega (arith, levels-low))
 
     -- What the writer of the rows asks of a table that holds the kernel rows.
-    pub accepted-asks : (words : ℕ) → 6 * slot table 0 3 ≤ words → ProgramAsks rows table (storeSize (layoutOf SourceForm header)) words
+    pub accepted-asks : (words : ℕ) → 6 * slot table 0 statementRowsSlot ≤ words → ProgramAsks rows table (storeSize (layoutOf SourceForm header)) words
     accepted-asks words h = record {
       writing = record { measured = m; small-store = headerFits-facts SourceForm header accepted-header .small-store };
       is-block = root;
       room = record { inside = omega (arith, size-is); low = omega (arith, size-low) };
     }
 
-    pub temporaries-low : slot table 0 4 ≤ 8192
+    pub temporaries-low : slot table 0 statementLevelsSlot ≤ 8192
     temporaries-low = omega (arith, levels-is, levels-low)
 
-    pub row-words-low : 6 * slot table 0 3 ≤ 245880
+    pub row-words-low : 6 * slot table 0 statementRowsSlot ≤ 245880
     row-words-low = omega (arith, size-is, size-low)
 
     -- The header and the rows that the writers write are those of the kernel form.
-    pub header-is : kernelHeader (layoutOf SourceForm header) (slot table 0 4) ≡ kernelHeaderOf header rows
+    pub header-is : kernelHeader (layoutOf SourceForm header) (slot table 0 statementLevelsSlot) ≡ kernelHeaderOf header rows
     unfolding kernelHeaderOf
     header-is = ap (kernelHeader (layoutOf SourceForm header)) levels-is
 
-    pub row-words : 6 * slot table 0 3 ≡ length (kernelRowsOf header rows)
+    pub row-words : 6 * slot table 0 statementRowsSlot ≡ length (kernelRowsOf header rows)
     unfolding kernelRowsOf
     row-words =
         let L = layoutOf SourceForm header in

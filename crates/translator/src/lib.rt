@@ -1,5 +1,7 @@
 // The translator: writes the kernel header and the kernel rows of a source program that the check accepts.
 use header::write_header;
+use measures::STATEMENT_LEVELS;
+use measures::STATEMENT_ROWS;
 use measures::pass::measure;
 use words::Form;
 use words::Refusal;
@@ -39,14 +41,14 @@ fn write_measured(
             place: 0,
         });
     }
-    let row_words = 6 * table[3];
+    let row_words = 6 * table[STATEMENT_ROWS];
     if row_words > kernel_rows.len() {
         return TranslateAnswer::Refused(Refusal {
             number: 10,
             place: 0,
         });
     }
-    write_header(header, table[4], kernel_header);
+    write_header(header, table[STATEMENT_LEVELS], kernel_header);
     write_program(rows, table, store_size(Form::Source, header), kernel_rows);
     TranslateAnswer::Translated(header_words, row_words)
 }

@@ -28,33 +28,30 @@ checked rule = refusal (rule .header) (rule .rows)
 abbrev pub accepted : Rule → Verdict
 accepted rule = Accepted
 
--- Of each part of the table by computing.
-mutual
-  unfolding sameWord natural wordAt numberAt layoutOf sum storeSize storeWords allWithin headerFits countFits foreign fits leadsRight mislinked boundsOf numberFits outside kindOf kindIn kinds sortIn kindRow expressionFields statementFields markFields sortOf sortAt inLanguage isExpression isPlace isStatement isLink isRequired link target linksAmong linkCount loneBlock notOnce linker received noteBy note deeper depthAt tooDeep at unless _next_ rowCauses structuralRefusal lowest some lowestRow someField sameMark equalAmong repeated handed noteAt outOfPlace misplaced laterRefusal refusal
+-- The table in three parts, each by computing: one computation of the whole is more than the checker grants a declaration.
+abbrev orders : List Rule
+orders = starredRules ++ surprisingOrders
 
-  starred-rules-accepted : map checked starredRules ≡ map accepted starredRules
-  starred-rules-accepted = refl
+orders-accepted : map checked orders ≡ map accepted orders
+unfolding sameWord natural wordAt numberAt layoutOf sum storeSize storeWords allWithin headerFits countFits foreign fits leadsRight mislinked boundsOf numberFits outside kindOf kindIn kinds sortIn kindRow expressionFields statementFields markFields sortOf sortAt inLanguage isExpression isPlace isStatement isLink isRequired link target linksAmong linkCount loneBlock notOnce linker received noteBy note deeper depthAt tooDeep at unless _next_ rowCauses structuralRefusal lowest some lowestRow someField sameMark equalAmong repeated handed noteAt outOfPlace misplaced laterRefusal refusal
+orders-accepted = refl
 
-  surprising-orders-accepted : map checked surprisingOrders ≡ map accepted surprisingOrders
-  surprising-orders-accepted = refl
+abbrev operations : List Rule
+operations = arithmeticRules ++ (comparisonRules ++ expressionRules)
 
-  arithmetic-rules-accepted : map checked arithmeticRules ≡ map accepted arithmeticRules
-  arithmetic-rules-accepted = refl
+operations-accepted : map checked operations ≡ map accepted operations
+unfolding sameWord natural wordAt numberAt layoutOf sum storeSize storeWords allWithin headerFits countFits foreign fits leadsRight mislinked boundsOf numberFits outside kindOf kindIn kinds sortIn kindRow expressionFields statementFields markFields sortOf sortAt inLanguage isExpression isPlace isStatement isLink isRequired link target linksAmong linkCount loneBlock notOnce linker received noteBy note deeper depthAt tooDeep at unless _next_ rowCauses structuralRefusal lowest some lowestRow someField sameMark equalAmong repeated handed noteAt outOfPlace misplaced laterRefusal refusal
+operations-accepted = refl
 
-  comparison-rules-accepted : map checked comparisonRules ≡ map accepted comparisonRules
-  comparison-rules-accepted = refl
+abbrev flow : List Rule
+flow = statementRules ++ loopRules
 
-  expression-rules-accepted : map checked expressionRules ≡ map accepted expressionRules
-  expression-rules-accepted = refl
-
-  statement-rules-accepted : map checked statementRules ≡ map accepted statementRules
-  statement-rules-accepted = refl
-
-  loop-rules-accepted : map checked loopRules ≡ map accepted loopRules
-  loop-rules-accepted = refl
+flow-accepted : map checked flow ≡ map accepted flow
+unfolding sameWord natural wordAt numberAt layoutOf sum storeSize storeWords allWithin headerFits countFits foreign fits leadsRight mislinked boundsOf numberFits outside kindOf kindIn kinds sortIn kindRow expressionFields statementFields markFields sortOf sortAt inLanguage isExpression isPlace isStatement isLink isRequired link target linksAmong linkCount loneBlock notOnce linker received noteBy note deeper depthAt tooDeep at unless _next_ rowCauses structuralRefusal lowest some lowestRow someField sameMark equalAmong repeated handed noteAt outOfPlace misplaced laterRefusal refusal
+flow-accepted = refl
 
 pub rules-accepted : map checked table ≡ map accepted table
-rules-accepted = ap₂ _++_ starred-rules-accepted (ap₂ _++_ surprising-orders-accepted (ap₂ _++_ arithmetic-rules-accepted (ap₂ _++_ comparison-rules-accepted (ap₂ _++_ expression-rules-accepted (ap₂ _++_ statement-rules-accepted (loop-rules-accepted))))))
+rules-accepted = ap₂ _++_ orders-accepted (ap₂ _++_ operations-accepted flow-accepted)
 
 -- Each of a list of rules is legal.
 abbrev pub AllLegal : List Rule → Type 0

@@ -30,5 +30,3 @@ pub mod Places
 pub mod Endings
 -- Source: what a legal source program gives to its users.
 pub mod Source
--- Rules accepted: the check accepts every rule of the table.
-pub mod RulesAccepted

@@ -11,5 +11,3 @@ pub mod Labels
 pub mod Forms
 -- Kernel: what a legal kernel program gives to its users.
 pub mod Kernel
--- The rules in kernel form are accepted, and so legal.
-pub mod KernelRulesAccepted

@@ -2,7 +2,7 @@
 -- definitions.
 use borrow.Author.Needs.{needs}
 use Rattle.words.specs.declared.Form.the-variants.{Source}
-use Rattle.clight.specs.Acceptance.{check-accepts-legal, check-no-cause-if-legal}
+use Rattle.clight.specs.AcceptanceLaws.{check-accepts-legal, check-no-cause-if-legal}
 use Rattle.clight.proofs.runs.check.Statement.{statement}
 use Rattle.clight.proofs.runs.check.Tie as tie
 

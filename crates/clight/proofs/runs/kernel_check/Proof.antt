@@ -2,7 +2,7 @@
 -- about the definitions.
 use borrow.Author.Needs.{needs}
 use Rattle.words.specs.declared.Form.the-variants.{Kernel}
-use Rattle.clight.specs.Acceptance.{check-accepts-legal, check-no-cause-if-legal}
+use Rattle.clight.specs.AcceptanceLaws.{check-accepts-legal, check-no-cause-if-legal}
 use Rattle.clight.proofs.runs.kernel_check.Statement.{statement}
 use Rattle.clight.proofs.runs.kernel_check.Tie as tie
 

@@ -14,6 +14,7 @@ use Rattle.language.specs.Decode.{expressionAt, statementAt, decode, listAt, pa
 use Rattle.language.specs.Sizes.{expressionDepth, placeDepth, partDepth, statementDepth, itemsDepth}
 use Rattle.words.specs.Kinds.{between}
 use Rattle.structure.specs.Grammar.{link}
+use Rattle.structure.specs.declared.Bounds.{Bounds}
 use Rattle.structure.specs.Structured.{Leads, Structured, Depth, root, owned, beside, Shallow}
 use Rattle.structure.specs.StructuredLaws.{structured-tree}
 use Rattle.structure.specs.DepthLaws.{depth-inside}
@@ -21,7 +22,7 @@ use Rattle.accepted.specs.Sorts.{between-true}
 use Rattle.accepted.specs.Expressions.{ExpressionRow, constant-row, variable-row, element-row, minus-row, not-row, binary-row, and-row, or-row, comma-row, conditional-row, assign-row, compound-row, prefix-row, postfix-row, placeAt}
 use Rattle.accepted.specs.Statements.{PartRow, absent-part, present-part, StatementRow, empty-row, express-row, block-row, ifThen-row, ifElse-row, while-row, doWhile-row, for-row, switch-row, case-row, default-row, break-row, continue-row, goto-row, label-row, ListRow, no-items, item, case-item, default-item, label-item, root-row}
 
-module _ (form : Form) (header rows : List ℤ) (s : Structured form header rows) (shallow : Shallow form rows) where
+module _ (form : Form) (bounds : Bounds) (rows : List ℤ) (s : Structured form bounds rows) (shallow : Shallow form rows) where
   abbrev limit : ℕ
   limit = depthLimit form
 
@@ -30,7 +31,7 @@ module _ (form : Form) (header rows : List ℤ) (s : Structured form header rows
   Fits depth tree = depth + tree ≤ limit + 1
 
   inside : {row depth : ℕ} → Depth rows row depth → row < rowCount rows
-  inside = depth-inside rows (structured-tree form header rows s)
+  inside = depth-inside rows (structured-tree form bounds rows s)
 
   -- the row that a field links is one deeper
   below : {row depth : ℕ} → Depth rows row depth → (field : ℕ) → between 1 4 field ≡ true → Leads rows row field → Depth rows (link rows row field) (depth + 1)
@@ -107,6 +108,6 @@ module _ (form : Form) (header rows : List ℤ) (s : Structured form header rows
     deep-list {l} (label-item p k e x y) depth h d = rw e (omega (arith, shallow _ _ (d p), deep-list y depth h (next l depth (d p))))
 
 -- "Depth: row 0 has 1, a row has its owner's plus 1, items of one list share theirs." The tree's depth is within the form's limit.
-pub structured-depth : (form : Form) (header rows : List ℤ) → Structured form header rows → Shallow form rows → statementDepth (decode rows) ≤ depthLimit form
+pub structured-depth : (form : Form) (bounds : Bounds) (rows : List ℤ) → Structured form bounds rows → Shallow form rows → statementDepth (decode rows) ≤ depthLimit form
 unfolding decode
-structured-depth form header rows s shallow = omega (arith, deep-statement form header rows s shallow (root-row form header rows s) 1 root)
+structured-depth form bounds rows s shallow = omega (arith, deep-statement form bounds rows s shallow (root-row form bounds rows s) 1 root)

@@ -24,6 +24,7 @@ use Rattle.language.specs.DecodeLaws.{at-constant, at-variable, at-element, at-
 use Rattle.structure.specs.Grammar.{isExpression, isPlace, link}
 use Rattle.structure.specs.Fields.{fits}
 use Rattle.structure.specs.StructuredLaws.{structured-tree}
+use Rattle.structure.specs.declared.Bounds.{Bounds}
 use Rattle.structure.specs.Structured.{Leads, Structured}
 use Rattle.accepted.specs.Sorts.{sort-is, place-kind}
 use Rattle.accepted.specs.Fields.{holds, Linked, linked}
@@ -73,16 +74,16 @@ module _ (rows : List ℤ) where
         → expressionAt rows (link rows row 1) ≡ read (placeAt rows (link rows row 1))
         → expressionAt rows row ≡ postfix o (placeAt rows (link rows row 1)) → ExpressionRow (link rows row 1) → ExpressionRow row
 
-module _ (form : Form) (header rows : List ℤ) (s : Structured form header rows) where
+module _ (form : Form) (bounds : Bounds) (rows : List ℤ) (s : Structured form bounds rows) where
   pub whole-rows : Whole rows
-  whole-rows = sym (structured-tree form header rows s .whole)
+  whole-rows = sym (structured-tree form bounds rows s .whole)
 
   -- a row of a place's kind holds a place
   read-place : (row : ℕ) → row < rowCount rows → isPlace rows row ≡ true → expressionAt rows row ≡ read (placeAt rows row)
   unfolding isPlace sortIn kindRow expressionFields statementFields markFields isRequired
   read-place row inside e =
       ⊎-elim (λ k. rw (at-variable rows whole-rows row k))
-      (λ k. rw (at-element rows whole-rows row k (linked form header rows s row inside k expression 2 refl refl .later)))
+      (λ k. rw (at-element rows whole-rows row k (linked form bounds rows s row inside k expression 2 refl refl .later)))
       (place-kind rows row (eqb-true _ _ e))
 
   pub place-expression : (row : ℕ) → isPlace rows row ≡ true → isExpression rows row ≡ true
@@ -93,7 +94,7 @@ module _ (form : Form) (header rows : List ℤ) (s : Structured form header rows
     -- the operand at a field, and its row
     link-at : {kind : Kind} → kindAt rows row ≡ kind → (field : ℕ) → holds (eqb expression) kind field ≡ true → Linked rows row expression field
     unfolding isRequired
-    link-at k field t = linked form header rows s row inside k expression field refl t
+    link-at k field t = linked form bounds rows s row inside k expression field refl t
 
     operand : {field : ℕ} → Linked rows row expression field → ExpressionRow rows (link rows row field)
     unfolding fits
@@ -102,7 +103,7 @@ module _ (form : Form) (header rows : List ℤ) (s : Structured form header rows
     -- the place at a field, and its row
     place-at : {kind : Kind} → kindAt rows row ≡ kind → (field : ℕ) → holds (eqb place) kind field ≡ true → Linked rows row place field
     unfolding isRequired
-    place-at k field t = linked form header rows s row inside k place field refl t
+    place-at k field t = linked form bounds rows s row inside k place field refl t
 
     a-place : {field : ℕ} → Linked rows row place field → ExpressionRow rows (link rows row field)
     unfolding fits

@@ -18,7 +18,8 @@ use Rattle.words.specs.declared.Form.{Form}
 use Rattle.words.specs.declared.Kind.{Kind}
 use Rattle.language.specs.Decode.{Forward}
 use Rattle.structure.specs.Grammar.{link}
-use Rattle.structure.specs.Fields.{fits, boundsOf, numberFits}
+use Rattle.structure.specs.Fields.{fits, numberFits}
+use Rattle.structure.specs.declared.Bounds.{Bounds}
 use Rattle.structure.specs.Structured.{Leads, Structured}
 use Rattle.structure.specs.StructuredLaws.{required-is-link}
 use Rattle.accepted.specs.Sorts.{sort-is, next-sort, between-true}
@@ -30,10 +31,9 @@ holds test kind field = between 1 5 field && test (sortIn kind field)
 abbrev pub noLink : ℕ → Bool
 noLink sort = not (isLink sort)
 
--- A variable number that a header gives: "numbers V to S−1 name nothing".
-abbrev pub NamesVariable : Form → List ℤ → ℕ → Type 0
-NamesVariable form header number =
-    (number < layoutOf form header .variables) ⊎ ((storeSize (layoutOf form header) ≤ number) × (number < storeWords form header))
+-- A variable number within the bounds: "numbers V to S−1 name nothing".
+abbrev pub NamesVariable : Bounds → ℕ → Type 0
+NamesVariable bounds number = (number < bounds .variables) ⊎ ((bounds .store ≤ number) × (number < bounds .words))
 
 module _ (rows : List ℤ) (row sort field : ℕ) where
   -- The field links a row that its sort asks for.
@@ -51,7 +51,7 @@ module _ (rows : List ℤ) (row sort field : ℕ) where
     pub later : Forward row (numberAt rows row field)
     pub fit : 0 < link rows row field → fits rows sort (link rows row field) ≡ true
 
-module _ (form : Form) (header rows : List ℤ) (s : Structured form header rows) (row : ℕ) (inside : row < rowCount rows) where
+module _ (form : Form) (bounds : Bounds) (rows : List ℤ) (s : Structured form bounds rows) (row : ℕ) (inside : row < rowCount rows) where
   -- a link that is there leads to a later row
   pub leads-on : (field : ℕ) → between 1 5 field ≡ true → 0 < link rows row field → Leads rows row field
   leads-on field t p = let range = between-true 1 5 field t in s .forward row inside field (range .0) (omega arith) p
@@ -120,17 +120,17 @@ module _ (form : Form) (header rows : List ℤ) (s : Structured form header rows
 
   -- ---- numbers
 
-  names : {kind : Kind} → kindAt rows row ≡ kind → (sort field : ℕ) → holds (eqb sort) kind field ≡ true → numberFits (boundsOf form header) sort (numberAt rows row field) ≡ true
+  names : {kind : Kind} → kindAt rows row ≡ kind → (sort field : ℕ) → holds (eqb sort) kind field ≡ true → numberFits bounds sort (numberAt rows row field) ≡ true
   names k sort field t =
       let at = tested (eqb sort) k field t in
       rw (eqb-true sort (sortAt rows row field) (at .passes)) (s .named row inside field (at .first) (at .last))
 
-  pub names-variable : {kind : Kind} → kindAt rows row ≡ kind → (field : ℕ) → holds (eqb variable) kind field ≡ true → NamesVariable form header (numberAt rows row field)
-  unfolding numberFits boundsOf
+  pub names-variable : {kind : Kind} → kindAt rows row ≡ kind → (field : ℕ) → holds (eqb variable) kind field ≡ true → NamesVariable bounds (numberAt rows row field)
+  unfolding numberFits
   names-variable k field t =
       ⊎-elim (λ h. inl (ltb-true _ _ h)) (λ h. let parts = both _ _ h in inr (leb-true _ _ (parts .0), ltb-true _ _ (parts .1)))
       (either _ _ (names k variable field t))
 
-  pub names-array : {kind : Kind} → kindAt rows row ≡ kind → (field : ℕ) → holds (eqb array) kind field ≡ true → numberAt rows row field < length (layoutOf form header .lengths)
-  unfolding numberFits boundsOf
+  pub names-array : {kind : Kind} → kindAt rows row ≡ kind → (field : ℕ) → holds (eqb array) kind field ≡ true → numberAt rows row field < bounds .arrays
+  unfolding numberFits
   names-array k field t = ltb-true _ _ (names k array field t)

@@ -19,6 +19,8 @@ use Rattle.language.specs.WellFormed.{Placed, PlacedItems}
 use Rattle.structure.specs.Grammar.{link}
 use Rattle.structure.specs.LinkLaws.{linker-of}
 use Rattle.structure.specs.StructuredLaws.{structured-tree}
+use Rattle.structure.specs.Fields.{boundsOf}
+use Rattle.structure.specs.declared.Bounds.{Bounds}
 use Rattle.structure.specs.Structured.{Leads, Structured, Tree}
 use Rattle.source_check.specs.Places.{isLoop, isLoopOrSwitch, isMark}
 use Rattle.source_check.specs.Legal.{Inside, part, along, SwitchItem, first, next, Legal}
@@ -60,11 +62,14 @@ module _ (rows : List ℤ) (t : Tree rows) where
       inr (sym (same .1), subst (SwitchItem rows) (same .0) i)
 
 module _ (header rows : List ℤ) (legal : Legal header rows) where
-  s : Structured Source header rows
+  abbrev bounds : Bounds
+  bounds = boundsOf Source header
+
+  s : Structured Source bounds rows
   s = legal .structured
 
   t : Tree rows
-  t = structured-tree Source header rows s
+  t = structured-tree Source bounds rows s
 
   -- the number of a row of a statement's kind
   number-of : {row : ℕ} {kind : Kind} → row < rowCount rows → kindAt rows row ≡ kind → sortIn kind 0 ≡ statementRow → numberAt rows row 0 ≡ statementNumber kind
@@ -110,7 +115,7 @@ module _ (header rows : List ℤ) (legal : Legal header rows) where
   first-item : {row : ℕ} {mayBreak mayContinue : Bool} → kindAt rows row ≡ OfStatement Block → Around mayBreak mayContinue row → 0 < link rows row 1 → AroundItem false mayBreak mayContinue (link rows row 1)
   unfolding sortIn kindRow expressionFields statementFields markFields statementNumber
   first-item {row} k around p =
-      let l = leads-on Source header rows s _ (around .inside) 1 refl p in
+      let l = leads-on Source bounds rows s _ (around .inside) 1 refl p in
       record {
         around = through k refl refl refl around 1 (omega arith) l;
         own = λ i. ⊎-elim (λ e. absurd (omega arith)) (λ e. absurd (omega (arith, e .0))) (switch-item-from rows t (link rows row 1) row 1 i refl (omega arith) l);
@@ -120,7 +125,7 @@ module _ (header rows : List ℤ) (legal : Legal header rows) where
   first-in-switch : {row : ℕ} {mayBreak mayContinue : Bool} → kindAt rows row ≡ OfStatement Switch → Around mayBreak mayContinue row → 0 < link rows row 2 → AroundItem true true mayContinue (link rows row 2)
   unfolding sortIn kindRow expressionFields statementFields markFields statementNumber
   first-in-switch {row} k around p =
-      let l = leads-on Source header rows s _ (around .inside) 2 refl p in
+      let l = leads-on Source bounds rows s _ (around .inside) 2 refl p in
       record {
         around = record {
           inside = l .inside;
@@ -134,7 +139,7 @@ module _ (header rows : List ℤ) (legal : Legal header rows) where
   next-item : {row : ℕ} {inSwitch mayBreak mayContinue : Bool} → AroundItem inSwitch mayBreak mayContinue row → 0 < link rows row 5 → AroundItem inSwitch mayBreak mayContinue (link rows row 5)
   next-item {row} a p =
       let around = a .around in
-      let l = leads-on Source header rows s _ (around .inside) 5 refl p in
+      let l = leads-on Source bounds rows s _ (around .inside) 5 refl p in
       record {
         around = record {
           inside = l .inside;
@@ -185,10 +190,10 @@ module _ (header rows : List ℤ) (legal : Legal header rows) where
   pub placed-contents : PlacedItems false false false (contents rows)
   unfolding Placed decode
   placed-contents =
-      rw (program-block Source header rows s) at
-      (placed-statement (root-row Source header rows s) false false
+      rw (program-block Source bounds rows s) at
+      (placed-statement (root-row Source bounds rows s) false false
       (record {
-        inside = root-inside Source header rows s;
+        inside = root-inside Source bounds rows s;
         breaks = λ i. absurd (outermost rows t isLoopOrSwitch 0 i refl);
         continues = λ i. absurd (outermost rows t isLoop 0 i refl);
       }))

@@ -22,6 +22,7 @@ use Rattle.language.specs.Sizes.{expressionRows, placeRows, partRows, statement
 use Rattle.structure.specs.Grammar.{isExpression, isStatement, link}
 use Rattle.structure.specs.Fields.{fits}
 use Rattle.structure.specs.StructuredLaws.{structured-tree}
+use Rattle.structure.specs.declared.Bounds.{Bounds}
 use Rattle.structure.specs.Structured.{Leads, Structured}
 use Rattle.accepted.specs.Sorts.{expression-or-statement, statement-kind}
 use Rattle.accepted.specs.Fields.{holds, noLink, MayLink, link-none, linked, may-link, next-link}
@@ -37,9 +38,9 @@ all test from (suc count) = test from && all test (from + 1) count
 unfoldable pub treeRows : List ℤ → ℕ → ℕ
 treeRows rows row = pick (isExpression rows row) (expressionRows (expressionAt rows row)) (itemsRows (itemsAt rows row))
 
-module _ (form : Form) (header rows : List ℤ) (s : Structured form header rows) where
+module _ (form : Form) (bounds : Bounds) (rows : List ℤ) (s : Structured form bounds rows) where
   whole : Whole rows
-  whole = whole-rows form header rows s
+  whole = whole-rows form bounds rows s
 
   expression-weight : (row : ℕ) → isExpression rows row ≡ true → treeRows rows row ≡ expressionRows (expressionAt rows row)
   unfolding treeRows
@@ -58,7 +59,7 @@ module _ (form : Form) (header rows : List ℤ) (s : Structured form header rows
       → itemsRows (itemsAt rows row) ≡ statementRows (statementAt rows row) + itemsRows (listAt rows (link rows row 5))
   unfolding isStatement itemsRows statementRows statementOf
   split-items row inside e =
-      let next = next-link form header rows s row inside in
+      let next = next-link form bounds rows s row inside in
       rw (next .same)
       (⊎-elim (λ t. rw (at-item rows whole row t (next .later)))
       (⊎-elim (λ k. rw (at-case rows whole row k (next .later), statement-at rows whole row, k))
@@ -70,7 +71,7 @@ module _ (form : Form) (header rows : List ℤ) (s : Structured form header rows
   lone-statement : (row : ℕ) → row < rowCount rows → isStatement rows row ≡ true → numberAt rows row 5 ≡ 0 → itemsRows (itemsAt rows row) ≡ statementRows (statementAt rows row)
   unfolding itemsRows
   lone-statement row inside e z =
-      let none : link rows row 5 ≡ 0 = next-link form header rows s row inside .same ∙ z in
+      let none : link rows row 5 ≡ 0 = next-link form bounds rows s row inside .same ∙ z in
       let behind : itemsRows (listAt rows (link rows row 5)) ≡ 0 = rw none in
       omega (arith, split-items row inside e, behind)
 
@@ -85,19 +86,19 @@ module _ (form : Form) (header rows : List ℤ) (s : Structured form header rows
     absent-brings field z = rw z
 
     none-brings : {kind : Kind} → kindAt rows row ≡ kind → (field : ℕ) → holds noLink kind field ≡ true → brings field ≡ 0
-    none-brings k field t = absent-brings field (link-none form header rows s row inside k field t)
+    none-brings k field t = absent-brings field (link-none form bounds rows s row inside k field t)
 
     operand-brings : {kind : Kind} → kindAt rows row ≡ kind → (field : ℕ) → holds (eqb expression) kind field ≡ true
         → brings field ≡ expressionRows (expressionAt rows (link rows row field))
     unfolding isRequired fits
-    operand-brings k field t = let l = linked form header rows s row inside k expression field refl t in some-link _ (l .some) ∙ expression-weight _ (l .fit)
+    operand-brings k field t = let l = linked form bounds rows s row inside k expression field refl t in some-link _ (l .some) ∙ expression-weight _ (l .fit)
 
     place-brings : {kind : Kind} → kindAt rows row ≡ kind → (field : ℕ) → holds (eqb place) kind field ≡ true
         → expressionAt rows (link rows row field) ≡ read (placeAt rows (link rows row field)) → brings field ≡ placeRows (placeAt rows (link rows row field))
     unfolding isRequired fits expressionRows
     place-brings k field t i =
-        let l = linked form header rows s row inside k place field refl t in
-        some-link _ (l .some) ∙ expression-weight _ (place-expression form header rows s _ (l .fit)) ∙ ap expressionRows i
+        let l = linked form bounds rows s row inside k place field refl t in
+        some-link _ (l .some) ∙ expression-weight _ (place-expression form bounds rows s _ (l .fit)) ∙ ap expressionRows i
 
     -- a branch or body has next 0
     lone-brings : (field : ℕ) → Leads rows row field → (isStatement rows (link rows row field) && eqb (numberAt rows (link rows row field) 5) 0) ≡ true
@@ -108,13 +109,13 @@ module _ (form : Form) (header rows : List ℤ) (s : Structured form header rows
 
     body-brings : {kind : Kind} → kindAt rows row ≡ kind → (field : ℕ) → holds (eqb branch) kind field ≡ true → brings field ≡ statementRows (statementAt rows (link rows row field))
     unfolding isRequired fits
-    body-brings k field t = let l = linked form header rows s row inside k branch field refl t in lone-brings field (l .leads) (l .fit)
+    body-brings k field t = let l = linked form bounds rows s row inside k branch field refl t in lone-brings field (l .leads) (l .fit)
 
     otherwise-brings : {kind : Kind} → kindAt rows row ≡ kind → (field : ℕ) → holds (eqb optionalBranch) kind field ≡ true → Leads rows row field
         → brings field ≡ statementRows (statementAt rows (link rows row field))
     unfolding isLink fits
     otherwise-brings k field t l =
-        lone-brings field l (may-link form header rows s row inside k optionalBranch field refl t .fit (let later = l .later in omega arith))
+        lone-brings field l (may-link form bounds rows s row inside k optionalBranch field refl t .fit (let later = l .later in omega arith))
 
     part-brings : {kind : Kind} → kindAt rows row ≡ kind → (field : ℕ) → holds (eqb optionalExpression) kind field ≡ true → brings field ≡ partRows (partAt rows (link rows row field))
     unfolding isLink fits
@@ -124,7 +125,7 @@ module _ (form : Form) (header rows : List ℤ) (s : Structured form header rows
         go zero z = absent-brings field z ∙ (rw z)
         go (suc l) z =
             let p : 0 < link rows row field = omega arith in
-            let fit = may-link form header rows s row inside k optionalExpression field refl t .fit p in
+            let fit = may-link form bounds rows s row inside k optionalExpression field refl t .fit p in
             some-link _ p ∙ expression-weight _ fit ∙ ap partRows (sym (part-some rows _ p))
 
     list-brings : (field : ℕ) → MayLink rows row optionalItem field → brings field ≡ itemsRows (listAt rows (link rows row field))
@@ -139,7 +140,7 @@ module _ (form : Form) (header rows : List ℤ) (s : Structured form header rows
 
     items-bring : {kind : Kind} → kindAt rows row ≡ kind → (field : ℕ) → holds (eqb optionalItem) kind field ≡ true → brings field ≡ itemsRows (listAt rows (link rows row field))
     unfolding isLink
-    items-bring k field t = list-brings field (may-link form header rows s row inside k optionalItem field refl t)
+    items-bring k field t = list-brings field (may-link form bounds rows s row inside k optionalItem field refl t)
 
     -- fields without links bring nothing
     free : {kind : Kind} → kindAt rows row ≡ kind → (from count : ℕ) → all (holds noLink kind) from count ≡ true → totalFrom brings from count ≡ 0
@@ -193,18 +194,18 @@ module _ (form : Form) (header rows : List ℤ) (s : Structured form header rows
     row-adds : treeRows rows row ≡ 1 + totalFrom brings 1 5
     unfolding totalFrom
     row-adds =
-        ⊎-elim (λ e. expression-weight row e ∙ expression-adds (expression-row form header rows s row inside e))
+        ⊎-elim (λ e. expression-weight row e ∙ expression-adds (expression-row form bounds rows s row inside e))
         (λ e.
-        let own = statement-adds (statement-row form header rows s row inside e) in
-        let behind = list-brings 5 (next-link form header rows s row inside) in
+        let own = statement-adds (statement-row form bounds rows s row inside e) in
+        let behind = list-brings 5 (next-link form bounds rows s row inside) in
         omega (arith, statement-weight row e, split-items row inside e, own, behind))
         (expression-or-statement form rows row (s .known row inside))
 
 -- "Every other row is linked exactly once": the tree has a row for each row of the table.
-pub structured-rows : (form : Form) (header rows : List ℤ) → Structured form header rows → statementRows (decode rows) ≡ rowCount rows
+pub structured-rows : (form : Form) (bounds : Bounds) (rows : List ℤ) → Structured form bounds rows → statementRows (decode rows) ≡ rowCount rows
 unfolding decode isStatement sortAt sortOf kindOf kindIn kinds sortIn kindRow statementFields
-structured-rows form header rows s =
-    let inside = root-inside form header rows s in
+structured-rows form bounds rows s =
+    let inside = root-inside form bounds rows s in
     let block-row : isStatement rows 0 ≡ true = rw (s .block) in
-    let all = gathers (treeRows rows) rows (structured-tree form header rows s) (λ row. 1) (row-adds form header rows s) in
-    omega (arith, all, total-one (rowCount rows), statement-weight form header rows s 0 block-row, lone-statement form header rows s 0 inside block-row (s .lone))
+    let all = gathers (treeRows rows) rows (structured-tree form bounds rows s) (λ row. 1) (row-adds form bounds rows s) in
+    omega (arith, all, total-one (rowCount rows), statement-weight form bounds rows s 0 block-row, lone-statement form bounds rows s 0 inside block-row (s .lone))

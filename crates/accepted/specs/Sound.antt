@@ -17,22 +17,12 @@ use Rattle.words.specs.Layout.{Layout, layoutOf, storeSize, storeWords}
 use Rattle.words.specs.declared.Form.{Form}
 use Rattle.language.specs.Sound.{Link, OptionalLink, SoundField, Sound}
 use Rattle.structure.specs.Grammar.{isPlace, link}
-use Rattle.structure.specs.Fields.{fits, boundsOf, numberFits}
+use Rattle.structure.specs.Fields.{fits, boundsIn, boundsOf, numberFits}
 use Rattle.structure.specs.StructuredLaws.{structured-tree}
 use Rattle.structure.specs.Structured.{Structured}
 use Rattle.accepted.specs.Sorts.{sort-is, kind-known}
 
-module _ (form : Form) (header rows : List ℤ) (s : Structured form header rows) where
-  abbrev L : Layout
-  L = layoutOf form header
-
-  abbrev words : ℕ
-  words = storeWords form header
-
-  store-fits : storeSize L ≤ words
-  unfolding storeWords
-  store-fits = omega arith
-
+module _ (form : Form) (L : Layout) (words : ℕ) (rows : List ℤ) (store-fits : storeSize L ≤ words) (s : Structured form (boundsIn L words) rows) where
   variables-fit : L .variables ≤ storeSize L
   unfolding storeSize
   variables-fit = omega arith
@@ -51,17 +41,17 @@ module _ (form : Form) (header rows : List ℤ) (s : Structured form header rows
         let leads = s .forward row inside field first last (rw (same t) p) in
         record { later = rw (same t) at (leads .later); inside = rw (same t) at (leads .inside) }
 
-    names : (sort : ℕ) → sortAt rows row field ≡ sort → numberFits (boundsOf form header) sort (numberAt rows row field) ≡ true
+    names : (sort : ℕ) → sortAt rows row field ≡ sort → numberFits (boundsIn L words) sort (numberAt rows row field) ≡ true
     names sort e = rw (← e) (s .named row inside field first last)
 
     names-a-word : sortAt rows row field ≡ variable → numberAt rows row field < words
-    unfolding numberFits boundsOf
+    unfolding numberFits
     names-a-word e =
         ⊎-elim (λ h. let below : numberAt rows row field < L .variables = ltb-true _ _ h in omega (arith, store-fits, variables-fit))
         (λ h. ltb-true _ _ (both (leb (storeSize L) (numberAt rows row field)) _ h .1)) (either _ _ (names variable e))
 
     names-an-array : sortAt rows row field ≡ array → numberAt rows row field < length (L .lengths)
-    unfolding numberFits boundsOf
+    unfolding numberFits
     names-an-array e = ltb-true _ _ (names array e)
 
     links-a-place : sortAt rows row field ≡ place → isPlaceKind (kindAt rows (numberAt rows row field)) ≡ true
@@ -84,14 +74,19 @@ module _ (form : Form) (header rows : List ℤ) (s : Structured form header rows
           at-place = links-a-place;
         })
 
--- What a run asks of a table, from what the checks of both forms share.
-pub structured-sound : (form : Form) (header rows : List ℤ) → Structured form header rows → Sound rows (layoutOf form header) (storeWords form header)
-structured-sound form header rows s =
-    let tree = structured-tree form header rows s in
-    record {
-      whole = sym (tree .whole);
-      some-rows = tree .some-rows;
-      known = λ row inside. kind-known form rows row (s .known row inside);
-      fields = λ row inside field first last. sound-field form header rows s row inside field first last;
-      store-fits = store-fits form header rows s;
-    }
+  -- What a run asks of a table, from what the checks of both forms share.
+  pub structured-sound : Sound rows L words
+  structured-sound =
+      let tree = structured-tree form (boundsIn L words) rows s in
+      record {
+        whole = sym (tree .whole);
+        some-rows = tree .some-rows;
+        known = λ row inside. kind-known form rows row (s .known row inside);
+        fields = sound-field;
+        store-fits = store-fits;
+      }
+
+-- The same with the bounds that a header gives.
+pub header-sound : (form : Form) (header rows : List ℤ) → Structured form (boundsOf form header) rows → Sound rows (layoutOf form header) (storeWords form header)
+unfolding boundsOf storeWords
+header-sound form header rows s = structured-sound form (layoutOf form header) (storeWords form header) rows (omega arith) s

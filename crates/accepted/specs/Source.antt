@@ -3,7 +3,7 @@ use mathlib.Core.Path.{_≡_}
 use mathlib.Core.List.{List}
 use Prim.Native.Nat.{ℕ, _^_, _≤_, _<_}
 use lib.IntN.{ℤ, pos}
-use lib.ListN.{getD}
+use lib.ListN.{getD, length}
 use lib.Signed.{mag}
 use Rattle.words.specs.Table.{rowCount}
 use Rattle.words.specs.Layout.{layoutOf, storeWords}
@@ -15,46 +15,52 @@ use Rattle.language.specs.Meaning.{next}
 use Rattle.language.specs.Program.{contents, programOf, runUnder}
 use Rattle.language.specs.Sizes.{statementRows, statementDepth}
 use Rattle.language.specs.Sound.{Sound}
-use Rattle.language.specs.WellFormed.{SourceTree}
+use Rattle.language.specs.WellFormed.{NamedItems, SourceTree}
+use Rattle.structure.specs.Fields.{boundsOf}
 use Rattle.source_check.specs.Legal.{Legal}
 use Rattle.accepted.specs.Statements.{program-block}
 use Rattle.accepted.specs.Names.{named-contents, source-variable}
 use Rattle.accepted.specs.Places.{placed-contents}
 use Rattle.accepted.specs.Gives.{Gives}
 use Rattle.accepted.specs.Endings.{program-ends}
-use Rattle.accepted.specs.Sound.{structured-sound}
+use Rattle.accepted.specs.Sound.{header-sound}
 use Rattle.accepted.specs.Rows.{structured-rows}
 use Rattle.accepted.specs.Depth.{structured-depth}
 use Rattle.accepted.specs.Worded.{Worded}
 use Rattle.accepted.specs.Words.{structured-worded}
 
 module _ (header rows : List ℤ) (legal : Legal header rows) where
+  -- Numbers within the bounds of a source header are those of its variables and arrays.
+  numbers-named : NamedItems (λ i. i < layoutOf Source header .variables) (length (layoutOf Source header .lengths)) (contents rows)
+  unfolding boundsOf
+  numbers-named = named-contents Source (boundsOf Source header) rows (legal .structured) (λ i. i < layoutOf Source header .variables) (source-variable header)
+
   -- A run may walk its rows.
   pub legal-sound : Sound rows (layoutOf Source header) (storeWords Source header)
-  legal-sound = structured-sound Source header rows (legal .structured)
+  legal-sound = header-sound Source header rows (legal .structured)
 
   -- Its tree is the block of its items.
   pub legal-block : decode rows ≡ block (contents rows)
-  legal-block = program-block Source header rows (legal .structured)
+  legal-block = program-block Source _ rows (legal .structured)
 
   -- Their numbers are in range, their jumps in place.
   pub legal-tree : SourceTree (layoutOf Source header) (contents rows)
   legal-tree = record {
-    named = named-contents Source header rows (legal .structured) (λ i. i < layoutOf Source header .variables) (source-variable header);
+    named = numbers-named;
     placed = placed-contents header rows legal;
   }
 
   -- Its tree has as many rows as the table.
   pub legal-rows : statementRows (block (contents rows)) ≡ rowCount rows
-  legal-rows = rw legal-block at (structured-rows Source header rows (legal .structured))
+  legal-rows = rw legal-block at (structured-rows Source _ rows (legal .structured))
 
   -- "The limit is 64."
   pub legal-depth : statementDepth (block (contents rows)) ≤ 64
-  legal-depth = rw legal-block at (structured-depth Source header rows (legal .structured) (legal .shallow))
+  legal-depth = rw legal-block at (structured-depth Source _ rows (legal .structured) (legal .shallow))
 
   -- Its constants and case values are words of the table.
   pub legal-worded : ((i : ℕ) → mag (getD rows i (pos 0)) < 2 ^ 31) → Worded (decode rows)
-  legal-worded = structured-worded Source header rows (legal .structured)
+  legal-worded = structured-worded Source _ rows (legal .structured)
 
   -- A run that comes to its end is not on its way out of a loop or switch, nor to a mark, under any limit and from any store: `Plain`
   -- says no less than document 01's "ends plainly".

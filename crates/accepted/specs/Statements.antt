@@ -25,6 +25,7 @@ use Rattle.structure.specs.Grammar.{link, isStatement}
 use Rattle.language.specs.Program.{contents}
 use Rattle.structure.specs.Fields.{fits}
 use Rattle.structure.specs.StructuredLaws.{structured-tree}
+use Rattle.structure.specs.declared.Bounds.{Bounds}
 use Rattle.structure.specs.Structured.{Leads, Structured}
 use Rattle.accepted.specs.Sorts.{sort-is, operand-is, statement-kind}
 use Rattle.accepted.specs.Fields.{holds, Linked, MayLink, linked, may-link, next-link}
@@ -96,30 +97,30 @@ module _ (rows : List ℤ) where
     statement : StatementRow row
     list : 0 < row → ListRow row
 
-module _ (form : Form) (header rows : List ℤ) (s : Structured form header rows) where
+module _ (form : Form) (bounds : Bounds) (rows : List ℤ) (s : Structured form bounds rows) where
   whole : Whole rows
-  whole = whole-rows form header rows s
+  whole = whole-rows form bounds rows s
 
   module _ (row : ℕ) (inside : row < rowCount rows) (later-rows : (l : ℕ) → row < l → l < rowCount rows → isStatement rows l ≡ true → Held rows l) where
     -- the row that a field links: an expression, a branch or body, an else, a part of a for, a list
     link-at : {kind : Kind} → kindAt rows row ≡ kind → (field : ℕ) → holds (eqb expression) kind field ≡ true → Linked rows row expression field
     unfolding isRequired
-    link-at k field t = linked form header rows s row inside k expression field refl t
+    link-at k field t = linked form bounds rows s row inside k expression field refl t
 
     operand : {field : ℕ} → Linked rows row expression field → ExpressionRow rows (link rows row field)
     unfolding fits
-    operand l = expression-row form header rows s _ (l .leads .inside) (l .fit)
+    operand l = expression-row form bounds rows s _ (l .leads .inside) (l .fit)
 
     body-at : {kind : Kind} → kindAt rows row ≡ kind → (field : ℕ) → holds (eqb branch) kind field ≡ true → Linked rows row branch field
     unfolding isRequired
-    body-at k field t = linked form header rows s row inside k branch field refl t
+    body-at k field t = linked form bounds rows s row inside k branch field refl t
 
     body : {field : ℕ} → Linked rows row branch field → StatementRow rows (link rows row field)
     unfolding fits
     body l = later-rows _ (l .leads .later) (l .leads .inside) (both _ _ (l .fit) .0) .statement
 
     may-at : {kind : Kind} → kindAt rows row ≡ kind → (sort field : ℕ) → isLink sort ≡ true → holds (eqb sort) kind field ≡ true → MayLink rows row sort field
-    may-at = may-link form header rows s row inside
+    may-at = may-link form bounds rows s row inside
 
     otherwise : {field : ℕ} → MayLink rows row optionalBranch field → 0 < link rows row field → StatementRow rows (link rows row field)
     unfolding fits
@@ -133,7 +134,7 @@ module _ (form : Form) (header rows : List ℤ) (s : Structured form header rows
         go zero z = absent-part z (rw z)
         go (suc next) z =
             let p : 0 < link rows row field = omega arith in
-            present-part p (part-some rows _ p) (expression-row form header rows s _ (l .leads p .inside) (l .fit p))
+            present-part p (part-some rows _ p) (expression-row form bounds rows s _ (l .leads p .inside) (l .fit p))
 
     items : {field : ℕ} → MayLink rows row optionalItem field → ListRow rows (link rows row field)
     unfolding fits
@@ -202,7 +203,7 @@ module _ (form : Form) (header rows : List ℤ) (s : Structured form header rows
 
     list-by : 0 < row → sortAt rows row 0 ≡ statementRow → StatementRow rows row → ListRow rows row
     list-by p e held =
-        let next = next-link form header rows s row inside in
+        let next = next-link form bounds rows s row inside in
         let begins = list-some rows row p in
         ⊎-elim (λ t. item p (rw (next .same) (begins ∙ at-item rows whole row t (next .later))) held (items next))
         (⊎-elim (λ k. case-item p k (rw (next .same) (begins ∙ at-case rows whole row k (next .later))) held (items next))
@@ -232,7 +233,7 @@ module _ (form : Form) (header rows : List ℤ) (s : Structured form header rows
   root-kind = rw (s .block)
 
   pub root-inside : 0 < rowCount rows
-  root-inside = structured-tree form header rows s .some-rows
+  root-inside = structured-tree form bounds rows s .some-rows
 
   pub root-row : StatementRow rows 0
   unfolding isStatement sortAt sortOf kindOf kindIn kinds sortIn kindRow statementFields
@@ -241,7 +242,7 @@ module _ (form : Form) (header rows : List ℤ) (s : Structured form header rows
   -- The program is a block, and its items hang at row 0's field a.
   root-link : MayLink rows 0 optionalItem 1
   unfolding sortIn kindRow expressionFields statementFields markFields isLink
-  root-link = may-link form header rows s 0 root-inside root-kind optionalItem 1 refl refl
+  root-link = may-link form bounds rows s 0 root-inside root-kind optionalItem 1 refl refl
 
   pub program-list : ListRow rows (link rows 0 1)
   program-list = items 0 root-inside (λ l later there t. held-rows (rowCount rows) l (omega arith) there t) root-link

@@ -10,6 +10,7 @@ use Rattle.words.specs.declared.Form.{Form}
 use Rattle.language.specs.Trees.{read}
 use Rattle.language.specs.Decode.{expressionAt, statementAt, decode, listAt, partAt}
 use Rattle.structure.specs.Grammar.{link}
+use Rattle.structure.specs.declared.Bounds.{Bounds}
 use Rattle.structure.specs.Structured.{Structured}
 use Rattle.accepted.specs.Worded.{ValuedExpression, ValuedPlace, ValuedPart, ValuedStatement, ValuedItems, IsWord, Worded}
 use Rattle.accepted.specs.Expressions.{ExpressionRow, constant-row, variable-row, element-row, minus-row, not-row, binary-row, and-row, or-row, comma-row, conditional-row, assign-row, compound-row, prefix-row, postfix-row, placeAt}
@@ -70,10 +71,10 @@ module _ (rows : List ℤ) (Value : ℤ → Type 0) (values : (i : ℕ) → Valu
     valued-list (label-item p k e x y) = rw e (tt, valued-list y)
 
 -- Every constant and every case value in the tree is a word of the table: what holds of all its words holds of them.
-pub structured-valued : (form : Form) (header rows : List ℤ) → Structured form header rows
+pub structured-valued : (form : Form) (bounds : Bounds) (rows : List ℤ) → Structured form bounds rows
     → (Value : ℤ → Type 0) → ((i : ℕ) → Value (getD rows i (pos 0))) → ValuedStatement Value (decode rows)
 unfolding ValuedStatement
-structured-valued form header rows s Value values = rw (program-block form header rows s, program-contents form header rows s) (valued-list rows Value values (program-list form header rows s))
+structured-valued form bounds rows s Value values = rw (program-block form bounds rows s, program-contents form bounds rows s) (valued-list rows Value values (program-list form bounds rows s))
 
-pub structured-worded : (form : Form) (header rows : List ℤ) → Structured form header rows → ((i : ℕ) → mag (getD rows i (pos 0)) < 2 ^ 31) → Worded (decode rows)
-structured-worded form header rows s = structured-valued form header rows s IsWord
+pub structured-worded : (form : Form) (bounds : Bounds) (rows : List ℤ) → Structured form bounds rows → ((i : ℕ) → mag (getD rows i (pos 0)) < 2 ^ 31) → Worded (decode rows)
+structured-worded form bounds rows s = structured-valued form bounds rows s IsWord

@@ -24,6 +24,7 @@ use Rattle.language.specs.Trees.{Expression, read, assign, variable, element}
 use Rattle.language.specs.Decode.{placeOf, expressionAt}
 use Rattle.language.specs.DecodeLaws.{at-constant, at-variable, at-element, at-minus, at-binary, at-assign}
 use Rattle.structure.specs.SearchLaws.{from-on}
+use Rattle.structure.specs.declared.Bounds.{Bounds}
 use Rattle.structure.specs.Structured.{Structured}
 use Rattle.translation.specs.KernelForm.{IsAtom, constant-atom, variable-atom, Assigns, assigns-atom, assigns-minus, assigns-operation, assigns-element, assigns-to-element}
 use Rattle.kernel_check.specs.Statements.{isAtom, isAtomMinus, isAtomOperation, isAtomElement, fitsVariable, isAssignment}
@@ -46,18 +47,18 @@ binary-kind number h k =
     (λ h. from-on BinaryKind number 14 h (record { operator = GreaterOrEqual; is = refl }) (λ h. from-on BinaryKind number 15 h (record { operator = Equal; is = refl })
     (λ h. from-on BinaryKind number 16 h (record { operator = NotEqual; is = refl }) (λ h. absurd (omega arith))))))))))))
 
-module _ (header rows : List ℤ) (s : Structured Kernel header rows) where
+module _ (bounds : Bounds) (rows : List ℤ) (s : Structured Kernel bounds rows) where
   kind-of : (row number : ℕ) → numberAt rows row 0 ≡ number → kindAt rows row ≡ kindOf number
   unfolding kindAt
   kind-of row number e = ap kindOf e
 
   operand : (row : ℕ) → row < rowCount rows → {kind : Kind} → kindAt rows row ≡ kind → (field : ℕ) → holds (eqb expression) kind field ≡ true → Linked rows row expression field
   unfolding isRequired
-  operand row n k field t = linked Kernel header rows s row n k expression field refl t
+  operand row n k field t = linked Kernel bounds rows s row n k expression field refl t
 
   target : (row : ℕ) → row < rowCount rows → kindAt rows row ≡ OfExpression Assign → Linked rows row place 1
   unfolding isRequired sortIn kindRow expressionFields statementFields markFields
-  target row n k = linked Kernel header rows s row n k place 1 refl refl
+  target row n k = linked Kernel bounds rows s row n k place 1 refl refl
 
   -- "An atom is a constant or variable."
   pub atom-at : (row : ℕ) → isAtom rows row ≡ true → IsAtom (expressionAt rows row)
@@ -65,12 +66,12 @@ module _ (header rows : List ℤ) (s : Structured Kernel header rows) where
   atom-at row e = go (ℕ-discrete (numberAt rows row 0) 1)
     where
       go : Dec (numberAt rows row 0 ≡ 1) → IsAtom (expressionAt rows row)
-      go (yes q) = rw (at-constant rows (whole-rows Kernel header rows s) row (kind-of row 1 q)) constant-atom
+      go (yes q) = rw (at-constant rows (whole-rows Kernel bounds rows s) row (kind-of row 1 q)) constant-atom
       go (no q) =
           let range = between-true 1 2 (numberAt rows row 0) e in
           let more : 1 < numberAt rows row 0 = lt-of-le-ne (range .0) (λ (x : 1 ≡ numberAt rows row 0). q (sym x)) in
           let two : numberAt rows row 0 ≡ 2 = (let most = range .1 in omega arith) in
-          rw (at-variable rows (whole-rows Kernel header rows s) row (kind-of row 2 two)) variable-atom
+          rw (at-variable rows (whole-rows Kernel bounds rows s) row (kind-of row 2 two)) variable-atom
 
   -- "An element with an atom index."
   record ElementAt (row : ℕ) : Type 0 where
@@ -87,7 +88,7 @@ module _ (header rows : List ℤ) (s : Structured Kernel header rows) where
       record {
         array = numberAt rows row 1;
         index = expressionAt rows (numberAt rows row 2);
-        is = at-element rows (whole-rows Kernel header rows s) row kind (operand row n kind 2 refl .later);
+        is = at-element rows (whole-rows Kernel bounds rows s) row kind (operand row n kind 2 refl .later);
         atom = atom-at (numberAt rows row 2) (parts .1);
       }
 
@@ -97,7 +98,7 @@ module _ (header rows : List ℤ) (s : Structured Kernel header rows) where
   minus-at i row n e =
       let parts = both (eqb (numberAt rows row 0) 4) _ e in
       let kind = kind-of row 4 (eqb-true _ _ (parts .0)) in
-      rw (at-minus rows (whole-rows Kernel header rows s) row kind (operand row n kind 1 refl .later)) (assigns-minus (atom-at (numberAt rows row 1) (parts .1)))
+      rw (at-minus rows (whole-rows Kernel bounds rows s) row kind (operand row n kind 1 refl .later)) (assigns-minus (atom-at (numberAt rows row 1) (parts .1)))
 
   operation-at : (i row : ℕ) → row < rowCount rows → isAtomOperation rows row ≡ true → Assigns (assign (variable i) (expressionAt rows row))
   unfolding isAtomOperation sortIn kindRow expressionFields statementFields markFields
@@ -107,7 +108,7 @@ module _ (header rows : List ℤ) (s : Structured Kernel header rows) where
       let range = between-true 6 16 (numberAt rows row 0) (parts .0) in
       let b = binary-kind (numberAt rows row 0) (range .0) (range .1) in
       let kind = kind-of row (numberAt rows row 0) refl ∙ b .is in
-      rw (at-binary rows (whole-rows Kernel header rows s) row (b .operator) kind (operand row n kind 1 refl .later) (operand row n kind 2 refl .later))
+      rw (at-binary rows (whole-rows Kernel bounds rows s) row (b .operator) kind (operand row n kind 1 refl .later) (operand row n kind 2 refl .later))
       (assigns-operation (atom-at (numberAt rows row 1) (atoms .0)) (atom-at (numberAt rows row 2) (atoms .1)))
 
   value-at : (i row : ℕ) → row < rowCount rows → fitsVariable rows row ≡ true → Assigns (assign (variable i) (expressionAt rows row))
@@ -129,13 +130,13 @@ module _ (header rows : List ℤ) (s : Structured Kernel header rows) where
       let b = operand row n kind 2 refl in
       let inside-a : numberAt rows row 1 < rowCount rows = rw (a .same) at (a .leads .inside) in
       let inside-b : numberAt rows row 2 < rowCount rows = rw (b .same) at (b .leads .inside) in
-      rw (at-assign rows (whole-rows Kernel header rows s) row kind (a .later) (b .later)) (go (ℕ-discrete (numberAt rows (numberAt rows row 1) 0) 2) inside-a inside-b (parts .1))
+      rw (at-assign rows (whole-rows Kernel bounds rows s) row kind (a .later) (b .later)) (go (ℕ-discrete (numberAt rows (numberAt rows row 1) 0) 2) inside-a inside-b (parts .1))
     where
       go : Dec (numberAt rows (numberAt rows row 1) 0 ≡ 2) → numberAt rows row 1 < rowCount rows → numberAt rows row 2 < rowCount rows
           → pick (eqb (numberAt rows (numberAt rows row 1) 0) 2) (fitsVariable rows (numberAt rows row 2)) (isAtomElement rows (numberAt rows row 1) && isAtom rows (numberAt rows row 2)) ≡ true
           → Assigns (assign (placeOf (expressionAt rows (numberAt rows row 1))) (expressionAt rows (numberAt rows row 2)))
       go (yes q) a b e =
-          rw (at-variable rows (whole-rows Kernel header rows s) (numberAt rows row 1) (kind-of (numberAt rows row 1) 2 q)) (value-at _ (numberAt rows row 2) b (rw (eq-eqb _ _ q) at e))
+          rw (at-variable rows (whole-rows Kernel bounds rows s) (numberAt rows row 1) (kind-of (numberAt rows row 1) 2 q)) (value-at _ (numberAt rows row 2) b (rw (eq-eqb _ _ q) at e))
       go (no q) a b e =
           let parts = both (isAtomElement rows (numberAt rows row 1)) _ (rw (ne-eqb _ _ q) at e) in
           let z = element-at (numberAt rows row 1) a (parts .0) in

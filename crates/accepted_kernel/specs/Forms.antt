@@ -22,8 +22,9 @@ use Rattle.language.specs.Decode.{statementOf, statementAt, listAt}
 use Rattle.language.specs.DecodeLaws.{statement-at, at-empty, at-express, at-block, at-ifElse, at-while, at-goto, at-item, at-label}
 use Rattle.structure.specs.Grammar.{isStatement, link}
 use Rattle.language.specs.Program.{contents}
-use Rattle.structure.specs.Fields.{fits}
+use Rattle.structure.specs.Fields.{fits, boundsOf}
 use Rattle.structure.specs.NoteLaws.{above-zero}
+use Rattle.structure.specs.declared.Bounds.{Bounds}
 use Rattle.structure.specs.Structured.{Leads, Structured}
 use Rattle.structure.specs.Lists.{Step, once, on, before-step}
 use Rattle.structure.specs.StructuredLaws.{structured-tree}
@@ -40,11 +41,14 @@ use Rattle.accepted_kernel.specs.Assignments.{atom-at, assignment-at}
 use Rattle.accepted_kernel.specs.Labels.{Covers, covers-item, covers-branch}
 
 module _ (header rows : List ℤ) (legal : Legal header rows) where
-  s : Structured Kernel header rows
+  abbrev bounds : Bounds
+  bounds = boundsOf Kernel header
+
+  s : Structured Kernel bounds rows
   s = legal .structured
 
   whole : Whole rows
-  whole = whole-rows Kernel header rows s
+  whole = whole-rows Kernel bounds rows s
 
   -- A list begins at a row, with its owner.
   record Begins (owner row : ℕ) : Type 0 where
@@ -55,7 +59,7 @@ module _ (header rows : List ℤ) (legal : Legal header rows) where
   -- the list of a block
   first-item : (row : ℕ) → row < rowCount rows → kindAt rows row ≡ OfStatement Block → MayLink rows row optionalItem 1
   unfolding isLink sortIn kindRow expressionFields statementFields markFields
-  first-item row n k = may-link Kernel header rows s row n k optionalItem 1 refl refl
+  first-item row n k = may-link Kernel bounds rows s row n k optionalItem 1 refl refl
 
   begins-in : (row : ℕ) → row < rowCount rows → kindAt rows row ≡ OfStatement Block → 0 < link rows row 1 → Begins row (link rows row 1)
   unfolding fits
@@ -66,19 +70,19 @@ module _ (header rows : List ℤ) (legal : Legal header rows) where
   begins-next : (owner row : ℕ) → Begins owner row → 0 < link rows row 5 → Begins owner (link rows row 5)
   unfolding fits
   begins-next owner row b p =
-      let next = next-link Kernel header rows s row (b .inside) in
+      let next = next-link Kernel bounds rows s row (b .inside) in
       record { inside = next .leads p .inside; statement = next .fit p; owned = beside (b .owned) (next .leads p) }
 
   -- ---- a statement, given the lists of later rows
 
-  module _ (row : ℕ) (n : row < rowCount rows) (lists : (owner : ℕ) (ahead : Items) → row ≤ owner → owner < rowCount rows → kindAt rows owner ≡ OfStatement Block → Covers header rows s ahead owner → KernelItems ahead (listAt rows (link rows owner 1))) (ahead : Items) (covers : Covers header rows s ahead row) where
+  module _ (row : ℕ) (n : row < rowCount rows) (lists : (owner : ℕ) (ahead : Items) → row ≤ owner → owner < rowCount rows → kindAt rows owner ≡ OfStatement Block → Covers bounds rows s ahead owner → KernelItems ahead (listAt rows (link rows owner 1))) (ahead : Items) (covers : Covers bounds rows s ahead row) where
     kind-of : (number : ℕ) → numberAt rows row 0 ≡ number → kindAt rows row ≡ kindOf number
     unfolding kindAt
     kind-of number e = ap kindOf e
 
     test : {kind : Kind} → kindAt rows row ≡ kind → (field : ℕ) → holds (eqb expression) kind field ≡ true → Linked rows row expression field
     unfolding isRequired
-    test k field t = linked Kernel header rows s row n k expression field refl t
+    test k field t = linked Kernel bounds rows s row n k expression field refl t
 
     block-at : (b : ℕ) → b < rowCount rows → kindAt rows b ≡ OfStatement Block → statementAt rows b ≡ block (listAt rows (link rows b 1))
     block-at b m k = let first = first-item b m k in rw (first .same) (at-block rows whole b k (first .later))
@@ -99,23 +103,23 @@ module _ (header rows : List ℤ) (legal : Legal header rows) where
         let number : numberAt rows b 0 ≡ 42 = eqb-true _ _ (is-block .1) in
         let kind : kindAt rows b ≡ OfStatement Block = rw number in
         let owned : Owner rows row b = subst (Owner rows row) same (part h leads) in
-        let next = next-link Kernel header rows s b inside in
+        let next = next-link Kernel bounds rows s b inside in
         record {
           later = later;
           is = block-at b inside kind;
-          form = lists b ahead (omega arith) inside kind (covers-branch header rows s ahead row b owned (next .same ∙ (rw same at lone)) covers);
+          form = lists b ahead (omega arith) inside kind (covers-branch bounds rows s ahead row b owned (next .same ∙ (rw same at lone)) covers);
         }
 
     branch-at : {kind : Kind} → kindAt rows row ≡ kind → (field : ℕ) → field < 5 → holds (eqb branch) kind field ≡ true → isBlock rows (numberAt rows row field) ≡ true → BranchAt field
     unfolding isRequired fits
     branch-at k field h t e =
-        let b = linked Kernel header rows s row n k branch field refl t in
+        let b = linked Kernel bounds rows s row n k branch field refl t in
         branch-by field h (b .leads) (b .same) (eqb-true _ _ (both (isStatement rows (link rows row field)) _ (b .fit) .1)) e
 
     else-at : kindAt rows row ≡ OfStatement If → isBlock rows (numberAt rows row 3) ≡ true → BranchAt 3
     unfolding isLink sortIn kindRow expressionFields statementFields markFields fits isBlock
     else-at k e =
-        let c = may-link Kernel header rows s row n k optionalBranch 3 refl refl in
+        let c = may-link Kernel bounds rows s row n k optionalBranch 3 refl refl in
         let there : 0 < link rows row 3 = rw (c .same) (above-zero _ (λ q. true≢false (sym (both (not (eqb (numberAt rows row 3) 0)) _ e .0) ∙ ap not (eq-eqb _ _ q)))) in
         branch-by 3 (omega arith) (c .leads there) (c .same) (eqb-true _ _ (both (isStatement rows (link rows row 3)) _ (c .fit there) .1)) e
 
@@ -137,7 +141,7 @@ module _ (header rows : List ℤ) (legal : Legal header rows) where
         let b = branch-at k 2 (omega arith) refl (blocks .0) in
         let c = else-at k (blocks .1) in
         rw (at-ifElse rows whole row k (test k 1 refl .later) (b .later) (c .later), b .is, c .is)
-        (kernel-if (atom-at header rows s (numberAt rows row 1) (others .0)) (b .form) (c .form))
+        (kernel-if (atom-at bounds rows s (numberAt rows row 1) (others .0)) (b .form) (c .form))
 
     while-form : isKernelWhile rows row ≡ true → KernelStatement ahead (statementAt rows row)
     unfolding isKernelWhile kindOf kindIn kinds sortIn kindRow expressionFields statementFields markFields
@@ -146,13 +150,13 @@ module _ (header rows : List ℤ) (legal : Legal header rows) where
         let others = both (isAtom rows (numberAt rows row 1)) _ (parts .1) in
         let k = kind-of 44 (eqb-true _ _ (parts .0)) in
         let b = branch-at k 2 (omega arith) refl (others .1) in
-        rw (at-while rows whole row k (test k 1 refl .later) (b .later), b .is) (kernel-while (atom-at header rows s (numberAt rows row 1) (others .0)) (b .form))
+        rw (at-while rows whole row k (test k 1 refl .later) (b .later), b .is) (kernel-while (atom-at bounds rows s (numberAt rows row 1) (others .0)) (b .form))
 
     goto-form : numberAt rows row 0 ≡ 52 → KernelStatement ahead (statementAt rows row)
     unfolding kindOf kindIn kinds
     goto-form e =
         rw (at-goto rows whole row (kind-of 52 e))
-        (kernel-goto (structured-labels header rows s row n (rw e)) (covers (numberAt rows row 1) (legal .gotos-ahead row n e)))
+        (kernel-goto (structured-labels bounds rows s row n (rw e)) (covers (numberAt rows row 1) (legal .gotos-ahead row n e)))
 
     -- a label by itself does nothing
     label-form : numberAt rows row 0 ≡ 53 → KernelStatement ahead (statementAt rows row)
@@ -165,7 +169,7 @@ module _ (header rows : List ℤ) (legal : Legal header rows) where
         let parts = both (eqb (numberAt rows row 0) 41) _ e in
         let k = kind-of 41 (eqb-true _ _ (parts .0)) in
         let a = test k 1 refl in
-        rw (at-express rows whole row k (a .later)) (kernel-assign (assignment-at header rows s (numberAt rows row 1) (rw (a .same) at (a .leads .inside)) (parts .1)))
+        rw (at-express rows whole row k (a .later)) (kernel-assign (assignment-at bounds rows s (numberAt rows row 1) (rw (a .same) at (a .leads .inside)) (parts .1)))
 
     statement-form : isStatement rows row ≡ true → KernelStatement ahead (statementAt rows row)
     unfolding isKernelStatement
@@ -191,26 +195,26 @@ module _ (header rows : List ℤ) (legal : Legal header rows) where
 
   -- what the lists of later blocks give
   abbrev Lists : ℕ → Type 0
-  Lists row = (other : ℕ) (ahead : Items) → row ≤ other → other < rowCount rows → kindAt rows other ≡ OfStatement Block → Covers header rows s ahead other → KernelItems ahead (listAt rows (link rows other 1))
+  Lists row = (other : ℕ) (ahead : Items) → row ≤ other → other < rowCount rows → kindAt rows other ≡ OfStatement Block → Covers bounds rows s ahead other → KernelItems ahead (listAt rows (link rows other 1))
 
-  list-step : (row : ℕ) (ahead : Items) (owner : ℕ) → Begins owner row → 0 < row → Covers header rows s ahead owner → Lists row
+  list-step : (row : ℕ) (ahead : Items) (owner : ℕ) → Begins owner row → 0 < row → Covers bounds rows s ahead owner → Lists row
       → KernelItems ahead (listAt rows (link rows row 5)) → KernelItems ahead (listAt rows row)
   unfolding inLanguage isStatement sortIn kindRow expressionFields statementFields markFields statementNumber
   list-step row ahead owner b p covers lists rest =
-      let next = next-link Kernel header rows s row (b .inside) in
-      let own = statement-form row (b .inside) lists (listAt rows (link rows row 5) ⧺ ahead) (covers-item header rows s ahead owner row (b .owned) covers) (b .statement) in
+      let next = next-link Kernel bounds rows s row (b .inside) in
+      let own = statement-form row (b .inside) lists (listAt rows (link rows row 5) ⧺ ahead) (covers-item bounds rows s ahead owner row (b .owned) covers) (b .statement) in
       ⊎-elim (λ t. rw (list-some rows row p ∙ at-item rows whole row t (next .later), ← next .same) (kernel-then own rest))
       (⊎-elim (λ k. absurd (not-in-kernel row (b .inside) k refl))
       (⊎-elim (λ k. absurd (not-in-kernel row (b .inside) k refl))
       (λ k. rw (list-some rows row p ∙ at-label rows whole row k (next .later), ← next .same)
-      (kernel-label (structured-labels header rows s row (b .inside) (rw (number-of row (b .inside) k refl))) rest))))
+      (kernel-label (structured-labels bounds rows s row (b .inside) (rw (number-of row (b .inside) k refl))) rest))))
       (statement-kind rows row (eqb-true _ _ (b .statement)))
 
   no-list : (row : ℕ) (ahead : Items) → row ≡ 0 → KernelItems ahead (listAt rows row)
   no-list row ahead z = rw z kernel-none
 
   -- `links` bounds the rows from the list's first on
-  list-form : (links row : ℕ) (ahead : Items) (owner : ℕ) → (0 < row → rowCount rows ≤ row + links) → (0 < row → Begins owner row) → Covers header rows s ahead owner → KernelItems ahead (listAt rows row)
+  list-form : (links row : ℕ) (ahead : Items) (owner : ℕ) → (0 < row → rowCount rows ≤ row + links) → (0 < row → Begins owner row) → Covers bounds rows s ahead owner → KernelItems ahead (listAt rows row)
   list-form zero row ahead owner h begins covers = go (ℕ-discrete row 0)
     where
       go : Dec (row ≡ 0) → KernelItems ahead (listAt rows row)
@@ -218,7 +222,7 @@ module _ (header rows : List ℤ) (legal : Legal header rows) where
       go (no z) = absurd (let p = above-zero row z in let n = begins p .inside in let e = h p in omega arith)
   list-form (suc links) row ahead owner h begins covers = go (ℕ-discrete row 0) (λ r more o. list-form links r more o)
     where
-      go : Dec (row ≡ 0) → ((r : ℕ) (more : Items) (o : ℕ) → (0 < r → rowCount rows ≤ r + links) → (0 < r → Begins o r) → Covers header rows s more o → KernelItems more (listAt rows r))
+      go : Dec (row ≡ 0) → ((r : ℕ) (more : Items) (o : ℕ) → (0 < r → rowCount rows ≤ r + links) → (0 < r → Begins o r) → Covers bounds rows s more o → KernelItems more (listAt rows r))
           → KernelItems ahead (listAt rows row)
       go (yes z) rec = no-list row ahead z
       go (no z) rec =
@@ -227,22 +231,22 @@ module _ (header rows : List ℤ) (legal : Legal header rows) where
           let enough = h p in
           list-step row ahead owner b p covers
           (λ other more l m k c. rec (link rows other 1) more other (λ q. let later = first-item other m k .leads q .later in omega arith) (begins-in other m k) c)
-          (rec (link rows row 5) ahead owner (λ q. let later = next-link Kernel header rows s row (b .inside) .leads q .later in omega arith) (begins-next owner row b) covers)
+          (rec (link rows row 5) ahead owner (λ q. let later = next-link Kernel bounds rows s row (b .inside) .leads q .later in omega arith) (begins-next owner row b) covers)
 
   -- ---- the program
 
   -- Ahead of row 0 there is nothing.
-  root-covers : Covers header rows s none 0
-  root-covers number (behind b l) = absurd (let lone = structured-lone header rows s in let later = next-there (before-step b) in omega arith)
+  root-covers : Covers bounds rows s none 0
+  root-covers number (behind b l) = absurd (let lone = structured-lone bounds rows s in let later = next-there (before-step b) in omega arith)
     where
       next-there : {item : ℕ} → Step rows 0 item → 0 < link rows 0 5
       next-there (once leads) = leads .later
       next-there (on leads b) = leads .later
-  root-covers number (outward o a) = absurd (let e = owner-earlier rows (structured-tree Kernel header rows s) o in omega arith)
+  root-covers number (outward o a) = absurd (let e = owner-earlier rows (structured-tree Kernel bounds rows s) o in omega arith)
 
   pub contents-form : KernelItems none (contents rows)
   unfolding kindAt kindOf kindIn kinds
   contents-form =
-      let some = structured-tree Kernel header rows s .some-rows in
+      let some = structured-tree Kernel bounds rows s .some-rows in
       let block-kind : kindAt rows 0 ≡ OfStatement Block = rw (s .block) in
-      rw (program-contents Kernel header rows s) (list-form (rowCount rows) (link rows 0 1) none 0 (λ p. omega arith) (begins-in 0 some block-kind) root-covers)
+      rw (program-contents Kernel bounds rows s) (list-form (rowCount rows) (link rows 0 1) none 0 (λ p. omega arith) (begins-in 0 some block-kind) root-covers)

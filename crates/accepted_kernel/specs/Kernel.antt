@@ -16,7 +16,7 @@ use Rattle.language.specs.Sound.{Sound}
 use Rattle.translation.specs.KernelForm.{KernelItems}
 use Rattle.kernel_check.specs.Legal.{Legal}
 use Rattle.accepted.specs.Gives.{Gives}
-use Rattle.accepted.specs.Sound.{structured-sound}
+use Rattle.accepted.specs.Sound.{header-sound}
 use Rattle.accepted.specs.Statements.{program-block}
 use Rattle.accepted.specs.Rows.{structured-rows}
 use Rattle.accepted.specs.Depth.{structured-depth}
@@ -26,21 +26,21 @@ use Rattle.accepted_kernel.specs.Forms.{contents-form}
 module _ (header rows : List ℤ) (legal : Legal header rows) where
   -- A run may walk its rows.
   pub legal-sound : Sound rows (layoutOf Kernel header) (storeWords Kernel header)
-  legal-sound = structured-sound Kernel header rows (legal .structured)
+  legal-sound = header-sound Kernel header rows (legal .structured)
 
   -- Its tree is the block of its items, which have kernel form.
   pub legal-block : decode rows ≡ block (contents rows)
-  legal-block = program-block Kernel header rows (legal .structured)
+  legal-block = program-block Kernel _ rows (legal .structured)
 
   pub legal-form : KernelItems none (contents rows)
   legal-form = contents-form header rows legal
 
   -- Its tree has as many rows as the table. "Depth up to 512."
   pub legal-rows : statementRows (block (contents rows)) ≡ rowCount rows
-  legal-rows = rw legal-block at (structured-rows Kernel header rows (legal .structured))
+  legal-rows = rw legal-block at (structured-rows Kernel _ rows (legal .structured))
 
   pub legal-depth : statementDepth (block (contents rows)) ≤ 512
-  legal-depth = rw legal-block at (structured-depth Kernel header rows (legal .structured) (legal .shallow))
+  legal-depth = rw legal-block at (structured-depth Kernel _ rows (legal .structured) (legal .shallow))
 
   -- "Goto: the run goes on at its label": a run that comes to its end is not on its way to a label, under any limit and from any store.
   pub legal-jumps : (limit : Limit) (store : List ℤ) → Gives (λ signal. signal ≡ next) (runUnder limit Kernel header rows store)

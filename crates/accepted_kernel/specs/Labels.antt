@@ -17,6 +17,7 @@ use Rattle.language.specs.Decode.{listAt}
 use Rattle.language.specs.DecodeLaws.{at-label}
 use Rattle.structure.specs.Grammar.{link}
 use Rattle.structure.specs.Fields.{fits}
+use Rattle.structure.specs.declared.Bounds.{Bounds}
 use Rattle.structure.specs.Structured.{Leads, Structured}
 use Rattle.structure.specs.Lists.{Before, adjacent, further}
 use Rattle.structure.specs.StructuredLaws.{structured-tree}
@@ -33,13 +34,13 @@ use Rattle.accepted.specs.Statements.{ListRow, no-items, item, case-item, defau
 or-left : (a b : Bool) → a ≡ true → (a || b) ≡ true
 or-left a b e = rw e
 
-module _ (header rows : List ℤ) (s : Structured Kernel header rows) where
+module _ (bounds : Bounds) (rows : List ℤ) (s : Structured Kernel bounds rows) where
   -- an item of a list, which another leads to
   item-row : (row : ℕ) → row < rowCount rows → Leads rows row 5 → ListRow rows (link rows row 5)
   unfolding fits
   item-row row n leads =
       let p : 0 < link rows row 5 = (let l = leads .later in omega arith) in
-      list-row Kernel header rows s (link rows row 5) (leads .inside) (next-link Kernel header rows s row n .fit p) p
+      list-row Kernel bounds rows s (link rows row 5) (leads .inside) (next-link Kernel bounds rows s row n .fit p) p
 
   leads-inside : {row field : ℕ} → Leads rows row field → row < rowCount rows
   leads-inside leads = let l = leads .later in let i = leads .inside in omega arith
@@ -62,9 +63,9 @@ module _ (header rows : List ℤ) (s : Structured Kernel header rows) where
   label-first : (number row : ℕ) → 0 < row → legal.Label rows number row → has (label number) (listAt rows row) ≡ true
   unfolding has sameMark kindAt kindOf kindIn kinds
   label-first number row p l =
-      let inside = label-inside rows number row (structured-tree Kernel header rows s) l in
-      let next = next-link Kernel header rows s row inside in
-      rw (list-some rows row p, at-label rows (whole-rows Kernel header rows s) row (rw (l .label)) (next .later)) (or-left _ _ (eq-eqb _ _ (sym (l .number-is))))
+      let inside = label-inside rows number row (structured-tree Kernel bounds rows s) l in
+      let next = next-link Kernel bounds rows s row inside in
+      rw (list-some rows row p, at-label rows (whole-rows Kernel bounds rows s) row (rw (l .label)) (next .later)) (or-left _ _ (eq-eqb _ _ (sym (l .number-is))))
 
   behind-has : (number : ℕ) {row item : ℕ} → Before rows row item → legal.Label rows number item → has (label number) (listAt rows (link rows row 5)) ≡ true
   behind-has number (adjacent {item} leads) l = label-first number (link rows item 5) (let later = leads .later in omega arith) l
@@ -79,7 +80,7 @@ module _ (header rows : List ℤ) (s : Structured Kernel header rows) where
   pub covers-item : (ahead : Items) (owner row : ℕ) → Owner rows owner row → Covers ahead owner → Covers (listAt rows (link rows row 5) ⧺ ahead) row
   covers-item ahead owner row o c number (behind b l) = has-left (label number) (listAt rows (link rows row 5)) ahead (behind-has number b l)
   covers-item ahead owner row o c number (outward p a) =
-      let t = structured-tree Kernel header rows s in
+      let t = structured-tree Kernel bounds rows s in
       has-right (label number) (listAt rows (link rows row 5)) ahead (c number (subst (Ahead rows number) (sym (owner-is rows t p) ∙ owner-is rows t o) a))
 
   -- for a branch or body, which has nothing behind it: those ahead of its owner
@@ -90,5 +91,5 @@ module _ (header rows : List ℤ) (s : Structured Kernel header rows) where
       next-of (adjacent leads) = let l = leads .later in omega arith
       next-of (further b leads) = next-of b
   covers-branch ahead owner row o lone c number (outward p a) =
-      let t = structured-tree Kernel header rows s in
+      let t = structured-tree Kernel bounds rows s in
       c number (subst (Ahead rows number) (sym (owner-is rows t p) ∙ owner-is rows t o) a)

@@ -13,25 +13,26 @@ use Rattle.words.specs.declared.Form.{Form}
 use Rattle.words.specs.declared.Form.the-variants.{Source, Kernel}
 use Rattle.words.specs.declared.Verdict.the-variants.{Accepted}
 use Rattle.language.specs.Sound.{Sound}
+use Rattle.structure.specs.Fields.{boundsOf}
 use Rattle.structure.specs.Structured.{Structured}
 use Rattle.source_check.specs.AcceptsLegal.{accepts-legal as source-accepts}
 use Rattle.kernel_check.specs.Accepts.{accepts-legal as kernel-accepts}
-use Rattle.accepted.specs.Sound.{structured-sound}
+use Rattle.accepted.specs.Sound.{header-sound}
 use Rattle.clight.specs.Runs.{refusalOf}
 
-accepted-structured : (form : Form) (header rows : List ℤ) → refusalOf form header rows ≡ Accepted → Structured form header rows
-accepted-structured Source header rows e = source-accepts header rows .0 e .structured
-accepted-structured Kernel header rows e = kernel-accepts header rows .0 e .structured
+accepted-structured : (form : Form) (header rows : List ℤ) → refusalOf form header rows ≡ Accepted → (headerFits form header ≡ true) × Structured form (boundsOf form header) rows
+accepted-structured Source header rows e = let legal = source-accepts header rows .0 e in (legal .header-fits, legal .structured)
+accepted-structured Kernel header rows e = let legal = kernel-accepts header rows .0 e in (legal .header-fits, legal .structured)
 
 module _ (form : Form) (header rows : List ℤ) (accepted : refusalOf form header rows ≡ Accepted) where
   pub accepted-header : headerFits form header ≡ true
-  accepted-header = accepted-structured form header rows accepted .header-fits
+  accepted-header = accepted-structured form header rows accepted .0
 
   pub accepted-count : countFits form (length rows) ≡ true
-  accepted-count = accepted-structured form header rows accepted .count-fits
+  accepted-count = accepted-structured form header rows accepted .1 .count-fits
 
   pub accepted-sound : Sound rows (layoutOf form header) (storeWords form header)
-  accepted-sound = structured-sound form header rows (accepted-structured form header rows accepted)
+  accepted-sound = header-sound form header rows (accepted-structured form header rows accepted .1)
 
   pub accepted-rows : rowCount rows ≤ 40980
   accepted-rows = omega (arith, countFits-facts form (length rows) accepted-count .most, rowLimit-most form)

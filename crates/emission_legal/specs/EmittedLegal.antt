@@ -57,7 +57,8 @@ kernel-legal header {program} fit k =
     let statements : (row : ℕ) → row < rowCount rows → isStatement rows row ≡ true → StatementLegal rows row =
     λ row h e. formed-statement rows (rowCount rows) (omega arith) first (kernel-block (k .form)) (λ l e. absurd (let z : _≡_ {A = ℕ} 0 1 = cc in omega arith)) row (omega arith) h e in
     record {
-      structured = emitted-structured header fit (k .few-rows) (k .form) (k .named);
+      header-fits = fit;
+      structured = emitted-structured header (k .few-rows) (k .form) (k .named);
       shallow = emitted-depth rows 512 first (k .shallow);
       formed = λ row h e. statements row h e .formed;
       labels-once = λ l row other a b. labels-alone rows l whole count first (k .labels-once l) row other a b;

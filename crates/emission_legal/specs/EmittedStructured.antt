@@ -9,7 +9,7 @@ use borrow.Author.Tests.{lt-ltb, le-leb}
 use lib.IntN.{ℤ}
 use lib.ListN.{length}
 use Rattle.words.specs.Table.{rowCount}
-use Rattle.words.specs.Layout.{temporariesOf, layoutOf, storeSize, storeWords, headerFits}
+use Rattle.words.specs.Layout.{temporariesOf, layoutOf, storeSize, storeWords}
 use Rattle.words.specs.Laws.{facts-countFits}
 use Rattle.words.specs.declared.Form.the-variants.{Kernel}
 use Rattle.language.specs.Trees.{block, Items, none}
@@ -49,10 +49,10 @@ label-fits : (header : List ℤ) (l : ℕ) → isLabelNumber l → numberFits (b
 unfolding numberFits
 label-fits header l h = rw (lt-ltb _ _ h)
 
-module _ (header : List ℤ) (fit : headerFits Kernel header ≡ true) {contents : Items} (few : statementRows (block contents) ≤ 40980) (form : KernelItems none contents)
+module _ (header : List ℤ) {contents : Items} (few : statementRows (block contents) ≤ 40980) (form : KernelItems none contents)
     (named : NamedItems (KernelName (layoutOf Kernel header) (temporariesOf Kernel header)) (length (layoutOf Kernel header .lengths)) contents) where
   -- The table of a block of kernel form, whose numbers are in range.
-  pub emitted-structured : Structured Kernel header (emit (block contents))
+  pub emitted-structured : Structured Kernel (boundsOf Kernel header) (emit (block contents))
   unfolding NamedStatement
   emitted-structured =
       let rows = emit (block contents) in
@@ -66,7 +66,6 @@ module _ (header : List ℤ) (fit : headerFits Kernel header ≡ true) {contents
       let row-legal : (row : ℕ) → row < rowCount rows → RowLegal bounds rows row = λ row h. legal row (omega arith) h in
       let root = block-row first in
       record {
-        header-fits = fit;
         count-fits = facts-countFits Kernel (length rows) (record { least = omega arith; most = omega arith; multiple = omega arith; whole = omega arith });
         known = λ row h. row-legal row h .known;
         unused-zero = λ row h field l m. row-legal row h .fields field l m .unused-zero;

@@ -80,7 +80,7 @@ module _ (header rows : List ℤ) (legal : Legal header rows) where
 
   kernel-tree : decode (kernelRowsOf header rows) ≡ block (translate L program)
   unfolding kernelRowsOf
-  kernel-tree = translated-decodes header program (legal .structured .header-fits) tree few shallow
+  kernel-tree = translated-decodes header program (legal .header-fits) tree few shallow
 
   kernel-rows : rowCount (kernelRowsOf header rows) ≡ statementRows (block (translate L program))
   unfolding kernelRowsOf
@@ -137,7 +137,7 @@ module _ (header rows : List ℤ) (legal : Legal header rows) where
   kernel-form-of : KernelFormOf header rows
   unfolding kernelHeaderOf kernelRowsOf
   kernel-form-of = record {
-    accepted = kernel-accepts (kernelHeaderOf header rows) (kernelRowsOf header rows) .1 (translated-legal header program (legal .structured .header-fits) tree few shallow);
+    accepted = kernel-accepts (kernelHeaderOf header rows) (kernelRowsOf header rows) .1 (translated-legal header program (legal .header-fits) tree few shallow);
     share-fate = λ store temporaryWords s t. shared-fate store temporaryWords s t;
     few-rows = omega (arith, kernel-rows, rows-bound L program, source-rows);
     few-temporaries = omega (arith, kernel-temporaries, temporaries-bound program, source-rows);

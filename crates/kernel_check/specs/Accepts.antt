@@ -22,6 +22,7 @@ use Rattle.structure.specs.Refusal.{at, structuralRefusal}
 use Rattle.structure.specs.RefusalLaws.{next-accepts, accepts-next, at-accepts, accepts-at}
 use Rattle.structure.specs.Search.{some}
 use Rattle.structure.specs.SearchLaws.{some-all, all-some, lowestRow-all, all-lowestRow}
+use Rattle.structure.specs.declared.Bounds.{Bounds}
 use Rattle.structure.specs.Structured.{Structured, Tree}
 use Rattle.structure.specs.StructuredLaws.{accepted-structured, structured-accepted, structured-tree}
 use Rattle.kernel_check.specs.LabelLaws.{label-test, test-label, label-inside, search-ahead, ahead-search}
@@ -33,7 +34,7 @@ use Rattle.kernel_check.specs.Statements.{isKernelStatement, notKernelFo
 
 -- ---- what causes 1 to 6 leave to cause 13
 
-module _ (header rows : List ℤ) (s : Structured Kernel header rows) where
+module _ (bounds : Bounds) (rows : List ℤ) (s : Structured Kernel bounds rows) where
   pub structured-lone : link rows 0 5 ≡ 0
   unfolding link
   structured-lone = rw (s .lone) (go (isLink (sortAt rows 0 5)))
@@ -129,18 +130,20 @@ module _ (header rows : List ℤ) where
   unfolding refusal kernelCauses
   accepted-legal e =
       let structural = next-accepts (structuralRefusal Kernel header rows) _ e in
-      let s = accepted-structured Kernel header rows (structural .0) in
-      let t = structured-tree Kernel header rows s in
+      let sound = accepted-structured Kernel header rows (structural .0) in
+      let s = sound .1 in
+      let t = structured-tree Kernel _ rows s in
       let c9 = next-accepts (at 9 _) _ (structural .1) in
       let c12 = next-accepts (at 12 _) _ (c9 .1) in
       let formed = lowestRow-all rows (notKernelForm rows) (at-accepts 12 _ (c12 .0)) in
       let labels = lowestRow-all rows (labelFault rows) (at-accepts 13 _ (c12 .1)) in
       record {
+        header-fits = sound .0;
         structured = s;
         shallow = none-deep-shallow rows t Kernel (at-accepts 9 _ (c9 .0));
         formed = λ row n. form-kept rows row (formed row n);
         labels-once = λ number row other l k. once t labels number row other l k (ℕ-discrete row other) (decLt row other);
-        gotos-ahead = λ row n k. goto-ahead rows row t (structured-lone header rows s) n (fault-goto rows row (labels row n)) k;
+        gotos-ahead = λ row n k. goto-ahead rows row t (structured-lone _ rows s) n (fault-goto rows row (labels row n)) k;
       }
     where
       once : Tree rows → ((row : ℕ) → row < rowCount rows → labelFault rows row ≡ false) → (number row other : ℕ) → Label rows number row → Label rows number other
@@ -155,9 +158,9 @@ module _ (header rows : List ℤ) where
   unfolding refusal kernelCauses
   legal-accepted l =
       let s = l .structured in
-      let t = structured-tree Kernel header rows s in
-      let lone = structured-lone header rows s in
-      accepts-next (structuralRefusal Kernel header rows) _ (structured-accepted Kernel header rows s)
+      let t = structured-tree Kernel _ rows s in
+      let lone = structured-lone _ rows s in
+      accepts-next (structuralRefusal Kernel header rows) _ (structured-accepted Kernel header rows (l .header-fits) s)
       (accepts-next (at 9 _) _ (accepts-at 9 _ (shallow-none-deep rows t Kernel (l .shallow)))
       (accepts-next (at 12 _) _ (accepts-at 12 _ (all-lowestRow rows (notKernelForm rows) (λ row n. kept-form rows row (l .formed row n))))
       (accepts-at 13 _ (all-lowestRow rows (labelFault rows)

@@ -5,8 +5,10 @@ use mathlib.Core.List.{List}
 use Prim.Native.Nat.{ℕ, _<_}
 use lib.IntN.{ℤ}
 use Rattle.words.specs.Table.{rowCount, numberAt}
+use Rattle.words.specs.Layout.{headerFits}
 use Rattle.words.specs.declared.Form.the-variants.{Kernel}
 use Rattle.structure.specs.Grammar.{isStatement, link}
+use Rattle.structure.specs.Fields.{boundsOf}
 use Rattle.structure.specs.Structured.{Leads, Structured, Shallow}
 use Rattle.structure.specs.Lists.{Before}
 use Rattle.kernel_check.specs.Statements.{isKernelStatement}
@@ -27,8 +29,10 @@ pub data Ahead (rows : List ℤ) (number : ℕ) : ℕ → Type 0 where
   outward : {owner row : ℕ} → Owner rows owner row → Ahead rows number owner → Ahead rows number row
 
 pub record Legal (header rows : List ℤ) : Type 0 where
-  -- Limits, kinds, unused fields, links, row 0, numbers.
-  pub structured : Structured Kernel header rows
+  -- "A kernel program has a header with T temporaries (0 to 8,192)".
+  pub header-fits : headerFits Kernel header ≡ true
+  -- Count of rows, kinds, unused fields, links, row 0, numbers.
+  pub structured : Structured Kernel (boundsOf Kernel header) rows
   -- "Depth up to 512."
   pub shallow : Shallow Kernel rows
   -- "Statements: empty; block; ..".

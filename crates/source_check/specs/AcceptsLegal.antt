@@ -18,6 +18,7 @@ use Rattle.structure.specs.SearchLaws.{lowestRow-all, all-lowestRow}
 use Rattle.structure.specs.DepthLaws.{none-deep-shallow, shallow-none-deep}
 use Rattle.structure.specs.Refusal.{at, _next_, structuralRefusal}
 use Rattle.structure.specs.RefusalLaws.{next-accepts, accepts-next, at-accepts, accepts-at}
+use Rattle.structure.specs.declared.Bounds.{Bounds}
 use Rattle.structure.specs.Structured.{Structured, Tree}
 use Rattle.structure.specs.Lists.{before-later}
 use Rattle.structure.specs.StructuredLaws.{accepted-structured, structured-accepted, structured-tree}
@@ -28,9 +29,9 @@ use Rattle.source_check.specs.Legal.{Distinct, Legal}
 use Rattle.source_check.specs.PlaceLaws.{misplaced-placed, placed-misplaced}
 use Rattle.source_check.specs.DistinctLaws.{Repeats, repeated-by, repeats}
 
-module _ (header rows : List ℤ) (s : Structured Source header rows) where
+module _ (bounds : Bounds) (rows : List ℤ) (s : Structured Source bounds rows) where
   tree : Tree rows
-  tree = structured-tree Source header rows s
+  tree = structured-tree Source bounds rows s
 
   -- a default's field a is unused
   default-value : (row : ℕ) → row < rowCount rows → numberAt rows row 0 ≡ 49 → wordAt rows row 1 ≡ pos 0
@@ -78,26 +79,28 @@ module _ (header rows : List ℤ) where
   unfolding refusal laterRefusal
   accepted-legal e =
       let parts = next-accepts (structuralRefusal Source header rows) _ e in
-      let s = accepted-structured Source header rows (parts .0) in
-      let t = structured-tree Source header rows s in
+      let sound = accepted-structured Source header rows (parts .0) in
+      let s = sound .1 in
+      let t = structured-tree Source _ rows s in
       let c7 = next-accepts (at 7 _) _ (parts .1) in
       let c8 = next-accepts (at 8 _) _ (c7 .1) in
       let places = lowestRow-all rows (misplaced rows) (at-accepts 7 _ (c7 .0)) in
       let marks = lowestRow-all rows (repeated rows) (at-accepts 8 _ (c8 .0)) in
       record {
+        header-fits = sound .0;
         structured = s;
         placed = λ row n. misplaced-placed rows t row n (places row n);
-        distinct = λ row n. once-distinct header rows s row n (marks row n);
+        distinct = λ row n. once-distinct _ rows s row n (marks row n);
         shallow = none-deep-shallow rows t Source (at-accepts 9 _ (c8 .1));
       }
 
   legal-accepted : Legal header rows → refusal header rows ≡ Accepted
   unfolding refusal laterRefusal
   legal-accepted l =
-      let t = structured-tree Source header rows (l .structured) in
-      accepts-next (structuralRefusal Source header rows) _ (structured-accepted Source header rows (l .structured))
+      let t = structured-tree Source _ rows (l .structured) in
+      accepts-next (structuralRefusal Source header rows) _ (structured-accepted Source header rows (l .header-fits) (l .structured))
       (accepts-next (at 7 _) _ (accepts-at 7 _ (all-lowestRow rows (misplaced rows) (λ row n. placed-misplaced rows t row (l .placed row n))))
-      (accepts-next (at 8 _) _ (accepts-at 8 _ (all-lowestRow rows (repeated rows) (λ row n. distinct-once header rows (l .structured) row n (l .distinct row n))))
+      (accepts-next (at 8 _) _ (accepts-at 8 _ (all-lowestRow rows (repeated rows) (λ row n. distinct-once _ rows (l .structured) row n (l .distinct row n))))
       (accepts-at 9 _ (shallow-none-deep rows t Source (l .shallow)))))
 
   pub accepts-legal : refusal header rows ≡ Accepted ↔ Legal header rows

@@ -5,8 +5,10 @@ use mathlib.Core.List.{List}
 use Prim.Native.Nat.{ℕ, _<_}
 use lib.IntN.{ℤ}
 use Rattle.words.specs.Table.{rowCount, wordAt, numberAt}
+use Rattle.words.specs.Layout.{headerFits}
 use Rattle.words.specs.declared.Form.the-variants.{Source}
 use Rattle.structure.specs.Grammar.{link}
+use Rattle.structure.specs.Fields.{boundsOf}
 use Rattle.structure.specs.Structured.{Leads, Structured, Shallow}
 use Rattle.structure.specs.Lists.{Before}
 use Rattle.source_check.specs.Places.{isLoop, isLoopOrSwitch, isMark}
@@ -33,8 +35,10 @@ pub record Distinct (rows : List ℤ) (row : ℕ) : Type 0 where
   pub no-second-default : numberAt rows row 0 ≡ 49 → (mark : ℕ) → Before rows mark row → numberAt rows mark 0 ≡ 49 → ⊥
 
 pub record Legal (header rows : List ℤ) : Type 0 where
-  -- Limits, kinds, unused fields, links, row 0, numbers.
-  pub structured : Structured Source header rows
+  -- "The header holds V variables (0 to 256) and up to 32 array lengths (each 1 to 4,096)".
+  pub header-fits : headerFits Source header ≡ true
+  -- Count of rows, kinds, unused fields, links, row 0, numbers.
+  pub structured : Structured Source (boundsOf Source header) rows
   pub placed : (row : ℕ) → row < rowCount rows → Placed rows row
   pub distinct : (row : ℕ) → row < rowCount rows → Distinct rows row
   -- "The limit is 64."

@@ -7,7 +7,7 @@ use lib.IntN.{ℤ}
 use lib.ListN.{length}
 use Rattle.words.specs.Word.{pick}
 use Rattle.words.specs.Table.{rowCount, numberAt}
-use Rattle.words.specs.Layout.{layoutOf, storeSize, storeWords}
+use Rattle.words.specs.Layout.{Layout, layoutOf, storeSize, storeWords}
 use Rattle.words.specs.declared.Form.{Form}
 use Rattle.words.specs.Kinds.{unused, variable, array, label, expression, optionalExpression, place, optionalItem, sortAt, inLanguage, isLink, isRequired}
 use Rattle.structure.specs.Grammar.{isExpression, isPlace, isStatement}
@@ -39,11 +39,13 @@ mislinked rows row field =
     let link = numberAt rows row field in
     isLink sort && pick (eqb link 0) (isRequired sort) (not (leadsRight rows row sort link))
 
--- The numbers that a header gives. The source has no temporaries: its `words` is its `store`.
+-- The numbers that may be named with a layout and so many words.
+abbrev pub boundsIn : Layout → ℕ → Bounds
+boundsIn L words = record { variables = L .variables; arrays = length (L .lengths); store = storeSize L; words = words }
+
+-- Those that a header gives. The source has no temporaries: its `words` is its `store`.
 unfoldable pub boundsOf : Form → List ℤ → Bounds
-boundsOf form header =
-    let L = layoutOf form header in
-    record { variables = L .variables; arrays = length (L .lengths); store = storeSize L; words = storeWords form header }
+boundsOf form header = boundsIn (layoutOf form header) (storeWords form header)
 
 -- "T temporaries (0 to 8,192), which are variable numbers S to S+T−1; numbers V to S−1 name nothing." "A label number (0 to 40,979)".
 unfoldable pub numberFits : Bounds → ℕ → ℕ → Bool

@@ -6,12 +6,13 @@ use Prim.Native.Nat.{ℕ, _+_, _*_, _<_, _≤_}
 use lib.IntN.{ℤ}
 use lib.ListN.{length}
 use Rattle.words.specs.Table.{rowCount, numberAt}
-use Rattle.words.specs.Layout.{headerFits, countFits, depthLimit}
+use Rattle.words.specs.Layout.{countFits, depthLimit}
 use Rattle.words.specs.declared.Form.{Form}
 use Rattle.words.specs.Kinds.{unused, sortAt, inLanguage, isRequired}
 use Rattle.structure.specs.Grammar.{link}
-use Rattle.structure.specs.Fields.{fits, boundsOf, numberFits}
+use Rattle.structure.specs.Fields.{fits, numberFits}
 use Rattle.structure.specs.Links.{linkCount}
+use Rattle.structure.specs.declared.Bounds.{Bounds}
 
 -- A field links a later row of the table.
 pub record Leads (rows : List ℤ) (row field : ℕ) : Type 0 where
@@ -22,9 +23,9 @@ pub record Leads (rows : List ℤ) (row field : ℕ) : Type 0 where
 abbrev pub EachField : List ℤ → (ℕ → ℕ → Type 0) → Type 0
 EachField rows P = (row : ℕ) → row < rowCount rows → (field : ℕ) → 1 ≤ field → field < 6 → P row field
 
-pub record Structured (form : Form) (header rows : List ℤ) : Type 0 where
-  -- "The header holds V variables (0 to 256) and up to 32 array lengths (each 1 to 4,096)"; "A source program has 1 to 2,048 rows."
-  pub header-fits : headerFits form header ≡ true
+-- Of rows, with the bounds of the numbers that they may name.
+pub record Structured (form : Form) (bounds : Bounds) (rows : List ℤ) : Type 0 where
+  -- "A source program has 1 to 2,048 rows."
   pub count-fits : countFits form (length rows) ≡ true
   -- Every kind is in the language. "Unused fields are 0."
   pub known : (row : ℕ) → row < rowCount rows → inLanguage form (numberAt rows row 0) ≡ true
@@ -38,7 +39,7 @@ pub record Structured (form : Form) (header rows : List ℤ) : Type 0 where
   pub lone : numberAt rows 0 5 ≡ 0
   pub once : (row : ℕ) → 0 < row → row < rowCount rows → linkCount rows row ≡ 1
   -- Every variable, array and label number names one.
-  pub named : EachField rows (λ row field. numberFits (boundsOf form header) (sortAt rows row field) (numberAt rows row field) ≡ true)
+  pub named : EachField rows (λ row field. numberFits bounds (sortAt rows row field) (numberAt rows row field) ≡ true)
 
 -- "Depth: row 0 has 1, a row has its owner's plus 1, items of one list share theirs."
 pub data Depth (rows : List ℤ) : ℕ → ℕ → Type 0 where

@@ -176,7 +176,7 @@ module _ (rows : List ℤ) where
 -- ---- all causes
 
 module _ (form : Form) (header rows : List ℤ) where
-  pub accepted-structured : structuralRefusal form header rows ≡ Accepted → Structured form header rows
+  pub accepted-structured : structuralRefusal form header rows ≡ Accepted → (headerFits form header ≡ true) × Structured form (boundsOf form header) rows
   unfolding structuralRefusal rowCauses outside
   accepted-structured e =
       let c1 = next-accepts (unless (headerFits form header) 1) _ e in
@@ -190,25 +190,26 @@ module _ (form : Form) (header rows : List ℤ) where
       let numbers = fields-all rows (outside (boundsOf form header) rows) (at-accepts 6 _ (c5 .1)) in
       let count = unless-accepts (countFits form (length rows)) 2 (c2 .0) in
       let fit = countFits-facts form (length rows) count in
-      let root = once-block rows (once 0 (let l = fit .least in omega arith)) in
-      record {
-        header-fits = unless-accepts (headerFits form header) 1 (c1 .0);
-        count-fits = count;
-        known = λ row n. foreign-kind form rows row (kinds row n 0 (omega arith));
-        unused-zero = λ row n field a b. foreign-unused form rows row field a (kinds row n field b);
-        present = λ row n field a b. right-present rows row field (links row n field b);
-        forward = λ row n field a b h. right-link rows row field (links row n field b) h .leads;
-        fitting = λ row n field a b h. right-link rows row field (links row n field b) h .fit;
-        block = root .0;
-        lone = root .1;
-        once = λ row h n. once-row rows row h (once row n);
-        named = λ row n field a b. not-false _ (numbers row n field b);
-      }
+      let root = once-block rows (once 0 (let l = fit .least in omega arith)) in (
+        unless-accepts (headerFits form header) 1 (c1 .0),
+        record {
+          count-fits = count;
+          known = λ row n. foreign-kind form rows row (kinds row n 0 (omega arith));
+          unused-zero = λ row n field a b. foreign-unused form rows row field a (kinds row n field b);
+          present = λ row n field a b. right-present rows row field (links row n field b);
+          forward = λ row n field a b h. right-link rows row field (links row n field b) h .leads;
+          fitting = λ row n field a b h. right-link rows row field (links row n field b) h .fit;
+          block = root .0;
+          lone = root .1;
+          once = λ row h n. once-row rows row h (once row n);
+          named = λ row n field a b. not-false _ (numbers row n field b);
+        },
+      )
 
-  pub structured-accepted : Structured form header rows → structuralRefusal form header rows ≡ Accepted
+  pub structured-accepted : headerFits form header ≡ true → Structured form (boundsOf form header) rows → structuralRefusal form header rows ≡ Accepted
   unfolding structuralRefusal rowCauses outside
-  structured-accepted s =
-      accepts-next (unless (headerFits form header) 1) _ (accepts-unless _ 1 (s .header-fits))
+  structured-accepted fit s =
+      accepts-next (unless (headerFits form header) 1) _ (accepts-unless _ 1 fit)
       (accepts-next (unless (countFits form (length rows)) 2) _ (accepts-unless _ 2 (s .count-fits))
       (accepts-next (at 3 _) _
       (accepts-at 3 _ (all-fields rows (foreign form rows)
@@ -225,8 +226,9 @@ module _ (form : Form) (header rows : List ℤ) where
       (λ row n. each-field (outside (boundsOf form header) rows row) (kind-inside (boundsOf form header) rows row)
       (λ field a b. ap not (s .named row n field a b)))))))))
 
-  -- the rows of a structured table make a tree
-  pub structured-tree : Structured form header rows → Tree rows
+-- the rows of a structured table make a tree
+module _ (form : Form) (bounds : Bounds) (rows : List ℤ) where
+  pub structured-tree : Structured form bounds rows → Tree rows
   structured-tree s =
       let fit = countFits-facts form (length rows) (s .count-fits) in
       let most = rowLimit-most form in

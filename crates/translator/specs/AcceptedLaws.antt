@@ -40,7 +40,7 @@ module _ (header rows : List ℤ) (accepted : sourceRefusal header rows ≡ Acce
   legal = accepts-legal header rows .0 accepted
 
   pub accepted-header : headerFits SourceForm header ≡ true
-  accepted-header = legal .structured .header-fits
+  accepted-header = legal .header-fits
 
   few-rows : rowCount rows ≤ 2048
   few-rows = omega (arith, countFits-facts SourceForm (length rows) (legal .structured .count-fits) .most)

@@ -25,7 +25,7 @@ enum-told c = search needs
 
 kernel-causes-requires : tie.Need-kernel-causes-requires
 kernel-causes-requires c κs =
-    let s = accepted-structured Kernel _ _ (sym (c .before .before .structural-refusal .ensures) ∙ c .enum-told .given .1) in
+    let s = accepted-structured Kernel _ _ (sym (c .before .before .structural-refusal .ensures) ∙ c .enum-told .given .1) .1 in
     (structured-tree Kernel _ _ s, structured-lone _ _ s, structured-labels _ _ s)
 
 returns-2 : tie.Need-returns-2

@@ -21,7 +21,7 @@ enum-told c = search needs
 
 later-refusal-requires : tie.Need-later-refusal-requires
 later-refusal-requires c κs =
-    let structured = accepted-structured Source (c .before .before .before .args .header .now) (c .before .before .before .args .rows .now) (sym (c .before .before .structural-refusal .ensures) ∙ c .enum-told .given .1) in
+    let structured = accepted-structured Source (c .before .before .before .args .header .now) (c .before .before .before .args .rows .now) (sym (c .before .before .structural-refusal .ensures) ∙ c .enum-told .given .1) .1 in
     let fit = countFits-facts Source _ (structured .count-fits) in
     (structured-tree Source _ _ structured, (let most = fit .most in omega arith))
 

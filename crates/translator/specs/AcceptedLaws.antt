@@ -60,7 +60,7 @@ module _ (header rows : List ℤ) (accepted : sourceRefusal header rows ≡ Acce
       }
 
   root : kindAt rows 0 ≡ OfStatement Block
-  root = root-kind SourceForm header rows (legal .structured)
+  root = root-kind SourceForm _ rows (legal .structured)
 
   -- "At most 20×n+20 kernel rows and at most 4×n temporaries."
   size-low : 1 + itemsSize (contents rows) ≤ 40980

@@ -1,49 +1,60 @@
 // Notes that each row gets from the row that links it: the first row of its list, and its owner.
 use super::Note;
+use structure::grammar::KINDS;
+use structure::grammar::KindTable;
 use structure::grammar::link;
 use structure::row_number::narrow;
 use structure::row_number::wide;
 ghost use mathlib.Core.Path.{_≡_};
 ghost use Prim.Native.Nat.{_+_, _*_, _/_, _%_, _<_, _≤_};
 ghost use lib.ListN.{length, getD};
+ghost use Rattle.structure.specs.Grammar.{grammar};
 ghost use Rattle.structure.specs.Passes.{written, Notes};
 ghost use Rattle.structure.specs.Structured.{Tree};
 ghost use Rattle.kernel_check.specs.Passes.{handed, noteAt};
 
 // What a row hands to the row that its field links.
-fn hand(which: Note, rows: &[i32], row: usize, field: usize, own: usize) -> usize
-    requires { ⌜ (6 * row + 5 < length (now rows)) × (field < 6) ⌝ }
+fn hand(kinds: &KindTable, which: Note, rows: &[i32], row: usize, field: usize, own: usize) -> usize
+    requires { ⌜ (6 * row + 5 < length (now rows)) × (field < 6) × (now kinds ≡ grammar) ⌝ }
     ensures { λ r. ⌜ r ≡ handed which (now (rows .entry)) row field own ⌝ }
 {
     if field == 5 {
         return own;
     }
     match which {
-        Note::First => link(rows, row, field),
+        Note::First => link(kinds, rows, row, field),
         Note::Owner => row,
     }
 }
 
 // A word that links a row writes that row's note.
-fn write_note(which: Note, rows: &[i32], notes: &mut [u16], word: usize)
-    requires { ⌜ Tree (now rows) × (length (now rows) / 6 ≤ length (now notes)) × (word < length (now rows)) ⌝ }
+fn write_note(kinds: &KindTable, which: Note, rows: &[i32], notes: &mut [u16], word: usize)
+    requires { ⌜ Tree (now rows) × (length (now rows) / 6 ≤ length (now notes)) × (word < length (now rows)) × (now kinds ≡ grammar) ⌝ }
     ensures { λ _. ⌜ now (notes .exit) ≡ written (handed which (now (rows .entry))) (now (rows .entry)) word (now (notes .entry)) ⌝ }
 {
     let row = word / 6;
     let field = word % 6;
-    let linked = link(rows, row, field);
+    let linked = link(kinds, rows, row, field);
     if linked != 0 {
-        let note = hand(which, rows, row, field, wide(notes[row]));
+        let note = hand(kinds, which, rows, row, field, wide(notes[row]));
         notes[linked] = narrow(note);
     }
 }
 
 // The notes of all rows, in one pass: a row's own note is written before those of the rows that it links.
+fn write_notes_by(kinds: &KindTable, which: Note, rows: &[i32], notes: &mut [u16])
+    requires { ⌜ Tree (now rows) × (length (now rows) / 6 ≤ length (now notes)) × (getD (now notes) 0 0 ≡ 0) × (now kinds ≡ grammar) ⌝ }
+    ensures { λ _. ⌜ Notes (now (rows .entry)) (noteAt which (now (rows .entry))) (now (notes .exit)) ⌝ }
+{
+    for word in 0..rows.len() {
+        write_note(kinds, which, rows, notes, word);
+    }
+}
+
+// The same, with the table of kinds: it is built here, once, and lent on.
 pub fn write_notes(which: Note, rows: &[i32], notes: &mut [u16])
     requires { ⌜ Tree (now rows) × (length (now rows) / 6 ≤ length (now notes)) × (getD (now notes) 0 0 ≡ 0) ⌝ }
     ensures { λ _. ⌜ Notes (now (rows .entry)) (noteAt which (now (rows .entry))) (now (notes .exit)) ⌝ }
 {
-    for word in 0..rows.len() {
-        write_note(which, rows, notes, word);
-    }
+    write_notes_by(&KINDS, which, rows, notes);
 }

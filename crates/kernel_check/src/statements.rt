@@ -1,5 +1,7 @@
 // Cause 12: the statements of the kernel language. Each test is true where the row is what it is named after.
 use structure::Found;
+use structure::grammar::KINDS;
+use structure::grammar::KindTable;
 use structure::grammar::between;
 use structure::grammar::is_statement;
 use words::table::number_at;
@@ -8,6 +10,7 @@ ghost use Prim.Native.Nat.{_+_, _*_, _/_, _<_};
 ghost use lib.ListN.{length};
 ghost use Rattle.words.specs.Table.{numberAt};
 ghost use Rattle.structure.specs.Search.{lowestRow};
+ghost use Rattle.structure.specs.Grammar.{grammar};
 ghost use Rattle.kernel_check.specs.Statements.{isAtom, isAtomMinus, isAtomOperation, isAtomElement, fitsVariable, isAssignment, isBlock, isKernelIf, isKernelWhile, isKernelExpression, isKernelStatement, notKernelForm};
 
 // A field of any row. Beyond the table every word is 0.
@@ -182,28 +185,36 @@ fn is_kernel_statement(rows: &[i32], row: usize) -> bool
 }
 
 // Cause 12 at a row.
-fn is_not_kernel_form(rows: &[i32], row: usize) -> bool
-    requires { ⌜ (6 * (length (now rows) / 6) ≡ length (now rows)) × (6 * row < length (now rows)) ⌝ }
+fn is_not_kernel_form(kinds: &KindTable, rows: &[i32], row: usize) -> bool
+    requires { ⌜ (6 * (length (now rows) / 6) ≡ length (now rows)) × (6 * row < length (now rows)) × (now kinds ≡ grammar) ⌝ }
     ensures { λ r. ⌜ r ≡ notKernelForm (now (rows .entry)) row ⌝ }
 {
-    if is_statement(rows, row) {
+    if is_statement(kinds, rows, row) {
         return !is_kernel_statement(rows, row);
     }
     false
 }
 
 // The lowest row that is a statement not of kernel form.
-pub fn lowest_not_kernel_form(rows: &[i32]) -> Found
-    requires { ⌜ 6 * (length (now rows) / 6) ≡ length (now rows) ⌝ }
+fn lowest_not_kernel_form_by(kinds: &KindTable, rows: &[i32]) -> Found
+    requires { ⌜ (6 * (length (now rows) / 6) ≡ length (now rows)) × (now kinds ≡ grammar) ⌝ }
     ensures { λ r. ⌜ r ≡ lowestRow (now (rows .entry)) (notKernelForm (now (rows .entry))) ⌝ }
 {
     let count = rows.len() / 6;
     let mut row: usize = 0;
     while row < count {
-        if is_not_kernel_form(rows, row) {
+        if is_not_kernel_form(kinds, rows, row) {
             return Found::At(row);
         }
         row += 1;
     }
     Found::Nothing
+}
+
+// The same, with the table of kinds: it is built here, once, and lent on.
+pub fn lowest_not_kernel_form(rows: &[i32]) -> Found
+    requires { ⌜ 6 * (length (now rows) / 6) ≡ length (now rows) ⌝ }
+    ensures { λ r. ⌜ r ≡ lowestRow (now (rows .entry)) (notKernelForm (now (rows .entry))) ⌝ }
+{
+    lowest_not_kernel_form_by(&KINDS, rows)
 }

@@ -1,5 +1,7 @@
 // What a pass along the links notes of each row.
 use super::Note;
+use structure::grammar::KINDS;
+use structure::grammar::KindTable;
 use structure::grammar::between;
 use structure::grammar::link;
 use structure::row_number::narrow;
@@ -10,6 +12,7 @@ ghost use Prim.Native.Nat.{_+_, _*_, _/_, _<_, _≤_};
 ghost use lib.Dec.{eqb};
 ghost use lib.ListN.{length, getD};
 ghost use Rattle.words.specs.Word.{pick};
+ghost use Rattle.structure.specs.Grammar.{grammar};
 ghost use Rattle.structure.specs.Structured.{Tree};
 ghost use Rattle.structure.specs.Passes.{written, Notes};
 ghost use Rattle.source_check.specs.Places.{handed, noteAt};
@@ -72,13 +75,13 @@ fn hand(which: Note, rows: &[i32], owner: usize, field: usize, own: u16) -> u16
 }
 
 // A word that links a row writes that row's note.
-fn write_note(which: Note, rows: &[i32], notes: &mut [u16], word: usize)
-    requires { ⌜ Tree (now rows) × (length (now rows) / 6 ≤ length (now notes)) × (word < length (now rows)) ⌝ }
+fn write_note(kinds: &KindTable, which: Note, rows: &[i32], notes: &mut [u16], word: usize)
+    requires { ⌜ Tree (now rows) × (length (now rows) / 6 ≤ length (now notes)) × (word < length (now rows)) × (now kinds ≡ grammar) ⌝ }
     ensures { λ _. ⌜ now (notes .exit) ≡ written (handed which (now (rows .entry))) (now (rows .entry)) word (now (notes .entry)) ⌝ }
 {
     let row = word / 6;
     let field = word % 6;
-    let linked = link(rows, row, field);
+    let linked = link(kinds, rows, row, field);
     if linked != 0 {
         let note = hand(which, rows, row, field, notes[row]);
         notes[linked] = note;
@@ -86,11 +89,19 @@ fn write_note(which: Note, rows: &[i32], notes: &mut [u16], word: usize)
 }
 
 // The notes of all rows, in one pass: a row's own note is written before those of the rows that it links.
+fn write_notes_by(kinds: &KindTable, which: Note, rows: &[i32], notes: &mut [u16])
+    requires { ⌜ Tree (now rows) × (length (now rows) / 6 ≤ length (now notes)) × (getD (now notes) 0 0 ≡ 0) × (now kinds ≡ grammar) ⌝ }
+    ensures { λ _. ⌜ Notes (now (rows .entry)) (noteAt which (now (rows .entry))) (now (notes .exit)) ⌝ }
+{
+    for word in 0..rows.len() {
+        write_note(kinds, which, rows, notes, word);
+    }
+}
+
+// The same, with the table of kinds: it is built here, once, and lent on.
 pub fn write_notes(which: Note, rows: &[i32], notes: &mut [u16])
     requires { ⌜ Tree (now rows) × (length (now rows) / 6 ≤ length (now notes)) × (getD (now notes) 0 0 ≡ 0) ⌝ }
     ensures { λ _. ⌜ Notes (now (rows .entry)) (noteAt which (now (rows .entry))) (now (notes .exit)) ⌝ }
 {
-    for word in 0..rows.len() {
-        write_note(which, rows, notes, word);
-    }
+    write_notes_by(&KINDS, which, rows, notes);
 }

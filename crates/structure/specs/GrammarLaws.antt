@@ -1,25 +1,22 @@
 -- Laws of the grammar: what holds of every kind is tested over the table of kinds.
-use mathlib.Core.Path.{_≡_, refl}
-use mathlib.Core.Bool.{Bool, true, false, not, _&&_, _||_}
+use mathlib.Core.Path.{_≡_, refl, ap, _∙_}
+use mathlib.Core.Bool.{Bool, true, false, not}
 use mathlib.Core.List.{List, [], _∷_}
-use Prim.Native.Nat.{ℕ, _≤_, _<_}
+use Prim.Native.Nat.{ℕ, zero, suc, _+_, _≤_, _<_}
 use native.Mathlib.Omega.{arith}
-use native.Mathlib.Decide.{decLt}
-use lib.Dec.{ltb, leb, eqb}
+use lib.Dec.{ltb, leb}
 use lib.IntN.{ℤ}
-use borrow.Author.Tests.{ltb-true, lt-leb, ne-eqb, not-true}
+use lib.ListN.{getD}
+use borrow.Author.Tests.{ltb-true, ne-eqb, not-true}
 use Rattle.words.specs.Word.{pick}
 use Rattle.words.specs.Table.{numberAt}
 use Rattle.words.specs.Laws.{both}
-use Rattle.words.specs.Kinds.{kinds, kindIn, kindOf, variable, label, kindRow, expressionFields, statementFields, markFields, sortIn, sortOf, sortAt, between, inLanguage, isLink}
+use Rattle.words.specs.Kinds.{kinds, kindIn, kindOf, unused, variable, label, Forms, inBoth, inSource, inKernel, inNeither, standsIn, kindRow, expressionFields, statementFields, markFields, sortIn, sortOf, sortAt, between, inLanguage, isLink}
 use Rattle.words.specs.KindLaws.{everyLine, every-number}
-use Rattle.words.specs.declared.Form.{Form}
 use Rattle.words.specs.declared.Form.the-variants.{Source, Kernel}
 use Rattle.words.specs.declared.Kind.{Kind}
 use Rattle.words.specs.declared.Kind.the-variants.{Other}
-use Rattle.structure.specs.Grammar.{link, kindLimit}
-use Rattle.structure.specs.Search.{some}
-use Rattle.structure.specs.SearchLaws.{some-all}
+use Rattle.structure.specs.Grammar.{link, kindLimit, formsNumber, formsOf, columns, tabulate, grammar}
 
 -- a property that no sort of the table's column has, and a field of no kind has not, no number has
 pub no-kind-has : (property : ℕ → Bool) (field : ℕ) → everyLine (λ number kind. not (property (sortIn kind field))) kinds ≡ true → not (property (sortIn Other field)) ≡ true
@@ -62,44 +59,73 @@ kind-beyond number h = go kinds refl
         let low = both (ltb (k .0) kindLimit) (everyLine (λ n kind. ltb n kindLimit) ks) e in
         rw (ne-eqb number (k .0) (λ q. let l = ltb-true (k .0) kindLimit (low .0) in omega arith)) (go ks (low .1))
 
--- ---- the kinds of a form by ranges, as the code tests them
+-- ---- the table by number
 
-unfoldable pub inRanges : Form → ℕ → Bool
-inRanges Source number = between 1 30 number || between 40 51 number
-inRanges Kernel number = between 1 4 number || (between 6 16 number || (eqb number 21 || (between 40 44 number || between 52 53 number)))
-
-differ : Bool → Bool → Bool
-differ true other = not other
-differ false other = other
-
-alike : (one other : Bool) → differ one other ≡ false → one ≡ other
-unfolding differ
-alike true true e = refl
-alike true false e = absurd (let z : _≡_ {A = ℕ} 0 1 = cc in omega arith)
-alike false true e = absurd (let z : _≡_ {A = ℕ} 0 1 = cc in omega arith)
-alike false false e = refl
-
-ranges-tested : (form : Form) → some (λ number. differ (inLanguage form number) (inRanges form number)) 0 kindLimit ≡ false
-unfolding some differ inRanges inLanguage kindOf kindIn kinds kindRow expressionFields statementFields markFields
-ranges-tested Source = refl
-ranges-tested Kernel = refl
-
-past : (least most number : ℕ) → most < number → between least most number ≡ false
-past least most number h = rw (lt-leb number most h) (go (leb least number))
+pub tabulated : {A : Type 0} (default : A) (entry : ℕ → A) (count number : ℕ) → number < count → getD (tabulate entry 0 count) number default ≡ entry number
+tabulated default entry count number h = go 0 count number h ∙ ap entry (let e : 0 + number ≡ number = omega arith in e)
   where
-    go : (b : Bool) → (b && false) ≡ false
-    go true = refl
-    go false = refl
+    go : (from count number : ℕ) → number < count → getD (tabulate entry from count) number default ≡ entry (from + number)
+    go from zero number h = absurd (omega arith)
+    go from (suc count) zero h = ap entry (let e : from ≡ from + 0 = omega arith in e)
+    go from (suc count) (suc number) h =
+        go (suc from) count number (omega arith) ∙ ap entry (let e : suc from + number ≡ from + suc number = omega arith in e)
 
-ranges-beyond : (form : Form) (number : ℕ) → kindLimit ≤ number → inLanguage form number ≡ inRanges form number
-unfolding inRanges inLanguage kindRow
-ranges-beyond Source number h = rw (kind-beyond number h, past 1 30 number (omega arith), past 40 51 number (omega arith)) refl
-ranges-beyond Kernel number h =
-    rw (kind-beyond number h, past 1 4 number (omega arith), past 6 16 number (omega arith), ne-eqb number 21 (λ q. omega arith), past 40 44 number (omega arith), past 52 53 number (omega arith)) refl
+grammar-row : (number : ℕ) → number < kindLimit → getD grammar number [] ≡ columns (kindRow (kindOf number))
+unfolding grammar
+grammar-row number h = tabulated [] (λ (n : ℕ). columns (kindRow (kindOf n))) kindLimit number h
 
-pub in-ranges : (form : Form) (number : ℕ) → inLanguage form number ≡ inRanges form number
-in-ranges form number = go (decLt number kindLimit)
+pub grammar-sort : (number field : ℕ) → number < kindLimit → field < 6 → getD (getD grammar number []) field 0 ≡ sortOf number field
+unfolding sortOf sortIn
+grammar-sort number field h f = rw (grammar-row number h) (go field f)
   where
-    go : Dec (number < kindLimit) → inLanguage form number ≡ inRanges form number
-    go (yes h) = alike _ _ (some-all (λ (n : ℕ). differ (inLanguage form n) (inRanges form n)) kindLimit 0 (ranges-tested form) number (omega arith) (omega arith))
-    go (no h) = ranges-beyond form number (let l : kindLimit ≤ number = omega (arith, h) in l)
+    go : (field : ℕ) → field < 6 → getD (columns (kindRow (kindOf number))) field 0 ≡ sortIn (kindOf number) field
+    go zero f = refl
+    go (suc zero) f = refl
+    go (suc (suc zero)) f = refl
+    go (suc (suc (suc zero))) f = refl
+    go (suc (suc (suc (suc zero)))) f = refl
+    go (suc (suc (suc (suc (suc zero))))) f = refl
+    go (suc (suc (suc (suc (suc (suc field)))))) f = absurd (omega arith)
+
+pub grammar-forms : (number : ℕ) → number < kindLimit → getD (getD grammar number []) 6 0 ≡ formsOf number
+unfolding formsOf
+grammar-forms number h = rw (grammar-row number h) refl
+
+-- beyond the table every field is unused, and no form has the kind
+pub sort-beyond : (number field : ℕ) → kindLimit ≤ number → field < 6 → sortOf number field ≡ unused
+unfolding sortOf sortIn kindRow
+sort-beyond number field h f = rw (kind-beyond number h) (go field f)
+  where
+    go : (field : ℕ) → field < 6 → sortIn Other field ≡ unused
+    go zero f = refl
+    go (suc zero) f = refl
+    go (suc (suc zero)) f = refl
+    go (suc (suc (suc zero))) f = refl
+    go (suc (suc (suc (suc zero)))) f = refl
+    go (suc (suc (suc (suc (suc zero))))) f = refl
+    go (suc (suc (suc (suc (suc (suc field)))))) f = absurd (omega arith)
+
+pub forms-beyond : (number : ℕ) → kindLimit ≤ number → formsOf number ≡ 0
+unfolding formsOf kindRow
+forms-beyond number h = rw (kind-beyond number h)
+
+-- the source stands among forms 1 and 2, the kernel among 2 and 3
+pub source-forms : (number : ℕ) → between 1 2 (formsOf number) ≡ inLanguage Source number
+unfolding formsOf inLanguage
+source-forms number = go (kindRow (kindOf number) .forms)
+  where
+    go : (forms : Forms) → between 1 2 (formsNumber forms) ≡ standsIn forms Source
+    go inBoth = refl
+    go inSource = refl
+    go inKernel = refl
+    go inNeither = refl
+
+pub kernel-forms : (number : ℕ) → leb 2 (formsOf number) ≡ inLanguage Kernel number
+unfolding formsOf inLanguage
+kernel-forms number = go (kindRow (kindOf number) .forms)
+  where
+    go : (forms : Forms) → leb 2 (formsNumber forms) ≡ standsIn forms Kernel
+    go inBoth = refl
+    go inSource = refl
+    go inKernel = refl
+    go inNeither = refl

@@ -1,7 +1,7 @@
 -- What the checks of both forms share. A line of comment for each file.
 
 -- ---- definitions
--- Grammar: document 01's table of kinds: what a row of each kind is, and what each of its fields holds.
+-- Grammar: what the table of kinds says of a row of a table; and the table by number, as the code holds it.
 pub mod Grammar
 -- Searches: the lowest number, or the lowest row, with a property.
 pub mod Search
@@ -17,13 +17,13 @@ pub mod Structured
 pub mod Lists
 -- Passes: what the code's loops compute.
 pub mod Passes
--- Packed: the table of kinds as the code holds it, a row a number, a hexadecimal digit a field.
-pub mod Packed
 -- ---- laws
 -- Laws of searches.
 pub mod SearchLaws
 -- Laws of the grammar: what holds of every kind is tested over the table.
 pub mod GrammarLaws
+-- Papers: what documents 01 and 02 say of each kind, in their own lines and ranges; the table of kinds says the same.
+pub mod Papers
 -- Laws of links: in a tree of rows each row but row 0 has one owner, and `linker` finds it.
 pub mod LinkLaws
 -- Laws of notes: in a tree of rows a note is what the owner hands on; and what a pass over the words has written.

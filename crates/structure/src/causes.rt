@@ -6,6 +6,8 @@ use super::fields::bounds_of;
 use super::fields::is_foreign;
 use super::fields::is_mislinked;
 use super::fields::is_outside;
+use super::grammar::KINDS;
+use super::grammar::KindTable;
 use super::links::is_not_once;
 use super::links::mark_links;
 use words::Form;
@@ -18,12 +20,14 @@ ghost use mathlib.Core.Bool.{true};
 ghost use Prim.Native.Nat.{ℕ, _+_, _*_, _/_, _<_};
 ghost use lib.ListN.{length, getD};
 ghost use Rattle.words.specs.Layout.{countFits};
+ghost use Rattle.structure.specs.Grammar.{grammar};
 ghost use Rattle.structure.specs.Search.{lowestRow, someField};
 ghost use Rattle.structure.specs.Links.{linkCount, notOnce};
 ghost use Rattle.structure.specs.Refusal.{at as atCause, rowCauses, structuralRefusal};
 ghost use Rattle.structure.specs.Passes.{fieldBreaks, rowBreaks};
 
 fn field_breaks(
+    kinds: &KindTable,
     cause: Cause,
     form: Form,
     bounds: Bounds,
@@ -31,24 +35,31 @@ fn field_breaks(
     row: usize,
     field: usize,
 ) -> bool
-    requires { ⌜ (6 * row + 5 < length (now rows)) × (field < 6) ⌝ }
+    requires { ⌜ (6 * row + 5 < length (now rows)) × (field < 6) × (now kinds ≡ grammar) ⌝ }
     ensures { λ r. ⌜ r ≡ fieldBreaks cause form bounds (now (rows .entry)) row field ⌝ }
 {
     match cause {
-        Cause::Kinds => is_foreign(form, rows, row, field),
-        Cause::Links => is_mislinked(rows, row, field),
+        Cause::Kinds => is_foreign(kinds, form, rows, row, field),
+        Cause::Links => is_mislinked(kinds, rows, row, field),
         Cause::Once => false,
-        Cause::Numbers => is_outside(bounds, rows, row, field),
+        Cause::Numbers => is_outside(kinds, bounds, rows, row, field),
     }
 }
 
-fn some_field_breaks(cause: Cause, form: Form, bounds: Bounds, rows: &[i32], row: usize) -> bool
-    requires { ⌜ 6 * row + 5 < length (now rows) ⌝ }
+fn some_field_breaks(
+    kinds: &KindTable,
+    cause: Cause,
+    form: Form,
+    bounds: Bounds,
+    rows: &[i32],
+    row: usize,
+) -> bool
+    requires { ⌜ (6 * row + 5 < length (now rows)) × (now kinds ≡ grammar) ⌝ }
     ensures { λ r. ⌜ r ≡ someField (fieldBreaks cause form bounds (now (rows .entry)) row) ⌝ }
 {
     let mut field: usize = 0;
     while field < 6 {
-        if field_breaks(cause, form, bounds, rows, row, field) {
+        if field_breaks(kinds, cause, form, bounds, rows, row, field) {
             return true;
         }
         field += 1;
@@ -56,15 +67,23 @@ fn some_field_breaks(cause: Cause, form: Form, bounds: Bounds, rows: &[i32], row
     false
 }
 
-fn row_breaks(cause: Cause, form: Form, bounds: Bounds, rows: &[i32], count: u8, row: usize) -> bool
-    requires { ⌜ 6 * row + 5 < length (now rows) ⌝ }
+fn row_breaks(
+    kinds: &KindTable,
+    cause: Cause,
+    form: Form,
+    bounds: Bounds,
+    rows: &[i32],
+    count: u8,
+    row: usize,
+) -> bool
+    requires { ⌜ (6 * row + 5 < length (now rows)) × (now kinds ≡ grammar) ⌝ }
     ensures { λ r. ⌜ r ≡ rowBreaks cause form bounds (now (rows .entry)) count row ⌝ }
 {
     match cause {
-        Cause::Kinds => some_field_breaks(cause, form, bounds, rows, row),
-        Cause::Links => some_field_breaks(cause, form, bounds, rows, row),
+        Cause::Kinds => some_field_breaks(kinds, cause, form, bounds, rows, row),
+        Cause::Links => some_field_breaks(kinds, cause, form, bounds, rows, row),
         Cause::Once => is_not_once(rows, count, row),
-        Cause::Numbers => some_field_breaks(cause, form, bounds, rows, row),
+        Cause::Numbers => some_field_breaks(kinds, cause, form, bounds, rows, row),
     }
 }
 
@@ -79,13 +98,21 @@ fn mark_at(marks: &[u8], row: usize) -> u8
 }
 
 // The lowest row that breaks the cause; for cause 5 `marks` says how often each row is linked.
-fn lowest_row(cause: Cause, form: Form, bounds: Bounds, rows: &[i32], marks: &[u8]) -> Found
+fn lowest_row(
+    kinds: &KindTable,
+    cause: Cause,
+    form: Form,
+    bounds: Bounds,
+    rows: &[i32],
+    marks: &[u8],
+) -> Found
+    requires { ⌜ now kinds ≡ grammar ⌝ }
     ensures { λ r. ⌜ r ≡ lowestRow (now (rows .entry)) (λ (row : ℕ). rowBreaks cause form bounds (now (rows .entry)) (getD (now (marks .entry)) row 0) row) ⌝ }
 {
     let count = rows.len() / 6;
     let mut row: usize = 0;
     while row < count {
-        if row_breaks(cause, form, bounds, rows, mark_at(marks, row), row) {
+        if row_breaks(kinds, cause, form, bounds, rows, mark_at(marks, row), row) {
             return Found::At(row);
         }
         row += 1;
@@ -94,13 +121,13 @@ fn lowest_row(cause: Cause, form: Form, bounds: Bounds, rows: &[i32], marks: &[u
 }
 
 // Cause 5. The marks have room for the rows of either form.
-fn lowest_not_once(form: Form, bounds: Bounds, rows: &[i32]) -> Found
-    requires { ⌜ countFits form (length (now rows)) ≡ true ⌝ }
+fn lowest_not_once(kinds: &KindTable, form: Form, bounds: Bounds, rows: &[i32]) -> Found
+    requires { ⌜ (countFits form (length (now rows)) ≡ true) × (now kinds ≡ grammar) ⌝ }
     ensures { λ r. ⌜ r ≡ lowestRow (now (rows .entry)) (λ (row : ℕ). notOnce (now (rows .entry)) (linkCount (now (rows .entry)) row) row) ⌝ }
 {
     let mut marks = [0u8; 40980];
-    mark_links(rows, &mut marks);
-    lowest_row(Cause::Once, form, bounds, rows, &marks)
+    mark_links(kinds, rows, &mut marks);
+    lowest_row(kinds, Cause::Once, form, bounds, rows, &marks)
 }
 
 // The refusal for a cause that some row breaks.
@@ -117,33 +144,44 @@ pub fn at(cause: u32, found: Found) -> Verdict
 }
 
 // Causes 3 to 6. Only cause 5 has marks.
-fn row_causes(form: Form, bounds: Bounds, rows: &[i32]) -> Verdict
-    requires { ⌜ countFits form (length (now rows)) ≡ true ⌝ }
+fn row_causes(kinds: &KindTable, form: Form, bounds: Bounds, rows: &[i32]) -> Verdict
+    requires { ⌜ (countFits form (length (now rows)) ≡ true) × (now kinds ≡ grammar) ⌝ }
     ensures { λ r. ⌜ r ≡ rowCauses form bounds (now (rows .entry)) ⌝ }
 {
     let none = [0u8; 1];
-    let kinds = lowest_row(Cause::Kinds, form, bounds, rows, &none);
-    if let Found::At(row) = kinds {
+    let foreign_row = lowest_row(kinds, Cause::Kinds, form, bounds, rows, &none);
+    if let Found::At(row) = foreign_row {
         return Verdict::Refused(Refusal {
             number: 3,
             place: row,
         });
     }
-    let links = lowest_row(Cause::Links, form, bounds, rows, &none);
+    let links = lowest_row(kinds, Cause::Links, form, bounds, rows, &none);
     if let Found::At(row) = links {
         return Verdict::Refused(Refusal {
             number: 4,
             place: row,
         });
     }
-    let once = lowest_not_once(form, bounds, rows);
+    let once = lowest_not_once(kinds, form, bounds, rows);
     if let Found::At(row) = once {
         return Verdict::Refused(Refusal {
             number: 5,
             place: row,
         });
     }
-    at(6, lowest_row(Cause::Numbers, form, bounds, rows, &none))
+    at(
+        6,
+        lowest_row(kinds, Cause::Numbers, form, bounds, rows, &none),
+    )
+}
+
+// The same, with the table of kinds: it is built here, once, and lent on.
+fn table_causes(form: Form, bounds: Bounds, rows: &[i32]) -> Verdict
+    requires { ⌜ countFits form (length (now rows)) ≡ true ⌝ }
+    ensures { λ r. ⌜ r ≡ rowCauses form bounds (now (rows .entry)) ⌝ }
+{
+    row_causes(&KINDS, form, bounds, rows)
 }
 
 // The causes 1 to 6, which both forms share.
@@ -162,5 +200,5 @@ pub fn structural_refusal(form: Form, header: &[i32], rows: &[i32]) -> Verdict
             place: 0,
         });
     }
-    row_causes(form, bounds_of(form, header), rows)
+    table_causes(form, bounds_of(form, header), rows)
 }

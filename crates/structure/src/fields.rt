@@ -1,12 +1,13 @@
 // The causes that lie in one field of a row: 3, 4 and 6. Each test is true where the field breaks the cause.
 use super::Bounds;
 use super::grammar::ARRAY;
-use super::grammar::EXPRESSION;
+use super::grammar::ITEM;
+use super::grammar::KindTable;
 use super::grammar::LABEL;
-use super::grammar::OPTIONAL_EXPRESSION;
-use super::grammar::OPTIONAL_ITEM;
+use super::grammar::NONE;
+use super::grammar::OPERAND;
+use super::grammar::OPTIONAL;
 use super::grammar::PLACE;
-use super::grammar::UNUSED;
 use super::grammar::VARIABLE;
 use super::grammar::in_language;
 use super::grammar::is_expression;
@@ -26,52 +27,54 @@ ghost use mathlib.Core.Bool.{true};
 ghost use Prim.Native.Nat.{_+_, _*_, _<_};
 ghost use lib.ListN.{length};
 ghost use Rattle.words.specs.Layout.{headerFits};
+ghost use Rattle.structure.specs.Grammar.{grammar};
 ghost use Rattle.structure.specs.Fields.{foreign, fits as fitsOf, leadsRight, mislinked, boundsOf, numberFits, outside};
 
 // Cause 3.
-pub fn is_foreign(form: Form, rows: &[i32], row: usize, field: usize) -> bool
-    requires { ⌜ (6 * row + 5 < length (now rows)) × (field < 6) ⌝ }
+pub fn is_foreign(kinds: &KindTable, form: Form, rows: &[i32], row: usize, field: usize) -> bool
+    requires { ⌜ (6 * row + 5 < length (now rows)) × (field < 6) × (now kinds ≡ grammar) ⌝ }
     ensures { λ r. ⌜ r ≡ foreign form (now (rows .entry)) row field ⌝ }
 {
     let number = number_at(rows, row, field);
     if field == 0 {
-        return !in_language(form, number);
+        return !in_language(kinds, form, number);
     }
     if number == 0 {
         return false;
     }
-    sort_at(rows, row, field) == UNUSED
+    sort_at(kinds, rows, row, field) == NONE
 }
 
 // The row is of the sort that a link asks for.
-fn fits(rows: &[i32], sort: u8, row: usize) -> bool
-    requires { ⌜ 6 * row + 5 < length (now rows) ⌝ }
+fn fits(kinds: &KindTable, rows: &[i32], sort: u8, row: usize) -> bool
+    requires { ⌜ (6 * row + 5 < length (now rows)) × (now kinds ≡ grammar) ⌝ }
     ensures { λ r. ⌜ r ≡ fitsOf (now (rows .entry)) sort row ⌝ }
 {
-    if sort == EXPRESSION {
-        return is_expression(rows, row);
+    if sort == OPERAND {
+        return is_expression(kinds, rows, row);
     }
-    if sort == OPTIONAL_EXPRESSION {
-        return is_expression(rows, row);
+    if sort == OPTIONAL {
+        return is_expression(kinds, rows, row);
     }
     if sort == PLACE {
-        return is_place(rows, row);
+        return is_place(kinds, rows, row);
     }
-    if sort == OPTIONAL_ITEM {
-        return is_statement(rows, row);
+    if sort == ITEM {
+        return is_statement(kinds, rows, row);
     }
-    if is_statement(rows, row) {
+    if is_statement(kinds, rows, row) {
         return number_at(rows, row, 5) == 0;
     }
     false
 }
 
-fn leads_right(rows: &[i32], row: usize, sort: u8, link: usize) -> bool
+fn leads_right(kinds: &KindTable, rows: &[i32], row: usize, sort: u8, link: usize) -> bool
+    requires { ⌜ now kinds ≡ grammar ⌝ }
     ensures { λ r. ⌜ r ≡ leadsRight (now (rows .entry)) row sort link ⌝ }
 {
     if row < link {
         if link < rows.len() / 6 {
-            return fits(rows, sort, link);
+            return fits(kinds, rows, sort, link);
         }
         return false;
     }
@@ -79,17 +82,17 @@ fn leads_right(rows: &[i32], row: usize, sort: u8, link: usize) -> bool
 }
 
 // Cause 4.
-pub fn is_mislinked(rows: &[i32], row: usize, field: usize) -> bool
-    requires { ⌜ (6 * row + 5 < length (now rows)) × (field < 6) ⌝ }
+pub fn is_mislinked(kinds: &KindTable, rows: &[i32], row: usize, field: usize) -> bool
+    requires { ⌜ (6 * row + 5 < length (now rows)) × (field < 6) × (now kinds ≡ grammar) ⌝ }
     ensures { λ r. ⌜ r ≡ mislinked (now (rows .entry)) row field ⌝ }
 {
-    let sort = sort_at(rows, row, field);
+    let sort = sort_at(kinds, rows, row, field);
     if is_link(sort) {
         let link = number_at(rows, row, field);
         if link == 0 {
             return is_required(sort);
         }
-        return !leads_right(rows, row, sort, link);
+        return !leads_right(kinds, rows, row, sort, link);
     }
     false
 }
@@ -133,13 +136,13 @@ fn number_fits(bounds: Bounds, sort: u8, number: usize) -> bool
 }
 
 // Cause 6.
-pub fn is_outside(bounds: Bounds, rows: &[i32], row: usize, field: usize) -> bool
-    requires { ⌜ (6 * row + 5 < length (now rows)) × (field < 6) ⌝ }
+pub fn is_outside(kinds: &KindTable, bounds: Bounds, rows: &[i32], row: usize, field: usize) -> bool
+    requires { ⌜ (6 * row + 5 < length (now rows)) × (field < 6) × (now kinds ≡ grammar) ⌝ }
     ensures { λ r. ⌜ r ≡ outside bounds (now (rows .entry)) row field ⌝ }
 {
     !number_fits(
         bounds,
-        sort_at(rows, row, field),
+        sort_at(kinds, rows, row, field),
         number_at(rows, row, field),
     )
 }

@@ -4,118 +4,140 @@ use words::table::number_at;
 ghost use mathlib.Core.Path.{_≡_};
 ghost use Prim.Native.Nat.{_+_, _*_, _<_};
 ghost use lib.ListN.{length};
-ghost use Rattle.words.specs.declared.Form.the-variants.{Source, Kernel};
-ghost use Rattle.structure.specs.Packed.{packedRow, digitAt};
 ghost use Rattle.words.specs.Kinds.{sortOf, sortAt, between as betweenOf, inLanguage, isLink, isRequired};
-ghost use Rattle.structure.specs.Grammar.{isExpression, isPlace, isStatement, link as linkOf};
+ghost use Rattle.structure.specs.Grammar.{grammar, formsOf, isExpression, isPlace, isStatement, link as linkOf};
 
 // Fields without a link. "Values, variable, array and label numbers may be 0."
-pub const UNUSED: u8 = 0;
+pub const NONE: u8 = 0;
+
+pub const VALUE: u8 = 1;
 
 pub const VARIABLE: u8 = 2;
 
 pub const ARRAY: u8 = 3;
 
 pub const LABEL: u8 = 4;
-// Links. Optional ones "may be 0". A branch or body has next 0; an item is the first of a list, or the next.
-pub const EXPRESSION: u8 = 5;
+// Links. Optional ones "may be 0": an operand is an expression; a body is "a branch or body", whose next is 0; an item is the first of a
+// list, or the next, and may be 0.
+pub const OPERAND: u8 = 5;
 
-pub const OPTIONAL_EXPRESSION: u8 = 6;
+pub const OPTIONAL: u8 = 6;
 
 pub const PLACE: u8 = 7;
 
-pub const BRANCH: u8 = 8;
+pub const BODY: u8 = 8;
 
-pub const OPTIONAL_ITEM: u8 = 10;
+pub const OPTIONAL_BODY: u8 = 9;
+
+pub const ITEM: u8 = 10;
 // What a row is.
-pub const EXPRESSION_ROW: u8 = 11;
+pub const NO_ROW: u8 = 0;
+
+pub const EXPRESSION: u8 = 11;
 
 pub const PLACE_ROW: u8 = 12;
 
-pub const STATEMENT_ROW: u8 = 13;
+pub const STATEMENT: u8 = 13;
+// The forms that have a kind.
+pub const NEITHER: u8 = 0;
 
-// The table's row of a kind: a hexadecimal digit each for what the row is, then a, b, c, d and next, by the numbers above, with 1 for a
-// value and 9 for an optional branch. A `match`, since the compiler keeps it as a table of the program; a constant array is copied to the
-// stack at each look.
-fn row_of(kind: usize) -> u32
-    ensures { λ r. ⌜ r ≡ packedRow kind ⌝ }
-{
-    match kind {
-        1 => 0xB10000, // constant
-        2 => 0xC20000, // variable
-        3 => 0xC35000, // element
-        4 => 0xB50000, // minus
-        5 => 0xB50000, // not
-        6 => 0xB55000, // +
-        7 => 0xB55000, // −
-        8 => 0xB55000, // ×
-        9 => 0xB55000, // /
-        10 => 0xB55000, // %
-        11 => 0xB55000, // <
-        12 => 0xB55000, // >
-        13 => 0xB55000, // <=
-        14 => 0xB55000, // >=
-        15 => 0xB55000, // ==
-        16 => 0xB55000, // !=
-        17 => 0xB55000, // and
-        18 => 0xB55000, // or
-        19 => 0xB55500, // conditional
-        20 => 0xB55000, // comma
-        21 => 0xB75000, // assign
-        22 => 0xB75000, // +=
-        23 => 0xB75000, // −=
-        24 => 0xB75000, // ×=
-        25 => 0xB75000, // /=
-        26 => 0xB75000, // %=
-        27 => 0xB70000, // ++e
-        28 => 0xB70000, // −−e
-        29 => 0xB70000, // e++
-        30 => 0xB70000, // e−−
-        40 => 0xD0000A, // empty
-        41 => 0xD5000A, // expression statement
-        42 => 0xDA000A, // block
-        43 => 0xD5890A, // if
-        44 => 0xD5800A, // while
-        45 => 0xD8500A, // do
-        46 => 0xD6668A, // for
-        47 => 0xD5A00A, // switch
-        48 => 0xD1000A, // case
-        49 => 0xD0000A, // default
-        50 => 0xD0000A, // break
-        51 => 0xD0000A, // continue
-        52 => 0xD4000A, // goto
-        53 => 0xD4000A, // label
-        _ => 0,
-    }
-}
+pub const SOURCE: u8 = 1;
 
-// A digit of a row, from the left.
-fn digit(row: u32, field: usize) -> u32
-    ensures { λ r. ⌜ r ≡ digitAt row field ⌝ }
-{
-    match field {
-        0 => row / 0x100000 % 16,
-        1 => row / 0x10000 % 16,
-        2 => row / 0x1000 % 16,
-        3 => row / 0x100 % 16,
-        4 => row / 0x10 % 16,
-        _ => row % 16,
-    }
-}
+pub const BOTH: u8 = 2;
 
-// What a field of a kind holds; for field 0, what a row of the kind is.
-pub fn sort_of(kind: usize, field: usize) -> u8
-    requires { ⌜ field < 6 ⌝ }
+pub const KERNEL: u8 = 3;
+
+// No kind has this number or a higher one.
+pub const KIND_LIMIT: usize = 54;
+
+pub type KindTable = [[u8; 7]; KIND_LIMIT];
+
+// The table of kinds, a row for each number: what a row of the kind is, what a, b, c, d and next hold, and the forms that have the kind.
+pub const KINDS: KindTable = [
+    [NO_ROW, NONE, NONE, NONE, NONE, NONE, NEITHER], // 0
+    [EXPRESSION, VALUE, NONE, NONE, NONE, NONE, BOTH], // 1 constant
+    [PLACE_ROW, VARIABLE, NONE, NONE, NONE, NONE, BOTH], // 2 variable
+    [PLACE_ROW, ARRAY, OPERAND, NONE, NONE, NONE, BOTH], // 3 element
+    [EXPRESSION, OPERAND, NONE, NONE, NONE, NONE, BOTH], // 4 minus
+    [EXPRESSION, OPERAND, NONE, NONE, NONE, NONE, SOURCE], // 5 not
+    [EXPRESSION, OPERAND, OPERAND, NONE, NONE, NONE, BOTH], // 6 +
+    [EXPRESSION, OPERAND, OPERAND, NONE, NONE, NONE, BOTH], // 7 −
+    [EXPRESSION, OPERAND, OPERAND, NONE, NONE, NONE, BOTH], // 8 ×
+    [EXPRESSION, OPERAND, OPERAND, NONE, NONE, NONE, BOTH], // 9 /
+    [EXPRESSION, OPERAND, OPERAND, NONE, NONE, NONE, BOTH], // 10 %
+    [EXPRESSION, OPERAND, OPERAND, NONE, NONE, NONE, BOTH], // 11 <
+    [EXPRESSION, OPERAND, OPERAND, NONE, NONE, NONE, BOTH], // 12 >
+    [EXPRESSION, OPERAND, OPERAND, NONE, NONE, NONE, BOTH], // 13 <=
+    [EXPRESSION, OPERAND, OPERAND, NONE, NONE, NONE, BOTH], // 14 >=
+    [EXPRESSION, OPERAND, OPERAND, NONE, NONE, NONE, BOTH], // 15 ==
+    [EXPRESSION, OPERAND, OPERAND, NONE, NONE, NONE, BOTH], // 16 !=
+    [EXPRESSION, OPERAND, OPERAND, NONE, NONE, NONE, SOURCE], // 17 and
+    [EXPRESSION, OPERAND, OPERAND, NONE, NONE, NONE, SOURCE], // 18 or
+    [EXPRESSION, OPERAND, OPERAND, OPERAND, NONE, NONE, SOURCE], // 19 conditional
+    [EXPRESSION, OPERAND, OPERAND, NONE, NONE, NONE, SOURCE], // 20 comma
+    [EXPRESSION, PLACE, OPERAND, NONE, NONE, NONE, BOTH], // 21 assign
+    [EXPRESSION, PLACE, OPERAND, NONE, NONE, NONE, SOURCE], // 22 +=
+    [EXPRESSION, PLACE, OPERAND, NONE, NONE, NONE, SOURCE], // 23 −=
+    [EXPRESSION, PLACE, OPERAND, NONE, NONE, NONE, SOURCE], // 24 ×=
+    [EXPRESSION, PLACE, OPERAND, NONE, NONE, NONE, SOURCE], // 25 /=
+    [EXPRESSION, PLACE, OPERAND, NONE, NONE, NONE, SOURCE], // 26 %=
+    [EXPRESSION, PLACE, NONE, NONE, NONE, NONE, SOURCE], // 27 ++e
+    [EXPRESSION, PLACE, NONE, NONE, NONE, NONE, SOURCE], // 28 −−e
+    [EXPRESSION, PLACE, NONE, NONE, NONE, NONE, SOURCE], // 29 e++
+    [EXPRESSION, PLACE, NONE, NONE, NONE, NONE, SOURCE], // 30 e−−
+    [NO_ROW, NONE, NONE, NONE, NONE, NONE, NEITHER], // 31
+    [NO_ROW, NONE, NONE, NONE, NONE, NONE, NEITHER], // 32
+    [NO_ROW, NONE, NONE, NONE, NONE, NONE, NEITHER], // 33
+    [NO_ROW, NONE, NONE, NONE, NONE, NONE, NEITHER], // 34
+    [NO_ROW, NONE, NONE, NONE, NONE, NONE, NEITHER], // 35
+    [NO_ROW, NONE, NONE, NONE, NONE, NONE, NEITHER], // 36
+    [NO_ROW, NONE, NONE, NONE, NONE, NONE, NEITHER], // 37
+    [NO_ROW, NONE, NONE, NONE, NONE, NONE, NEITHER], // 38
+    [NO_ROW, NONE, NONE, NONE, NONE, NONE, NEITHER], // 39
+    [STATEMENT, NONE, NONE, NONE, NONE, ITEM, BOTH], // 40 empty
+    [STATEMENT, OPERAND, NONE, NONE, NONE, ITEM, BOTH], // 41 expression statement
+    [STATEMENT, ITEM, NONE, NONE, NONE, ITEM, BOTH], // 42 block
+    [STATEMENT, OPERAND, BODY, OPTIONAL_BODY, NONE, ITEM, BOTH], // 43 if
+    [STATEMENT, OPERAND, BODY, NONE, NONE, ITEM, BOTH], // 44 while
+    [STATEMENT, BODY, OPERAND, NONE, NONE, ITEM, SOURCE], // 45 do
+    [STATEMENT, OPTIONAL, OPTIONAL, OPTIONAL, BODY, ITEM, SOURCE], // 46 for
+    [STATEMENT, OPERAND, ITEM, NONE, NONE, ITEM, SOURCE], // 47 switch
+    [STATEMENT, VALUE, NONE, NONE, NONE, ITEM, SOURCE], // 48 case
+    [STATEMENT, NONE, NONE, NONE, NONE, ITEM, SOURCE], // 49 default
+    [STATEMENT, NONE, NONE, NONE, NONE, ITEM, SOURCE], // 50 break
+    [STATEMENT, NONE, NONE, NONE, NONE, ITEM, SOURCE], // 51 continue
+    [STATEMENT, LABEL, NONE, NONE, NONE, ITEM, KERNEL], // 52 goto
+    [STATEMENT, LABEL, NONE, NONE, NONE, ITEM, KERNEL], // 53 label
+];
+
+// What a field of a kind holds; for field 0, what a row of the kind is. The table is lent: borrowed where it is read, the constant would
+// be built anew at each look.
+pub fn sort_of(kinds: &KindTable, kind: usize, field: usize) -> u8
+    requires { ⌜ (field < 6) × (now kinds ≡ grammar) ⌝ }
     ensures { λ r. ⌜ r ≡ sortOf kind field ⌝ }
 {
-    digit(row_of(kind), field) as u8
+    if kind < KIND_LIMIT {
+        return kinds[kind][field];
+    }
+    NONE
 }
 
-pub fn sort_at(rows: &[i32], row: usize, field: usize) -> u8
-    requires { ⌜ (6 * row < length (now rows)) × (field < 6) ⌝ }
+// The forms that have a kind.
+fn forms_of(kinds: &KindTable, kind: usize) -> u8
+    requires { ⌜ now kinds ≡ grammar ⌝ }
+    ensures { λ r. ⌜ r ≡ formsOf kind ⌝ }
+{
+    if kind < KIND_LIMIT {
+        return kinds[kind][6];
+    }
+    NEITHER
+}
+
+pub fn sort_at(kinds: &KindTable, rows: &[i32], row: usize, field: usize) -> u8
+    requires { ⌜ (6 * row < length (now rows)) × (field < 6) × (now kinds ≡ grammar) ⌝ }
     ensures { λ r. ⌜ r ≡ sortAt (now (rows .entry)) row field ⌝ }
 {
-    sort_of(number_at(rows, row, 0), field)
+    sort_of(kinds, number_at(rows, row, 0), field)
 }
 
 pub fn between(least: usize, most: usize, number: usize) -> bool
@@ -127,73 +149,58 @@ pub fn between(least: usize, most: usize, number: usize) -> bool
     false
 }
 
-fn in_source(kind: usize) -> bool
-    ensures { λ r. ⌜ r ≡ inLanguage Source kind ⌝ }
+// The source is among these forms.
+fn source_has(forms: u8) -> bool
+    ensures { λ r. ⌜ r ≡ betweenOf 1 2 forms ⌝ }
 {
-    if between(1, 30, kind) {
-        return true;
+    if SOURCE <= forms {
+        return forms <= BOTH;
     }
-    between(40, 51, kind)
-}
-
-fn in_kernel(kind: usize) -> bool
-    ensures { λ r. ⌜ r ≡ inLanguage Kernel kind ⌝ }
-{
-    if between(1, 4, kind) {
-        return true;
-    }
-    if between(6, 16, kind) {
-        return true;
-    }
-    if kind == 21 {
-        return true;
-    }
-    if between(40, 44, kind) {
-        return true;
-    }
-    between(52, 53, kind)
+    false
 }
 
 // The kind is in the language of the form.
-pub fn in_language(form: Form, kind: usize) -> bool
+pub fn in_language(kinds: &KindTable, form: Form, kind: usize) -> bool
+    requires { ⌜ now kinds ≡ grammar ⌝ }
     ensures { λ r. ⌜ r ≡ inLanguage form kind ⌝ }
 {
+    let forms = forms_of(kinds, kind);
     match form {
-        Form::Source => in_source(kind),
-        Form::Kernel => in_kernel(kind),
+        Form::Source => source_has(forms),
+        Form::Kernel => BOTH <= forms,
     }
 }
 
-pub fn is_expression(rows: &[i32], row: usize) -> bool
-    requires { ⌜ 6 * row < length (now rows) ⌝ }
+pub fn is_expression(kinds: &KindTable, rows: &[i32], row: usize) -> bool
+    requires { ⌜ (6 * row < length (now rows)) × (now kinds ≡ grammar) ⌝ }
     ensures { λ r. ⌜ r ≡ isExpression (now (rows .entry)) row ⌝ }
 {
-    let sort = sort_at(rows, row, 0);
-    if EXPRESSION_ROW <= sort {
+    let sort = sort_at(kinds, rows, row, 0);
+    if EXPRESSION <= sort {
         return sort <= PLACE_ROW;
     }
     false
 }
 
-pub fn is_place(rows: &[i32], row: usize) -> bool
-    requires { ⌜ 6 * row < length (now rows) ⌝ }
+pub fn is_place(kinds: &KindTable, rows: &[i32], row: usize) -> bool
+    requires { ⌜ (6 * row < length (now rows)) × (now kinds ≡ grammar) ⌝ }
     ensures { λ r. ⌜ r ≡ isPlace (now (rows .entry)) row ⌝ }
 {
-    sort_at(rows, row, 0) == PLACE_ROW
+    sort_at(kinds, rows, row, 0) == PLACE_ROW
 }
 
-pub fn is_statement(rows: &[i32], row: usize) -> bool
-    requires { ⌜ 6 * row < length (now rows) ⌝ }
+pub fn is_statement(kinds: &KindTable, rows: &[i32], row: usize) -> bool
+    requires { ⌜ (6 * row < length (now rows)) × (now kinds ≡ grammar) ⌝ }
     ensures { λ r. ⌜ r ≡ isStatement (now (rows .entry)) row ⌝ }
 {
-    sort_at(rows, row, 0) == STATEMENT_ROW
+    sort_at(kinds, rows, row, 0) == STATEMENT
 }
 
 pub fn is_link(sort: u8) -> bool
     ensures { λ r. ⌜ r ≡ isLink sort ⌝ }
 {
-    if EXPRESSION <= sort {
-        return sort <= OPTIONAL_ITEM;
+    if OPERAND <= sort {
+        return sort <= ITEM;
     }
     false
 }
@@ -202,25 +209,25 @@ pub fn is_link(sort: u8) -> bool
 pub fn is_required(sort: u8) -> bool
     ensures { λ r. ⌜ r ≡ isRequired sort ⌝ }
 {
-    if sort == EXPRESSION {
+    if sort == OPERAND {
         return true;
     }
     if sort == PLACE {
         return true;
     }
-    sort == BRANCH
+    sort == BODY
 }
 
 // The row that a field links, or 0. Most words of a table are 0, and need no look at the table of kinds.
-pub fn link(rows: &[i32], row: usize, field: usize) -> usize
-    requires { ⌜ (6 * row + 5 < length (now rows)) × (field < 6) ⌝ }
+pub fn link(kinds: &KindTable, rows: &[i32], row: usize, field: usize) -> usize
+    requires { ⌜ (6 * row + 5 < length (now rows)) × (field < 6) × (now kinds ≡ grammar) ⌝ }
     ensures { λ r. ⌜ r ≡ linkOf (now (rows .entry)) row field ⌝ }
 {
     let number = number_at(rows, row, field);
     if number == 0 {
         return 0;
     }
-    if is_link(sort_at(rows, row, field)) {
+    if is_link(sort_at(kinds, rows, row, field)) {
         return number;
     }
     0

@@ -1,9 +1,11 @@
 // How often each row is linked, and cause 5.
+use super::grammar::KindTable;
 use super::grammar::link;
 use words::table::number_at;
 ghost use mathlib.Core.Path.{_≡_};
 ghost use Prim.Native.Nat.{_+_, _*_, _/_, _<_};
 ghost use lib.ListN.{length};
+ghost use Rattle.structure.specs.Grammar.{grammar};
 ghost use Rattle.structure.specs.Links.{notOnce, loneBlock};
 ghost use Rattle.structure.specs.Passes.{marked, Marked};
 
@@ -20,14 +22,14 @@ fn mark(marks: &mut [u8], row: usize)
 }
 
 // Marks every link of the table, in one pass.
-pub fn mark_links(rows: &[i32], marks: &mut [u8])
-    requires { ⌜ (6 * (length (now rows) / 6) ≡ length (now rows)) × Marked (now rows) 0 (now marks) ⌝ }
+pub fn mark_links(kinds: &KindTable, rows: &[i32], marks: &mut [u8])
+    requires { ⌜ (6 * (length (now rows) / 6) ≡ length (now rows)) × Marked (now rows) 0 (now marks) × (now kinds ≡ grammar) ⌝ }
     ensures { λ _. ⌜ Marked (now (rows .entry)) (length (now (rows .entry))) (now (marks .exit)) ⌝ }
 {
     for word in 0..rows.len() {
         let row = word / 6;
         let field = word % 6;
-        mark(marks, link(rows, row, field));
+        mark(marks, link(kinds, rows, row, field));
     }
 }
 

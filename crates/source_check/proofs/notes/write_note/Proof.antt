@@ -8,7 +8,7 @@ use Rattle.source_check.proofs.notes.write_note.Tie as tie
 
 link-requires : tie.Need-link-requires
 link-requires c κs =
-    let whole = c .before .pre .0 .whole in (omega arith, omega arith)
+    let whole = c .before .pre .0 .whole in (omega arith, omega arith, c .before .pre .3)
 
 mul-hand : tie.Need-mul-hand
 mul-hand c =

@@ -1,4 +1,5 @@
 -- `field_breaks` takes the cause's test.
+use mathlib.Core.Path.{refl}
 use borrow.Author.Needs.{needs}
 use Rattle.structure.proofs.causes.field_breaks.Statement.{statement}
 use Rattle.structure.proofs.causes.field_breaks.Tie as tie
@@ -33,7 +34,7 @@ returns-2 c =
     rw (c .before .enum-told2 .given .1) (c .is-mislinked .ensures)
 
 returns-3 : tie.Need-returns-3
-returns-3 c = search needs
+returns-3 c = rw (c .enum-told3 .given .1) refl
 
 returns-4 : tie.Need-returns-4
 returns-4 c =

@@ -13,8 +13,8 @@ slice-aggregate-mark-links c = search needs
 
 mark-links-requires : tie.Need-mark-links-requires
 mark-links-requires c κs =
-    let fit = countFits-facts _ _ (c .before .pre) in
-    (fit .whole, marked-start _ 40980 (let most = rowLimit-most (c .before .args .form) in let few = fit .most in omega arith))
+    let fit = countFits-facts _ _ (c .before .pre .0) in
+    (fit .whole, marked-start _ 40980 (let most = rowLimit-most (c .before .args .form) in let few = fit .most in omega arith), c .before .pre .1)
 
 slice-aggregate-lowest-row : tie.Need-slice-aggregate-lowest-row
 slice-aggregate-lowest-row c = search needs
@@ -24,7 +24,7 @@ lowest-row-requires c κs = search needs
 
 returns : tie.Need-returns
 returns c =
-    let fit = countFits-facts _ _ (c .before .before .before .before .before .pre) in
+    let fit = countFits-facts _ _ (c .before .before .before .before .before .pre .0) in
     c .lowest-row .ensures ∙ lowestRow-same _ _ _ (marked-once _ _ (fit .whole) (c .before .before .before .mark-links .ensures))
 
 pub lowest-not-once-spec : {M : Type 1} → statement M

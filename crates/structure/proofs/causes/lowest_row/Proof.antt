@@ -3,6 +3,7 @@ use mathlib.Core.Path.{_≡_, refl}
 use Prim.Native.Nat.{ℕ, _≤_, _-_}
 use native.Mathlib.Omega.{arith}
 use lib.ListN.{getD}
+use borrow.Author.Needs.{needs}
 use Rattle.words.specs.Table.{rowCount}
 use Rattle.structure.specs.Search.{lowestRow}
 use Rattle.structure.specs.SearchLaws.{Looked, looked-start, looked-on, looked-hit, looked-end}
@@ -11,11 +12,11 @@ use Rattle.structure.proofs.causes.lowest_row.Statement.{statement}
 use Rattle.structure.proofs.causes.lowest_row.Tie as tie
 
 abbrev Inv-loop : tie.InvT-loop
-Inv-loop cause form bounds rows marks count row₀ row =
+Inv-loop kinds cause form bounds rows marks count row₀ row =
     (row ≤ count) × (count ≡ rowCount rows) × Looked (λ (i : ℕ). rowBreaks cause form bounds rows (getD marks i 0) i) count row
 
 abbrev μ-loop : tie.MeasureT-loop
-μ-loop cause form bounds rows marks count row₀ row =
+μ-loop kinds cause form bounds rows marks count row₀ row =
     count - row
 
 loop-holds : tie.Need-loop-holds Inv-loop μ-loop
@@ -28,7 +29,7 @@ mark-at-requires c κs =
 
 row-breaks-requires : tie.Need-row-breaks-requires Inv-loop μ-loop
 row-breaks-requires c κs =
-    omega arith
+    (omega arith, search needs)
 
 returns : tie.Need-returns Inv-loop μ-loop
 unfolding lowestRow

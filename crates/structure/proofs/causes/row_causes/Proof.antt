@@ -12,13 +12,13 @@ slice-aggregate-lowest-row c = search needs
 lowest-row-requires : tie.Need-lowest-row-requires
 lowest-row-requires c κs = search needs
 
-enum-known-kinds : tie.Need-enum-known-kinds
-enum-known-kinds c = search needs
+enum-known-foreign-row : tie.Need-enum-known-foreign-row
+enum-known-foreign-row c = search needs
 
 returns : tie.Need-returns
 unfolding rowCauses
 returns c =
-    ends _ _ _ _ _ (c .before .kinds .given .1) (c .before .before .before .lowest-row .ensures)
+    ends _ _ _ _ _ (c .before .foreign-row .given .1) (c .before .before .before .lowest-row .ensures)
 
 enum-told : tie.Need-enum-told
 enum-told c = search needs
@@ -80,7 +80,7 @@ row-causes-spec =
     (tie.spec
     slice-aggregate-lowest-row
     lowest-row-requires
-    enum-known-kinds
+    enum-known-foreign-row
     returns
     enum-told
     slice-aggregate-lowest-row-2

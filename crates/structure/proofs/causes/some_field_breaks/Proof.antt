@@ -1,6 +1,7 @@
 -- `some_field_breaks` tries the fields in order. The invariant: none of the fields passed breaks the cause.
 use Prim.Native.Nat.{_≤_, _-_}
 use native.Mathlib.Omega.{arith}
+use borrow.Author.Needs.{needs}
 use Rattle.structure.specs.Search.{someField}
 use Rattle.structure.specs.SearchLaws.{Tried, tried-start, tried-on, tried-hit, tried-end}
 use Rattle.structure.specs.Passes.{fieldBreaks}
@@ -8,11 +9,11 @@ use Rattle.structure.proofs.causes.some_field_breaks.Statement.{stateme
 use Rattle.structure.proofs.causes.some_field_breaks.Tie as tie
 
 abbrev Inv-loop : tie.InvT-loop
-Inv-loop cause form bounds rows row field₀ field =
+Inv-loop kinds cause form bounds rows row field₀ field =
     (field ≤ 6) × Tried (fieldBreaks cause form bounds rows row) 6 field
 
 abbrev μ-loop : tie.MeasureT-loop
-μ-loop cause form bounds rows row field₀ field =
+μ-loop kinds cause form bounds rows row field₀ field =
     6 - field
 
 loop-holds : tie.Need-loop-holds Inv-loop μ-loop
@@ -21,7 +22,7 @@ loop-holds c =
 
 field-breaks-requires : tie.Need-field-breaks-requires Inv-loop μ-loop
 field-breaks-requires c κs =
-    (omega arith, omega arith)
+    (omega arith, omega arith, search needs)
 
 returns : tie.Need-returns Inv-loop μ-loop
 unfolding someField

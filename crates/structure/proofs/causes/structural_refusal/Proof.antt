@@ -26,14 +26,14 @@ bounds-of-requires : tie.Need-bounds-of-requires
 bounds-of-requires c κs =
     sym (c .before .before .before .header-fits .ensures) ∙ not-false _ (c .before .before .if1 .left)
 
-row-causes-requires : tie.Need-row-causes-requires
-row-causes-requires c κs =
+table-causes-requires : tie.Need-table-causes-requires
+table-causes-requires c κs =
     sym (c .before .before .count-fits .ensures) ∙ not-false _ (c .before .if2 .left)
 
 returns-3 : tie.Need-returns-3
 unfolding structuralRefusal unless _next_
 returns-3 c =
-    rw (← c .before .before .before .before .before .header-fits .ensures, not-false (c .before .before .before .before .before .header-fits .result) (c .before .before .before .before .if1 .left), ← c .before .before .before .count-fits .ensures, not-false (c .before .before .before .count-fits .result) (c .before .before .if2 .left), ← c .before .bounds-of .ensures) (c .row-causes .ensures)
+    rw (← c .before .before .before .before .before .header-fits .ensures, not-false (c .before .before .before .before .before .header-fits .result) (c .before .before .before .before .if1 .left), ← c .before .before .before .count-fits .ensures, not-false (c .before .before .before .count-fits .result) (c .before .before .if2 .left), ← c .before .bounds-of .ensures) (c .table-causes .ensures)
 
 pub structural-refusal-spec : {M : Type 1} → statement M
 structural-refusal-spec =
@@ -44,5 +44,5 @@ structural-refusal-spec =
     count-fits-requires
     returns-2
     bounds-of-requires
-    row-causes-requires
+    table-causes-requires
     returns-3)

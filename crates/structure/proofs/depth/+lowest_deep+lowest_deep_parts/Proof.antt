@@ -23,44 +23,44 @@ use Rattle.structure.proofs.grammar.link.Reads as link-reads
 use Rattle.structure.proofs.depth.+lowest_deep+lowest_deep_parts.{statement}
 use Rattle.structure.proofs.depth.+lowest_deep+lowest_deep_parts.Tie.{close}
 
-abbrev μ-lowest-deep : Measures 1 lowest-deep-kinds.ps ℕ
+abbrev μ-lowest-deep : Measures 2 lowest-deep-kinds.ps ℕ
 μ-lowest-deep κs a =
-    2 * (length (a .1 .0 .now) / 6 - a .1 .1 .0) + 1
+    2 * (length (a .1 .1 .0 .now) / 6 - a .1 .1 .1 .0) + 1
 
-abbrev μ-lowest-deep-parts : Measures 1 lowest-deep-parts-kinds.ps ℕ
+abbrev μ-lowest-deep-parts : Measures 2 lowest-deep-parts-kinds.ps ℕ
 μ-lowest-deep-parts κs a =
-    2 * (length (a .1 .0 .now) / 6 - a .1 .1 .0)
+    2 * (length (a .1 .1 .0 .now) / 6 - a .1 .1 .1 .0)
 
-abbrev lowest-deep-at : ℕ → In 1 lowest-deep-kinds.ps
+abbrev lowest-deep-at : ℕ → In 2 lowest-deep-kinds.ps
 lowest-deep-at t =
-    and 1 lowest-deep-kinds.ps (is 1 lowest-deep-kinds.ps μ-lowest-deep t) lowest-deep.Pre
+    and 2 lowest-deep-kinds.ps (is 2 lowest-deep-kinds.ps μ-lowest-deep t) lowest-deep.Pre
 
-abbrev lowest-deep-below : ℕ → In 1 lowest-deep-kinds.ps
+abbrev lowest-deep-below : ℕ → In 2 lowest-deep-kinds.ps
 lowest-deep-below t =
-    and 1 lowest-deep-kinds.ps (falls 1 lowest-deep-kinds.ps _<_ μ-lowest-deep t) lowest-deep.Pre
+    and 2 lowest-deep-kinds.ps (falls 2 lowest-deep-kinds.ps _<_ μ-lowest-deep t) lowest-deep.Pre
 
-abbrev lowest-deep-parts-at : ℕ → In 1 lowest-deep-parts-kinds.ps
+abbrev lowest-deep-parts-at : ℕ → In 2 lowest-deep-parts-kinds.ps
 lowest-deep-parts-at t =
     and
-    1
+    2
     lowest-deep-parts-kinds.ps
-    (is 1 lowest-deep-parts-kinds.ps μ-lowest-deep-parts t)
+    (is 2 lowest-deep-parts-kinds.ps μ-lowest-deep-parts t)
     lowest-deep-parts.Pre
 
-abbrev lowest-deep-parts-below : ℕ → In 1 lowest-deep-parts-kinds.ps
+abbrev lowest-deep-parts-below : ℕ → In 2 lowest-deep-parts-kinds.ps
 lowest-deep-parts-below t =
     and
-    1
+    2
     lowest-deep-parts-kinds.ps
-    (falls 1 lowest-deep-parts-kinds.ps _<_ μ-lowest-deep-parts t)
+    (falls 2 lowest-deep-parts-kinds.ps _<_ μ-lowest-deep-parts t)
     lowest-deep-parts.Pre
 
 abbrev lowest-deep-Inv-loop : lowest-deep-lts.InvT-loop
-lowest-deep-Inv-loop limit rows first depth found₀ row₀ found row =
+lowest-deep-Inv-loop kinds limit rows first depth found₀ row₀ found row =
     (first ≤ row) × (row < rowCount rows) × (depthAt rows row ≡ depth) × Along limit rows first row found
 
 abbrev lowest-deep-μ-loop : lowest-deep-lts.MeasureT-loop
-lowest-deep-μ-loop limit rows first depth found₀ row₀ found row =
+lowest-deep-μ-loop kinds limit rows first depth found₀ row₀ found row =
     rowCount rows - row
 
 abbrev lowest-deep-claims : ℕ → lowest-deep-lts.Claims
@@ -79,7 +79,7 @@ lowest-deep-loop-holds t c =
 
 lowest-deep-lowest-deep-parts-requires : (t : ℕ) → lowest-deep-lts.Need-lowest-deep-parts-requires (lowest-deep-claims t) (lowest-deep-at t) lowest-deep.Post lowest-deep-Inv-loop lowest-deep-μ-loop
 lowest-deep-lowest-deep-parts-requires t c κs =
-    (omega arith, (c .before .before .pre .1 .0, c .before .before .pre .1 .1, c .loop .inv .1, omega arith, c .loop .inv .2))
+    (omega arith, (c .before .before .pre .1 .0, c .before .before .pre .1 .1, c .loop .inv .1, omega arith, c .loop .inv .2, c .before .before .pre .1 .5))
 
 lowest-deep-lower-requires : (t : ℕ) → lowest-deep-lts.Need-lower-requires (lowest-deep-claims t) (lowest-deep-at t) lowest-deep.Post lowest-deep-Inv-loop lowest-deep-μ-loop
 lowest-deep-lower-requires t c κs =
@@ -87,7 +87,7 @@ lowest-deep-lower-requires t c κs =
 
 lowest-deep-link-requires : (t : ℕ) → lowest-deep-lts.Need-link-requires (lowest-deep-claims t) (lowest-deep-at t) lowest-deep.Post lowest-deep-Inv-loop lowest-deep-μ-loop
 lowest-deep-link-requires t c κs =
-    let whole = c .before .before .before .before .pre .1 .0 .whole in (omega arith, omega arith)
+    let whole = c .before .before .before .before .pre .1 .0 .whole in (omega arith, omega arith, c .before .before .before .before .pre .1 .5)
 
 lowest-deep-returns-2 : (t : ℕ) → lowest-deep-lts.Need-returns-2 (lowest-deep-claims t) (lowest-deep-at t) lowest-deep.Post lowest-deep-Inv-loop lowest-deep-μ-loop
 lowest-deep-returns-2 t c =
@@ -108,11 +108,11 @@ lowest-deep-loop-again t c =
     )
 
 abbrev lowest-deep-parts-Inv-loop : lowest-deep-parts-lts.InvT-loop
-lowest-deep-parts-Inv-loop limit rows row depth found₀ field₀ found field =
+lowest-deep-parts-Inv-loop kinds limit rows row depth found₀ field₀ found field =
     (field ≤ 5) × LowestDeep limit rows (Through rows row field) found
 
 abbrev lowest-deep-parts-μ-loop : lowest-deep-parts-lts.MeasureT-loop
-lowest-deep-parts-μ-loop limit rows row depth found₀ field₀ found field =
+lowest-deep-parts-μ-loop kinds limit rows row depth found₀ field₀ found field =
     5 - field
 
 lowest-deep-parts-loop-holds : (t : ℕ) → lowest-deep-parts-lts.Need-loop-holds (lowest-deep-parts-claims t) (lowest-deep-parts-at t) lowest-deep-parts.Post
@@ -125,7 +125,7 @@ lowest-deep-parts-link-requires : (t : ℕ) → lowest-deep-parts-lts.Need-link-
     lowest-deep-parts-Inv-loop
     lowest-deep-parts-μ-loop
 lowest-deep-parts-link-requires t c κs =
-    let whole = c .before .before .pre .1 .0 .whole in (omega arith, omega arith)
+    let whole = c .before .before .pre .1 .0 .whole in (omega arith, omega arith, c .before .before .pre .1 .5)
 
 lowest-deep-parts-add-lowest-deep : (t : ℕ) → lowest-deep-parts-lts.Need-add-lowest-deep (lowest-deep-parts-claims t) (lowest-deep-parts-at t) lowest-deep-parts.Post
     lowest-deep-parts-Inv-loop
@@ -140,7 +140,7 @@ lowest-deep-parts-lowest-deep-requires t c κs =
     let tree = c .before .before .before .before .pre .1 .0 in
     let part = follows _ tree _ _ _ (c .before .before .before .before .pre .1 .2) (let f : c .before .before .before .loop .field < 6 = omega arith in f) (c .before .link .ensures) (c .if1 .taken) in
     let depth : depthAt _ (c .before .link .result) ≡ c .before .before .before .before .args .depth + 1 = ap (depthAt _) (part .is) ∙ depth-owned _ tree _ _ (omega arith) (part .leads) ∙ ap (λ (x : ℕ). x + 1) (c .before .before .before .before .pre .1 .4) in
-    (omega arith, (tree, c .before .before .before .before .pre .1 .1, part .inside, omega arith, depth))
+    (omega arith, (tree, c .before .before .before .before .pre .1 .1, part .inside, omega arith, depth, c .before .before .before .before .pre .1 .5))
 
 lowest-deep-parts-lower-requires : (t : ℕ) → lowest-deep-parts-lts.Need-lower-requires (lowest-deep-parts-claims t) (lowest-deep-parts-at t) lowest-deep-parts.Post
     lowest-deep-parts-Inv-loop

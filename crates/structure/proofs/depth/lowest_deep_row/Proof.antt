@@ -1,26 +1,17 @@
--- `lowest_deep_row` walks down from row 0; every row of a tree is below it.
-use native.Mathlib.Omega.{arith}
-use Rattle.structure.specs.DepthLaws.{depth-root}
-use Rattle.structure.proofs.Walk.{limit-most, deep-found, deep-none}
+-- `lowest_deep_row` lends the constant table.
+use mathlib.Core.Path.{refl}
 use borrow.Author.Needs.{needs}
+use Rattle.words.specs.Kinds.{kindOf, kindIn, kinds, kindRow, expressionFields, statementFields, markFields}
+use Rattle.structure.specs.Grammar.{grammar}
 use Rattle.structure.proofs.depth.lowest_deep_row.Statement.{statement}
 use Rattle.structure.proofs.depth.lowest_deep_row.Tie as tie
 
-depth-limit-requires : tie.Need-depth-limit-requires
-depth-limit-requires c κs = search needs
-
-lowest-deep-requires : tie.Need-lowest-deep-requires
-lowest-deep-requires c κs =
-    (c .before .pre, limit-most (c .before .args .form) _ (c .depth-limit .ensures), c .before .pre .some-rows, omega arith, depth-root _)
+lowest-deep-by-requires : tie.Need-lowest-deep-by-requires
+unfolding grammar kindOf kindIn kinds kindRow expressionFields statementFields markFields
+lowest-deep-by-requires c κs = (c .before .pre, refl)
 
 returns : tie.Need-returns
-returns c =
-    deep-found _ (c .before .before .before .pre) _ _ (rw (c .before .before .depth-limit .ensures) at (c .before .lowest-deep .ensures)) (c .if1 .taken)
-
-returns-2 : tie.Need-returns-2
-returns-2 c =
-    deep-none _ (c .before .before .before .pre) _ _ (rw (c .before .before .depth-limit .ensures) at (c .before .lowest-deep .ensures)) (c .if1 .left)
+returns c = search needs
 
 pub lowest-deep-row-spec : {M : Type 1} → statement M
-lowest-deep-row-spec =
-    tie.close (tie.spec depth-limit-requires lowest-deep-requires returns returns-2)
+lowest-deep-row-spec = tie.close (tie.spec lowest-deep-by-requires returns)

@@ -1,25 +1,27 @@
--- `sort_of` takes the field's digit of the kind's row.
-use mathlib.Core.Path.{ap, _∙_}
-use Prim.Native.Nat.{ℕ}
+-- `sort_of` looks into the table that it is lent; beyond it every field is unused.
+use mathlib.Core.Path.{sym}
+use Prim.Native.Nat.{ℕ, _≤_}
 use native.Mathlib.Omega.{arith}
 use borrow.Author.Needs.{needs}
-use Rattle.structure.specs.Packed.{digitAt, digit-low, digit-is-sort}
+use Rattle.structure.specs.Grammar.{kindLimit}
+use Rattle.structure.specs.GrammarLaws.{grammar-sort, sort-beyond}
 use Rattle.structure.proofs.grammar.sort_of.Statement.{statement}
 use Rattle.structure.proofs.grammar.sort_of.Tie as tie
 
-row-of-requires : tie.Need-row-of-requires
-row-of-requires c κs = search needs
+mul-result : tie.Need-mul-result
+mul-result c = search needs
 
-digit-requires : tie.Need-digit-requires
-digit-requires c κs = search needs
+index-1-result : tie.Need-index-1-result
+index-1-result c = search needs
 
-cast-result : tie.Need-cast-result
-cast-result c = omega (arith, c .digit .ensures, digit-low (c .before .row-of .result) (c .before .before .args .field))
+index-2-result : tie.Need-index-2-result
+index-2-result c = search needs
 
 returns : tie.Need-returns
-returns c =
-    let start = c .before .before in
-    c .digit .ensures ∙ ap (λ (row : ℕ). digitAt row (start .args .field)) (c .before .row-of .ensures) ∙ digit-is-sort (start .args .kind) (start .args .field) (start .pre)
+returns c = rw (c .before .before .pre .1) (grammar-sort _ _ (c .before .if1 .taken) (c .before .before .pre .0))
+
+returns-2 : tie.Need-returns-2
+returns-2 c = sym (sort-beyond _ _ (let h : kindLimit ≤ c .before .args .kind = omega (arith, c .if1 .left) in h) (c .before .pre .0))
 
 pub sort-of-spec : {M : Type 1} → statement M
-sort-of-spec = tie.close (tie.spec row-of-requires digit-requires cast-result returns)
+sort-of-spec = tie.close (tie.spec mul-result index-1-result index-2-result returns returns-2)

@@ -10,11 +10,11 @@ use Rattle.structure.proofs.links.mark_links.Statement.{statement}
 use Rattle.structure.proofs.links.mark_links.Tie as tie
 
 abbrev Inv-loop : tie.InvT-loop
-Inv-loop rows marks₀ word₀ word-end marks word =
+Inv-loop kinds rows marks₀ word₀ word-end marks word =
     (word ≤ length rows) × (length marks ≡ length marks₀) × Marked rows word marks
 
 abbrev μ-loop : tie.MeasureT-loop
-μ-loop rows marks₀ word₀ word-end marks word =
+μ-loop kinds rows marks₀ word₀ word-end marks word =
     length rows - word
 
 loop-holds : tie.Need-loop-holds Inv-loop μ-loop
@@ -23,7 +23,7 @@ loop-holds c =
 
 link-requires : tie.Need-link-requires Inv-loop μ-loop
 link-requires c κs =
-    (omega arith, omega arith)
+    (omega arith, omega arith, search needs)
 
 mark-requires : tie.Need-mark-requires Inv-loop μ-loop
 mark-requires c κs =

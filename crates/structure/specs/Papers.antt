@@ -1,0 +1,127 @@
+-- Papers: what documents 01 and 02 say of each kind, in their own lines and ranges; and that the table of kinds says the same.
+use mathlib.Core.Path.{_≡_, refl, sym, ap, _∙_}
+use mathlib.Core.Bool.{Bool, true, false, _&&_, _||_}
+use mathlib.Core.List.{List, [], _∷_}
+use Prim.Native.Nat.{ℕ, zero, suc, _≤_, _<_}
+use native.Mathlib.Omega.{arith}
+use native.Mathlib.Decide.{decLt}
+use lib.Dec.{ltb, leb}
+use lib.ListN.{getD}
+use Rattle.words.specs.Word.{pick}
+use Rattle.words.specs.Laws.{both}
+use Rattle.words.specs.Kinds.{unused, value, variable, array, label, expression, optionalExpression, place, branch, optionalBranch, optionalItem, expressionRow, placeRow, statementRow, between, Forms, inBoth, inSource, inKernel, KindRow, kinds, kindIn, kindOf, kindRow, expressionFields, statementFields, markFields}
+use Rattle.words.specs.declared.Kind.the-variants.{Other}
+use borrow.Author.Tests.{ltb-true, lt-leb}
+use Rattle.structure.specs.Grammar.{kindLimit, tabulate}
+use Rattle.structure.specs.GrammarLaws.{kind-beyond, tabulated}
+
+-- ---- document 01's table
+
+-- A line is about the kinds from one number to another, and says what a, b, c and d hold.
+pub record Line : Type 0 where
+  pub least : ℕ
+  pub most : ℕ
+  pub a : ℕ
+  pub b : ℕ
+  pub c : ℕ
+  pub d : ℕ
+
+abbrev pub line : ℕ → ℕ → ℕ → ℕ → ℕ → ℕ → Line
+line least most a b c d = record { least = least; most = most; a = a; b = b; c = c; d = d }
+
+unfoldable pub lines : List Line
+lines =
+    line 1 1 value unused unused unused ∷  -- "1 constant | a value"
+    line 2 2 variable unused unused unused ∷  -- "2 variable | a number"
+    line 3 3 array expression unused unused ∷  -- "3 element | a array, b index"
+    line 4 5 expression unused unused unused ∷  -- "4 minus, 5 not | a operand"
+    line 6 16 expression expression unused unused ∷  -- "6 to 16: + − × / % < > <= >= == != | a left, b right"
+    line 17 18 expression expression unused unused ∷  -- "17 and, 18 or | a left, b right"
+    line 19 19 expression expression expression unused ∷  -- "19 conditional | a test, b yes, c no"
+    line 20 20 expression expression unused unused ∷  -- "20 comma | a, b"
+    line 21 26 place expression unused unused ∷  -- "21 assign; 22 to 26: += −= ×= /= %= | a place, b value"
+    line 27 30 place unused unused unused ∷  -- "27 ++e, 28 −−e, 29 e++, 30 e−− | a place"
+    line 40 40 unused unused unused unused ∷  -- "40 empty, 50 break, 51 continue | none"
+    line 50 51 unused unused unused unused ∷
+    line 41 41 expression unused unused unused ∷  -- "41 expression statement | a"
+    line 42 42 optionalItem unused unused unused ∷  -- "42 block | a first item or 0"
+    line 43 43 expression branch optionalBranch unused ∷  -- "43 if | a test, b then, c else or 0"
+    line 44 44 expression branch unused unused ∷  -- "44 while | a test, b body"
+    line 45 45 branch expression unused unused ∷  -- "45 do | a body, b test"
+    line 46 46 optionalExpression optionalExpression optionalExpression branch ∷  -- "46 for | a start, b test, c step (each may be 0), d body"
+    line 47 47 expression optionalItem unused unused ∷  -- "47 switch | a selector, b first item or 0"
+    line 48 48 value unused unused unused ∷  -- "48 case | a value"
+    line 49 49 unused unused unused unused ∷  -- "49 default | none"
+    line 52 53 label unused unused unused ∷  -- "52 goto, 53 label (kernel only) | a label number"
+    []
+
+-- "'Place' means a row of kind 2 or 3." "Kinds 1 to 30 are expressions, the rest statements."
+abbrev pub whatSaid : ℕ → ℕ
+whatSaid number = pick (between 2 3 number) placeRow (pick (between 1 30 number) expressionRow statementRow)
+
+-- "Items of a block or switch are linked by next. Expressions have next 0 (it counts as an unused field)".
+abbrev pub nextSaid : ℕ → ℕ
+nextSaid number = pick (between 1 30 number) unused optionalItem
+
+-- The kinds that the paragraph on the kernel form names: constant, variable, element, minus; "kinds 6 to 16"; "assigns"; empty,
+-- expression statement, block, if, while; goto, label.
+abbrev pub inParagraph : ℕ → Bool
+inParagraph number = between 1 4 number || (between 6 16 number || (between 21 21 number || (between 40 44 number || between 52 53 number)))
+
+-- "(kernel only)". "Kinds not named in this paragraph are not in the kernel language."
+abbrev pub formsSaid : ℕ → Forms
+formsSaid number = pick (between 52 53 number) inKernel (pick (inParagraph number) inBoth inSource)
+
+abbrev pub rowSaid : ℕ → Line → KindRow
+rowSaid number l =
+    record { what = whatSaid number; a = l .a; b = l .b; c = l .c; d = l .d; next = nextSaid number; forms = formsSaid number }
+
+unfoldable pub saidBy : List Line → ℕ → KindRow
+saidBy [] number = kindRow Other
+saidBy (l ∷ ls) number = pick (between (l .least) (l .most) number) (rowSaid number l) (saidBy ls number)
+
+-- What the papers say of a number; a number on no line is no kind.
+unfoldable pub said : ℕ → KindRow
+said number = saidBy lines number
+
+-- ---- the table says the same
+
+-- the one proof over the whole table
+whole-table : tabulate (λ number. kindRow (kindOf number)) 0 kindLimit ≡ tabulate said 0 kindLimit
+unfolding said saidBy lines kindOf kindIn kinds kindRow expressionFields statementFields markFields
+whole-table = refl
+
+below : List Line → Bool
+below [] = true
+below (l ∷ ls) = ltb (l .most) kindLimit && below ls
+
+said-beyond : (number : ℕ) → kindLimit ≤ number → said number ≡ kindRow Other
+unfolding said saidBy lines below
+said-beyond number h = go lines refl
+  where
+    no-range : (least most : ℕ) → most < number → between least most number ≡ false
+    no-range least most less = rw (lt-leb number most less) (fails (leb least number))
+      where
+        fails : (b : Bool) → (b && false) ≡ false
+        fails true = refl
+        fails false = refl
+
+    go : (ls : List Line) → below ls ≡ true → saidBy ls number ≡ kindRow Other
+    go [] e = refl
+    go (l ∷ ls) e =
+        let low = both (ltb (l .most) kindLimit) (below ls) e in
+        let less = ltb-true (l .most) kindLimit (low .0) in
+        rw (no-range (l .least) (l .most) (omega arith)) (go ls (low .1))
+
+-- Of every number, those that are no kind too: the row of its kind is what the papers say.
+pub table-says : (number : ℕ) → kindRow (kindOf number) ≡ said number
+table-says number = go (decLt number kindLimit)
+  where
+    go : Dec (number < kindLimit) → kindRow (kindOf number) ≡ said number
+    go (yes h) =
+        sym (tabulated (kindRow Other) (λ (n : ℕ). kindRow (kindOf n)) kindLimit number h)
+        ∙ ap (λ (rows : List KindRow). getD rows number (kindRow Other)) whole-table
+        ∙ tabulated (kindRow Other) said kindLimit number h
+    go (no h) =
+        let past : kindLimit ≤ number = omega (arith, h) in
+        ap kindRow (kind-beyond number past) ∙ sym (said-beyond number past)

@@ -34,5 +34,7 @@ pub mod WrittenLaws
 pub mod DepthLaws
 -- Laws of refusals: a chain of causes, one at a time; and where a whole chain accepts.
 pub mod RefusalLaws
+-- Laws of the pass for the causes 3, 4 and 6: the least cause at its lowest row is what the chain of causes names.
+pub mod CauseLaws
 -- Laws of structure: the causes 1 to 6 accept exactly the structured tables, whose rows make a tree.
 pub mod StructuredLaws

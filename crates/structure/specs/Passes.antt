@@ -1,38 +1,55 @@
--- Passes: what the code's loops compute: one search for the causes 3 to 6, marks for cause 5, a walk down the links for cause 9.
+-- Passes: what the code's loops compute: one pass for the causes 3, 4 and 6, marks for cause 5, a walk down the links for cause 9.
 use mathlib.Core.Path.{_≡_}
-use mathlib.Core.Bool.{Bool, false}
+use mathlib.Core.Bool.{Bool}
 use mathlib.Core.List.{List}
-use Prim.Native.Nat.{ℕ, zero, suc, _+_, _/_, _%_, _<_, _≤_}
+use Prim.Native.Nat.{ℕ, zero, suc, _+_, _/_, _%_, _<_, _≤_, min}
 use lib.Dec.{ltb, eqb}
 use lib.IntN.{ℤ}
 use lib.ListN.{length, getD, set}
 use Rattle.words.specs.Word.{pick}
 use Rattle.words.specs.Table.{rowCount}
 use Rattle.words.specs.declared.Form.{Form}
+use Rattle.words.specs.declared.Refusal.{Refusal}
+use Rattle.words.specs.declared.Verdict.{Verdict}
+use Rattle.words.specs.declared.Verdict.the-variants.{Accepted, Refused}
 use Rattle.structure.specs.Grammar.{link}
-use Rattle.structure.specs.Search.{someField}
 use Rattle.structure.specs.Fields.{foreign, mislinked, outside}
-use Rattle.structure.specs.Links.{target, linksAmong, notOnce, depthAt}
+use Rattle.structure.specs.Links.{target, linksAmong, linkCount, notOnce, depthAt}
+use Rattle.structure.specs.Refusal.{at, _next_}
+use Rattle.structure.specs.Search.{lowestRow}
 use Rattle.structure.specs.Structured.{Leads}
 use Rattle.structure.specs.declared.Bounds.{Bounds}
-use Rattle.structure.specs.declared.Cause.{Cause}
-use Rattle.structure.specs.declared.Cause.the-variants.{Kinds, Links, Once, Numbers}
 
--- ---- one search for the causes 3 to 6
+-- ---- one pass for the causes 3, 4 and 6
 
--- A field breaks the cause; cause 5 lies in no field.
-abbrev pub fieldBreaks : Cause → Form → Bounds → List ℤ → ℕ → ℕ → Bool
-fieldBreaks Kinds form bounds rows row = foreign form rows row
-fieldBreaks Links form bounds rows row = mislinked rows row
-fieldBreaks Once form bounds rows row = λ field. false
-fieldBreaks Numbers form bounds rows row = outside bounds rows row
+-- The least of the three causes that a field breaks; 7 where it breaks none.
+abbrev pub leastOf : Bool → Bool → Bool → ℕ
+leastOf foreignField mislinkedField outsideField = pick foreignField 3 (pick mislinkedField 4 (pick outsideField 6 7))
 
--- A row breaks the cause; `count` says how often the row is linked.
-abbrev pub rowBreaks : Cause → Form → Bounds → List ℤ → ℕ → ℕ → Bool
-rowBreaks Kinds form bounds rows count row = someField (foreign form rows row)
-rowBreaks Links form bounds rows count row = someField (mislinked rows row)
-rowBreaks Once form bounds rows count row = notOnce rows count row
-rowBreaks Numbers form bounds rows count row = someField (outside bounds rows row)
+unfoldable pub fieldCause : Form → Bounds → List ℤ → ℕ → ℕ → ℕ
+fieldCause form bounds rows row field = leastOf (foreign form rows row field) (mislinked rows row field) (outside bounds rows row field)
+
+-- The least cause of the first `count` fields.
+unfoldable pub leastCause : (ℕ → ℕ) → ℕ → ℕ
+leastCause causeOf zero = 7
+leastCause causeOf (suc count) = min (leastCause causeOf count) (causeOf count)
+
+unfoldable pub rowCause : Form → Bounds → List ℤ → ℕ → ℕ
+rowCause form bounds rows row = leastCause (fieldCause form bounds rows row) 6
+
+-- One row more: a lower cause counts, at this row.
+unfoldable pub lowered : Refusal → ℕ → ℕ → Refusal
+lowered found cause row = pick (ltb cause (found .number)) (record { number = cause; place = row }) found
+
+-- The least cause of the first `count` rows, at the lowest row that has it.
+unfoldable pub lowestCause : (ℕ → ℕ) → ℕ → Refusal
+lowestCause causeOf zero = record { number = 7; place = 0 }
+lowestCause causeOf (suc count) = lowered (lowestCause causeOf count) (causeOf count) count
+
+-- Causes 5 and 6, with what the pass found: 6, or 7 for none.
+unfoldable pub laterCauses : List ℤ → Refusal → Verdict
+laterCauses rows found =
+    at 5 (lowestRow rows (λ row. notOnce rows (linkCount rows row) row)) next pick (ltb (found .number) 7) (Refused found) Accepted
 
 -- ---- marks of how often a row is linked: 0, 1, or 2 for more
 

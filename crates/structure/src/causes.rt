@@ -1,6 +1,5 @@
 // The lowest row that breaks a cause, and the causes 1 to 6 in order.
 use super::Bounds;
-use super::Cause;
 use super::Found;
 use super::fields::bounds_of;
 use super::fields::is_foreign;
@@ -17,74 +16,93 @@ use words::layout::count_fits;
 use words::layout::header_fits;
 ghost use mathlib.Core.Path.{_≡_};
 ghost use mathlib.Core.Bool.{true};
-ghost use Prim.Native.Nat.{ℕ, _+_, _*_, _/_, _<_};
+ghost use Prim.Native.Nat.{ℕ, _+_, _*_, _<_, min};
 ghost use lib.ListN.{length, getD};
 ghost use Rattle.words.specs.Layout.{countFits};
+ghost use Rattle.words.specs.Table.{rowCount};
 ghost use Rattle.structure.specs.Grammar.{grammar};
-ghost use Rattle.structure.specs.Search.{lowestRow, someField};
+ghost use Rattle.structure.specs.Search.{lowestRow};
 ghost use Rattle.structure.specs.Links.{linkCount, notOnce};
 ghost use Rattle.structure.specs.Refusal.{at as atCause, rowCauses, structuralRefusal};
-ghost use Rattle.structure.specs.Passes.{fieldBreaks, rowBreaks};
+ghost use Rattle.structure.specs.Passes.{fieldCause, rowCause, lowered, lowestCause, laterCauses};
 
-fn field_breaks(
+// The least of the causes 3, 4 and 6 that a field breaks; 7 where it breaks none.
+fn field_cause(
     kinds: &KindTable,
-    cause: Cause,
     form: Form,
     bounds: Bounds,
     rows: &[i32],
     row: usize,
     field: usize,
-) -> bool
+) -> u32
     requires { ⌜ (6 * row + 5 < length (now rows)) × (field < 6) × (now kinds ≡ grammar) ⌝ }
-    ensures { λ r. ⌜ r ≡ fieldBreaks cause form bounds (now (rows .entry)) row field ⌝ }
+    ensures { λ r. ⌜ r ≡ fieldCause form bounds (now (rows .entry)) row field ⌝ }
 {
-    match cause {
-        Cause::Kinds => is_foreign(kinds, form, rows, row, field),
-        Cause::Links => is_mislinked(kinds, rows, row, field),
-        Cause::Once => false,
-        Cause::Numbers => is_outside(kinds, bounds, rows, row, field),
+    if is_foreign(kinds, form, rows, row, field) {
+        return 3;
     }
+    if is_mislinked(kinds, rows, row, field) {
+        return 4;
+    }
+    if is_outside(kinds, bounds, rows, row, field) {
+        return 6;
+    }
+    7
 }
 
-fn some_field_breaks(
-    kinds: &KindTable,
-    cause: Cause,
-    form: Form,
-    bounds: Bounds,
-    rows: &[i32],
-    row: usize,
-) -> bool
-    requires { ⌜ (6 * row + 5 < length (now rows)) × (now kinds ≡ grammar) ⌝ }
-    ensures { λ r. ⌜ r ≡ someField (fieldBreaks cause form bounds (now (rows .entry)) row) ⌝ }
+fn lesser(one: u32, other: u32) -> u32
+    ensures { λ r. ⌜ r ≡ min one other ⌝ }
 {
+    if one <= other {
+        return one;
+    }
+    other
+}
+
+// The least of the three causes that a field of the row breaks.
+fn row_cause(kinds: &KindTable, form: Form, bounds: Bounds, rows: &[i32], row: usize) -> u32
+    requires { ⌜ (6 * row + 5 < length (now rows)) × (now kinds ≡ grammar) ⌝ }
+    ensures { λ r. ⌜ r ≡ rowCause form bounds (now (rows .entry)) row ⌝ }
+{
+    let mut cause: u32 = 7;
     let mut field: usize = 0;
     while field < 6 {
-        if field_breaks(kinds, cause, form, bounds, rows, row, field) {
-            return true;
-        }
+        cause = lesser(cause, field_cause(kinds, form, bounds, rows, row, field));
         field += 1;
     }
-    false
+    cause
 }
 
-fn row_breaks(
-    kinds: &KindTable,
-    cause: Cause,
-    form: Form,
-    bounds: Bounds,
-    rows: &[i32],
-    count: u8,
-    row: usize,
-) -> bool
-    requires { ⌜ (6 * row + 5 < length (now rows)) × (now kinds ≡ grammar) ⌝ }
-    ensures { λ r. ⌜ r ≡ rowBreaks cause form bounds (now (rows .entry)) count row ⌝ }
+// One row more: a lower cause counts, at this row.
+fn lower(found: Refusal, cause: u32, row: usize) -> Refusal
+    ensures { λ r. ⌜ r ≡ lowered found cause row ⌝ }
 {
-    match cause {
-        Cause::Kinds => some_field_breaks(kinds, cause, form, bounds, rows, row),
-        Cause::Links => some_field_breaks(kinds, cause, form, bounds, rows, row),
-        Cause::Once => is_not_once(rows, count, row),
-        Cause::Numbers => some_field_breaks(kinds, cause, form, bounds, rows, row),
+    if cause < found.number {
+        return Refusal {
+            number: cause,
+            place: row,
+        };
     }
+    found
+}
+
+// The least of the three causes that a row breaks, at the lowest row that breaks it: causes 3 and 4 come before all that follows, and
+// where neither is broken, the lowest row that breaks 6 is known.
+fn lowest_cause(kinds: &KindTable, form: Form, bounds: Bounds, rows: &[i32]) -> Refusal
+    requires { ⌜ now kinds ≡ grammar ⌝ }
+    ensures { λ r. ⌜ r ≡ lowestCause (rowCause form bounds (now (rows .entry))) (rowCount (now (rows .entry))) ⌝ }
+{
+    let count = rows.len() / 6;
+    let mut found = Refusal {
+        number: 7,
+        place: 0,
+    };
+    let mut row: usize = 0;
+    while row < count {
+        found = lower(found, row_cause(kinds, form, bounds, rows, row), row);
+        row += 1;
+    }
+    found
 }
 
 // The mark of a row; 0 where there is none.
@@ -97,22 +115,14 @@ fn mark_at(marks: &[u8], row: usize) -> u8
     0
 }
 
-// The lowest row that breaks the cause; for cause 5 `marks` says how often each row is linked.
-fn lowest_row(
-    kinds: &KindTable,
-    cause: Cause,
-    form: Form,
-    bounds: Bounds,
-    rows: &[i32],
-    marks: &[u8],
-) -> Found
-    requires { ⌜ now kinds ≡ grammar ⌝ }
-    ensures { λ r. ⌜ r ≡ lowestRow (now (rows .entry)) (λ (row : ℕ). rowBreaks cause form bounds (now (rows .entry)) (getD (now (marks .entry)) row 0) row) ⌝ }
+// The lowest row that is not linked exactly once; `marks` says how often each row is.
+fn lowest_not_marked_once(rows: &[i32], marks: &[u8]) -> Found
+    ensures { λ r. ⌜ r ≡ lowestRow (now (rows .entry)) (λ (row : ℕ). notOnce (now (rows .entry)) (getD (now (marks .entry)) row 0) row) ⌝ }
 {
     let count = rows.len() / 6;
     let mut row: usize = 0;
     while row < count {
-        if row_breaks(kinds, cause, form, bounds, rows, mark_at(marks, row), row) {
+        if is_not_once(rows, mark_at(marks, row), row) {
             return Found::At(row);
         }
         row += 1;
@@ -121,13 +131,13 @@ fn lowest_row(
 }
 
 // Cause 5. The marks have room for the rows of either form.
-fn lowest_not_once(kinds: &KindTable, form: Form, bounds: Bounds, rows: &[i32]) -> Found
+fn lowest_not_once(kinds: &KindTable, form: Form, rows: &[i32]) -> Found
     requires { ⌜ (countFits form (length (now rows)) ≡ true) × (now kinds ≡ grammar) ⌝ }
     ensures { λ r. ⌜ r ≡ lowestRow (now (rows .entry)) (λ (row : ℕ). notOnce (now (rows .entry)) (linkCount (now (rows .entry)) row) row) ⌝ }
 {
     let mut marks = [0u8; 40980];
     mark_links(kinds, rows, &mut marks);
-    lowest_row(kinds, Cause::Once, form, bounds, rows, &marks)
+    lowest_not_marked_once(rows, &marks)
 }
 
 // The refusal for a cause that some row breaks.
@@ -143,37 +153,34 @@ pub fn at(cause: u32, found: Found) -> Verdict
     }
 }
 
-// Causes 3 to 6. Only cause 5 has marks.
-fn row_causes(kinds: &KindTable, form: Form, bounds: Bounds, rows: &[i32]) -> Verdict
+// Causes 5 and 6, with what the pass for 3, 4 and 6 found: 6, or 7 for none.
+fn later_causes(kinds: &KindTable, form: Form, rows: &[i32], found: Refusal) -> Verdict
     requires { ⌜ (countFits form (length (now rows)) ≡ true) × (now kinds ≡ grammar) ⌝ }
-    ensures { λ r. ⌜ r ≡ rowCauses form bounds (now (rows .entry)) ⌝ }
+    ensures { λ r. ⌜ r ≡ laterCauses (now (rows .entry)) found ⌝ }
 {
-    let none = [0u8; 1];
-    let foreign_row = lowest_row(kinds, Cause::Kinds, form, bounds, rows, &none);
-    if let Found::At(row) = foreign_row {
-        return Verdict::Refused(Refusal {
-            number: 3,
-            place: row,
-        });
-    }
-    let links = lowest_row(kinds, Cause::Links, form, bounds, rows, &none);
-    if let Found::At(row) = links {
-        return Verdict::Refused(Refusal {
-            number: 4,
-            place: row,
-        });
-    }
-    let once = lowest_not_once(kinds, form, bounds, rows);
+    let once = lowest_not_once(kinds, form, rows);
     if let Found::At(row) = once {
         return Verdict::Refused(Refusal {
             number: 5,
             place: row,
         });
     }
-    at(
-        6,
-        lowest_row(kinds, Cause::Numbers, form, bounds, rows, &none),
-    )
+    if found.number < 7 {
+        return Verdict::Refused(found);
+    }
+    Verdict::Accepted
+}
+
+// Causes 3 to 6.
+fn row_causes(kinds: &KindTable, form: Form, bounds: Bounds, rows: &[i32]) -> Verdict
+    requires { ⌜ (countFits form (length (now rows)) ≡ true) × (now kinds ≡ grammar) ⌝ }
+    ensures { λ r. ⌜ r ≡ rowCauses form bounds (now (rows .entry)) ⌝ }
+{
+    let found = lowest_cause(kinds, form, bounds, rows);
+    if found.number < 5 {
+        return Verdict::Refused(found);
+    }
+    later_causes(kinds, form, rows, found)
 }
 
 // The same, with the table of kinds: it is built here, once, and lent on.

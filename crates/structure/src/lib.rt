@@ -6,14 +6,6 @@ pub mod grammar; // grammar.rt: the table of kinds
 pub mod links; // links.rt: how often each row is linked, and cause 5
 pub mod row_number; // row_number.rt: a row number in 16 bits, and back
 
-// The causes that are looked for row by row: 3, 4, 5 and 6.
-pub enum Cause {
-    Kinds,
-    Links,
-    Once,
-    Numbers,
-}
-
 // The numbers that a header gives to its program: variables 0 to V-1, so many arrays, temporaries S to S+T-1.
 pub struct Bounds {
     pub variables: usize,

@@ -16,16 +16,16 @@ mark-links-requires c κs =
     let fit = countFits-facts _ _ (c .before .pre .0) in
     (fit .whole, marked-start _ 40980 (let most = rowLimit-most (c .before .args .form) in let few = fit .most in omega arith), c .before .pre .1)
 
-slice-aggregate-lowest-row : tie.Need-slice-aggregate-lowest-row
-slice-aggregate-lowest-row c = search needs
+slice-aggregate-lowest-not-marked-once : tie.Need-slice-aggregate-lowest-not-marked-once
+slice-aggregate-lowest-not-marked-once c = search needs
 
-lowest-row-requires : tie.Need-lowest-row-requires
-lowest-row-requires c κs = search needs
+lowest-not-marked-once-requires : tie.Need-lowest-not-marked-once-requires
+lowest-not-marked-once-requires c κs = search needs
 
 returns : tie.Need-returns
 returns c =
     let fit = countFits-facts _ _ (c .before .before .before .before .before .pre .0) in
-    c .lowest-row .ensures ∙ lowestRow-same _ _ _ (marked-once _ _ (fit .whole) (c .before .before .before .mark-links .ensures))
+    c .lowest-not-marked-once .ensures ∙ lowestRow-same _ _ _ (marked-once _ _ (fit .whole) (c .before .before .before .mark-links .ensures))
 
 pub lowest-not-once-spec : {M : Type 1} → statement M
 lowest-not-once-spec =
@@ -33,6 +33,6 @@ lowest-not-once-spec =
     (tie.spec
     slice-aggregate-mark-links
     mark-links-requires
-    slice-aggregate-lowest-row
-    lowest-row-requires
+    slice-aggregate-lowest-not-marked-once
+    lowest-not-marked-once-requires
     returns)

@@ -1,7 +1,9 @@
 -- Marks: a mark counts the links to its row, up to 2. One law for a mark more, one for what all marks say.
 use mathlib.Core.Path.{_≡_, refl, sym, ap, _∙_}
+use mathlib.Core.Bool.{Bool, true, false}
 use mathlib.Core.List.{List}
 use Prim.Native.Nat.{ℕ, zero, suc, _+_, _*_, _/_, _%_, _≤_, _<_}
+use native.Mathlib.Nat.{add-zero}
 use native.Mathlib.Omega.{arith}
 use native.Mathlib.Numerals.{add-one}
 use native.Mathlib.Decide.{ℕ-discrete}
@@ -9,12 +11,14 @@ use lib.Dec.{eqb}
 use lib.IntN.{ℤ}
 use lib.ListN.{length, getD, set, length-set, replicate, length-replicate, getD-replicate}
 use lib.Seq.{set-out, set-getD, getD-set-same, getD-set-other}
-use borrow.Author.Tests.{lt-ltb, le-ltb, ne-eqb}
+use borrow.Author.Tests.{lt-ltb, le-ltb, eq-eqb, ne-eqb}
+use Rattle.words.specs.Word.{pick}
 use Rattle.words.specs.Table.{rowCount}
 use Rattle.structure.specs.Grammar.{link}
 use Rattle.structure.specs.Links.{target, linksAmong, linkCount, notOnce}
-use Rattle.structure.specs.LinkLaws.{links-hit, links-miss}
-use Rattle.structure.specs.Passes.{capped, raised, marked, Marked}
+use Rattle.structure.specs.LinkLaws.{word-of, links-hit, links-miss}
+use Rattle.structure.specs.NoteLaws.{above-zero}
+use Rattle.structure.specs.Passes.{capped, raised, marked, markedLink, Marked}
 
 -- ---- what `mark` does
 
@@ -47,32 +51,60 @@ capped-one (suc (suc n)) = sym (ne-eqb (suc (suc n)) 1 (λ e. omega arith))
 pub marked-start : (rows : List ℤ) (room : ℕ) → rowCount rows ≤ room → Marked rows 0 (replicate room 0)
 unfolding linksAmong capped
 marked-start rows room h =
-    record { room = rw length-replicate h; counts = λ row n. getD-replicate room row 0 0 (omega arith) }
+    record { room = rw length-replicate h; counts = λ row p n. getD-replicate room row 0 0 (omega arith) }
 
 pub length-marked : (marks : List ℕ) (row : ℕ) → length (marked marks row) ≡ length marks
 unfolding marked
 length-marked marks row = length-set marks row _
 
-pub marked-more : (rows : List ℤ) (word l : ℕ) (marks after : List ℕ) → Marked rows word marks → l ≡ link rows (word / 6) (word % 6)
-    → after ≡ marked marks l → Marked rows (word + 1) after
-unfolding target marked
-marked-more rows word l marks after m e f =
-    record {
-      room = rw (f, length-set) (m .room);
-      counts = λ row n. ap (λ (x : List ℕ). getD x row 0) f ∙ go row n (ℕ-discrete row l);
-    }
+pub length-markedLink : (marks : List ℕ) (linked : ℕ) → length (markedLink marks linked) ≡ length marks
+unfolding markedLink marked
+length-markedLink marks linked = go (eqb linked 0)
   where
-    go : (row : ℕ) → row < rowCount rows → Dec (row ≡ l) → getD (set marks l (raised (getD marks l 0))) row 0 ≡ capped (linksAmong rows (word + 1) row)
-    go row n (yes q) =
-        rw (← q) (getD-set-same marks row (raised (getD marks row 0)) 0 (let r = m .room in omega arith)
-        ∙ ap raised (m .counts row n) ∙ raised-capped (linksAmong rows word row)
-        ∙ ap capped (rw (add-one word) (sym (links-hit rows word row (sym e ∙ sym q)))))
-    go row n (no q) =
-        getD-set-other marks l row (raised (getD marks l 0)) 0 q ∙ m .counts row n
-        ∙ ap capped (rw (add-one word) (sym (links-miss rows word row (λ r. q (sym r ∙ sym e)))))
+    go : (b : Bool) → length (pick b marks (set marks linked (raised (getD marks linked 0)))) ≡ length marks
+    go true = refl
+    go false = length-set marks linked _
+
+-- a word more: the row that it links has one link more
+module _ (rows : List ℤ) (word l : ℕ) (marks : List ℕ) (m : Marked rows word marks) (e : l ≡ target rows word) where
+  missed : (row : ℕ) → row < rowCount rows → 0 < row → (row ≡ l → ⊥) → getD marks row 0 ≡ capped (linksAmong rows (word + 1) row)
+  missed row n p q = m .counts row p n ∙ ap capped (rw (add-one word) (sym (links-miss rows word row (λ r. q (sym r ∙ sym e)))))
+
+  marked-word : Dec (l ≡ 0) → Marked rows (word + 1) (markedLink marks l)
+  unfolding markedLink marked
+  marked-word (yes z) =
+      rw (eq-eqb l 0 z) (record { room = m .room; counts = λ row p n. missed row n p (λ q. omega arith) })
+  marked-word (no z) =
+      rw (ne-eqb l 0 z) (record { room = rw length-set (m .room); counts = λ row p n. go row p n (ℕ-discrete row l) })
+    where
+      go : (row : ℕ) → 0 < row → row < rowCount rows → Dec (row ≡ l) → getD (set marks l (raised (getD marks l 0))) row 0 ≡ capped (linksAmong rows (word + 1) row)
+      go row p n (yes q) =
+          rw (← q) (getD-set-same marks row (raised (getD marks row 0)) 0 (let r = m .room in omega arith)
+          ∙ ap raised (m .counts row p n) ∙ raised-capped (linksAmong rows word row)
+          ∙ ap capped (rw (add-one word) (sym (links-hit rows word row (sym e ∙ sym q)))))
+      go row p n (no q) = getD-set-other marks l row (raised (getD marks l 0)) 0 q ∙ missed row n p q
+
+pub marked-begin : (rows : List ℤ) (row : ℕ) (marks : List ℕ) → Marked rows (6 * row) marks → Marked rows (6 * row + 0) marks
+marked-begin rows row marks m = rw add-zero m
+
+pub marked-next : (rows : List ℤ) (row : ℕ) (marks : List ℕ) → Marked rows (6 * row + 6) marks → Marked rows (6 * (row + 1)) marks
+marked-next rows row marks m = let z : 6 * (row + 1) ≡ 6 * row + 6 = omega arith in rw z m
+
+-- a field more
+pub marked-field : (rows : List ℤ) (row field l : ℕ) (marks after : List ℕ) → field < 6 → Marked rows (6 * row + field) marks → l ≡ link rows row field
+    → after ≡ markedLink marks l → Marked rows (6 * row + (field + 1)) after
+unfolding target
+marked-field rows row field l marks after h m e f =
+    let at = word-of row field h in
+    let next : 6 * row + field + 1 ≡ 6 * row + (field + 1) = omega arith in
+    rw (f, ← next) (marked-word rows (6 * row + field) l marks m (rw (at .0, at .1) e) (ℕ-discrete l 0))
 
 -- marks of the whole table say which rows are linked exactly once
 pub marked-once : (rows : List ℤ) (marks : List ℕ) → 6 * rowCount rows ≡ length rows → Marked rows (length rows) marks → (row : ℕ) → row < rowCount rows
     → notOnce rows (getD marks row 0) row ≡ notOnce rows (linkCount rows row) row
 unfolding notOnce linkCount
-marked-once rows marks whole m row n = rw (m .counts row n, capped-one, whole)
+marked-once rows marks whole m row n = go (ℕ-discrete row 0)
+  where
+    go : Dec (row ≡ 0) → notOnce rows (getD marks row 0) row ≡ notOnce rows (linkCount rows row) row
+    go (yes z) = rw z
+    go (no z) = rw (m .counts row (above-zero row z) n, capped-one, whole)

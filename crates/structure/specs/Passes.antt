@@ -65,10 +65,14 @@ raised mark = pick (ltb mark 2) (mark + 1) mark
 unfoldable pub marked : List ℕ → ℕ → List ℕ
 marked marks row = set marks row (raised (getD marks row 0))
 
--- The marks of the links among the first `words` words.
+-- The mark of a field; 0 is no link.
+unfoldable pub markedLink : List ℕ → ℕ → List ℕ
+markedLink marks linked = pick (eqb linked 0) marks (marked marks linked)
+
+-- The marks of the links among the first `words` words; row 0 has none.
 pub record Marked (rows : List ℤ) (words : ℕ) (marks : List ℕ) : Type 0 where
   pub room : rowCount rows ≤ length marks
-  pub counts : (row : ℕ) → row < rowCount rows → getD marks row 0 ≡ capped (linksAmong rows words row)
+  pub counts : (row : ℕ) → 0 < row → row < rowCount rows → getD marks row 0 ≡ capped (linksAmong rows words row)
 
 -- ---- notes that go along the links
 

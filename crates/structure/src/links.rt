@@ -7,7 +7,7 @@ ghost use Prim.Native.Nat.{_+_, _*_, _/_, _<_};
 ghost use lib.ListN.{length};
 ghost use Rattle.structure.specs.Grammar.{grammar};
 ghost use Rattle.structure.specs.Links.{notOnce, loneBlock};
-ghost use Rattle.structure.specs.Passes.{marked, Marked};
+ghost use Rattle.structure.specs.Passes.{marked, markedLink, Marked};
 
 // Marks one more link to a row: 0, 1, or 2 for more.
 fn mark(marks: &mut [u8], row: usize)
@@ -21,15 +21,35 @@ fn mark(marks: &mut [u8], row: usize)
     }
 }
 
+// Marks the row that a field links; 0 is no link.
+fn mark_link(marks: &mut [u8], linked: usize)
+    ensures { λ _. ⌜ now (marks .exit) ≡ markedLink (now (marks .entry)) linked ⌝ }
+{
+    if linked != 0 {
+        mark(marks, linked);
+    }
+}
+
+// Marks the links of one row.
+fn mark_row(kinds: &KindTable, rows: &[i32], marks: &mut [u8], row: usize)
+    requires { ⌜ (6 * row + 5 < length (now rows)) × Marked (now rows) (6 * row) (now marks) × (now kinds ≡ grammar) ⌝ }
+    ensures { λ _. ⌜ (length (now (marks .exit)) ≡ length (now (marks .entry))) × Marked (now (rows .entry)) (6 * row + 6) (now (marks .exit)) ⌝ }
+{
+    let mut field: usize = 0;
+    while field < 6 {
+        mark_link(marks, link(kinds, rows, row, field));
+        field += 1;
+    }
+}
+
 // Marks every link of the table, in one pass.
 pub fn mark_links(kinds: &KindTable, rows: &[i32], marks: &mut [u8])
     requires { ⌜ (6 * (length (now rows) / 6) ≡ length (now rows)) × Marked (now rows) 0 (now marks) × (now kinds ≡ grammar) ⌝ }
     ensures { λ _. ⌜ Marked (now (rows .entry)) (length (now (rows .entry))) (now (marks .exit)) ⌝ }
 {
-    for word in 0..rows.len() {
-        let row = word / 6;
-        let field = word % 6;
-        mark(marks, link(kinds, rows, row, field));
+    let count = rows.len() / 6;
+    for row in 0..count {
+        mark_row(kinds, rows, marks, row);
     }
 }
 

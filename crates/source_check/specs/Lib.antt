@@ -9,6 +9,8 @@ pub mod Marks
 pub mod Refusal
 -- Legal: what document 01 demands of a source program.
 pub mod Legal
+-- Passes: the notes that one pass writes for causes 7 and 8.
+pub mod Passes
 -- MarkTree: a search tree of marks for each list, by which the first repeated mark is found.
 pub mod MarkTree
 -- ---- laws

@@ -1,5 +1,6 @@
 // The check of source programs: the causes that both forms share, then 7, 8 and 9.
 use marks::lowest_repeated;
+use notes::write_notes;
 use places::lowest_misplaced;
 use structure::Found;
 use structure::causes::at;
@@ -19,6 +20,7 @@ ghost use Prim.Native.Nat.{_/_, _≤_};
 ghost use lib.ListN.{length};
 ghost use Rattle.structure.specs.Structured.{Tree};
 ghost use Rattle.source_check.specs.Refusal.{laterRefusal, refusal};
+ghost use Rattle.source_check.specs.Passes.{AllNotes};
 
 // What a pass along the links notes of each row.
 pub enum Note {
@@ -32,19 +34,25 @@ pub enum Note {
     MarkBefore,
 }
 
-// Causes 7 to 9, in a tree of rows.
-fn later_refusal(rows: &[i32]) -> Verdict
-    requires { ⌜ Tree (now rows) × (length (now rows) / 6 ≤ 2048) ⌝ }
+// Causes 7 to 9, in a tree of rows, with the notes of its rows.
+fn noted_refusal(
+    rows: &[i32],
+    loops: &[u16],
+    breakable: &[u16],
+    items: &[u16],
+    before: &[u16],
+) -> Verdict
+    requires { ⌜ Tree (now rows) × (length (now rows) / 6 ≤ 2048) × AllNotes (now rows) (now loops) (now breakable) (now items) (now before) ⌝ }
     ensures { λ r. ⌜ r ≡ laterRefusal (now (rows .entry)) ⌝ }
 {
-    let misplaced = lowest_misplaced(rows);
+    let misplaced = lowest_misplaced(rows, loops, breakable, items);
     if let Found::At(row) = misplaced {
         return Verdict::Refused(Refusal {
             number: 7,
             place: row,
         });
     }
-    let repeated = lowest_repeated(rows);
+    let repeated = lowest_repeated(rows, before);
     if let Found::At(row) = repeated {
         return Verdict::Refused(Refusal {
             number: 8,
@@ -52,6 +60,19 @@ fn later_refusal(rows: &[i32]) -> Verdict
         });
     }
     at(9, lowest_deep_row(Form::Source, rows))
+}
+
+// Causes 7 to 9, in a tree of rows.
+fn later_refusal(rows: &[i32]) -> Verdict
+    requires { ⌜ Tree (now rows) × (length (now rows) / 6 ≤ 2048) ⌝ }
+    ensures { λ r. ⌜ r ≡ laterRefusal (now (rows .entry)) ⌝ }
+{
+    let mut loops = [0u16; 2048];
+    let mut breakable = [0u16; 2048];
+    let mut items = [0u16; 2048];
+    let mut before = [0u16; 2048];
+    write_notes(rows, &mut loops, &mut breakable, &mut items, &mut before);
+    noted_refusal(rows, &loops, &breakable, &items, &before)
 }
 
 // The check: accepted, or the number of the first cause and its place.

@@ -1,14 +1,15 @@
 // Cause 8: a second equal case, or a second default, in one switch. Each mark knows the mark before it in its list.
-use super::Note;
 use super::mark_tree::take_in;
 use super::mark_tree::write_roots;
-use super::notes::write_notes;
 use structure::Found;
 ghost use mathlib.Core.Path.{_≡_};
 ghost use Prim.Native.Nat.{_/_, _≤_};
 ghost use lib.ListN.{length};
 ghost use Rattle.structure.specs.Search.{lowestRow};
 ghost use Rattle.structure.specs.Structured.{Tree};
+ghost use Rattle.structure.specs.Passes.{Notes};
+ghost use Rattle.source_check.specs.Places.{noteAt};
+ghost use Rattle.source_check.specs.declared.Note.the-variants.{MarkBefore};
 ghost use Rattle.source_check.specs.Marks.{repeated};
 ghost use Rattle.source_check.specs.MarkTree.{Roots, HoldsMarks};
 
@@ -28,15 +29,13 @@ fn lowest_repeated_row(rows: &[i32], roots: &[u16], children: &mut [u16]) -> Fou
     Found::Nothing
 }
 
-// The lowest repeated mark.
-pub fn lowest_repeated(rows: &[i32]) -> Found
-    requires { ⌜ Tree (now rows) × (length (now rows) / 6 ≤ 2048) ⌝ }
+// The lowest repeated mark, with the mark before each row.
+pub fn lowest_repeated(rows: &[i32], before: &[u16]) -> Found
+    requires { ⌜ Tree (now rows) × (length (now rows) / 6 ≤ 2048) × Notes (now rows) (noteAt MarkBefore (now rows)) (now before) ⌝ }
     ensures { λ r. ⌜ r ≡ lowestRow (now (rows .entry)) (repeated (now (rows .entry))) ⌝ }
 {
-    let mut before = [0u16; 2048];
     let mut roots = [0u16; 2048];
     let mut children = [0u16; 4096];
-    write_notes(Note::MarkBefore, rows, &mut before);
-    write_roots(rows, &before, &mut roots);
+    write_roots(rows, before, &mut roots);
     lowest_repeated_row(rows, &roots, &mut children)
 }

@@ -14,8 +14,10 @@ ghost use lib.ListN.{length, getD};
 ghost use Rattle.words.specs.Word.{pick};
 ghost use Rattle.structure.specs.Grammar.{grammar};
 ghost use Rattle.structure.specs.Structured.{Tree};
-ghost use Rattle.structure.specs.Passes.{written, Notes};
-ghost use Rattle.source_check.specs.Places.{handed, noteAt};
+ghost use Rattle.structure.specs.Links.{target};
+ghost use Rattle.structure.specs.Passes.{written};
+ghost use Rattle.source_check.specs.Places.{handed};
+ghost use Rattle.source_check.specs.Passes.{NoNotes, AllNotes};
 
 // Inside a row: as its part, or where the row stands inside already.
 fn inside(around: bool, field: usize, own: u16) -> u16
@@ -75,33 +77,48 @@ fn hand(which: Note, rows: &[i32], owner: usize, field: usize, own: u16) -> u16
 }
 
 // A word that links a row writes that row's note.
-fn write_note(kinds: &KindTable, which: Note, rows: &[i32], notes: &mut [u16], word: usize)
-    requires { ⌜ Tree (now rows) × (length (now rows) / 6 ≤ length (now notes)) × (word < length (now rows)) × (now kinds ≡ grammar) ⌝ }
+fn write_note(which: Note, rows: &[i32], notes: &mut [u16], word: usize, linked: usize)
+    requires { ⌜ Tree (now rows) × (length (now rows) / 6 ≤ length (now notes)) × (word < length (now rows)) × (linked ≡ target (now rows) word) ⌝ }
     ensures { λ _. ⌜ now (notes .exit) ≡ written (handed which (now (rows .entry))) (now (rows .entry)) word (now (notes .entry)) ⌝ }
 {
-    let row = word / 6;
-    let field = word % 6;
-    let linked = link(kinds, rows, row, field);
     if linked != 0 {
-        let note = hand(which, rows, row, field, notes[row]);
+        let row = word / 6;
+        let note = hand(which, rows, row, word % 6, notes[row]);
         notes[linked] = note;
     }
 }
 
-// The notes of all rows, in one pass: a row's own note is written before those of the rows that it links.
-fn write_notes_by(kinds: &KindTable, which: Note, rows: &[i32], notes: &mut [u16])
-    requires { ⌜ Tree (now rows) × (length (now rows) / 6 ≤ length (now notes)) × (getD (now notes) 0 0 ≡ 0) × (now kinds ≡ grammar) ⌝ }
-    ensures { λ _. ⌜ Notes (now (rows .entry)) (noteAt which (now (rows .entry))) (now (notes .exit)) ⌝ }
+// All notes of all rows, in one pass: a row's own notes are written before those of the rows that it links.
+fn write_notes_by(
+    kinds: &KindTable,
+    rows: &[i32],
+    loops: &mut [u16],
+    breakable: &mut [u16],
+    items: &mut [u16],
+    before: &mut [u16],
+)
+    requires { ⌜ Tree (now rows) × NoNotes (now rows) (now loops) × NoNotes (now rows) (now breakable) × NoNotes (now rows) (now items) × NoNotes (now rows) (now before) × (now kinds ≡ grammar) ⌝ }
+    ensures { λ _. ⌜ AllNotes (now (rows .entry)) (now (loops .exit)) (now (breakable .exit)) (now (items .exit)) (now (before .exit)) ⌝ }
 {
     for word in 0..rows.len() {
-        write_note(kinds, which, rows, notes, word);
+        let linked = link(kinds, rows, word / 6, word % 6);
+        write_note(Note::InLoop, rows, loops, word, linked);
+        write_note(Note::InLoopOrSwitch, rows, breakable, word, linked);
+        write_note(Note::SwitchItem, rows, items, word, linked);
+        write_note(Note::MarkBefore, rows, before, word, linked);
     }
 }
 
 // The same, with the table of kinds: it is built here, once, and lent on.
-pub fn write_notes(which: Note, rows: &[i32], notes: &mut [u16])
-    requires { ⌜ Tree (now rows) × (length (now rows) / 6 ≤ length (now notes)) × (getD (now notes) 0 0 ≡ 0) ⌝ }
-    ensures { λ _. ⌜ Notes (now (rows .entry)) (noteAt which (now (rows .entry))) (now (notes .exit)) ⌝ }
+pub fn write_notes(
+    rows: &[i32],
+    loops: &mut [u16],
+    breakable: &mut [u16],
+    items: &mut [u16],
+    before: &mut [u16],
+)
+    requires { ⌜ Tree (now rows) × NoNotes (now rows) (now loops) × NoNotes (now rows) (now breakable) × NoNotes (now rows) (now items) × NoNotes (now rows) (now before) ⌝ }
+    ensures { λ _. ⌜ AllNotes (now (rows .entry)) (now (loops .exit)) (now (breakable .exit)) (now (items .exit)) (now (before .exit)) ⌝ }
 {
-    write_notes_by(&KINDS, which, rows, notes);
+    write_notes_by(&KINDS, rows, loops, breakable, items, before);
 }

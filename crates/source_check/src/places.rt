@@ -1,6 +1,4 @@
 // Cause 7: break, continue, case or default out of place.
-use super::Note;
-use super::notes::write_notes;
 use structure::Found;
 use structure::grammar::between;
 use words::table::number_at;
@@ -9,8 +7,9 @@ ghost use Prim.Native.Nat.{ℕ, _/_, _≤_};
 ghost use lib.ListN.{length, getD};
 ghost use Rattle.words.specs.Table.{numberAt};
 ghost use Rattle.structure.specs.Search.{lowestRow};
-ghost use Rattle.structure.specs.Structured.{Tree};
-ghost use Rattle.source_check.specs.Places.{outOfPlace, misplaced};
+ghost use Rattle.structure.specs.Passes.{Notes};
+ghost use Rattle.source_check.specs.Places.{outOfPlace, misplaced, noteAt};
+ghost use Rattle.source_check.specs.declared.Note.the-variants.{InLoop, InLoopOrSwitch, SwitchItem};
 
 // A row of this kind, with its notes.
 fn is_out_of_place(kind: usize, looped: u16, breakable: u16, item: u16) -> bool
@@ -49,16 +48,10 @@ fn lowest_out_of_place(rows: &[i32], loops: &[u16], breakable: &[u16], items: &[
     Found::Nothing
 }
 
-// The lowest row out of place.
-pub fn lowest_misplaced(rows: &[i32]) -> Found
-    requires { ⌜ Tree (now rows) × (length (now rows) / 6 ≤ 2048) ⌝ }
+// Cause 7: the same in the definition's words.
+pub fn lowest_misplaced(rows: &[i32], loops: &[u16], breakable: &[u16], items: &[u16]) -> Found
+    requires { ⌜ Notes (now rows) (noteAt InLoop (now rows)) (now loops) × Notes (now rows) (noteAt InLoopOrSwitch (now rows)) (now breakable) × Notes (now rows) (noteAt SwitchItem (now rows)) (now items) ⌝ }
     ensures { λ r. ⌜ r ≡ lowestRow (now (rows .entry)) (misplaced (now (rows .entry))) ⌝ }
 {
-    let mut loops = [0u16; 2048];
-    let mut breakable = [0u16; 2048];
-    let mut items = [0u16; 2048];
-    write_notes(Note::InLoop, rows, &mut loops);
-    write_notes(Note::InLoopOrSwitch, rows, &mut breakable);
-    write_notes(Note::SwitchItem, rows, &mut items);
-    lowest_out_of_place(rows, &loops, &breakable, &items)
+    lowest_out_of_place(rows, loops, breakable, items)
 }

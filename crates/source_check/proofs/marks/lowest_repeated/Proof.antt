@@ -5,17 +5,8 @@ use borrow.Author.Needs.{needs}
 use Rattle.source_check.proofs.marks.lowest_repeated.Statement.{statement}
 use Rattle.source_check.proofs.marks.lowest_repeated.Tie as tie
 
-slice-aggregate-write-notes : tie.Need-slice-aggregate-write-notes
-slice-aggregate-write-notes c = search needs
-
-write-notes-requires : tie.Need-write-notes-requires
-write-notes-requires c κs = search needs
-
 slice-aggregate-write-roots : tie.Need-slice-aggregate-write-roots
 slice-aggregate-write-roots c = search needs
-
-slice-aggregate-write-roots-2 : tie.Need-slice-aggregate-write-roots-2
-slice-aggregate-write-roots-2 c = search needs
 
 write-roots-requires : tie.Need-write-roots-requires
 write-roots-requires c κs = search needs
@@ -28,7 +19,7 @@ slice-aggregate-lowest-repeated-row-2 c = search needs
 
 lowest-repeated-row-requires : tie.Need-lowest-repeated-row-requires
 lowest-repeated-row-requires c κs =
-    let start = c .before .before .before .before .before .before .before .before .before in
+    let start = c .before .before .before .before .before .before in
     let few = start .pre .1 in
     (start .pre .0, c .before .before .before .write-roots .ensures, holds-marks-start _ _ 4096 (omega arith))
 
@@ -39,10 +30,7 @@ pub lowest-repeated-spec : {M : Type 1} → statement M
 lowest-repeated-spec =
     tie.close
     (tie.spec
-    slice-aggregate-write-notes
-    write-notes-requires
     slice-aggregate-write-roots
-    slice-aggregate-write-roots-2
     write-roots-requires
     slice-aggregate-lowest-repeated-row
     slice-aggregate-lowest-repeated-row-2

@@ -6,52 +6,46 @@ use borrow.Author.Needs.{needs}
 use Rattle.source_check.proofs.notes.write_note.Statement.{statement}
 use Rattle.source_check.proofs.notes.write_note.Tie as tie
 
-link-requires : tie.Need-link-requires
-link-requires c κs =
-    let whole = c .before .pre .0 .whole in (omega arith, omega arith, c .before .pre .3)
-
 mul-hand : tie.Need-mul-hand
-mul-hand c =
-    let few = c .before .before .before .pre .0 .few in omega arith
+mul-hand c = search needs
 
 slice-read-hand : tie.Need-slice-read-hand
-slice-read-hand c =
-    let whole = c .before .before .before .before .pre .0 .whole in omega arith
+slice-read-hand c = search needs
 
 hand-requires : tie.Need-hand-requires
-hand-requires c κs =
-    let whole = c .before .before .before .before .pre .0 .whole in let few = c .before .before .before .before .pre .0 .few in (omega arith, omega arith)
+hand-requires c κs = search needs
 
 mul-notes : tie.Need-mul-notes
+unfolding target
 mul-notes c =
-    let few = c .before .before .before .before .before .pre .0 .few in
-    let inside = linked-inside _ (c .before .before .before .before .before .args .word) _ (c .before .before .before .before .before .pre .0) (c .before .before .before .before .before .pre .2) (c .before .before .before .link .ensures) (c .before .before .if1 .taken) in
+    let start = c .before .before .before .before in
+    let few = start .pre .0 .few in
+    let inside = linked-inside _ (start .args .word) _ (start .pre .0) (start .pre .2) (start .pre .3) (c .before .before .if1 .taken) in
     omega arith
 
 slice-write-notes : tie.Need-slice-write-notes
+unfolding target
 slice-write-notes c =
-    let inside = linked-inside _ (c .before .before .before .before .before .args .word) _ (c .before .before .before .before .before .pre .0) (c .before .before .before .before .before .pre .2) (c .before .before .before .link .ensures) (c .before .before .if1 .taken) in
-    let room = c .before .before .before .before .before .pre .1 in
+    let start = c .before .before .before .before in
+    let inside = linked-inside _ (start .args .word) _ (start .pre .0) (start .pre .2) (start .pre .3) (c .before .before .if1 .taken) in
+    let room = start .pre .1 in
     omega arith
 
 same-length : tie.Need-same-length
 same-length c = search needs
 
 returns : tie.Need-returns
-unfolding target
 returns c =
-    written-link _ _ _ _ _ _ (c .before .before .before .link .ensures) (c .before .before .if1 .taken) (c .hand .ensures)
+    written-link _ _ _ _ _ _ (c .before .before .before .before .pre .3) (c .before .before .if1 .taken) (c .hand .ensures)
 
 returns-2 : tie.Need-returns-2
-unfolding target
 returns-2 c =
-    written-none _ _ _ _ _ (c .before .link .ensures) (c .if1 .left)
+    written-none _ _ _ _ _ (c .before .before .pre .3) (c .if1 .left)
 
 pub write-note-spec : {M : Type 1} → statement M
 write-note-spec =
     tie.close
     (tie.spec
-    link-requires
     mul-hand
     slice-read-hand
     hand-requires

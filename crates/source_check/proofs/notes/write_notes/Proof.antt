@@ -8,13 +8,22 @@ use Rattle.source_check.proofs.notes.write_notes.Tie as tie
 
 write-notes-by-requires : tie.Need-write-notes-by-requires
 unfolding grammar kindOf kindIn kinds kindRow expressionFields statementFields markFields
-write-notes-by-requires c κs = (search needs, search needs, search needs, refl)
+write-notes-by-requires c κs = (search needs, search needs, search needs, search needs, search needs, refl)
 
 same-length : tie.Need-same-length
 same-length c = search needs
+
+same-length-2 : tie.Need-same-length-2
+same-length-2 c = search needs
+
+same-length-3 : tie.Need-same-length-3
+same-length-3 c = search needs
+
+same-length-4 : tie.Need-same-length-4
+same-length-4 c = search needs
 
 returns : tie.Need-returns
 returns c = search needs
 
 pub write-notes-spec : {M : Type 1} → statement M
-write-notes-spec = tie.close (tie.spec write-notes-by-requires same-length returns)
+write-notes-spec = tie.close (tie.spec write-notes-by-requires same-length same-length-2 same-length-3 same-length-4 returns)

@@ -70,7 +70,7 @@ tabulated default entry count number h = go 0 count number h ∙ ap entry (let e
     go from (suc count) (suc number) h =
         go (suc from) count number (omega arith) ∙ ap entry (let e : suc from + number ≡ from + suc number = omega arith in e)
 
-grammar-row : (number : ℕ) → number < kindLimit → getD grammar number [] ≡ columns (kindRow (kindOf number))
+pub grammar-row : (number : ℕ) → number < kindLimit → getD grammar number [] ≡ columns (kindRow (kindOf number))
 unfolding grammar
 grammar-row number h = tabulated [] (λ (n : ℕ). columns (kindRow (kindOf n))) kindLimit number h
 

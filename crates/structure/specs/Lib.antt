@@ -3,6 +3,8 @@
 -- ---- definitions
 -- Grammar: what the table of kinds says of a row of a table; and the table by number, as the code holds it.
 pub mod Grammar
+-- Papers: what documents 01 and 02 say of each kind, in their own lines and ranges.
+pub mod Papers
 -- Searches: the lowest number, or the lowest row, with a property.
 pub mod Search
 -- Fields: the causes that lie in one field of a row: 3, 4 and 6.
@@ -22,8 +24,8 @@ pub mod Passes
 pub mod SearchLaws
 -- Laws of the grammar: what holds of every kind is tested over the table.
 pub mod GrammarLaws
--- Papers: what documents 01 and 02 say of each kind, in their own lines and ranges; the table of kinds says the same.
-pub mod Papers
+-- Laws of the papers: the table of kinds, and the code's array of it, are what documents 01 and 02 say.
+pub mod PaperLaws
 -- Laws of links: in a tree of rows each row but row 0 has one owner, and `linker` finds it.
 pub mod LinkLaws
 -- Laws of notes: in a tree of rows a note is what the owner hands on; and what a pass over the words has written.

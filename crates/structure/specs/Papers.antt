@@ -1,21 +1,10 @@
--- Papers: what documents 01 and 02 say of each kind, in their own lines and ranges; and that the table of kinds says the same.
-use mathlib.Core.Path.{_≡_, refl, sym, ap, _∙_}
-use mathlib.Core.Bool.{Bool, true, false, _&&_, _||_}
+-- Papers: what documents 01 and 02 say of each kind, in their own lines and ranges. The table of kinds says the same (PaperLaws).
+use mathlib.Core.Bool.{Bool, _||_}
 use mathlib.Core.List.{List, [], _∷_}
-use Prim.Native.Nat.{ℕ, zero, suc, _≤_, _<_}
-use native.Mathlib.Omega.{arith}
-use native.Mathlib.Decide.{decLt}
-use lib.Dec.{ltb, leb}
-use lib.ListN.{getD}
+use Prim.Native.Nat.{ℕ}
 use Rattle.words.specs.Word.{pick}
-use Rattle.words.specs.Laws.{both}
-use Rattle.words.specs.Kinds.{unused, value, variable, array, label, expression, optionalExpression, place, branch, optionalBranch, optionalItem, expressionRow, placeRow, statementRow, between, Forms, inBoth, inSource, inKernel, KindRow, kinds, kindIn, kindOf, kindRow, expressionFields, statementFields, markFields}
+use Rattle.words.specs.Kinds.{unused, value, variable, array, label, expression, optionalExpression, place, branch, optionalBranch, optionalItem, expressionRow, placeRow, statementRow, between, Forms, inBoth, inSource, inKernel, KindRow, kindRow}
 use Rattle.words.specs.declared.Kind.the-variants.{Other}
-use borrow.Author.Tests.{ltb-true, lt-leb}
-use Rattle.structure.specs.Grammar.{kindLimit, tabulate}
-use Rattle.structure.specs.GrammarLaws.{kind-beyond, tabulated}
-
--- ---- document 01's table
 
 -- A line is about the kinds from one number to another, and says what a, b, c and d hold.
 pub record Line : Type 0 where
@@ -83,45 +72,3 @@ saidBy (l ∷ ls) number = pick (between (l .least) (l .most) number) (rowSaid n
 -- What the papers say of a number; a number on no line is no kind.
 unfoldable pub said : ℕ → KindRow
 said number = saidBy lines number
-
--- ---- the table says the same
-
--- the one proof over the whole table
-whole-table : tabulate (λ number. kindRow (kindOf number)) 0 kindLimit ≡ tabulate said 0 kindLimit
-unfolding said saidBy lines kindOf kindIn kinds kindRow expressionFields statementFields markFields
-whole-table = refl
-
-below : List Line → Bool
-below [] = true
-below (l ∷ ls) = ltb (l .most) kindLimit && below ls
-
-said-beyond : (number : ℕ) → kindLimit ≤ number → said number ≡ kindRow Other
-unfolding said saidBy lines below
-said-beyond number h = go lines refl
-  where
-    no-range : (least most : ℕ) → most < number → between least most number ≡ false
-    no-range least most less = rw (lt-leb number most less) (fails (leb least number))
-      where
-        fails : (b : Bool) → (b && false) ≡ false
-        fails true = refl
-        fails false = refl
-
-    go : (ls : List Line) → below ls ≡ true → saidBy ls number ≡ kindRow Other
-    go [] e = refl
-    go (l ∷ ls) e =
-        let low = both (ltb (l .most) kindLimit) (below ls) e in
-        let less = ltb-true (l .most) kindLimit (low .0) in
-        rw (no-range (l .least) (l .most) (omega arith)) (go ls (low .1))
-
--- Of every number, those that are no kind too: the row of its kind is what the papers say.
-pub table-says : (number : ℕ) → kindRow (kindOf number) ≡ said number
-table-says number = go (decLt number kindLimit)
-  where
-    go : Dec (number < kindLimit) → kindRow (kindOf number) ≡ said number
-    go (yes h) =
-        sym (tabulated (kindRow Other) (λ (n : ℕ). kindRow (kindOf n)) kindLimit number h)
-        ∙ ap (λ (rows : List KindRow). getD rows number (kindRow Other)) whole-table
-        ∙ tabulated (kindRow Other) said kindLimit number h
-    go (no h) =
-        let past : kindLimit ≤ number = omega (arith, h) in
-        ap kindRow (kind-beyond number past) ∙ sym (said-beyond number past)

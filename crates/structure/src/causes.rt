@@ -20,6 +20,7 @@ ghost use Prim.Native.Nat.{ℕ, _+_, _*_, _<_, min};
 ghost use lib.ListN.{length, getD};
 ghost use Rattle.words.specs.Layout.{countFits};
 ghost use Rattle.words.specs.Table.{rowCount};
+ghost use Rattle.words.specs.declared.Form.the-variants.{Source, Kernel};
 ghost use Rattle.structure.specs.Grammar.{grammar};
 ghost use Rattle.structure.specs.Search.{lowestRow};
 ghost use Rattle.structure.specs.Links.{linkCount, notOnce};
@@ -130,14 +131,35 @@ fn lowest_not_marked_once(rows: &[i32], marks: &[u8]) -> Found
     Found::Nothing
 }
 
-// Cause 5. The marks have room for the rows of either form.
-fn lowest_not_once(kinds: &KindTable, form: Form, rows: &[i32]) -> Found
-    requires { ⌜ (countFits form (length (now rows)) ≡ true) × (now kinds ≡ grammar) ⌝ }
+// Cause 5 in a source program.
+fn lowest_not_once_in_source(kinds: &KindTable, rows: &[i32]) -> Found
+    requires { ⌜ (countFits Source (length (now rows)) ≡ true) × (now kinds ≡ grammar) ⌝ }
+    ensures { λ r. ⌜ r ≡ lowestRow (now (rows .entry)) (λ (row : ℕ). notOnce (now (rows .entry)) (linkCount (now (rows .entry)) row) row) ⌝ }
+{
+    let mut marks = [0u8; 2048];
+    mark_links(kinds, rows, &mut marks);
+    lowest_not_marked_once(rows, &marks)
+}
+
+// Cause 5 in a kernel program.
+fn lowest_not_once_in_kernel(kinds: &KindTable, rows: &[i32]) -> Found
+    requires { ⌜ (countFits Kernel (length (now rows)) ≡ true) × (now kinds ≡ grammar) ⌝ }
     ensures { λ r. ⌜ r ≡ lowestRow (now (rows .entry)) (λ (row : ℕ). notOnce (now (rows .entry)) (linkCount (now (rows .entry)) row) row) ⌝ }
 {
     let mut marks = [0u8; 40980];
     mark_links(kinds, rows, &mut marks);
     lowest_not_marked_once(rows, &marks)
+}
+
+// Cause 5. The marks have room for the form's rows: clearing those of a kernel program would be felt in the check of a small source one.
+fn lowest_not_once(kinds: &KindTable, form: Form, rows: &[i32]) -> Found
+    requires { ⌜ (countFits form (length (now rows)) ≡ true) × (now kinds ≡ grammar) ⌝ }
+    ensures { λ r. ⌜ r ≡ lowestRow (now (rows .entry)) (λ (row : ℕ). notOnce (now (rows .entry)) (linkCount (now (rows .entry)) row) row) ⌝ }
+{
+    match form {
+        Form::Source => lowest_not_once_in_source(kinds, rows),
+        Form::Kernel => lowest_not_once_in_kernel(kinds, rows),
+    }
 }
 
 // The refusal for a cause that some row breaks.

@@ -1,38 +1,29 @@
--- `lowest_not_once` marks all links, then looks for a row whose mark is not 1.
-use mathlib.Core.Path.{_∙_}
-use native.Mathlib.Omega.{arith}
-use Rattle.words.specs.Laws.{rowLimit-most, countFits-facts}
-use Rattle.structure.specs.SearchLaws.{lowestRow-same}
-use Rattle.structure.proofs.Marks.{marked-start, marked-once}
+-- `lowest_not_once` takes the marks of its form.
 use borrow.Author.Needs.{needs}
 use Rattle.structure.proofs.causes.lowest_not_once.Statement.{statement}
 use Rattle.structure.proofs.causes.lowest_not_once.Tie as tie
 
-slice-aggregate-mark-links : tie.Need-slice-aggregate-mark-links
-slice-aggregate-mark-links c = search needs
+enum-told : tie.Need-enum-told
+enum-told c = search needs
 
-mark-links-requires : tie.Need-mark-links-requires
-mark-links-requires c κs =
-    let fit = countFits-facts _ _ (c .before .pre .0) in
-    (fit .whole, marked-start _ 40980 (let most = rowLimit-most (c .before .args .form) in let few = fit .most in omega arith), c .before .pre .1)
+lowest-not-once-in-source-requires : tie.Need-lowest-not-once-in-source-requires
+lowest-not-once-in-source-requires c κs =
+    (rw (c .enum-told .given .1) at (c .before .before .pre .0), c .before .before .pre .1)
 
-slice-aggregate-lowest-not-marked-once : tie.Need-slice-aggregate-lowest-not-marked-once
-slice-aggregate-lowest-not-marked-once c = search needs
+enum-told-2 : tie.Need-enum-told-2
+enum-told-2 c = search needs
 
-lowest-not-marked-once-requires : tie.Need-lowest-not-marked-once-requires
-lowest-not-marked-once-requires c κs = search needs
+lowest-not-once-in-kernel-requires : tie.Need-lowest-not-once-in-kernel-requires
+lowest-not-once-in-kernel-requires c κs =
+    (rw (c .enum-told2 .given .1) at (c .before .before .pre .0), c .before .before .pre .1)
 
 returns : tie.Need-returns
-returns c =
-    let fit = countFits-facts _ _ (c .before .before .before .before .before .pre .0) in
-    c .lowest-not-marked-once .ensures ∙ lowestRow-same _ _ _ (marked-once _ _ (fit .whole) (c .before .before .before .mark-links .ensures))
+returns c = search needs
+
+returns-2 : tie.Need-returns-2
+returns-2 c = search needs
 
 pub lowest-not-once-spec : {M : Type 1} → statement M
 lowest-not-once-spec =
     tie.close
-    (tie.spec
-    slice-aggregate-mark-links
-    mark-links-requires
-    slice-aggregate-lowest-not-marked-once
-    lowest-not-marked-once-requires
-    returns)
+    (tie.spec enum-told lowest-not-once-in-source-requires enum-told-2 lowest-not-once-in-kernel-requires returns returns-2)

@@ -13,7 +13,7 @@ use Rattle.language.specs.Trees.{read}
 use Rattle.language.specs.Decode.{expressionAt, statementAt, decode, listAt, partAt}
 use Rattle.language.specs.Sizes.{expressionDepth, placeDepth, partDepth, statementDepth, itemsDepth}
 use Rattle.words.specs.Kinds.{between}
-use Rattle.structure.specs.Grammar.{link}
+use Rattle.words.specs.Links.{link}
 use Rattle.structure.specs.declared.Bounds.{Bounds}
 use Rattle.structure.specs.Structured.{Leads, Structured, Depth, root, owned, beside, Shallow}
 use Rattle.structure.specs.StructuredLaws.{structured-tree}

@@ -21,8 +21,7 @@ use Rattle.words.specs.declared.MarkKind.the-variants.{Case, Default, Label}
 use Rattle.language.specs.Trees.{constant, read, minus, not, binary, and, or, comma, conditional, assign, compound, prefix, postfix, Place, variable, element}
 use Rattle.language.specs.Decode.{placeOf, expressionAt}
 use Rattle.language.specs.DecodeLaws.{at-constant, at-variable, at-element, at-minus, at-not, at-binary, at-and, at-or, at-comma, at-conditional, at-assign, at-compound, at-prefix, at-postfix}
-use Rattle.structure.specs.Grammar.{isExpression, isPlace, link}
-use Rattle.structure.specs.Fields.{fits}
+use Rattle.words.specs.Links.{isExpression, isPlace, link, fits}
 use Rattle.structure.specs.StructuredLaws.{structured-tree}
 use Rattle.structure.specs.declared.Bounds.{Bounds}
 use Rattle.structure.specs.Structured.{Leads, Structured}

@@ -17,8 +17,8 @@ use Rattle.words.specs.Laws.{both, either}
 use Rattle.words.specs.declared.Form.{Form}
 use Rattle.words.specs.declared.Kind.{Kind}
 use Rattle.language.specs.Decode.{Forward}
-use Rattle.structure.specs.Grammar.{link}
-use Rattle.structure.specs.Fields.{fits, numberFits}
+use Rattle.words.specs.Links.{link, fits}
+use Rattle.structure.specs.Fields.{numberFits}
 use Rattle.structure.specs.declared.Bounds.{Bounds}
 use Rattle.structure.specs.Structured.{Leads, Structured}
 use Rattle.structure.specs.StructuredLaws.{required-is-link}

@@ -15,7 +15,7 @@ use Rattle.language.specs.Trees.{read}
 use Rattle.language.specs.Decode.{expressionAt, statementAt, decode, listAt, partAt}
 use Rattle.language.specs.Program.{contents}
 use Rattle.language.specs.WellFormed.{NamedExpression, NamedPlace, NamedPart, NamedStatement, NamedItems}
-use Rattle.structure.specs.Grammar.{link}
+use Rattle.words.specs.Links.{link}
 use Rattle.structure.specs.Fields.{boundsOf}
 use Rattle.structure.specs.declared.Bounds.{Bounds}
 use Rattle.structure.specs.Structured.{Structured}

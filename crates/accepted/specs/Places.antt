@@ -16,7 +16,7 @@ use Rattle.words.specs.declared.StatementKind.the-variants.{Block, Switch}
 use Rattle.language.specs.Decode.{statementAt, decode, listAt}
 use Rattle.language.specs.Program.{contents}
 use Rattle.language.specs.WellFormed.{Placed, PlacedItems}
-use Rattle.structure.specs.Grammar.{link}
+use Rattle.words.specs.Links.{link}
 use Rattle.structure.specs.LinkLaws.{linker-of}
 use Rattle.structure.specs.StructuredLaws.{structured-tree}
 use Rattle.structure.specs.Fields.{boundsOf}

@@ -19,8 +19,7 @@ use Rattle.language.specs.Trees.{read}
 use Rattle.language.specs.Decode.{expressionAt, statementOf, statementAt, itemsAt, decode, listAt, partAt}
 use Rattle.language.specs.DecodeLaws.{statement-at, at-item, at-case, at-default, at-label, part-some}
 use Rattle.language.specs.Sizes.{expressionRows, placeRows, partRows, statementRows, itemsRows}
-use Rattle.structure.specs.Grammar.{isExpression, isStatement, link}
-use Rattle.structure.specs.Fields.{fits}
+use Rattle.words.specs.Links.{isExpression, isStatement, link, fits}
 use Rattle.structure.specs.StructuredLaws.{structured-tree}
 use Rattle.structure.specs.declared.Bounds.{Bounds}
 use Rattle.structure.specs.Structured.{Leads, Structured}

@@ -22,7 +22,7 @@ use Rattle.words.specs.declared.StatementKind.{StatementKind}
 use Rattle.words.specs.declared.StatementKind.the-variants.{Empty, Express, Block, If, While, Do, For, Switch, Break, Continue, Goto}
 use Rattle.words.specs.declared.MarkKind.{MarkKind}
 use Rattle.words.specs.declared.MarkKind.the-variants.{Case, Default, Label}
-use Rattle.structure.specs.Grammar.{isExpression, isStatement}
+use Rattle.words.specs.Links.{isExpression, isStatement}
 
 pub between-true : (least most number : ℕ) → between least most number ≡ true → (least ≤ number) × (number ≤ most)
 between-true least most number e =

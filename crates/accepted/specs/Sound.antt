@@ -16,8 +16,8 @@ use Rattle.words.specs.Laws.{both, either}
 use Rattle.words.specs.Layout.{Layout, layoutOf, storeSize, storeWords}
 use Rattle.words.specs.declared.Form.{Form}
 use Rattle.language.specs.Sound.{Link, OptionalLink, SoundField, Sound}
-use Rattle.structure.specs.Grammar.{isPlace, link}
-use Rattle.structure.specs.Fields.{fits, boundsIn, boundsOf, numberFits}
+use Rattle.words.specs.Links.{isPlace, link, fits}
+use Rattle.structure.specs.Fields.{boundsIn, boundsOf, numberFits}
 use Rattle.structure.specs.StructuredLaws.{structured-tree}
 use Rattle.structure.specs.Structured.{Structured}
 use Rattle.accepted.specs.Sorts.{sort-is, kind-known}

@@ -21,9 +21,8 @@ use Rattle.words.specs.declared.MarkKind.the-variants.{Case, Default, Label}
 use Rattle.language.specs.Trees.{Expression, absent, present, case, default, label, Statement, empty, express, block, ifThen, ifElse, while, doWhile, for, switch, break, continue, goto, none, _then_, _here_}
 use Rattle.language.specs.Decode.{expressionAt, statementOf, statementAt, itemsAt, decode, listAt, partAt}
 use Rattle.language.specs.DecodeLaws.{statement-at, at-empty, at-express, at-block, at-ifThen, at-ifElse, at-while, at-doWhile, at-for, at-switch, at-break, at-continue, at-goto, at-item, at-case, at-default, at-label, part-some}
-use Rattle.structure.specs.Grammar.{link, isStatement}
+use Rattle.words.specs.Links.{link, isStatement, fits}
 use Rattle.language.specs.Program.{contents}
-use Rattle.structure.specs.Fields.{fits}
 use Rattle.structure.specs.StructuredLaws.{structured-tree}
 use Rattle.structure.specs.declared.Bounds.{Bounds}
 use Rattle.structure.specs.Structured.{Leads, Structured}

@@ -13,8 +13,8 @@ use lib.IntN.{ℤ}
 use borrow.Author.Tests.{eq-eqb, ne-eqb}
 use Rattle.words.specs.Word.{pick}
 use Rattle.words.specs.Table.{rowCount}
-use Rattle.structure.specs.Grammar.{link}
-use Rattle.structure.specs.Links.{target, one, linksAmong, linkCount}
+use Rattle.words.specs.Links.{link, target}
+use Rattle.structure.specs.Links.{one, linksAmong, linkCount}
 use Rattle.structure.specs.Structured.{Tree}
 use Rattle.structure.specs.GrammarLaws.{kind-links-none}
 use Rattle.structure.specs.LinkLaws.{word-of}

@@ -9,7 +9,7 @@ use Rattle.words.specs.Table.{wordAt}
 use Rattle.words.specs.declared.Form.{Form}
 use Rattle.language.specs.Trees.{read}
 use Rattle.language.specs.Decode.{expressionAt, statementAt, decode, listAt, partAt}
-use Rattle.structure.specs.Grammar.{link}
+use Rattle.words.specs.Links.{link}
 use Rattle.structure.specs.declared.Bounds.{Bounds}
 use Rattle.structure.specs.Structured.{Structured}
 use Rattle.accepted.specs.Worded.{ValuedExpression, ValuedPlace, ValuedPart, ValuedStatement, ValuedItems, IsWord, Worded}

@@ -20,9 +20,9 @@ use Rattle.words.specs.declared.StatementKind.the-variants.{Block, If}
 use Rattle.language.specs.Trees.{block, Items, none, _then_, _here_, _⧺_}
 use Rattle.language.specs.Decode.{statementOf, statementAt, listAt}
 use Rattle.language.specs.DecodeLaws.{statement-at, at-empty, at-express, at-block, at-ifElse, at-while, at-goto, at-item, at-label}
-use Rattle.structure.specs.Grammar.{isStatement, link}
+use Rattle.words.specs.Links.{isStatement, link, fits}
 use Rattle.language.specs.Program.{contents}
-use Rattle.structure.specs.Fields.{fits, boundsOf}
+use Rattle.structure.specs.Fields.{boundsOf}
 use Rattle.structure.specs.NoteLaws.{above-zero}
 use Rattle.structure.specs.declared.Bounds.{Bounds}
 use Rattle.structure.specs.Structured.{Leads, Structured}

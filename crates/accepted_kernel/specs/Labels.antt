@@ -15,8 +15,7 @@ use Rattle.language.specs.Trees.{Mark, label, sameMark, has, Items, _⧺_}
 use Rattle.language.specs.TreeLaws.{has-next, has-left, has-right}
 use Rattle.language.specs.Decode.{listAt}
 use Rattle.language.specs.DecodeLaws.{at-label}
-use Rattle.structure.specs.Grammar.{link}
-use Rattle.structure.specs.Fields.{fits}
+use Rattle.words.specs.Links.{link, fits}
 use Rattle.structure.specs.declared.Bounds.{Bounds}
 use Rattle.structure.specs.Structured.{Leads, Structured}
 use Rattle.structure.specs.Lists.{Before, adjacent, further}

@@ -7,9 +7,9 @@ use Rattle.words.specs.Table.{wordAt, numberAt}
 use Rattle.words.specs.Layout.{depthLimit, rowLimit}
 use Rattle.words.specs.declared.Form.the-variants.{Source, Kernel}
 use Rattle.words.specs.Kinds.{kindOf, kindIn, kinds, sortIn, kindRow, expressionFields, statementFields, markFields, sortOf, sortAt, isLink}
-use Rattle.structure.specs.Grammar.{link}
-use Rattle.structure.specs.Links.{target, linker, received, noteBy, note, deeper, depthAt, tooDeep}
-use Rattle.structure.specs.Search.{lowest}
+use Rattle.words.specs.Links.{link, target, linker, received, noteBy, note}
+use Rattle.structure.specs.Links.{deeper, depthAt, tooDeep}
+use Rattle.words.specs.Search.{lowest}
 use Rattle.check_answers.specs.Sample.{chain}
 
 pub record Limits : Type 0 where

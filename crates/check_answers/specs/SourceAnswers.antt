@@ -5,12 +5,12 @@ use Rattle.words.specs.Word.{sameWord, natural}
 use Rattle.words.specs.Table.{wordAt, numberAt}
 use Rattle.words.specs.Layout.{layoutOf, sum, storeSize, storeWords, allWithin, headerFits, countFits}
 use Rattle.words.specs.declared.Verdict.{Verdict}
-use Rattle.structure.specs.Fields.{foreign, fits, leadsRight, mislinked, boundsOf, numberFits, outside}
+use Rattle.words.specs.Links.{fits, isExpression, isPlace, isStatement, link, target, linker, received, noteBy, note}
+use Rattle.structure.specs.Fields.{foreign, leadsRight, mislinked, boundsOf, numberFits, outside}
 use Rattle.words.specs.Kinds.{kindOf, kindIn, kinds, sortIn, kindRow, expressionFields, statementFields, markFields, sortOf, sortAt, inLanguage, isLink, isRequired}
-use Rattle.structure.specs.Grammar.{isExpression, isPlace, isStatement, link}
-use Rattle.structure.specs.Links.{target, linksAmong, linkCount, loneBlock, notOnce, linker, received, noteBy, note, deeper, depthAt, tooDeep}
+use Rattle.structure.specs.Links.{linksAmong, linkCount, loneBlock, notOnce, deeper, depthAt, tooDeep}
 use Rattle.structure.specs.Refusal.{at, unless, _next_, rowCauses, structuralRefusal}
-use Rattle.structure.specs.Search.{lowest, some, lowestRow, someField}
+use Rattle.words.specs.Search.{lowest, some, lowestRow, someField}
 use Rattle.source_check.specs.Marks.{sameMark, equalAmong, repeated}
 use Rattle.source_check.specs.Places.{handed, noteAt, outOfPlace, misplaced}
 use Rattle.source_check.specs.Refusal.{laterRefusal, refusal}

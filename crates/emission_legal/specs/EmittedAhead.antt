@@ -15,7 +15,7 @@ use Rattle.language.specs.Sizes.{expressionRows, placeRows, statementRows, item
 use Rattle.language.specs.TreeLaws.{statement-some}
 use Rattle.translation.specs.KernelForm.{KernelStatement, kernel-block, kernel-if, kernel-while, kernel-goto, KernelItems, kernel-then, kernel-label}
 use Rattle.words.specs.Kinds.{sortOf, isLink, kindOf, kindIn, kinds, sortIn, kindRow, expressionFields, statementFields, markFields}
-use Rattle.structure.specs.Grammar.{isStatement, link}
+use Rattle.words.specs.Links.{isStatement, link}
 use Rattle.structure.specs.Structured.{Leads}
 use Rattle.structure.specs.Lists.{Before, adjacent, further}
 use Rattle.kernel_check.specs.Statements.{isKernelStatement}

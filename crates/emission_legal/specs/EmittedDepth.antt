@@ -12,7 +12,7 @@ use Rattle.words.specs.Word.{pick}
 use Rattle.language.specs.Trees.{Expression, Place, Statement, Items, none}
 use Rattle.language.specs.Sizes.{statementRows, expressionDepth, placeDepth, statementDepth, itemsDepth}
 use Rattle.words.specs.Kinds.{sortOf, isLink, kindOf, kindIn, kinds, sortIn, kindRow, expressionFields, statementFields, markFields}
-use Rattle.structure.specs.Grammar.{link}
+use Rattle.words.specs.Links.{link}
 use Rattle.structure.specs.Structured.{Leads, Depth, root, owned, beside}
 use Rattle.emission.specs.Emission.{listLink}
 use Rattle.emission.specs.Emitted.{Row, EmittedExpression, constant-at, read-at, minus-at, binary-at, assign-at, EmittedPlace, variable-at, element-at, EmittedStatement, empty-at, express-at, block-at, if-at, while-at, goto-at, EmittedItems, none-at, then-at, label-at}

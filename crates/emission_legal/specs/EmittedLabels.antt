@@ -18,7 +18,7 @@ use Rattle.language.specs.Trees.{Expression, Statement, Items}
 use Rattle.language.specs.Sizes.{expressionRows, statementRows, itemsRows}
 use Rattle.translation.specs.KernelForm.{statementTimes, itemsTimes}
 use Rattle.words.specs.Kinds.{sortOf, sortAt, kindOf, kindIn, kinds, sortIn, kindRow, expressionFields, statementFields, markFields}
-use Rattle.structure.specs.Grammar.{isStatement}
+use Rattle.words.specs.Links.{isStatement}
 use Rattle.structure.specs.Links.{one}
 use Rattle.kernel_check.specs.Legal.{Label}
 use Rattle.emission.specs.Emitted.{Row, EmittedExpression, EmittedStatement, empty-at, express-at, block-at, if-at, while-at, goto-at, EmittedItems, none-at, then-at, label-at}

@@ -18,7 +18,7 @@ use Rattle.translation.specs.Translate.{translate, temporaries, kernelHeader}
 use Rattle.translation.specs.KernelForm.{kernel-block, statementTimes, KernelTree}
 use Rattle.translation.specs.TranslateKernel.{translation-is-kernel, header-layout, header-temporaries, header-fits}
 use Rattle.words.specs.Kinds.{sortOf, sortAt, kindOf, kindIn, kinds, sortIn, kindRow, expressionFields, statementFields, markFields}
-use Rattle.structure.specs.Grammar.{isStatement}
+use Rattle.words.specs.Links.{isStatement}
 use Rattle.kernel_check.specs.Legal.{Legal}
 use Rattle.emission.specs.Emission.{emit}
 use Rattle.emission.specs.EmissionLaws.{length-emit}

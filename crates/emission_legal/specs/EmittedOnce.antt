@@ -14,8 +14,8 @@ use Rattle.words.specs.Table.{rowCount}
 use Rattle.language.specs.Trees.{Expression, Place, Statement, Items}
 use Rattle.language.specs.Sizes.{expressionRows, placeRows, statementRows, itemsRows}
 use Rattle.words.specs.Kinds.{sortOf, isLink, kindOf, kindIn, kinds, sortIn, kindRow, expressionFields, statementFields, markFields}
-use Rattle.structure.specs.Grammar.{link}
-use Rattle.structure.specs.Links.{target, one, linksAmong, linkCount}
+use Rattle.words.specs.Links.{link, target}
+use Rattle.structure.specs.Links.{one, linksAmong, linkCount}
 use Rattle.emission.specs.Emission.{listLink}
 use Rattle.emission.specs.Emitted.{Row, EmittedExpression, constant-at, read-at, minus-at, binary-at, assign-at, EmittedPlace, variable-at, element-at, EmittedStatement, empty-at, express-at, block-at, if-at, while-at, goto-at, EmittedItems, none-at, then-at, label-at}
 use Rattle.emission_legal.specs.Suits.{linkBy, row-link}

@@ -11,8 +11,8 @@ use Rattle.words.specs.Word.{pick}
 use Rattle.words.specs.Table.{rowCount, numberAt}
 use Rattle.words.specs.declared.Form.the-variants.{Kernel}
 use Rattle.words.specs.Kinds.{unused, value, variable, label, expression, optionalItem, sortOf, sortAt, inLanguage, isLink, isRequired}
-use Rattle.structure.specs.Grammar.{link}
-use Rattle.structure.specs.Fields.{fits, numberFits}
+use Rattle.words.specs.Links.{link, fits}
+use Rattle.structure.specs.Fields.{numberFits}
 use Rattle.structure.specs.GrammarLaws.{kind-links-none}
 use Rattle.structure.specs.Structured.{Leads}
 use Rattle.structure.specs.declared.Bounds.{Bounds}

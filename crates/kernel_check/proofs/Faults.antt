@@ -14,9 +14,9 @@ use borrow.Author.Tests.{eqb-true, ltb-true, ltb-false, leb-true}
 use Rattle.words.specs.Word.{pick}
 use Rattle.words.specs.Table.{rowCount, numberAt}
 use Rattle.words.specs.Kinds.{between}
-use Rattle.structure.specs.Search.{some, lowestRow}
-use Rattle.structure.specs.SearchLaws.{lowest-at, all-lowestRow}
-use Rattle.structure.specs.declared.Found.the-variants.{At, Nothing}
+use Rattle.words.specs.Search.{some, lowestRow}
+use Rattle.words.specs.SearchLaws.{lowest-at, all-lowestRow}
+use Rattle.words.specs.declared.Found.the-variants.{At, Nothing}
 use Rattle.kernel_check.specs.Labels.{isLabel, repeatedLabel, labelAhead, gotoWithoutLabel, labelFault}
 use Rattle.kernel_check.specs.LabelLaws.{test-label}
 use Rattle.kernel_check.specs.Passes.{Jump, NextJump, LabelNumbers, LowestAmong, NumberBelow, Passed, smaller, earlier, lower}

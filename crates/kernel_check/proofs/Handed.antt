@@ -7,7 +7,7 @@ use lib.Dec.{eqb}
 use lib.IntN.{ℤ}
 use borrow.Author.Tests.{eq-eqb, ne-eqb}
 use Rattle.words.specs.Word.{pick}
-use Rattle.structure.specs.Grammar.{link}
+use Rattle.words.specs.Links.{link}
 use Rattle.kernel_check.specs.Labels.{owning}
 use Rattle.kernel_check.specs.Passes.{handed}
 use Rattle.kernel_check.specs.declared.Note.{Note}

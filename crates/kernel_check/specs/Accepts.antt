@@ -17,11 +17,11 @@ use Rattle.words.specs.declared.Verdict.the-variants.{Accepted}
 use Rattle.structure.specs.DepthLaws.{none-deep-shallow, shallow-none-deep}
 use Rattle.structure.specs.Fields.{numberFits}
 use Rattle.words.specs.Kinds.{sortOf, sortAt, isLink, sortIn, kindOf, kindIn, kinds, kindRow, expressionFields, statementFields, markFields}
-use Rattle.structure.specs.Grammar.{isStatement, link}
+use Rattle.words.specs.Links.{isStatement, link}
 use Rattle.structure.specs.Refusal.{at, structuralRefusal}
 use Rattle.structure.specs.RefusalLaws.{next-accepts, accepts-next, at-accepts, accepts-at}
-use Rattle.structure.specs.Search.{some}
-use Rattle.structure.specs.SearchLaws.{some-all, all-some, lowestRow-all, all-lowestRow}
+use Rattle.words.specs.Search.{some}
+use Rattle.words.specs.SearchLaws.{some-all, all-some, lowestRow-all, all-lowestRow}
 use Rattle.structure.specs.declared.Bounds.{Bounds}
 use Rattle.structure.specs.Structured.{Structured, Tree}
 use Rattle.structure.specs.StructuredLaws.{accepted-structured, structured-accepted, structured-tree}

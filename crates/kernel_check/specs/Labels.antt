@@ -6,9 +6,8 @@ use lib.Dec.{eqb}
 use lib.IntN.{ℤ}
 use Rattle.words.specs.Word.{pick}
 use Rattle.words.specs.Table.{rowCount, numberAt}
-use Rattle.structure.specs.Grammar.{link}
-use Rattle.structure.specs.Search.{some}
-use Rattle.structure.specs.Links.{note}
+use Rattle.words.specs.Links.{link, note}
+use Rattle.words.specs.Search.{some}
 
 -- 53 label, with this label number.
 unfoldable pub isLabel : List ℤ → ℕ → ℕ → Bool

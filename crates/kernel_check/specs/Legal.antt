@@ -7,7 +7,7 @@ use lib.IntN.{ℤ}
 use Rattle.words.specs.Table.{rowCount, numberAt}
 use Rattle.words.specs.Layout.{headerFits}
 use Rattle.words.specs.declared.Form.the-variants.{Kernel}
-use Rattle.structure.specs.Grammar.{isStatement, link}
+use Rattle.words.specs.Links.{isStatement, link}
 use Rattle.structure.specs.Fields.{boundsOf}
 use Rattle.structure.specs.Structured.{Leads, Structured, Shallow}
 use Rattle.structure.specs.Lists.{Before}

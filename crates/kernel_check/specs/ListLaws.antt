@@ -9,7 +9,7 @@ use lib.Arith.{lt-of-le-ne}
 use lib.IntN.{ℤ}
 use borrow.Author.Tests.{ne-eqb}
 use Rattle.words.specs.Table.{rowCount}
-use Rattle.structure.specs.Grammar.{link}
+use Rattle.words.specs.Links.{link}
 use Rattle.structure.specs.LinkLaws.{owner-of, by-owner}
 use Rattle.structure.specs.NoteLaws.{note-root, note-link}
 use Rattle.structure.specs.Structured.{Leads, Tree}

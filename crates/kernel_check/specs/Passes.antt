@@ -10,8 +10,7 @@ use lib.ListN.{length, getD}
 use Rattle.words.specs.Word.{pick}
 use Rattle.words.specs.Table.{rowCount, numberAt}
 use Rattle.words.specs.Kinds.{between}
-use Rattle.structure.specs.Grammar.{link}
-use Rattle.structure.specs.Links.{note}
+use Rattle.words.specs.Links.{link, note}
 use Rattle.structure.specs.Passes.{Notes}
 use Rattle.structure.specs.Structured.{Tree}
 use Rattle.kernel_check.specs.Labels.{isLabel, owning}

@@ -3,7 +3,7 @@ use mathlib.Core.List.{List}
 use lib.IntN.{ℤ}
 use Rattle.words.specs.declared.Form.the-variants.{Kernel}
 use Rattle.words.specs.declared.Verdict.{Verdict}
-use Rattle.structure.specs.Search.{lowestRow}
+use Rattle.words.specs.Search.{lowestRow}
 use Rattle.structure.specs.Links.{tooDeep}
 use Rattle.structure.specs.Refusal.{at, _next_, structuralRefusal}
 use Rattle.kernel_check.specs.Statements.{notKernelForm}

@@ -10,12 +10,12 @@ use Rattle.words.specs.Table.{wordAt, numberAt}
 use Rattle.words.specs.Layout.{layoutOf, sum, storeSize, storeWords, allWithin, headerFits, countFits}
 use Rattle.words.specs.declared.Verdict.{Verdict}
 use Rattle.words.specs.declared.Verdict.the-variants.{Accepted, Refused}
-use Rattle.structure.specs.Fields.{foreign, fits, leadsRight, mislinked, boundsOf, numberFits, outside}
+use Rattle.words.specs.Links.{fits, isExpression, isPlace, isStatement, link, target, linker, received, noteBy, note}
+use Rattle.structure.specs.Fields.{foreign, leadsRight, mislinked, boundsOf, numberFits, outside}
 use Rattle.words.specs.Kinds.{sortOf, sortAt, inLanguage, isLink, isRequired, sortIn, kindOf, kindIn, kinds, kindRow, expressionFields, statementFields, markFields}
-use Rattle.structure.specs.Grammar.{isExpression, isPlace, isStatement, link}
-use Rattle.structure.specs.Links.{target, linksAmong, linkCount, loneBlock, notOnce, linker, received, noteBy, note, deeper, depthAt, tooDeep}
+use Rattle.structure.specs.Links.{linksAmong, linkCount, loneBlock, notOnce, deeper, depthAt, tooDeep}
 use Rattle.structure.specs.Refusal.{at, unless, _next_, rowCauses, structuralRefusal}
-use Rattle.structure.specs.Search.{lowest, some, lowestRow, someField}
+use Rattle.words.specs.Search.{lowest, some, lowestRow, someField}
 use Rattle.kernel_check.specs.Accepts.{accepted-legal}
 use Rattle.kernel_check.specs.Labels.{isLabel, repeatedLabel, owning, ownerAt, labelBehind, labelAhead, gotoWithoutLabel, labelFault}
 use Rattle.kernel_check.specs.Legal.{Legal}

@@ -7,7 +7,7 @@ use lib.IntN.{ℤ}
 use Rattle.words.specs.Word.{pick}
 use Rattle.words.specs.Table.{numberAt}
 use Rattle.words.specs.Kinds.{between}
-use Rattle.structure.specs.Grammar.{isStatement}
+use Rattle.words.specs.Links.{isStatement}
 
 -- "An atom is a constant or variable."
 unfoldable pub isAtom : List ℤ → ℕ → Bool

@@ -6,15 +6,15 @@ pub mod statements; // statements.rt: cause 12, the statements of the kernel lan
 
 use labels::lowest_label_fault;
 use statements::lowest_not_kernel_form;
-use structure::Found;
 use structure::causes::at;
 use structure::causes::structural_refusal;
 use structure::depth::lowest_deep_row;
 use words::Form;
+use words::Found;
 use words::Refusal;
 use words::Verdict;
 ghost use mathlib.Core.Path.{_≡_};
-ghost use Rattle.structure.specs.Grammar.{link};
+ghost use Rattle.words.specs.Links.{link};
 ghost use Rattle.structure.specs.Structured.{Tree};
 ghost use Rattle.kernel_check.specs.Passes.{LabelNumbers};
 ghost use Rattle.kernel_check.specs.Refusal.{kernelCauses, refusal as refusalOf};

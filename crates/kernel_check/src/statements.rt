@@ -1,15 +1,15 @@
 // Cause 12: the statements of the kernel language. Each test is true where the row is what it is named after.
-use structure::Found;
 use structure::grammar::KINDS;
 use structure::grammar::KindTable;
 use structure::grammar::between;
 use structure::grammar::is_statement;
+use words::Found;
 use words::table::number_at;
 ghost use mathlib.Core.Path.{_≡_};
 ghost use Prim.Native.Nat.{_+_, _*_, _/_, _<_};
 ghost use lib.ListN.{length};
 ghost use Rattle.words.specs.Table.{numberAt};
-ghost use Rattle.structure.specs.Search.{lowestRow};
+ghost use Rattle.words.specs.Search.{lowestRow};
 ghost use Rattle.structure.specs.Grammar.{grammar};
 ghost use Rattle.kernel_check.specs.Statements.{isAtom, isAtomMinus, isAtomOperation, isAtomElement, fitsVariable, isAssignment, isBlock, isKernelIf, isKernelWhile, isKernelExpression, isKernelStatement, notKernelForm};
 

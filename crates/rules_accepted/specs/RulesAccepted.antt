@@ -9,12 +9,12 @@ use Rattle.words.specs.declared.Verdict.{Verdict}
 use Rattle.words.specs.declared.Verdict.the-variants.{Accepted}
 use Rattle.language.specs.Rule.{Rule}
 use Rattle.language.specs.Rules.{starredRules, surprisingOrders, arithmeticRules, comparisonRules, expressionRules, statementRules, loopRules, table}
-use Rattle.structure.specs.Fields.{foreign, fits, leadsRight, mislinked, boundsOf, numberFits, outside}
+use Rattle.words.specs.Links.{fits, isExpression, isPlace, isStatement, link, target, linker, received, noteBy, note}
+use Rattle.structure.specs.Fields.{foreign, leadsRight, mislinked, boundsOf, numberFits, outside}
 use Rattle.words.specs.Kinds.{sortOf, sortAt, inLanguage, isLink, isRequired, kinds, kindIn, kindOf, sortIn, kindRow, expressionFields, statementFields, markFields}
-use Rattle.structure.specs.Grammar.{isExpression, isPlace, isStatement, link}
-use Rattle.structure.specs.Links.{target, linksAmong, linkCount, loneBlock, notOnce, linker, received, noteBy, note, deeper, depthAt, tooDeep}
+use Rattle.structure.specs.Links.{linksAmong, linkCount, loneBlock, notOnce, deeper, depthAt, tooDeep}
 use Rattle.structure.specs.Refusal.{at, unless, _next_, rowCauses, structuralRefusal}
-use Rattle.structure.specs.Search.{lowest, some, lowestRow, someField}
+use Rattle.words.specs.Search.{lowest, some, lowestRow, someField}
 use Rattle.source_check.specs.Marks.{sameMark, equalAmong, repeated}
 use Rattle.source_check.specs.Places.{handed, noteAt, outOfPlace, misplaced}
 use Rattle.source_check.specs.Refusal.{laterRefusal, refusal}

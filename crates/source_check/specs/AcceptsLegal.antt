@@ -14,7 +14,7 @@ use Rattle.words.specs.Laws.{by-cases, both, natural-pos}
 use Rattle.words.specs.declared.Form.the-variants.{Source}
 use Rattle.words.specs.declared.Verdict.the-variants.{Accepted}
 use Rattle.words.specs.Kinds.{sortOf, sortAt, sortIn, kindOf, kindIn, kinds, kindRow, expressionFields, statementFields, markFields}
-use Rattle.structure.specs.SearchLaws.{lowestRow-all, all-lowestRow}
+use Rattle.words.specs.SearchLaws.{lowestRow-all, all-lowestRow}
 use Rattle.structure.specs.DepthLaws.{none-deep-shallow, shallow-none-deep}
 use Rattle.structure.specs.Refusal.{at, _next_, structuralRefusal}
 use Rattle.structure.specs.RefusalLaws.{next-accepts, accepts-next, at-accepts, accepts-at}

@@ -7,7 +7,7 @@ use lib.IntN.{ℤ}
 use Rattle.words.specs.Table.{rowCount, wordAt, numberAt}
 use Rattle.words.specs.Layout.{headerFits}
 use Rattle.words.specs.declared.Form.the-variants.{Source}
-use Rattle.structure.specs.Grammar.{link}
+use Rattle.words.specs.Links.{link}
 use Rattle.structure.specs.Fields.{boundsOf}
 use Rattle.structure.specs.Structured.{Leads, Structured, Shallow}
 use Rattle.structure.specs.Lists.{Before}

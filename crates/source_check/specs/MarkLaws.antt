@@ -10,7 +10,7 @@ use lib.IntN.{ℤ}
 use borrow.Author.Tests.{eq-eqb, ne-eqb}
 use Rattle.words.specs.Word.{pick}
 use Rattle.words.specs.Table.{rowCount, numberAt}
-use Rattle.structure.specs.Grammar.{link}
+use Rattle.words.specs.Links.{link}
 use Rattle.structure.specs.LinkLaws.{owner-of, by-owner}
 use Rattle.structure.specs.NoteLaws.{above-zero, note-root, note-link}
 use Rattle.structure.specs.Structured.{Leads, Tree}

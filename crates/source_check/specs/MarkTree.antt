@@ -11,8 +11,8 @@ use lib.ListN.{length, getD, set}
 use lib.Signed.{mag}
 use Rattle.words.specs.Word.{pick}
 use Rattle.words.specs.Table.{rowCount, wordAt, numberAt}
-use Rattle.structure.specs.declared.Found.{Found}
-use Rattle.structure.specs.declared.Found.the-variants.{At, Nothing}
+use Rattle.words.specs.declared.Found.{Found}
+use Rattle.words.specs.declared.Found.the-variants.{At, Nothing}
 use Rattle.structure.specs.Lists.{Before}
 use Rattle.source_check.specs.Places.{isMark, noteAt}
 use Rattle.source_check.specs.Marks.{sameMark, repeated}

@@ -17,7 +17,7 @@ use borrow.Author.Tests.{ltb-true, ltb-false, eqb-true, eqb-false, eq-eqb, ne-eq
 use Rattle.words.specs.Word.{pick}
 use Rattle.words.specs.Table.{rowCount, wordAt, numberAt}
 use Rattle.words.specs.Laws.{by-cases, both, sameWord-equal}
-use Rattle.structure.specs.Grammar.{link}
+use Rattle.words.specs.Links.{link}
 use Rattle.structure.specs.Structured.{Tree}
 use Rattle.source_check.specs.Places.{isMark, noteAt}
 use Rattle.source_check.specs.Marks.{sameMark, equalAmong, repeated}

@@ -7,7 +7,7 @@ use lib.IntN.{ℤ}
 use Rattle.words.specs.Word.{pick}
 use Rattle.words.specs.Table.{numberAt}
 use Rattle.words.specs.Kinds.{between}
-use Rattle.structure.specs.Links.{note}
+use Rattle.words.specs.Links.{note}
 use Rattle.source_check.specs.declared.Note.{Note}
 use Rattle.source_check.specs.declared.Note.the-variants.{InLoop, InLoopOrSwitch, SwitchItem, MarkBefore}
 

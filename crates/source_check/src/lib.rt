@@ -2,11 +2,11 @@
 use marks::lowest_repeated;
 use notes::write_notes;
 use places::lowest_misplaced;
-use structure::Found;
 use structure::causes::at;
 use structure::causes::structural_refusal;
 use structure::depth::lowest_deep_row;
 use words::Form;
+use words::Found;
 use words::Refusal;
 use words::Verdict;
 

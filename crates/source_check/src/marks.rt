@@ -1,11 +1,11 @@
 // Cause 8: a second equal case, or a second default, in one switch. Each mark knows the mark before it in its list.
 use super::mark_tree::take_in;
 use super::mark_tree::write_roots;
-use structure::Found;
+use words::Found;
 ghost use mathlib.Core.Path.{_≡_};
 ghost use Prim.Native.Nat.{_/_, _≤_};
 ghost use lib.ListN.{length};
-ghost use Rattle.structure.specs.Search.{lowestRow};
+ghost use Rattle.words.specs.Search.{lowestRow};
 ghost use Rattle.structure.specs.Structured.{Tree};
 ghost use Rattle.structure.specs.Passes.{Notes};
 ghost use Rattle.source_check.specs.Places.{noteAt};

@@ -14,7 +14,7 @@ ghost use lib.ListN.{length, getD};
 ghost use Rattle.words.specs.Word.{pick};
 ghost use Rattle.structure.specs.Grammar.{grammar};
 ghost use Rattle.structure.specs.Structured.{Tree};
-ghost use Rattle.structure.specs.Links.{target};
+ghost use Rattle.words.specs.Links.{target};
 ghost use Rattle.structure.specs.Passes.{written};
 ghost use Rattle.source_check.specs.Places.{handed};
 ghost use Rattle.source_check.specs.Passes.{NoNotes, AllNotes};

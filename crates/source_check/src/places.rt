@@ -1,12 +1,12 @@
 // Cause 7: break, continue, case or default out of place.
-use structure::Found;
 use structure::grammar::between;
+use words::Found;
 use words::table::number_at;
 ghost use mathlib.Core.Path.{_≡_};
 ghost use Prim.Native.Nat.{ℕ, _/_, _≤_};
 ghost use lib.ListN.{length, getD};
 ghost use Rattle.words.specs.Table.{numberAt};
-ghost use Rattle.structure.specs.Search.{lowestRow};
+ghost use Rattle.words.specs.Search.{lowestRow};
 ghost use Rattle.structure.specs.Passes.{Notes};
 ghost use Rattle.source_check.specs.Places.{outOfPlace, misplaced, noteAt};
 ghost use Rattle.source_check.specs.declared.Note.the-variants.{InLoop, InLoopOrSwitch, SwitchItem};

@@ -14,8 +14,8 @@ use lib.Seq.{set-out, set-getD, getD-set-same, getD-set-other}
 use borrow.Author.Tests.{lt-ltb, le-ltb, eq-eqb, ne-eqb}
 use Rattle.words.specs.Word.{pick}
 use Rattle.words.specs.Table.{rowCount}
-use Rattle.structure.specs.Grammar.{link}
-use Rattle.structure.specs.Links.{target, linksAmong, linkCount, notOnce}
+use Rattle.words.specs.Links.{link, target}
+use Rattle.structure.specs.Links.{linksAmong, linkCount, notOnce}
 use Rattle.structure.specs.LinkLaws.{word-of, links-hit, links-miss}
 use Rattle.structure.specs.NoteLaws.{above-zero}
 use Rattle.structure.specs.Passes.{capped, raised, marked, markedLink, Marked}

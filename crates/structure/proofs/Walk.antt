@@ -13,15 +13,15 @@ use Rattle.words.specs.Table.{rowCount}
 use Rattle.words.specs.Layout.{depthLimit}
 use Rattle.words.specs.declared.Form.{Form}
 use Rattle.words.specs.declared.Form.the-variants.{Source, Kernel}
-use Rattle.structure.specs.Grammar.{link}
-use Rattle.structure.specs.Search.{lowestRow}
-use Rattle.structure.specs.SearchLaws.{lowest-at, all-lowestRow}
+use Rattle.words.specs.Links.{link}
+use Rattle.words.specs.Search.{lowestRow}
+use Rattle.words.specs.SearchLaws.{lowest-at, all-lowestRow}
 use Rattle.structure.specs.Links.{depthAt, tooDeep}
 use Rattle.structure.specs.LinkLaws.{by-owner}
 use Rattle.structure.specs.NoteLaws.{above-zero}
 use Rattle.structure.specs.Structured.{Leads, Tree}
 use Rattle.structure.specs.Passes.{Under, here, down, Through, LowestDeep}
-use Rattle.structure.specs.declared.Found.the-variants.{At, Nothing}
+use Rattle.words.specs.declared.Found.the-variants.{At, Nothing}
 
 module _ (rows : List ℤ) where
   -- ---- rows below a row

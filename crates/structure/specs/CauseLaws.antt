@@ -22,11 +22,11 @@ use Rattle.structure.specs.Links.{linkCount, notOnce}
 use Rattle.structure.specs.Passes.{leastOf, fieldCause, leastCause, rowCause, lowered, lowestCause, laterCauses}
 use Rattle.structure.specs.Refusal.{at, _next_, rowCauses}
 use Rattle.structure.specs.RefusalLaws.{ends, goes-on}
-use Rattle.structure.specs.Search.{lowestRow, someField}
-use Rattle.structure.specs.SearchLaws.{all-lowestRow, someField-all, all-someField, lowest-at}
+use Rattle.words.specs.Search.{lowestRow, someField}
+use Rattle.words.specs.SearchLaws.{all-lowestRow, someField-all, all-someField, lowest-at}
 use Rattle.structure.specs.declared.Bounds.{Bounds}
-use Rattle.structure.specs.declared.Found.{Found}
-use Rattle.structure.specs.declared.Found.the-variants.{At, Nothing}
+use Rattle.words.specs.declared.Found.{Found}
+use Rattle.words.specs.declared.Found.the-variants.{At, Nothing}
 
 -- ---- as the code goes: one more
 

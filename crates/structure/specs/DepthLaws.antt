@@ -10,14 +10,14 @@ use borrow.Author.Tests.{ne-eqb, ltb-false, le-ltb}
 use Rattle.words.specs.Table.{rowCount}
 use Rattle.words.specs.Layout.{depthLimit}
 use Rattle.words.specs.declared.Form.{Form}
-use Rattle.structure.specs.Grammar.{link}
-use Rattle.structure.specs.Search.{lowestRow}
-use Rattle.structure.specs.SearchLaws.{lowestRow-all, all-lowestRow}
+use Rattle.words.specs.Links.{link}
+use Rattle.words.specs.Search.{lowestRow}
+use Rattle.words.specs.SearchLaws.{lowestRow-all, all-lowestRow}
 use Rattle.structure.specs.Links.{deeper, depthAt, tooDeep}
 use Rattle.structure.specs.LinkLaws.{by-owner}
 use Rattle.structure.specs.NoteLaws.{note-root, note-link}
 use Rattle.structure.specs.Structured.{Leads, Tree, Depth, root, owned, beside, Shallow}
-use Rattle.structure.specs.declared.Found.the-variants.{Nothing}
+use Rattle.words.specs.declared.Found.the-variants.{Nothing}
 
 pub depth-root : (rows : List ℤ) → depthAt rows 0 ≡ 1
 unfolding depthAt

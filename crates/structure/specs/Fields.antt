@@ -9,8 +9,8 @@ use Rattle.words.specs.Word.{pick}
 use Rattle.words.specs.Table.{rowCount, numberAt}
 use Rattle.words.specs.Layout.{Layout, layoutOf, storeSize, storeWords}
 use Rattle.words.specs.declared.Form.{Form}
-use Rattle.words.specs.Kinds.{unused, variable, array, label, expression, optionalExpression, place, optionalItem, sortAt, inLanguage, isLink, isRequired}
-use Rattle.structure.specs.Grammar.{isExpression, isPlace, isStatement}
+use Rattle.words.specs.Kinds.{unused, variable, array, label, sortAt, inLanguage, isLink, isRequired}
+use Rattle.words.specs.Links.{fits}
 use Rattle.structure.specs.declared.Bounds.{Bounds}
 
 -- Cause 3: "kind not in the language, or unused field not 0". Field 0 is the kind.
@@ -18,14 +18,6 @@ unfoldable pub foreign : Form → List ℤ → ℕ → ℕ → Bool
 foreign form rows row field =
     pick (eqb field 0) (not (inLanguage form (numberAt rows row 0)))
     (eqb (sortAt rows row field) unused && not (eqb (numberAt rows row field) 0))
-
--- A row is of the sort that a link asks for; "a branch or body" has next 0.
-unfoldable pub fits : List ℤ → ℕ → ℕ → Bool
-fits rows sort row =
-    pick (eqb sort expression || eqb sort optionalExpression) (isExpression rows row)
-    (pick (eqb sort place) (isPlace rows row)
-    (pick (eqb sort optionalItem) (isStatement rows row)
-    (isStatement rows row && eqb (numberAt rows row 5) 0)))
 
 -- "A link is a row number greater than the row's own", of the table and of the fitting sort.
 unfoldable pub leadsRight : List ℤ → ℕ → ℕ → ℕ → Bool

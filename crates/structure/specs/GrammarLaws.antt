@@ -16,7 +16,8 @@ use Rattle.words.specs.KindLaws.{everyLine, every-number}
 use Rattle.words.specs.declared.Form.the-variants.{Source, Kernel}
 use Rattle.words.specs.declared.Kind.{Kind}
 use Rattle.words.specs.declared.Kind.the-variants.{Other}
-use Rattle.structure.specs.Grammar.{link, kindLimit, formsNumber, formsOf, columns, tabulate, grammar}
+use Rattle.words.specs.Links.{link}
+use Rattle.structure.specs.Grammar.{kindLimit, formsNumber, formsOf, columns, tabulate, grammar}
 
 -- a property that no sort of the table's column has, and a field of no kind has not, no number has
 pub no-kind-has : (property : ℕ → Bool) (field : ℕ) → everyLine (λ number kind. not (property (sortIn kind field))) kinds ≡ true → not (property (sortIn Other field)) ≡ true

@@ -1,15 +1,13 @@
 -- What the checks of both forms share. A line of comment for each file.
 
 -- ---- definitions
--- Grammar: what the table of kinds says of a row of a table; and the table by number, as the code holds it.
+-- Grammar: the table of kinds by number, as the code holds it.
 pub mod Grammar
 -- Papers: what documents 01 and 02 say of each kind, in their own lines and ranges.
 pub mod Papers
--- Searches: the lowest number, or the lowest row, with a property.
-pub mod Search
 -- Fields: the causes that lie in one field of a row: 3, 4 and 6.
 pub mod Fields
--- Links: how often a row is linked; what a row gets from the row that links it; depth. Causes 5 and 9.
+-- Links: how often a row is linked; depth. Causes 5 and 9.
 pub mod Links
 -- Refusal: the causes 1 to 6 in order of number, each at the lowest row that breaks it.
 pub mod Refusal
@@ -20,8 +18,6 @@ pub mod Lists
 -- Passes: what the code's loops compute.
 pub mod Passes
 -- ---- laws
--- Laws of searches.
-pub mod SearchLaws
 -- Laws of the grammar: what holds of every kind is tested over the table.
 pub mod GrammarLaws
 -- Laws of the papers: the table of kinds, and the code's array of it, are what documents 01 and 02 say.

@@ -10,12 +10,12 @@ use lib.Dec.{eqb}
 use lib.IntN.{ℤ}
 use borrow.Author.Tests.{eq-eqb, ne-eqb}
 use Rattle.words.specs.Table.{rowCount}
-use Rattle.structure.specs.Grammar.{link}
+use Rattle.words.specs.Links.{link, target, linker}
 use Rattle.structure.specs.GrammarLaws.{kind-links-none}
-use Rattle.structure.specs.SearchLaws.{lowest-at}
-use Rattle.structure.specs.Links.{target, linksAmong, linkCount, linker}
+use Rattle.words.specs.SearchLaws.{lowest-at}
+use Rattle.structure.specs.Links.{linksAmong, linkCount}
 use Rattle.structure.specs.Structured.{Leads, Tree}
-use Rattle.structure.specs.declared.Found.the-variants.{At}
+use Rattle.words.specs.declared.Found.the-variants.{At}
 
 -- the word that is a field of a row
 pub word-of : (row field : ℕ) → field < 6 → ((6 * row + field) / 6 ≡ row) × ((6 * row + field) % 6 ≡ field)

@@ -11,14 +11,14 @@ use lib.IntN.{ℤ}
 use lib.ListN.{length, getD, set, length-set}
 use lib.Seq.{getD-set-same, getD-set-other}
 use Rattle.words.specs.Table.{rowCount}
-use Rattle.structure.specs.Grammar.{link}
-use Rattle.structure.specs.Search.{lowest}
-use Rattle.structure.specs.SearchLaws.{lowest-below}
-use Rattle.structure.specs.Links.{target, linksAmong, linker, received, noteBy, note}
+use Rattle.words.specs.Links.{link, target, linker, received, noteBy, note}
+use Rattle.words.specs.Search.{lowest}
+use Rattle.words.specs.SearchLaws.{lowest-below}
+use Rattle.structure.specs.Links.{linksAmong}
 use Rattle.structure.specs.LinkLaws.{links-since, links-miss, word-of, linker-of, owner-of}
 use Rattle.structure.specs.Structured.{Leads, Tree}
-use Rattle.structure.specs.declared.Found.{Found}
-use Rattle.structure.specs.declared.Found.the-variants.{At, Nothing}
+use Rattle.words.specs.declared.Found.{Found}
+use Rattle.words.specs.declared.Found.the-variants.{At, Nothing}
 
 pub above-zero : (n : ℕ) → (n ≡ 0 → ⊥) → 0 < n
 above-zero n h = lt-of-le-ne (omega arith) (λ (q : 0 ≡ n). h (sym q))

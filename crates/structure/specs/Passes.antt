@@ -12,11 +12,11 @@ use Rattle.words.specs.declared.Form.{Form}
 use Rattle.words.specs.declared.Refusal.{Refusal}
 use Rattle.words.specs.declared.Verdict.{Verdict}
 use Rattle.words.specs.declared.Verdict.the-variants.{Accepted, Refused}
-use Rattle.structure.specs.Grammar.{link}
+use Rattle.words.specs.Links.{link, target}
 use Rattle.structure.specs.Fields.{foreign, mislinked, outside}
-use Rattle.structure.specs.Links.{target, linksAmong, linkCount, notOnce, depthAt}
+use Rattle.structure.specs.Links.{linksAmong, linkCount, notOnce, depthAt}
 use Rattle.structure.specs.Refusal.{at, _next_}
-use Rattle.structure.specs.Search.{lowestRow}
+use Rattle.words.specs.Search.{lowestRow}
 use Rattle.structure.specs.Structured.{Leads}
 use Rattle.structure.specs.declared.Bounds.{Bounds}
 

@@ -9,12 +9,12 @@ use Rattle.words.specs.Layout.{headerFits, countFits}
 use Rattle.words.specs.declared.Form.{Form}
 use Rattle.words.specs.declared.Verdict.{Verdict}
 use Rattle.words.specs.declared.Verdict.the-variants.{Accepted, Refused}
-use Rattle.structure.specs.Search.{lowestRow, someField}
+use Rattle.words.specs.Search.{lowestRow, someField}
 use Rattle.structure.specs.Fields.{foreign, mislinked, boundsOf, outside}
 use Rattle.structure.specs.Links.{linkCount, notOnce}
 use Rattle.structure.specs.declared.Bounds.{Bounds}
-use Rattle.structure.specs.declared.Found.{Found}
-use Rattle.structure.specs.declared.Found.the-variants.{At, Nothing}
+use Rattle.words.specs.declared.Found.{Found}
+use Rattle.words.specs.declared.Found.the-variants.{At, Nothing}
 
 -- A cause that some row breaks, with that row as its place.
 unfoldable pub at : ℕ → Found → Verdict

@@ -6,8 +6,8 @@ use native.Mathlib.Omega.{arith}
 use Rattle.words.specs.declared.Verdict.{Verdict}
 use Rattle.words.specs.declared.Verdict.the-variants.{Accepted, Refused}
 use Rattle.structure.specs.Refusal.{at, unless, _next_}
-use Rattle.structure.specs.declared.Found.{Found}
-use Rattle.structure.specs.declared.Found.the-variants.{At, Nothing}
+use Rattle.words.specs.declared.Found.{Found}
+use Rattle.words.specs.declared.Found.the-variants.{At, Nothing}
 
 -- ---- as the code goes: what a search found decides the verdict, or hands on to the causes that follow
 

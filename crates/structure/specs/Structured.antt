@@ -9,8 +9,8 @@ use Rattle.words.specs.Table.{rowCount, numberAt}
 use Rattle.words.specs.Layout.{countFits, depthLimit}
 use Rattle.words.specs.declared.Form.{Form}
 use Rattle.words.specs.Kinds.{unused, sortAt, inLanguage, isRequired}
-use Rattle.structure.specs.Grammar.{link}
-use Rattle.structure.specs.Fields.{fits, numberFits}
+use Rattle.words.specs.Links.{link, fits}
+use Rattle.structure.specs.Fields.{numberFits}
 use Rattle.structure.specs.Links.{linkCount}
 use Rattle.structure.specs.declared.Bounds.{Bounds}
 

@@ -16,10 +16,10 @@ use Rattle.words.specs.Laws.{both, rowLimit-most, countFits-facts}
 use Rattle.words.specs.declared.Form.{Form}
 use Rattle.words.specs.declared.Verdict.the-variants.{Accepted}
 use Rattle.words.specs.Kinds.{unused, variable, array, label, expression, place, branch, sortOf, sortAt, between, inLanguage, isLink, isRequired}
-use Rattle.structure.specs.Grammar.{link}
-use Rattle.structure.specs.Search.{lowestRow, someField}
-use Rattle.structure.specs.SearchLaws.{lowestRow-all, all-lowestRow, someField-all, all-someField}
-use Rattle.structure.specs.Fields.{foreign, fits, leadsRight, mislinked, boundsOf, numberFits, outside}
+use Rattle.words.specs.Links.{link, fits}
+use Rattle.words.specs.Search.{lowestRow, someField}
+use Rattle.words.specs.SearchLaws.{lowestRow-all, all-lowestRow, someField-all, all-someField}
+use Rattle.structure.specs.Fields.{foreign, leadsRight, mislinked, boundsOf, numberFits, outside}
 use Rattle.structure.specs.Links.{linkCount, loneBlock, notOnce}
 use Rattle.structure.specs.GrammarLaws.{kind-no-link, kind-no-number, kind-links-none}
 use Rattle.structure.specs.NoteLaws.{above-zero}
@@ -27,7 +27,7 @@ use Rattle.structure.specs.Refusal.{at, unless, _next_, rowCauses, struc
 use Rattle.structure.specs.RefusalLaws.{next-accepts, accepts-next, at-accepts, accepts-at, unless-accepts, accepts-unless}
 use Rattle.structure.specs.Structured.{Leads, Structured, Tree}
 use Rattle.structure.specs.declared.Bounds.{Bounds}
-use Rattle.structure.specs.declared.Found.the-variants.{Nothing}
+use Rattle.words.specs.declared.Found.the-variants.{Nothing}
 
 -- ---- each field of each row
 

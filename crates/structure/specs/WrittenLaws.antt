@@ -11,8 +11,7 @@ use lib.ListN.{length, getD, set, length-set}
 use borrow.Author.Tests.{eq-eqb, ne-eqb}
 use Rattle.words.specs.Word.{pick}
 use Rattle.words.specs.Table.{rowCount}
-use Rattle.structure.specs.Grammar.{link}
-use Rattle.structure.specs.Links.{target, note}
+use Rattle.words.specs.Links.{link, target, note}
 use Rattle.structure.specs.NoteLaws.{above-zero, Noted, noted-none, noted-link, noted-all}
 use Rattle.structure.specs.Structured.{Tree}
 use Rattle.structure.specs.Passes.{written, Notes}

@@ -1,6 +1,5 @@
 // The lowest row that breaks a cause, and the causes 1 to 6 in order.
 use super::Bounds;
-use super::Found;
 use super::fields::bounds_of;
 use super::fields::is_foreign;
 use super::fields::is_mislinked;
@@ -10,6 +9,7 @@ use super::grammar::KindTable;
 use super::links::is_not_once;
 use super::links::mark_links;
 use words::Form;
+use words::Found;
 use words::Refusal;
 use words::Verdict;
 use words::layout::count_fits;
@@ -22,7 +22,7 @@ ghost use Rattle.words.specs.Layout.{countFits};
 ghost use Rattle.words.specs.Table.{rowCount};
 ghost use Rattle.words.specs.declared.Form.the-variants.{Source, Kernel};
 ghost use Rattle.structure.specs.Grammar.{grammar};
-ghost use Rattle.structure.specs.Search.{lowestRow};
+ghost use Rattle.words.specs.Search.{lowestRow};
 ghost use Rattle.structure.specs.Links.{linkCount, notOnce};
 ghost use Rattle.structure.specs.Refusal.{at as atCause, rowCauses, structuralRefusal};
 ghost use Rattle.structure.specs.Passes.{fieldCause, rowCause, lowered, lowestCause, laterCauses};

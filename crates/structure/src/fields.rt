@@ -28,7 +28,8 @@ ghost use Prim.Native.Nat.{_+_, _*_, _<_};
 ghost use lib.ListN.{length};
 ghost use Rattle.words.specs.Layout.{headerFits};
 ghost use Rattle.structure.specs.Grammar.{grammar};
-ghost use Rattle.structure.specs.Fields.{foreign, fits as fitsOf, leadsRight, mislinked, boundsOf, numberFits, outside};
+ghost use Rattle.words.specs.Links.{fits as fitsOf};
+ghost use Rattle.structure.specs.Fields.{foreign, leadsRight, mislinked, boundsOf, numberFits, outside};
 
 // Cause 3.
 pub fn is_foreign(kinds: &KindTable, form: Form, rows: &[i32], row: usize, field: usize) -> bool

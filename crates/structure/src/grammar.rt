@@ -5,7 +5,8 @@ ghost use mathlib.Core.Path.{_≡_};
 ghost use Prim.Native.Nat.{_+_, _*_, _<_};
 ghost use lib.ListN.{length};
 ghost use Rattle.words.specs.Kinds.{sortOf, sortAt, between as betweenOf, inLanguage, isLink, isRequired};
-ghost use Rattle.structure.specs.Grammar.{grammar, formsOf, isExpression, isPlace, isStatement, link as linkOf};
+ghost use Rattle.words.specs.Links.{isExpression, isPlace, isStatement, link as linkOf};
+ghost use Rattle.structure.specs.Grammar.{grammar, formsOf};
 
 // Fields without a link. "Values, variable, array and label numbers may be 0."
 pub const NONE: u8 = 0;

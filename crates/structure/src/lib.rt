@@ -13,9 +13,3 @@ pub struct Bounds {
     pub store: usize,
     pub words: usize,
 }
-
-// What a search finds: the lowest row that it looks for.
-pub enum Found {
-    At(usize),
-    Nothing,
-}

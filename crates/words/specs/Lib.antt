@@ -1,4 +1,4 @@
--- Words, tables and layouts; the answers that the crates share; 32-bit arithmetic. A line of comment for each file.
+-- Words, tables and layouts; kinds and links; the answers that the crates share; 32-bit arithmetic. A line of comment for each file.
 
 -- ---- definitions
 -- Words: what is one, and the number that one names.
@@ -9,6 +9,10 @@ pub mod Table
 pub mod Layout
 -- Kinds: document 01's table of kinds: numbers, sorts of fields, forms.
 pub mod Kinds
+-- Searches: the lowest number, or the lowest row, with a property.
+pub mod Search
+-- Links: what a row is, which row a field links and which fit there; what is handed along the links.
+pub mod Links
 -- Arithmetic: the operations on words, with their faults.
 pub mod Arithmetic
 -- Over: what stands in a table or a buffer after values were written from its start.
@@ -26,3 +30,5 @@ pub mod AnswerLaws
 pub mod Laws
 -- Laws of the table of kinds.
 pub mod KindLaws
+-- Laws of searches.
+pub mod SearchLaws

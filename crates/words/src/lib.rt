@@ -129,3 +129,9 @@ pub enum Located {
     At(usize),
     Outside,
 }
+
+// What a search finds: the lowest row that it looks for.
+pub enum Found {
+    At(usize),
+    Nothing,
+}

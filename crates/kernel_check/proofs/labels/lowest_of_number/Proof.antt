@@ -4,7 +4,7 @@ use mathlib.Core.Path.{_≡_, refl, sym, _∙_}
 use Prim.Native.Nat.{_+_, _-_, _<_}
 use native.Mathlib.Omega.{arith}
 use Rattle.words.specs.Table.{rowCount}
-use Rattle.structure.specs.Search.{some}
+use Rattle.words.specs.Search.{some}
 use Rattle.kernel_check.specs.Labels.{isLabel, labelFault}
 use Rattle.kernel_check.specs.Passes.{Jump, NextJump, LowestAmong, Passed}
 use Rattle.kernel_check.proofs.Faults.{seen-skip, lowest-start, lowest-skip, lowest-row, lowest-end}

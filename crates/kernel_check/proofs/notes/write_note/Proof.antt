@@ -4,7 +4,7 @@ use Prim.Native.Nat.{_/_, _<_}
 use native.Mathlib.Omega.{arith}
 use borrow.Author.Needs.{needs}
 use Rattle.words.specs.Table.{rowCount}
-use Rattle.structure.specs.Links.{target}
+use Rattle.words.specs.Links.{target}
 use Rattle.structure.specs.WrittenLaws.{linked-inside, written-none, written-link}
 use Rattle.kernel_check.proofs.Handed.{handed-small}
 use borrow.Author.Needs.{needs}

@@ -4,8 +4,8 @@ use Prim.Native.Nat.{_≤_, _-_}
 use native.Mathlib.Omega.{arith}
 use borrow.Author.Needs.{needs}
 use Rattle.words.specs.Table.{rowCount}
-use Rattle.structure.specs.Search.{lowestRow}
-use Rattle.structure.specs.SearchLaws.{Looked, looked-start, looked-on, looked-hit, looked-end}
+use Rattle.words.specs.Search.{lowestRow}
+use Rattle.words.specs.SearchLaws.{Looked, looked-start, looked-on, looked-hit, looked-end}
 use Rattle.kernel_check.specs.Statements.{notKernelForm}
 use Rattle.kernel_check.proofs.statements.lowest_not_kernel_form_by.Statement.{statement}
 use Rattle.kernel_check.proofs.statements.lowest_not_kernel_form_by.Tie as tie

@@ -6,8 +6,8 @@ use native.Mathlib.Omega.{arith}
 use lib.ListN.{length}
 use borrow.Author.Tests.{not-true, not-false}
 use Rattle.words.specs.Table.{rowCount}
-use Rattle.structure.specs.Search.{lowestRow}
-use Rattle.structure.specs.SearchLaws.{Looked, looked-start, looked-on, looked-hit, looked-end}
+use Rattle.words.specs.Search.{lowestRow}
+use Rattle.words.specs.SearchLaws.{Looked, looked-start, looked-on, looked-hit, looked-end}
 use Rattle.source_check.specs.Marks.{repeated}
 use Rattle.source_check.specs.MarkTree.{HoldsMarks}
 use Rattle.source_check.proofs.marks.lowest_repeated_row.Statement.{statement}

@@ -1,6 +1,6 @@
 -- `write_note` writes where its word links a row, and leaves the notes elsewhere.
 use native.Mathlib.Omega.{arith}
-use Rattle.structure.specs.Links.{target}
+use Rattle.words.specs.Links.{target}
 use Rattle.structure.specs.WrittenLaws.{linked-inside, written-none, written-link}
 use borrow.Author.Needs.{needs}
 use Rattle.source_check.proofs.notes.write_note.Statement.{statement}

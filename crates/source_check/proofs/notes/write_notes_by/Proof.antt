@@ -9,7 +9,7 @@ use lib.ListN.{length}
 use borrow.Author.Needs.{needs}
 use Rattle.words.specs.Table.{rowCount}
 use Rattle.structure.specs.Structured.{Tree}
-use Rattle.structure.specs.Links.{target}
+use Rattle.words.specs.Links.{target}
 use Rattle.structure.specs.Passes.{written, Notes}
 use Rattle.structure.specs.NoteLaws.{Noted, noted-start}
 use Rattle.structure.specs.WrittenLaws.{written-length, written-noted, notes-written}

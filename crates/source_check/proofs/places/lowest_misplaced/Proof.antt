@@ -1,6 +1,6 @@
 -- `lowest_misplaced`: with the notes of the definition, a row out of place is a misplaced one.
 use mathlib.Core.Path.{_∙_}
-use Rattle.structure.specs.SearchLaws.{lowestRow-same}
+use Rattle.words.specs.SearchLaws.{lowestRow-same}
 use Rattle.source_check.specs.Places.{misplaced}
 use borrow.Author.Needs.{needs}
 use Rattle.source_check.proofs.places.lowest_misplaced.Statement.{statement}

@@ -4,8 +4,8 @@ use Prim.Native.Nat.{ℕ, _≤_, _-_}
 use native.Mathlib.Omega.{arith}
 use lib.ListN.{getD}
 use Rattle.words.specs.Table.{rowCount, numberAt}
-use Rattle.structure.specs.Search.{lowestRow}
-use Rattle.structure.specs.SearchLaws.{Looked, looked-start, looked-on, looked-hit, looked-end}
+use Rattle.words.specs.Search.{lowestRow}
+use Rattle.words.specs.SearchLaws.{Looked, looked-start, looked-on, looked-hit, looked-end}
 use Rattle.source_check.specs.Places.{outOfPlace}
 use Rattle.source_check.proofs.places.lowest_out_of_place.Statement.{statement}
 use Rattle.source_check.proofs.places.lowest_out_of_place.Tie as tie

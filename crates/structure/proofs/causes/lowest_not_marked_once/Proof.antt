@@ -5,8 +5,8 @@ use native.Mathlib.Omega.{arith}
 use lib.ListN.{getD}
 use Rattle.words.specs.Table.{rowCount}
 use Rattle.structure.specs.Links.{notOnce}
-use Rattle.structure.specs.Search.{lowestRow}
-use Rattle.structure.specs.SearchLaws.{Looked, looked-start, looked-on, looked-hit, looked-end}
+use Rattle.words.specs.Search.{lowestRow}
+use Rattle.words.specs.SearchLaws.{Looked, looked-start, looked-on, looked-hit, looked-end}
 use Rattle.structure.proofs.causes.lowest_not_marked_once.Statement.{statement}
 use Rattle.structure.proofs.causes.lowest_not_marked_once.Tie as tie
 

@@ -2,7 +2,7 @@
 use mathlib.Core.Path.{_∙_}
 use native.Mathlib.Omega.{arith}
 use Rattle.words.specs.Laws.{countFits-facts}
-use Rattle.structure.specs.SearchLaws.{lowestRow-same}
+use Rattle.words.specs.SearchLaws.{lowestRow-same}
 use Rattle.structure.proofs.Marks.{marked-start, marked-once}
 use borrow.Author.Needs.{needs}
 use Rattle.structure.proofs.causes.lowest_not_once_in_kernel.Statement.{statement}

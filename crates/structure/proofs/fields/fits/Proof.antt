@@ -1,6 +1,6 @@
 -- `fits` makes its definition's tests in order.
 use borrow.Author.Tests.{eq-eqb, ne-eqb}
-use Rattle.structure.specs.Fields.{fits}
+use Rattle.words.specs.Links.{fits}
 use borrow.Author.Needs.{needs}
 use Rattle.structure.proofs.fields.fits.Statement.{statement}
 use Rattle.structure.proofs.fields.fits.Tie as tie

@@ -1,6 +1,6 @@
 -- `is_expression` makes its definition's two tests in order.
 use borrow.Author.Tests.{le-leb, lt-leb}
-use Rattle.structure.specs.Grammar.{isExpression}
+use Rattle.words.specs.Links.{isExpression}
 use borrow.Author.Needs.{needs}
 use Rattle.structure.proofs.grammar.is_expression.Statement.{statement}
 use Rattle.structure.proofs.grammar.is_expression.Tie as tie

@@ -1,5 +1,5 @@
 -- `is_place` asks what the row is.
-use Rattle.structure.specs.Grammar.{isPlace}
+use Rattle.words.specs.Links.{isPlace}
 use borrow.Author.Needs.{needs}
 use Rattle.structure.proofs.grammar.is_place.Statement.{statement}
 use Rattle.structure.proofs.grammar.is_place.Tie as tie

@@ -1,5 +1,5 @@
 -- `is_statement` asks what the row is.
-use Rattle.structure.specs.Grammar.{isStatement}
+use Rattle.words.specs.Links.{isStatement}
 use borrow.Author.Needs.{needs}
 use Rattle.structure.proofs.grammar.is_statement.Statement.{statement}
 use Rattle.structure.proofs.grammar.is_statement.Tie as tie

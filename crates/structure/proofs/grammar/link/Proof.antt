@@ -1,6 +1,6 @@
 -- `link` reads the field where its sort is a link's; a word that is 0 links nothing, whatever its sort.
 use mathlib.Core.Path.{sym, _∙_}
-use Rattle.structure.specs.Grammar.{link}
+use Rattle.words.specs.Links.{link}
 use Rattle.structure.specs.GrammarLaws.{zero-links-none}
 use borrow.Author.Needs.{needs}
 use Rattle.structure.proofs.grammar.link.Statement.{statement}

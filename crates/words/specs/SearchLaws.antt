@@ -7,11 +7,11 @@ use native.Mathlib.Omega.{arith}
 use native.Mathlib.Decide.{ℕ-discrete}
 use lib.Arith.{lt-of-le-ne}
 use lib.IntN.{ℤ}
 use Rattle.words.specs.Word.{pick}
 use Rattle.words.specs.Table.{rowCount}
-use Rattle.structure.specs.Search.{lowest, some, lowestRow, someField}
-use Rattle.structure.specs.declared.Found.{Found}
-use Rattle.structure.specs.declared.Found.the-variants.{At, Nothing}
+use Rattle.words.specs.Search.{lowest, some, lowestRow, someField}
+use Rattle.words.specs.declared.Found.{Found}
+use Rattle.words.specs.declared.Found.the-variants.{At, Nothing}
 
 pub not-found : {A : Type 0} (j : ℕ) → At j ≡ Nothing → A
 not-found j e = absurd (let z : _≡_ {A = ℕ} 0 1 = cc in omega arith)

@@ -8,7 +8,8 @@ use labels::lowest_label_fault;
 use statements::lowest_not_kernel_form;
 use structure::causes::at;
 use structure::causes::structural_refusal;
-use structure::depth::lowest_deep_row;
+use structure::depth::lowest_deep_by;
+use structure::grammar::KINDS;
 use words::Form;
 use words::Found;
 use words::Refusal;
@@ -16,6 +17,10 @@ use words::Verdict;
 ghost use mathlib.Core.Path.{_≡_};
 ghost use Rattle.words.specs.Links.{link};
 ghost use Rattle.structure.specs.Structured.{Tree};
+ghost use Rattle.words.specs.Search.{lowestRow};
+ghost use Rattle.structure.specs.Links.{tooDeep};
+ghost use Rattle.structure.specs.Refusal.{structuralRefusal};
+ghost use Rattle.words.specs.declared.Form.the-variants.{Kernel};
 ghost use Rattle.kernel_check.specs.Passes.{LabelNumbers};
 ghost use Rattle.kernel_check.specs.Refusal.{kernelCauses, refusal as refusalOf};
 
@@ -27,12 +32,20 @@ pub enum Note {
     Owner,
 }
 
+// Cause 9, with the table of kinds: it is built here, once, and lent on.
+fn lowest_deep_row(rows: &[i32]) -> Found
+    requires { ⌜ Tree (now rows) ⌝ }
+    ensures { λ r. ⌜ r ≡ lowestRow (now (rows .entry)) (tooDeep Kernel (now (rows .entry))) ⌝ }
+{
+    lowest_deep_by(&KINDS, Form::Kernel, rows)
+}
+
 // Causes 9, 12 and 13, in order.
 fn kernel_causes(rows: &[i32]) -> Verdict
     requires { ⌜ Tree (now rows) × (link (now rows) 0 5 ≡ 0) × LabelNumbers (now rows) ⌝ }
     ensures { λ r. ⌜ r ≡ kernelCauses (now (rows .entry)) ⌝ }
 {
-    let deep = lowest_deep_row(Form::Kernel, rows);
+    let deep = lowest_deep_row(rows);
     if let Found::At(row) = deep {
         return Verdict::Refused(Refusal {
             number: 9,
@@ -49,11 +62,19 @@ fn kernel_causes(rows: &[i32]) -> Verdict
     at(13, lowest_label_fault(rows))
 }
 
+// Causes 1 to 6, with room for the marks of a kernel program.
+fn shared_refusal(header: &[i32], rows: &[i32]) -> Verdict
+    ensures { λ r. ⌜ r ≡ structuralRefusal Kernel (now (header .entry)) (now (rows .entry)) ⌝ }
+{
+    let mut marks = [0u8; 40980];
+    structural_refusal(Form::Kernel, header, rows, &mut marks)
+}
+
 // The check of a kernel program: "The kernel check accepts the legal kernel programs and no others."
 pub fn check(header: &[i32], rows: &[i32]) -> Verdict
     ensures { λ r. ⌜ r ≡ refusalOf (now (header .entry)) (now (rows .entry)) ⌝ }
 {
-    let structural = structural_refusal(Form::Kernel, header, rows);
+    let structural = shared_refusal(header, rows);
     if let Verdict::Refused(refusal) = structural {
         return Verdict::Refused(refusal);
     }

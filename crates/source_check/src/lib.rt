@@ -4,7 +4,8 @@ use notes::write_notes;
 use places::lowest_misplaced;
 use structure::causes::at;
 use structure::causes::structural_refusal;
-use structure::depth::lowest_deep_row;
+use structure::depth::lowest_deep_by;
+use structure::grammar::KINDS;
 use words::Form;
 use words::Found;
 use words::Refusal;
@@ -19,6 +20,10 @@ ghost use mathlib.Core.Path.{_≡_};
 ghost use Prim.Native.Nat.{_/_, _≤_};
 ghost use lib.ListN.{length};
 ghost use Rattle.structure.specs.Structured.{Tree};
+ghost use Rattle.words.specs.Search.{lowestRow};
+ghost use Rattle.structure.specs.Links.{tooDeep};
+ghost use Rattle.structure.specs.Refusal.{structuralRefusal};
+ghost use Rattle.words.specs.declared.Form.the-variants.{Source};
 ghost use Rattle.source_check.specs.Refusal.{laterRefusal, refusal};
 ghost use Rattle.source_check.specs.Passes.{AllNotes};
 
@@ -32,6 +37,14 @@ pub enum Note {
     SwitchItem,
     // the nearest mark before the row in its own list, or 0
     MarkBefore,
+}
+
+// Cause 9, with the table of kinds: it is built here, once, and lent on.
+fn lowest_deep_row(rows: &[i32]) -> Found
+    requires { ⌜ Tree (now rows) ⌝ }
+    ensures { λ r. ⌜ r ≡ lowestRow (now (rows .entry)) (tooDeep Source (now (rows .entry))) ⌝ }
+{
+    lowest_deep_by(&KINDS, Form::Source, rows)
 }
 
 // Causes 7 to 9, in a tree of rows, with the notes of its rows.
@@ -59,7 +72,7 @@ fn noted_refusal(
             place: row,
         });
     }
-    at(9, lowest_deep_row(Form::Source, rows))
+    at(9, lowest_deep_row(rows))
 }
 
 // Causes 7 to 9, in a tree of rows.
@@ -75,11 +88,19 @@ fn later_refusal(rows: &[i32]) -> Verdict
     noted_refusal(rows, &loops, &breakable, &items, &before)
 }
 
+// Causes 1 to 6, with room for the marks of a source program.
+fn shared_refusal(header: &[i32], rows: &[i32]) -> Verdict
+    ensures { λ r. ⌜ r ≡ structuralRefusal Source (now (header .entry)) (now (rows .entry)) ⌝ }
+{
+    let mut marks = [0u8; 2048];
+    structural_refusal(Form::Source, header, rows, &mut marks)
+}
+
 // The check: accepted, or the number of the first cause and its place.
 pub fn check(header: &[i32], rows: &[i32]) -> Verdict
     ensures { λ r. ⌜ r ≡ refusal (now (header .entry)) (now (rows .entry)) ⌝ }
 {
-    let verdict = structural_refusal(Form::Source, header, rows);
+    let verdict = shared_refusal(header, rows);
     match verdict {
         Verdict::Refused(found) => Verdict::Refused(found),
         Verdict::Accepted => later_refusal(rows),

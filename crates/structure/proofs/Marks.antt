@@ -9,16 +9,19 @@ use native.Mathlib.Numerals.{add-one}
 use native.Mathlib.Decide.{ℕ-discrete}
 use lib.Dec.{eqb}
 use lib.IntN.{ℤ}
-use lib.ListN.{length, getD, set, length-set, replicate, length-replicate, getD-replicate}
+use lib.ListN.{length, getD, set, length-set}
 use lib.Seq.{set-out, set-getD, getD-set-same, getD-set-other}
 use borrow.Author.Tests.{lt-ltb, le-ltb, eq-eqb, ne-eqb}
 use Rattle.words.specs.Word.{pick}
 use Rattle.words.specs.Table.{rowCount}
+use Rattle.words.specs.Layout.{countFits}
+use Rattle.words.specs.Laws.{countFits-facts}
+use Rattle.words.specs.declared.Form.{Form}
 use Rattle.words.specs.Links.{link, target}
 use Rattle.structure.specs.Links.{linksAmong, linkCount, notOnce}
 use Rattle.structure.specs.LinkLaws.{word-of, links-hit, links-miss}
 use Rattle.structure.specs.NoteLaws.{above-zero}
-use Rattle.structure.specs.Passes.{capped, raised, marked, markedLink, Marked}
+use Rattle.structure.specs.Passes.{capped, raised, marked, markedLink, Unmarked, Marked}
 
 -- ---- what `mark` does
 
@@ -48,10 +51,12 @@ capped-one zero = refl
 capped-one (suc zero) = refl
 capped-one (suc (suc n)) = sym (ne-eqb (suc (suc n)) 1 (λ e. omega arith))
 
-pub marked-start : (rows : List ℤ) (room : ℕ) → rowCount rows ≤ room → Marked rows 0 (replicate room 0)
+pub marked-start : (form : Form) (rows : List ℤ) (marks : List ℕ) → countFits form (length rows) ≡ true → Unmarked form marks → Marked rows 0 marks
 unfolding linksAmong capped
-marked-start rows room h =
-    record { room = rw length-replicate h; counts = λ row p n. getD-replicate room row 0 0 (omega arith) }
+marked-start form rows marks fits u =
+    let few = countFits-facts form (length rows) fits .most in
+    let enough = u .room in
+    record { room = omega arith; counts = λ row p n. u .none row (omega arith) }
 
 pub length-marked : (marks : List ℕ) (row : ℕ) → length (marked marks row) ≡ length marks
 unfolding marked

@@ -1,4 +1,4 @@
--- Laws of links: in a tree of rows each row but row 0 has one owner, the row that links it, and `linker` finds it.
+-- Laws of links: in a tree of rows each row but row 0 has one owner, the row that links it, and `linker` finds it; marks before the first link.
 use mathlib.Core.Path.{_≡_, subst, sym}
 use mathlib.Core.List.{List}
 use Prim.Native.Nat.{ℕ, zero, suc, _+_, _*_, _-_, _/_, _%_, _≤_, _<_}
@@ -9,12 +9,16 @@ use lib.Arith.{lt-of-le-ne}
 use lib.Dec.{eqb}
 use lib.IntN.{ℤ}
 use borrow.Author.Tests.{eq-eqb, ne-eqb}
+use lib.ListN.{replicate, length-replicate, getD-replicate}
 use Rattle.words.specs.Table.{rowCount}
+use Rattle.words.specs.Layout.{rowLimit}
+use Rattle.words.specs.declared.Form.{Form}
 use Rattle.words.specs.Links.{link, target, linker}
 use Rattle.structure.specs.GrammarLaws.{kind-links-none}
 use Rattle.words.specs.SearchLaws.{lowest-at}
 use Rattle.structure.specs.Links.{linksAmong, linkCount}
 use Rattle.structure.specs.Structured.{Leads, Tree}
+use Rattle.structure.specs.Passes.{Unmarked}
 use Rattle.words.specs.declared.Found.the-variants.{At}
 
 -- the word that is a field of a row
@@ -135,3 +139,9 @@ module _ (rows : List ℤ) (t : Tree rows) where
       let w = word-of row field h in
       let later : row < link rows row field = leads .later in
       linker-is (6 * row + field) (link rows row field) (omega arith) (rw (w .0, w .1)) (omega arith) (leads .inside)
+
+-- ---- marks before the first link
+
+pub unmarked-zeros : (form : Form) (room : ℕ) → rowLimit form ≤ room → Unmarked form (replicate room 0)
+unmarked-zeros form room h =
+    record { room = rw length-replicate h; none = λ row n. getD-replicate room row 0 0 (rw length-replicate at n) }

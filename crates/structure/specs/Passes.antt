@@ -8,6 +8,7 @@ use lib.IntN.{ℤ}
 use lib.ListN.{length, getD, set}
 use Rattle.words.specs.Word.{pick}
 use Rattle.words.specs.Table.{rowCount}
+use Rattle.words.specs.Layout.{rowLimit}
 use Rattle.words.specs.declared.Form.{Form}
 use Rattle.words.specs.declared.Refusal.{Refusal}
 use Rattle.words.specs.declared.Verdict.{Verdict}
@@ -68,6 +69,11 @@ marked marks row = set marks row (raised (getD marks row 0))
 -- The mark of a field; 0 is no link.
 unfoldable pub markedLink : List ℕ → ℕ → List ℕ
 markedLink marks linked = pick (eqb linked 0) marks (marked marks linked)
+
+-- The marks at the start, with room for all rows that the form may have.
+pub record Unmarked (form : Form) (marks : List ℕ) : Type 0 where
+  pub room : rowLimit form ≤ length marks
+  pub none : (row : ℕ) → row < length marks → getD marks row 0 ≡ 0
 
 -- The marks of the links among the first `words` words; row 0 has none.
 pub record Marked (rows : List ℤ) (words : ℕ) (marks : List ℕ) : Type 0 where

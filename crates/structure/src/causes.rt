@@ -15,17 +15,14 @@ use words::Verdict;
 use words::layout::count_fits;
 use words::layout::header_fits;
 ghost use mathlib.Core.Path.{_≡_};
-ghost use mathlib.Core.Bool.{true};
-ghost use Prim.Native.Nat.{ℕ, _+_, _*_, _<_, min};
+ghost use Prim.Native.Nat.{ℕ, _+_, _*_, _/_, _<_, min};
 ghost use lib.ListN.{length, getD};
-ghost use Rattle.words.specs.Layout.{countFits};
 ghost use Rattle.words.specs.Table.{rowCount};
-ghost use Rattle.words.specs.declared.Form.the-variants.{Source, Kernel};
 ghost use Rattle.structure.specs.Grammar.{grammar};
 ghost use Rattle.words.specs.Search.{lowestRow};
 ghost use Rattle.structure.specs.Links.{linkCount, notOnce};
 ghost use Rattle.structure.specs.Refusal.{at as atCause, rowCauses, structuralRefusal};
-ghost use Rattle.structure.specs.Passes.{fieldCause, rowCause, lowered, lowestCause, laterCauses};
+ghost use Rattle.structure.specs.Passes.{fieldCause, rowCause, lowered, lowestCause, laterCauses, Unmarked, Marked};
 
 // The least of the causes 3, 4 and 6 that a field breaks; 7 where it breaks none.
 fn field_cause(
@@ -131,35 +128,13 @@ fn lowest_not_marked_once(rows: &[i32], marks: &[u8]) -> Found
     Found::Nothing
 }
 
-// Cause 5 in a source program.
-fn lowest_not_once_in_source(kinds: &KindTable, rows: &[i32]) -> Found
-    requires { ⌜ (countFits Source (length (now rows)) ≡ true) × (now kinds ≡ grammar) ⌝ }
+// Cause 5. The marks are lent, since a kernel program needs twenty times the room of a source program.
+fn lowest_not_once(kinds: &KindTable, rows: &[i32], marks: &mut [u8]) -> Found
+    requires { ⌜ (6 * (length (now rows) / 6) ≡ length (now rows)) × Marked (now rows) 0 (now marks) × (now kinds ≡ grammar) ⌝ }
     ensures { λ r. ⌜ r ≡ lowestRow (now (rows .entry)) (λ (row : ℕ). notOnce (now (rows .entry)) (linkCount (now (rows .entry)) row) row) ⌝ }
 {
-    let mut marks = [0u8; 2048];
-    mark_links(kinds, rows, &mut marks);
-    lowest_not_marked_once(rows, &marks)
-}
-
-// Cause 5 in a kernel program.
-fn lowest_not_once_in_kernel(kinds: &KindTable, rows: &[i32]) -> Found
-    requires { ⌜ (countFits Kernel (length (now rows)) ≡ true) × (now kinds ≡ grammar) ⌝ }
-    ensures { λ r. ⌜ r ≡ lowestRow (now (rows .entry)) (λ (row : ℕ). notOnce (now (rows .entry)) (linkCount (now (rows .entry)) row) row) ⌝ }
-{
-    let mut marks = [0u8; 40980];
-    mark_links(kinds, rows, &mut marks);
-    lowest_not_marked_once(rows, &marks)
-}
-
-// Cause 5. The marks have room for the form's rows: clearing those of a kernel program would be felt in the check of a small source one.
-fn lowest_not_once(kinds: &KindTable, form: Form, rows: &[i32]) -> Found
-    requires { ⌜ (countFits form (length (now rows)) ≡ true) × (now kinds ≡ grammar) ⌝ }
-    ensures { λ r. ⌜ r ≡ lowestRow (now (rows .entry)) (λ (row : ℕ). notOnce (now (rows .entry)) (linkCount (now (rows .entry)) row) row) ⌝ }
-{
-    match form {
-        Form::Source => lowest_not_once_in_source(kinds, rows),
-        Form::Kernel => lowest_not_once_in_kernel(kinds, rows),
-    }
+    mark_links(kinds, rows, marks);
+    lowest_not_marked_once(rows, marks)
 }
 
 // The refusal for a cause that some row breaks.
@@ -176,11 +151,11 @@ pub fn at(cause: u32, found: Found) -> Verdict
 }
 
 // Causes 5 and 6, with what the pass for 3, 4 and 6 found: 6, or 7 for none.
-fn later_causes(kinds: &KindTable, form: Form, rows: &[i32], found: Refusal) -> Verdict
-    requires { ⌜ (countFits form (length (now rows)) ≡ true) × (now kinds ≡ grammar) ⌝ }
+fn later_causes(kinds: &KindTable, rows: &[i32], marks: &mut [u8], found: Refusal) -> Verdict
+    requires { ⌜ (6 * (length (now rows) / 6) ≡ length (now rows)) × Marked (now rows) 0 (now marks) × (now kinds ≡ grammar) ⌝ }
     ensures { λ r. ⌜ r ≡ laterCauses (now (rows .entry)) found ⌝ }
 {
-    let once = lowest_not_once(kinds, form, rows);
+    let once = lowest_not_once(kinds, rows, marks);
     if let Found::At(row) = once {
         return Verdict::Refused(Refusal {
             number: 5,
@@ -194,27 +169,34 @@ fn later_causes(kinds: &KindTable, form: Form, rows: &[i32], found: Refusal) -> 
 }
 
 // Causes 3 to 6.
-fn row_causes(kinds: &KindTable, form: Form, bounds: Bounds, rows: &[i32]) -> Verdict
-    requires { ⌜ (countFits form (length (now rows)) ≡ true) × (now kinds ≡ grammar) ⌝ }
+fn row_causes(
+    kinds: &KindTable,
+    form: Form,
+    bounds: Bounds,
+    rows: &[i32],
+    marks: &mut [u8],
+) -> Verdict
+    requires { ⌜ (6 * (length (now rows) / 6) ≡ length (now rows)) × Marked (now rows) 0 (now marks) × (now kinds ≡ grammar) ⌝ }
     ensures { λ r. ⌜ r ≡ rowCauses form bounds (now (rows .entry)) ⌝ }
 {
     let found = lowest_cause(kinds, form, bounds, rows);
     if found.number < 5 {
         return Verdict::Refused(found);
     }
-    later_causes(kinds, form, rows, found)
+    later_causes(kinds, rows, marks, found)
 }
 
 // The same, with the table of kinds: it is built here, once, and lent on.
-fn table_causes(form: Form, bounds: Bounds, rows: &[i32]) -> Verdict
-    requires { ⌜ countFits form (length (now rows)) ≡ true ⌝ }
+fn table_causes(form: Form, bounds: Bounds, rows: &[i32], marks: &mut [u8]) -> Verdict
+    requires { ⌜ (6 * (length (now rows) / 6) ≡ length (now rows)) × Marked (now rows) 0 (now marks) ⌝ }
     ensures { λ r. ⌜ r ≡ rowCauses form bounds (now (rows .entry)) ⌝ }
 {
-    row_causes(&KINDS, form, bounds, rows)
+    row_causes(&KINDS, form, bounds, rows, marks)
 }
 
-// The causes 1 to 6, which both forms share.
-pub fn structural_refusal(form: Form, header: &[i32], rows: &[i32]) -> Verdict
+// The causes 1 to 6, which both forms share. The marks have room for the rows of the form, and none is set.
+pub fn structural_refusal(form: Form, header: &[i32], rows: &[i32], marks: &mut [u8]) -> Verdict
+    requires { ⌜ Unmarked form (now marks) ⌝ }
     ensures { λ r. ⌜ r ≡ structuralRefusal form (now (header .entry)) (now (rows .entry)) ⌝ }
 {
     if !header_fits(form, header) {
@@ -229,5 +211,5 @@ pub fn structural_refusal(form: Form, header: &[i32], rows: &[i32]) -> Verdict
             place: 0,
         });
     }
-    table_causes(form, bounds_of(form, header), rows)
+    table_causes(form, bounds_of(form, header), rows, marks)
 }

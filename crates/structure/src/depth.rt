@@ -1,5 +1,4 @@
 // Cause 9: a walk down the links, which stops one level below the limit. It runs on a tree of rows, so each row is met once.
-use super::grammar::KINDS;
 use super::grammar::KindTable;
 use super::grammar::link;
 use words::Form;
@@ -75,8 +74,8 @@ fn lowest_deep_parts(
     found
 }
 
-// The lowest row over the form's limit.
-fn lowest_deep_by(kinds: &KindTable, form: Form, rows: &[i32]) -> Found
+// The lowest row over the form's limit. The table of kinds is lent by the checks: built there, it shares the room of arrays that come later.
+pub fn lowest_deep_by(kinds: &KindTable, form: Form, rows: &[i32]) -> Found
     requires { ⌜ (Tree (now rows)) × (now kinds ≡ grammar) ⌝ }
     ensures { λ r. ⌜ r ≡ lowestRow (now (rows .entry)) (tooDeep form (now (rows .entry))) ⌝ }
 {
@@ -85,12 +84,4 @@ fn lowest_deep_by(kinds: &KindTable, form: Form, rows: &[i32]) -> Found
         return Found::At(found);
     }
     Found::Nothing
-}
-
-// The same, with the table of kinds: it is built here, once, and lent on.
-pub fn lowest_deep_row(form: Form, rows: &[i32]) -> Found
-    requires { ⌜ Tree (now rows) ⌝ }
-    ensures { λ r. ⌜ r ≡ lowestRow (now (rows .entry)) (tooDeep form (now (rows .entry))) ⌝ }
-{
-    lowest_deep_by(&KINDS, form, rows)
 }

@@ -10,33 +10,33 @@ use borrow.Author.Needs.{needs}
 use Rattle.kernel_check.proofs.check.Statement.{statement}
 use Rattle.kernel_check.proofs.check.Tie as tie
 
-structural-refusal-requires : tie.Need-structural-refusal-requires
-structural-refusal-requires c κs = search needs
+shared-refusal-requires : tie.Need-shared-refusal-requires
+shared-refusal-requires c κs = search needs
 
 enum-known-structural : tie.Need-enum-known-structural
 enum-known-structural c = search needs
 
 returns : tie.Need-returns
 unfolding refusal _next_
-returns c = rw (← c .before .before .before .structural-refusal .ensures, c .before .structural .given .1)
+returns c = rw (← c .before .before .before .shared-refusal .ensures, c .before .structural .given .1)
 
 enum-told : tie.Need-enum-told
 enum-told c = search needs
 
 kernel-causes-requires : tie.Need-kernel-causes-requires
 kernel-causes-requires c κs =
-    let s = accepted-structured Kernel _ _ (sym (c .before .before .structural-refusal .ensures) ∙ c .enum-told .given .1) .1 in
+    let s = accepted-structured Kernel _ _ (sym (c .before .before .shared-refusal .ensures) ∙ c .enum-told .given .1) .1 in
     (structured-tree Kernel _ _ s, structured-lone _ _ s, structured-labels _ _ s)
 
 returns-2 : tie.Need-returns-2
 unfolding refusal _next_
-returns-2 c = rw (← c .before .before .before .structural-refusal .ensures, c .before .enum-told .given .1) (c .kernel-causes .ensures)
+returns-2 c = rw (← c .before .before .before .shared-refusal .ensures, c .before .enum-told .given .1) (c .kernel-causes .ensures)
 
 pub check-spec : {M : Type 1} → statement M
 check-spec =
     tie.close
     (tie.spec
-    structural-refusal-requires
+    shared-refusal-requires
     enum-known-structural
     returns
     enum-told

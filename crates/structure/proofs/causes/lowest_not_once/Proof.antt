@@ -1,29 +1,24 @@
--- `lowest_not_once` takes the marks of its form.
+-- `lowest_not_once` marks all links, then looks for a row whose mark is not 1.
+use mathlib.Core.Path.{_∙_}
+use Rattle.words.specs.SearchLaws.{lowestRow-same}
+use Rattle.structure.proofs.Marks.{marked-once}
 use borrow.Author.Needs.{needs}
 use Rattle.structure.proofs.causes.lowest_not_once.Statement.{statement}
 use Rattle.structure.proofs.causes.lowest_not_once.Tie as tie
 
-enum-told : tie.Need-enum-told
-enum-told c = search needs
+mark-links-requires : tie.Need-mark-links-requires
+mark-links-requires c κs = search needs
 
-lowest-not-once-in-source-requires : tie.Need-lowest-not-once-in-source-requires
-lowest-not-once-in-source-requires c κs =
-    (rw (c .enum-told .given .1) at (c .before .before .pre .0), c .before .before .pre .1)
+lowest-not-marked-once-requires : tie.Need-lowest-not-marked-once-requires
+lowest-not-marked-once-requires c κs = search needs
 
-enum-told-2 : tie.Need-enum-told-2
-enum-told-2 c = search needs
-
-lowest-not-once-in-kernel-requires : tie.Need-lowest-not-once-in-kernel-requires
-lowest-not-once-in-kernel-requires c κs =
-    (rw (c .enum-told2 .given .1) at (c .before .before .pre .0), c .before .before .pre .1)
+same-length : tie.Need-same-length
+same-length c = search needs
 
 returns : tie.Need-returns
-returns c = search needs
-
-returns-2 : tie.Need-returns-2
-returns-2 c = search needs
+returns c =
+    c .lowest-not-marked-once .ensures ∙ lowestRow-same _ _ _ (marked-once _ _ (c .before .before .before .before .before .before .before .pre .0) (c .before .before .before .before .mark-links .ensures))
 
 pub lowest-not-once-spec : {M : Type 1} → statement M
 lowest-not-once-spec =
-    tie.close
-    (tie.spec enum-told lowest-not-once-in-source-requires enum-told-2 lowest-not-once-in-kernel-requires returns returns-2)
+    tie.close (tie.spec mark-links-requires lowest-not-marked-once-requires same-length returns)

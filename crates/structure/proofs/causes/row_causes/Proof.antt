@@ -15,10 +15,13 @@ returns c = pass-verdict _ _ _ _ (c .before .before .lowest-cause .ensures) .0 (
 later-causes-requires : tie.Need-later-causes-requires
 later-causes-requires c κs = search needs
 
+same-length : tie.Need-same-length
+same-length c = search needs
+
 returns-2 : tie.Need-returns-2
 returns-2 c =
-    c .later-causes .ensures ∙ pass-verdict _ _ _ _ (c .before .before .before .lowest-cause .ensures) .1 (omega arith)
+    c .before .before .later-causes .ensures ∙ pass-verdict _ _ _ _ (c .before .before .before .before .before .before .lowest-cause .ensures) .1 (omega arith)
 
 pub row-causes-spec : {M : Type 1} → statement M
 row-causes-spec =
-    tie.close (tie.spec lowest-cause-requires returns later-causes-requires returns-2)
+    tie.close (tie.spec lowest-cause-requires returns later-causes-requires same-length returns-2)

@@ -1,6 +1,8 @@
 -- `structural_refusal` takes the causes 1 and 2, then the others.
 use mathlib.Core.Path.{sym, _∙_}
 use borrow.Author.Tests.{not-true, not-false}
+use Rattle.words.specs.Laws.{countFits-facts}
+use Rattle.structure.proofs.Marks.{marked-start}
 use Rattle.structure.specs.Refusal.{unless, _next_, structuralRefusal}
 use borrow.Author.Needs.{needs}
 use Rattle.structure.proofs.causes.structural_refusal.Statement.{statement}
@@ -28,12 +30,16 @@ bounds-of-requires c κs =
 
 table-causes-requires : tie.Need-table-causes-requires
 table-causes-requires c κs =
-    sym (c .before .before .count-fits .ensures) ∙ not-false _ (c .before .if2 .left)
+    let fits = sym (c .before .before .before .count-fits .ensures) ∙ not-false _ (c .before .before .if2 .left) in
+    (countFits-facts _ _ fits .whole, marked-start _ _ _ fits (c .before .before .before .before .before .before .before .pre))
+
+same-length : tie.Need-same-length
+same-length c = search needs
 
 returns-3 : tie.Need-returns-3
 unfolding structuralRefusal unless _next_
 returns-3 c =
-    rw (← c .before .before .before .before .before .header-fits .ensures, not-false (c .before .before .before .before .before .header-fits .result) (c .before .before .before .before .if1 .left), ← c .before .before .before .count-fits .ensures, not-false (c .before .before .before .count-fits .result) (c .before .before .if2 .left), ← c .before .bounds-of .ensures) (c .table-causes .ensures)
+    rw (← c .before .before .before .before .before .before .before .before .header-fits .ensures, not-false (c .before .before .before .before .before .before .before .before .header-fits .result) (c .before .before .before .before .before .before .before .if1 .left), ← c .before .before .before .before .before .before .count-fits .ensures, not-false (c .before .before .before .before .before .before .count-fits .result) (c .before .before .before .before .before .if2 .left), ← c .before .before .before .before .bounds-of .ensures) (c .before .before .table-causes .ensures)
 
 pub structural-refusal-spec : {M : Type 1} → statement M
 structural-refusal-spec =
@@ -45,4 +51,5 @@ structural-refusal-spec =
     returns-2
     bounds-of-requires
     table-causes-requires
+    same-length
     returns-3)

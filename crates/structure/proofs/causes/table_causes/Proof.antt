@@ -8,10 +8,13 @@ use Rattle.structure.proofs.causes.table_causes.Tie as tie
 
 row-causes-requires : tie.Need-row-causes-requires
 unfolding grammar kindOf kindIn kinds kindRow expressionFields statementFields markFields
-row-causes-requires c κs = (c .before .pre, refl)
+row-causes-requires c κs = (c .before .before .before .pre .0, c .before .before .before .pre .1, refl)
+
+same-length : tie.Need-same-length
+same-length c = search needs
 
 returns : tie.Need-returns
 returns c = search needs
 
 pub table-causes-spec : {M : Type 1} → statement M
-table-causes-spec = tie.close (tie.spec row-causes-requires returns)
+table-causes-spec = tie.close (tie.spec row-causes-requires same-length returns)

@@ -2,9 +2,9 @@
 use mathlib.Core.Path.{refl}
 use borrow.Author.Needs.{needs}
 use Rattle.words.specs.Kinds.{kindOf, kindIn, kinds, kindRow, expressionFields, statementFields, markFields}
 use Rattle.structure.specs.Grammar.{grammar}
-use Rattle.structure.proofs.depth.lowest_deep_row.Statement.{statement}
-use Rattle.structure.proofs.depth.lowest_deep_row.Tie as tie
+use Rattle.kernel_check.proofs.lowest_deep_row.Statement.{statement}
+use Rattle.kernel_check.proofs.lowest_deep_row.Tie as tie
 
 lowest-deep-by-requires : tie.Need-lowest-deep-by-requires
 unfolding grammar kindOf kindIn kinds kindRow expressionFields statementFields markFields

@@ -134,7 +134,7 @@ module _ (header rows : List ℤ) (legal : Legal header rows) where
             → take (length store) ((runProgram Kernel (kernelHeaderOf header rows) (kernelRowsOf header rows) d (store ++ temporaryWords)) .store) ≡ (runProgram Source header rows b store) .store
         cells b d w = rw (source-run b, kernel-run d, w .same-words) (take-at ((final (source b)) .store) (w .left) (length store) (store-keeps-length (steps b) (exec L (block program)) (start store)))
 
-  kernel-form-of : KernelFormOf header rows
+  kernel-form-of : KernelFormOf header rows (kernelHeaderOf header rows) (kernelRowsOf header rows)
   unfolding kernelHeaderOf kernelRowsOf
   kernel-form-of = record {
     accepted = kernel-accepts (kernelHeaderOf header rows) (kernelRowsOf header rows) .1 (translated-legal header program (legal .header-fits) tree few shallow);

@@ -22,15 +22,16 @@ kernelHeaderOf header rows = kernelHeader (layoutOf Source header) (temporaries 
 unfoldable pub kernelRowsOf : List ℤ → List ℤ → List ℤ
 kernelRowsOf header rows = emit (block (translate (layoutOf Source header) (contents rows)))
 
-pub record KernelFormOf (header rows : List ℤ) : Type 0 where
+-- What a kernel header and kernel rows have to be for a source program.
+pub record KernelFormOf (header rows kernelHeader kernelRows : List ℤ) : Type 0 where
   -- Demand 2: "The translation of an accepted program is a legal kernel program."
-  pub accepted : kernelRefusal (kernelHeaderOf header rows) (kernelRowsOf header rows) ≡ Accepted
+  pub accepted : kernelRefusal kernelHeader kernelRows ≡ Accepted
   -- Demand 3.
-  pub share-fate : ShareFate header rows (kernelHeaderOf header rows) (kernelRowsOf header rows)
+  pub share-fate : ShareFate header rows kernelHeader kernelRows
   -- "From n source rows come at most 20×n+20 kernel rows and at most 4×n temporaries."
-  pub few-rows : rowCount (kernelRowsOf header rows) ≤ 20 * rowCount rows + 20
-  pub few-temporaries : temporariesOf Kernel (kernelHeaderOf header rows) ≤ 4 * rowCount rows
+  pub few-rows : rowCount kernelRows ≤ 20 * rowCount rows + 20
+  pub few-temporaries : temporariesOf Kernel kernelHeader ≤ 4 * rowCount rows
 
 -- What holds of every source program that the check accepts.
 abbrev pub HasKernelForm : List ℤ → List ℤ → Type 0
-HasKernelForm header rows = sourceRefusal header rows ≡ Accepted → KernelFormOf header rows
+HasKernelForm header rows = sourceRefusal header rows ≡ Accepted → KernelFormOf header rows (kernelHeaderOf header rows) (kernelRowsOf header rows)

@@ -1,16 +1,18 @@
 -- Translation: the answer, and what stands in both tables after it.
+use mathlib.Core.Path.{_≡_}
 use mathlib.Core.Bool.{_&&_}
 use mathlib.Core.List.{List}
+use Prim.Native.Nat.{ℕ, _≤_}
 use lib.Dec.{leb}
 use lib.IntN.{ℤ}
-use lib.ListN.{length}
+use lib.ListN.{length, take}
 use Rattle.words.specs.Word.{pick}
 use Rattle.words.specs.Numbers.{Numbers, done, refused}
 use Rattle.words.specs.declared.Verdict.{Verdict}
 use Rattle.words.specs.declared.Verdict.the-variants.{Accepted, Refused}
 use Rattle.source_check.specs.Refusal.{refusal as sourceRefusal}
 use Rattle.words.specs.Over.{over}
-use Rattle.fate.specs.KernelForms.{kernelHeaderOf, kernelRowsOf}
+use Rattle.fate.specs.KernelForms.{kernelHeaderOf, kernelRowsOf, KernelFormOf}
 use Rattle.translator.specs.declared.TranslateAnswer.{TranslateAnswer}
 use Rattle.translator.specs.declared.TranslateAnswer.the-variants.{Translated, Refused as TranslateRefused}
 
@@ -45,3 +47,18 @@ translateAfter Accepted header rows outHeader outRows = written (kernelHeaderOf 
 
 unfoldable pub translateResult : (header rows outHeader outRows : List ℤ) → TranslateResult
 translateResult header rows outHeader outRows = translateAfter (sourceRefusal header rows) header rows outHeader outRows
+
+-- ---- the words written
+
+-- Demands 2 and 3 about what stands in both tables after a translation: the program is accepted, and the first words of the tables, as
+-- many as the answer says, are a legal kernel program that shares its fate.
+pub record WroteKernelForm (header rows : List ℤ) (headerWords rowWords : ℕ) (headerLeft rowsLeft : List ℤ) : Type 0 where
+  pub source-accepted : sourceRefusal header rows ≡ Accepted
+  pub header-inside : headerWords ≤ length headerLeft
+  pub rows-inside : rowWords ≤ length rowsLeft
+  pub kernel-form : KernelFormOf header rows (take headerWords headerLeft) (take rowWords rowsLeft)
+
+-- The same by the answer; a refusal writes nothing.
+abbrev pub WritesKernelForm : (header rows : List ℤ) → TranslateAnswer → (headerLeft rowsLeft : List ℤ) → Type 0
+WritesKernelForm header rows (Translated headerWords rowWords) headerLeft rowsLeft = WroteKernelForm header rows headerWords rowWords headerLeft rowsLeft
+WritesKernelForm header rows (TranslateRefused refusal) headerLeft rowsLeft = Unit {0}

@@ -1,4 +1,5 @@
--- Laws of the translation's answer: which of three it is; a translation that was made stands at the start of both tables.
+-- Laws of the translation's answer: which of three it is; a translation that was made stands at the start of both tables, so that the
+-- words there are a legal kernel program that shares the source's fate.
 use mathlib.Core.Path.{_≡_, refl, sym, ap, _∙_}
 use mathlib.Core.Bool.{Bool, true, false, _&&_, and-false}
 use mathlib.Core.List.{List}
@@ -10,14 +11,15 @@ use lib.ListN.{length, take}
 use borrow.Author.Tests.{leb-true, le-leb, lt-leb}
 use Rattle.words.specs.Word.{pick}
 use Rattle.words.specs.Over.{over}
-use Rattle.words.specs.OverLaws.{written-part}
+use Rattle.words.specs.OverLaws.{first-of, length-over, written-part}
 use Rattle.words.specs.declared.Refusal.{Refusal}
 use Rattle.words.specs.declared.Verdict.{Verdict}
 use Rattle.words.specs.declared.Verdict.the-variants.{Accepted, Refused as CheckRefused}
 use Rattle.source_check.specs.Refusal.{refusal as sourceRefusal}
-use Rattle.fate.specs.KernelForms.{kernelHeaderOf, kernelRowsOf}
+use Rattle.fate.specs.KernelForms.{kernelHeaderOf, kernelRowsOf, HasKernelForm}
+use Rattle.translator.specs.declared.TranslateAnswer.{TranslateAnswer}
 use Rattle.translator.specs.declared.TranslateAnswer.the-variants.{Translated, Refused}
-use Rattle.translator.specs.Translation.{TranslateResult, answerAndTables, written, translateAfter, translateResult}
+use Rattle.translator.specs.Translation.{TranslateResult, answerAndTables, written, translateAfter, translateResult, WritesKernelForm}
 
 -- an answer with counts is no refusal
 no-refusal : {G : Type 0} {headerWords rowWords : ℕ} {refusal : Refusal} → Translated headerWords rowWords ≡ Refused refusal → G
@@ -50,6 +52,12 @@ module _ (header rows outHeader outRows : List ℤ) where
     pub rows-room : length kernelRows ≤ length outRows
 
   module _ (headerLeft rowsLeft : List ℤ) where
+    -- what the writers leave for an accepted program is the translation's result
+    pub accepted-result : (answer : TranslateAnswer) → sourceRefusal header rows ≡ Accepted → answerAndTables answer headerLeft rowsLeft ≡ translateAfter Accepted header rows outHeader outRows
+        → answerAndTables answer headerLeft rowsLeft ≡ translateResult header rows outHeader outRows
+    unfolding translateResult
+    accepted-result answer accepted e = rw accepted e
+
     -- ---- a translation that was made
 
     -- The check accepts the program; the kernel form has so many words, which fit both tables and stand at their start.
@@ -57,6 +65,8 @@ module _ (header rows outHeader outRows : List ℤ) where
       pub accepted : sourceRefusal header rows ≡ Accepted
       pub header-room : headerWords ≤ length outHeader
       pub rows-room : rowWords ≤ length outRows
+      pub header-kept : length headerLeft ≡ length outHeader
+      pub rows-kept : length rowsLeft ≡ length outRows
       pub header-written : take (headerWords - 0) headerLeft ≡ kernelHeader
       pub rows-written : take (rowWords - 0) rowsLeft ≡ kernelRows
 
@@ -73,6 +83,8 @@ module _ (header rows outHeader outRows : List ℤ) where
             accepted = accepted;
             header-room = omega (arith, leb-true (length kernelHeader) (length outHeader) h);
             rows-room = omega (arith, leb-true (length kernelRows) (length outRows) r);
+            header-kept = length-over kernelHeader outHeader headerLeft (ap (λ (result : TranslateResult). result .header) e) (leb-true (length kernelHeader) (length outHeader) h);
+            rows-kept = length-over kernelRows outRows rowsLeft (ap (λ (result : TranslateResult). result .rows) e) (leb-true (length kernelRows) (length outRows) r);
             header-written = written-part kernelHeader outHeader headerLeft headerWords first (ap (λ (result : TranslateResult). result .header) e);
             rows-written = written-part kernelRows outRows rowsLeft rowWords second (ap (λ (result : TranslateResult). result .rows) e);
           }
@@ -87,6 +99,20 @@ module _ (header rows outHeader outRows : List ℤ) where
               → Made headerWords rowWords
           go (CheckRefused refusal) v e = no-refusal (ap (λ (result : TranslateResult). result .answer) e)
           go Accepted v e = made-written (leb (length kernelHeader) (length outHeader)) (leb (length kernelRows) (length outRows)) refl refl v e
+
+    -- ---- the words written
+
+    pub writes-kernel-form : (answer : TranslateAnswer) → HasKernelForm header rows → answerAndTables answer headerLeft rowsLeft ≡ translateResult header rows outHeader outRows
+        → WritesKernelForm header rows answer headerLeft rowsLeft
+    writes-kernel-form (Refused refusal) has e = tt
+    writes-kernel-form (Translated headerWords rowWords) has e =
+        let made = translation-made headerWords rowWords e in
+        record {
+          source-accepted = made .accepted;
+          header-inside = omega (arith, made .header-room, made .header-kept);
+          rows-inside = omega (arith, made .rows-room, made .rows-kept);
+          kernel-form = rw (sym (first-of headerLeft headerWords) ∙ made .header-written, sym (first-of rowsLeft rowWords) ∙ made .rows-written) (has (made .accepted));
+        }
 
     -- ---- a translation that was refused
 

@@ -13,7 +13,7 @@ ghost use Rattle.words.specs.declared.Verdict.the-variants.{Accepted};
 ghost use Rattle.source_check.specs.Refusal.{refusal as sourceRefusal};
 ghost use Rattle.measures.specs.Measures.{Measured};
 ghost use Rattle.fate.specs.KernelForms.{HasKernelForm};
-ghost use Rattle.translator.specs.Translation.{answerAndTables, translateAfter, translateResult};
+ghost use Rattle.translator.specs.Translation.{answerAndTables, translateAfter, translateResult, WritesKernelForm};
 
 pub mod header; // header.rt: the kernel header
 
@@ -63,6 +63,7 @@ pub fn translate_accepted(
     requires { ⌜ sourceRefusal (now header) (now rows) ≡ Accepted ⌝ }
     ensures { λ r. ⌜ answerAndTables r (now («kernel_header» .exit)) (now («kernel_rows» .exit)) ≡ translateResult (now (header .entry)) (now (rows .entry)) (now («kernel_header» .entry)) (now («kernel_rows» .entry)) ⌝ }
     ensures { λ _. ⌜ HasKernelForm (now (header .entry)) (now (rows .entry)) ⌝ }
+    ensures { λ r. ⌜ WritesKernelForm (now (header .entry)) (now (rows .entry)) r (now («kernel_header» .exit)) (now («kernel_rows» .exit)) ⌝ }
 {
     let mut table = [0usize; 22528];
     measure(rows, &mut table);
@@ -70,7 +71,7 @@ pub fn translate_accepted(
 }
 
 // Translates a source program. The first promise says what is answered and what stands in both tables after it, refusals too; the
-// second is demands 2 and 3 about the tables that are written.
+// second is demands 2 and 3 about the kernel form that it cites; the third says them of the words that stand in the tables.
 pub fn translate(
     header: &[i32],
     rows: &[i32],
@@ -79,6 +80,7 @@ pub fn translate(
 ) -> TranslateAnswer
     ensures { λ r. ⌜ answerAndTables r (now («kernel_header» .exit)) (now («kernel_rows» .exit)) ≡ translateResult (now (header .entry)) (now (rows .entry)) (now («kernel_header» .entry)) (now («kernel_rows» .entry)) ⌝ }
     ensures { λ _. ⌜ HasKernelForm (now (header .entry)) (now (rows .entry)) ⌝ }
+    ensures { λ r. ⌜ WritesKernelForm (now (header .entry)) (now (rows .entry)) r (now («kernel_header» .exit)) (now («kernel_rows» .exit)) ⌝ }
 {
     let verdict = source_check::check(header, rows);
     match verdict {

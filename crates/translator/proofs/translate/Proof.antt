@@ -33,7 +33,7 @@ unfolding translateResult
 returns-2 c =
     let start = c .before .before .before .before in (
       rw (← c .before .before .before .check .ensures, c .before .verdict .given .1),
-      has-kernel-form (start .args .header .now) (start .args .rows .now),
+      (has-kernel-form (start .args .header .now) (start .args .rows .now), tt),
     )
 
 pub translate-spec : {M : Type 1} → statement M

@@ -28,7 +28,7 @@ module _ {header rows : List ℤ} {room : ℕ} (t : Translates header rows room)
   abbrev kernelRows : List ℤ
   kernelRows = kernelRowsOf header rows
 
-  form : KernelFormOf header rows
+  form : KernelFormOf header rows kernelHeader kernelRows
   form = has (t .accepted)
 
   few-numbers : length kernelHeader ≤ 34

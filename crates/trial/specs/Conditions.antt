@@ -31,9 +31,10 @@ pub record Fits (header rows : List ℤ) (room : ℕ) : Type 0 where
   pub few-rows : length rows ≤ 6 * mostRows
   pub both-lines : outputRoom ≤ room
 
--- The same, with the store that the source run starts from.
+-- The same of an accepted program, with the store that the source run starts from.
 pub record FromZeros (header rows store : List ℤ) (room : ℕ) : Type 0 where
   pub fits : Fits header rows room
+  pub accepted : refusalOf Source header rows ≡ Accepted
   pub starts : store ≡ zeros (storeWords Source header)
 
 -- An accepted program within the limits, and room for its kernel line.

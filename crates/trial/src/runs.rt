@@ -1,25 +1,27 @@
 // Both runs of a program, each from zeros with budget 100,000, and their lines at the start of `output`.
-use clight::runs::kernel_run;
-use clight::runs::run;
-use clight::translate::translate;
+use clight::runs::check;
+use clight::runs::run_accepted;
 use report::line::kernel_line;
 use report::line::refused_line;
 use report::line::source_line;
 use translator::TranslateAnswer;
+use translator::translate_accepted;
 use words::Form;
-use words::RunVerdict;
+use words::Verdict;
 use words::layout::store_size;
 use words::layout::store_words;
+ghost use mathlib.Core.Path.{_≡_};
 ghost use lib.ListN.{length};
 ghost use Rattle.words.specs.Layout.{layoutOf, storeSize};
 ghost use Rattle.words.specs.declared.Form.the-variants.{Source};
+ghost use Rattle.words.specs.declared.Verdict.the-variants.{Accepted};
 ghost use Rattle.text_form.specs.Writer.{Put};
 ghost use Rattle.fate.specs.KernelForms.{kernelHeaderOf, kernelRowsOf};
 ghost use Rattle.clight.specs.Runs.{refusalOf};
-ghost use Rattle.trial.specs.Output.{kernelOutput, checkedOutput};
+ghost use Rattle.trial.specs.Output.{kernelOutput, runsOutput, checkedOutput};
 ghost use Rattle.trial.specs.Conditions.{Fits, FromZeros, KernelFits, KernelFromZeros, Translates};
 
-// The kernel run on a store of zeros. It is not refused: the program is accepted, and the store has S+T words.
+// The kernel run on a store of zeros.
 fn run_kernel_on(
     header: &[i32],
     rows: &[i32],
@@ -30,14 +32,9 @@ fn run_kernel_on(
     requires { ⌜ KernelFromZeros (now header) (now rows) words (now store) (length (now output)) ⌝ }
     ensures { λ r. ⌜ Put (kernelOutput words (now (header .entry)) (now (rows .entry))) (now (output .entry)) r (now (output .exit)) ⌝ }
 {
-    let verdict = kernel_run(header, rows, store, 100000);
-    match verdict {
-        RunVerdict::Ran(answer) => {
-            let ending = answer.ending;
-            kernel_line(ending, &store[0..words], output)
-        }
-        RunVerdict::Refused(refusal) => refused_line(refusal, output),
-    }
+    let answer = run_accepted(Form::Kernel, header, rows, store, 100000);
+    let ending = answer.ending;
+    kernel_line(ending, &store[0..words], output)
 }
 
 // The line of a kernel program that the check accepts, with the first `words` words of its store.
@@ -58,7 +55,7 @@ fn run_translation(header: &[i32], rows: &[i32], output: &mut [u8]) -> usize
     let words = store_size(Form::Source, header);
     let mut kernel_header = [0i32; 34];
     let mut kernel_rows = [0i32; 15480];
-    let answer = translate(header, rows, &mut kernel_header, &mut kernel_rows);
+    let answer = translate_accepted(header, rows, &mut kernel_header, &mut kernel_rows);
     match answer {
         TranslateAnswer::Translated(header_words, row_words) => run_kernel(
             &kernel_header[0..header_words],
@@ -70,28 +67,36 @@ fn run_translation(header: &[i32], rows: &[i32], output: &mut [u8]) -> usize
     }
 }
 
-// The source run on a store of zeros, then the translation's; or the check's refusal.
+// The lines of an accepted program: the source run on a store of zeros, then the translation's.
 fn run_source_on(header: &[i32], rows: &[i32], store: &mut [i32], output: &mut [u8]) -> usize
     requires { ⌜ FromZeros (now header) (now rows) (now store) (length (now output)) ⌝ }
-    ensures { λ r. ⌜ Put (checkedOutput (refusalOf Source (now (header .entry)) (now (rows .entry))) (now (header .entry)) (now (rows .entry))) (now (output .entry)) r (now (output .exit)) ⌝ }
+    ensures { λ r. ⌜ Put (runsOutput (now (header .entry)) (now (rows .entry))) (now (output .entry)) r (now (output .exit)) ⌝ }
 {
-    let verdict = run(header, rows, store, 100000);
-    match verdict {
-        RunVerdict::Ran(answer) => {
-            let ending = answer.ending;
-            let end = source_line(ending, answer.count, store, output);
-            end + run_translation(header, rows, &mut output[end..])
-        }
-        RunVerdict::Refused(refusal) => refused_line(refusal, output),
-    }
+    let answer = run_accepted(Form::Source, header, rows, store, 100000);
+    let ending = answer.ending;
+    let end = source_line(ending, answer.count, store, output);
+    end + run_translation(header, rows, &mut output[end..])
 }
 
-// Both lines of a program within the limits, or the check's refusal.
-pub fn run_both(header: &[i32], rows: &[i32], output: &mut [u8]) -> usize
+// Both lines of an accepted program within the limits.
+fn run_source(header: &[i32], rows: &[i32], output: &mut [u8]) -> usize
     requires { ⌜ Fits (now header) (now rows) (length (now output)) ⌝ }
-    ensures { λ r. ⌜ Put (checkedOutput (refusalOf Source (now (header .entry)) (now (rows .entry))) (now (header .entry)) (now (rows .entry))) (now (output .entry)) r (now (output .exit)) ⌝ }
+    requires { ⌜ refusalOf Source (now header) (now rows) ≡ Accepted ⌝ }
+    ensures { λ r. ⌜ Put (runsOutput (now (header .entry)) (now (rows .entry))) (now (output .entry)) r (now (output .exit)) ⌝ }
 {
     let size = store_size(Form::Source, header);
     let mut store = [0i32; 1024];
     run_source_on(header, rows, &mut store[0..size], output)
+}
+
+// Both lines of a program within the limits, or the check's refusal. This is the one check of the program.
+pub fn run_both(header: &[i32], rows: &[i32], output: &mut [u8]) -> usize
+    requires { ⌜ Fits (now header) (now rows) (length (now output)) ⌝ }
+    ensures { λ r. ⌜ Put (checkedOutput (refusalOf Source (now (header .entry)) (now (rows .entry))) (now (header .entry)) (now (rows .entry))) (now (output .entry)) r (now (output .exit)) ⌝ }
+{
+    let verdict = check(header, rows);
+    match verdict {
+        Verdict::Accepted => run_source(header, rows, output),
+        Verdict::Refused(refusal) => refused_line(refusal, output),
+    }
 }

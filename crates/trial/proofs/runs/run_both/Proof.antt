@@ -1,42 +1,52 @@
--- `run_both`: a store of S zeros, then `run_source_on`.
-use mathlib.Core.Path.{sym, ap, _∙_}
-use native.Mathlib.Omega.{arith}
-use Rattle.words.specs.Layout.{zeros}
-use Rattle.words.specs.Laws.{zeros-part}
-use Rattle.trial.proofs.Started.{source-words}
+-- `run_both`: the check accepts the program, and both forms are run; or its refusal.
+use mathlib.Core.Path.{sym, _∙_}
+use Rattle.text_form.specs.PutLaws.{put-as}
+use Rattle.trial.proofs.Started.{accepted-output, refused-output}
 use borrow.Author.Needs.{needs}
 use Rattle.trial.proofs.runs.run_both.Statement.{statement}
 use Rattle.trial.proofs.runs.run_both.Tie as tie
 
-store-size-requires : tie.Need-store-size-requires
-store-size-requires c κs = search needs
+check-requires : tie.Need-check-requires
+check-requires c κs = search needs
 
-sub-run-source-on : tie.Need-sub-run-source-on
-sub-run-source-on c = search needs
+enum-told : tie.Need-enum-told
+enum-told c = search needs
 
-part-store-start : tie.Need-part-store-start
-part-store-start c = search needs
+run-source-requires : tie.Need-run-source-requires
+run-source-requires c κs = (c .before .before .before .before .before .pre, sym (c .before .before .before .check .ensures .0) ∙ c .before .enum-told .given .1)
 
-part-store-end : tie.Need-part-store-end
-part-store-end c = search needs
+enum-known-verdict : tie.Need-enum-known-verdict
+enum-known-verdict c = search needs
 
-run-source-on-requires : tie.Need-run-source-on-requires
-run-source-on-requires c κs = record { fits = c .before .before .before .before .pre; starts = zeros-part (c .before .before .store-size .result) 1024 (omega (arith, c .before .before .store-size .ensures, c .before .before .before .before .pre .few-words)) ∙ ap zeros (c .before .before .store-size .ensures ∙ sym (source-words (c .before .before .before .before .args .header .now))) }
+refused-line-requires : tie.Need-refused-line-requires
+refused-line-requires c κs = search needs
 
 same-length : tie.Need-same-length
 same-length c = search needs
 
 returns : tie.Need-returns
-returns c = search needs
+returns c =
+    let s = c .before .before .before .before .before .before .before .before in
+    put-as (accepted-output (s .args .header .now) (s .args .rows .now) (sym (c .before .before .before .before .before .before .check .ensures .0) ∙ c .before .before .before .before .enum-told .given .1)) (c .before .before .run-source .ensures)
+
+same-length-2 : tie.Need-same-length-2
+same-length-2 c = search needs
+
+returns-2 : tie.Need-returns-2
+returns-2 c =
+    let s = c .before .before .before .before .before .before .before .before .before in
+    put-as (refused-output (s .args .header .now) (s .args .rows .now) _ (sym (c .before .before .before .before .before .before .before .check .ensures .0) ∙ c .before .before .before .before .before .verdict .given .1)) (c .before .before .refused-line .ensures)
 
 pub run-both-spec : {M : Type 1} → statement M
 run-both-spec =
     tie.close
     (tie.spec
-    store-size-requires
-    sub-run-source-on
-    part-store-start
-    part-store-end
-    run-source-on-requires
+    check-requires
+    enum-told
+    run-source-requires
+    enum-known-verdict
+    refused-line-requires
     same-length
-    returns)
+    returns
+    same-length-2
+    returns-2)

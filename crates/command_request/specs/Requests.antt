@@ -35,17 +35,32 @@ verbOf name =
 unfoldable pub budgetOf : List ℕ → Option ℕ
 budgetOf bytes = atMost 4294967295 (natural bytes)
 
-unfoldable pub runRequest : Form → Option ℕ → Request
-runRequest form none = WrongBudget
-runRequest form (some budget) = Run form budget
+unfoldable pub runRequest : Form → Option ℕ → (stored : Bool) → Request
+runRequest form none stored = WrongBudget
+runRequest form (some budget) stored = Run form budget stored
 
 -- A run has a budget and, where it is not to start from zeros, a store file; the others have no further argument. `count` is the number of
 -- arguments.
 unfoldable pub requestBy : Verb → (count : ℕ) → (second : List ℕ) → Request
 requestBy (verb-cases.Check form) count second = pick (eqb count 1) (Check form) WrongArguments
-requestBy (verb-cases.Run form) count second = pick (leb 2 count && leb count 3) (runRequest form (budgetOf second)) WrongArguments
+requestBy (verb-cases.Run form) count second = pick (leb 2 count && leb count 3) (runRequest form (budgetOf second) (eqb count 3)) WrongArguments
 requestBy verb-cases.Translate count second = pick (eqb count 1) Translate WrongArguments
 requestBy verb-cases.Unknown count second = WrongArguments
 
 unfoldable pub requestOf : (count : ℕ) → (first second : List ℕ) → Request
 requestOf count first second = requestBy (verbOf first) count second
+
+-- Whether standard input is read, and whether a store file is. With wrong arguments nothing is read.
+abbrev pub readsText : Request → Bool
+readsText (Check form) = true
+readsText (Run form budget stored) = true
+readsText Translate = true
+readsText WrongArguments = false
+readsText WrongBudget = false
+
+abbrev pub readsStore : Request → Bool
+readsStore (Check form) = false
+readsStore (Run form budget stored) = stored
+readsStore Translate = false
+readsStore WrongArguments = false
+readsStore WrongBudget = false

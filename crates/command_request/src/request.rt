@@ -8,7 +8,7 @@ ghost use Rattle.words.specs.Word.{pick};
 ghost use Rattle.text_form.specs.Reader.{digitsValue};
 ghost use Rattle.command_request.specs.declared.request.Verb.the-variants.{Run as RunVerb};
 ghost use Rattle.command_request.specs.declared.request.Request.the-variants.{WrongArguments};
-ghost use Rattle.command_request.specs.Requests.{sameBytes, verbOf, runRequest, requestBy, requestOf};
+ghost use Rattle.command_request.specs.Requests.{sameBytes, verbOf, runRequest, requestBy, requestOf, readsText, readsStore};
 
 // What the first argument says.
 pub enum Verb {
@@ -18,10 +18,10 @@ pub enum Verb {
     Unknown,
 }
 
-// What all arguments ask for; a run has its budget.
+// What all arguments ask for; a run has its budget, and says whether a store file is named.
 pub enum Request {
     Check(Form),
-    Run(Form, u32),
+    Run(Form, u32, bool),
     Translate,
     WrongArguments,
     WrongBudget,
@@ -64,11 +64,11 @@ fn verb_of(name: &[u8]) -> Verb
     Verb::Unknown
 }
 
-fn run_request(form: Form, budget: Digits) -> Request
-    ensures { λ r. ⌜ r ≡ runRequest form (digitsValue budget) ⌝ }
+fn run_request(form: Form, budget: Digits, stored: bool) -> Request
+    ensures { λ r. ⌜ r ≡ runRequest form (digitsValue budget) stored ⌝ }
 {
     match budget {
-        Digits::Value(steps) => Request::Run(form, steps),
+        Digits::Value(steps) => Request::Run(form, steps, stored),
         Digits::Malformed => Request::WrongBudget,
     }
 }
@@ -83,7 +83,7 @@ fn alone(request: Request, count: usize) -> Request
     request
 }
 
-// Two arguments or three, of which the second is the budget: any unsigned 32-bit number.
+// Two arguments or three, of which the second is the budget, any unsigned 32-bit number, and the third names a store file.
 fn run_arguments(form: Form, count: usize, second: &[u8]) -> Request
     ensures { λ r. ⌜ r ≡ requestBy (RunVerb form) count (now (second .entry)) ⌝ }
 {
@@ -93,7 +93,7 @@ fn run_arguments(form: Form, count: usize, second: &[u8]) -> Request
     if count > 3 {
         return Request::WrongArguments;
     }
-    run_request(form, natural(second, 4294967295))
+    run_request(form, natural(second, 4294967295), count == 3)
 }
 
 fn request_by(verb: Verb, count: usize, second: &[u8]) -> Request
@@ -112,4 +112,30 @@ pub fn request_of(count: usize, first: &[u8], second: &[u8]) -> Request
     ensures { λ r. ⌜ r ≡ requestOf count (now (first .entry)) (now (second .entry)) ⌝ }
 {
     request_by(verb_of(first), count, second)
+}
+
+// Whether standard input is read. With wrong arguments nothing is.
+pub fn reads_text(request: Request) -> bool
+    ensures { λ r. ⌜ r ≡ readsText request ⌝ }
+{
+    match request {
+        Request::Check(_) => true,
+        Request::Run(_, _, _) => true,
+        Request::Translate => true,
+        Request::WrongArguments => false,
+        Request::WrongBudget => false,
+    }
+}
+
+// Whether a store file is read.
+pub fn reads_store(request: Request) -> bool
+    ensures { λ r. ⌜ r ≡ readsStore request ⌝ }
+{
+    match request {
+        Request::Check(_) => false,
+        Request::Run(_, _, stored) => stored,
+        Request::Translate => false,
+        Request::WrongArguments => false,
+        Request::WrongBudget => false,
+    }
 }

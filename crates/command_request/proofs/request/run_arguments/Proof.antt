@@ -1,5 +1,8 @@
--- `run_arguments`: two arguments or three, of which the second is the budget.
+-- `run_arguments`: two arguments or three, of which the second is the budget and the third names a store file.
 use mathlib.Core.Path.{ap, _∙_}
+use mathlib.Core.Option.{Option}
+use Prim.Native.Nat.{ℕ}
+use lib.Dec.{eqb}
 use borrow.Author.Needs.{needs}
 use borrow.Author.Tests.{le-leb, lt-leb}
 use Rattle.command_request.specs.Requests.{budgetOf, runRequest, requestBy}
@@ -22,7 +25,9 @@ run-request-requires c κs = search needs
 
 returns-3 : tie.Need-returns-3
 unfolding requestBy budgetOf
-returns-3 c = rw (le-leb _ _ (c .before .before .before .if1 .left), le-leb _ _ (c .before .before .if2 .left)) (c .run-request .ensures ∙ ap (runRequest _) (c .before .natural .ensures))
+returns-3 c =
+    let start = c .before .before .before .before .before in
+    rw (le-leb _ _ (c .before .before .before .if1 .left), le-leb _ _ (c .before .before .if2 .left)) (c .run-request .ensures ∙ ap (λ (budget : Option ℕ). runRequest (start .args .form) budget (eqb (start .args .count) 3)) (c .before .natural .ensures))
 
 pub run-arguments-spec : {M : Type 1} → statement M
 run-arguments-spec =

@@ -1,25 +1,23 @@
--- Translations: what the translator wrote is a kernel program that the writer does not refuse.
+-- Translations: what the translator wrote is a kernel program whose text has room.
 use mathlib.Core.Path.{_≡_, refl, sym, ap, _∙_}
 use mathlib.Core.Bool.{true}
-use mathlib.Core.List.{List, [], _∷_}
-use Prim.Native.Nat.{ℕ, _-_, _≤_}
+use mathlib.Core.List.{List, _++_, append-assoc}
+use Prim.Native.Nat.{ℕ, _+_, _-_, _≤_}
 use native.Mathlib.Omega.{arith}
-use lib.Dec.{leb}
 use lib.IntN.{ℤ}
-use lib.ListN.{length, take}
-use borrow.Author.Tests.{le-leb}
+use lib.ListN.{length, take, drop, take-append-drop}
+use lib.Seq.{drop-append-le}
+use borrow.Rule.Slice.PartMut.{midOf, putMid, mid-len}
 use Rattle.words.specs.Laws.{headerFits-facts, countFits-facts, leading-limits, rowLimit-most}
+use Rattle.words.specs.Over.{over}
 use Rattle.words.specs.declared.Form.{Form}
 use Rattle.words.specs.declared.Form.the-variants.{Kernel}
 use Rattle.words.specs.declared.Refusal.{Refusal}
 use Rattle.words.specs.declared.Verdict.{Verdict}
 use Rattle.words.specs.declared.Verdict.the-variants.{Accepted}
-use Rattle.text_form.specs.declared.WriteAnswer.the-variants.{Written, Refused as WriteRefused}
 use Rattle.text_form.specs.Text.{textBytes}
-use Rattle.words.specs.Over.{over}
-use Rattle.text_form.specs.Answers.{finished, writeBytes, writeResult, Writes}
-use Rattle.text_form.specs.AnswerLaws.{Passes, passes-cause, refused-finished}
-use Rattle.text_form.specs.Writer.{Measured, Put}
+use Rattle.text_form.specs.AnswerLaws.{Passes, passes-cause}
+use Rattle.text_form.specs.Writer.{Measured, Put, Fills}
 use Rattle.text_form.proofs.Sizing.{sized-fills}
 use Rattle.report.specs.Lines.{refusedLine}
 use Rattle.source_check.specs.Refusal.{refusal as sourceRefusal}
@@ -39,30 +37,37 @@ roomy-any form r = record {
 
 -- ---- writing
 
-module _ (header rows : List ℤ) (out : List ℕ) (p : Passes Kernel header (length rows)) where
+-- bytes put into the first `size` bytes of a buffer are put at its start
+pub put-first : (bytes buffer : List ℕ) (size count : ℕ) (lent : List ℕ) → length bytes ≤ length (midOf 0 (size - 0) buffer) → Put bytes (midOf 0 (size - 0) buffer) count lent
+    → Put bytes buffer count (putMid 0 (size - 0) buffer lent)
+unfolding over
+put-first bytes buffer size count lent h p =
+    let first = take (size - 0) buffer in
+    let rest = drop (size - 0) buffer in
+    record {
+      size = p .size;
+      written =
+          ap (λ (l : List ℕ). l ++ rest) (p .written)
+          ∙ append-assoc bytes (drop (length bytes) first) rest
+          ∙ ap (λ (l : List ℕ). bytes ++ l) (sym (drop-append-le (length bytes) first rest h) ∙ ap (λ (l : List ℕ). drop (length bytes) l) (take-append-drop (size - 0) buffer));
+    }
+
+module _ (header rows : List ℤ) (p : Passes Kernel header (length rows)) where
   pub rows-few : length rows ≤ 245880
   rows-few = omega (arith, countFits-facts Kernel (length rows) (p .count-fits) .most)
 
   pub header-few : length header ≤ 34
   header-few = omega (arith, headerFits-facts Kernel header (p .header-fits) .most)
 
-  module _ {first others : ℕ} (h : Measured header first) (r : Measured rows others) (o : outputRoom ≤ length out) where
-    room : length (textBytes header rows) ≤ length out
-    room =
-        sized-fills (record { passes = passes-cause Kernel header (length rows) true p refl; header-size = h; rows-size = r }) out
-        (omega (arith, h .most, r .most, rows-few, header-few)) .room
+  module _ {first others : ℕ} (h : Measured header first) (r : Measured rows others) where
+    pub few-bytes : first + others ≤ outputRoom
+    few-bytes = omega (arith, h .most, r .most, rows-few, header-few)
 
-    all-written : writeResult Kernel header rows out ≡ record { outcome = finished (length (textBytes header rows) ∷ []); text = over (textBytes header rows) out }
-    unfolding writeResult writeBytes
-    all-written = rw (passes-cause Kernel header (length rows) (leb (length (textBytes header rows)) (length out)) p (le-leb (length (textBytes header rows)) (length out) room))
-
-    pub written-put : (bytes : ℕ) (left : List ℕ) → Writes (writeResult Kernel header rows out) (Written bytes) left → Put (textBytes header rows) out bytes left
-    written-put bytes left w =
-        let e : finished (bytes ∷ []) ≡ finished (length (textBytes header rows) ∷ []) = w .outcome ∙ ap (λ result. result .outcome) all-written in
-        record { size = cc; written = w .text-left ∙ ap (λ result. result .text) all-written }
-
-    pub never-refused : {G : Type 0} (refusal : Refusal) (left : List ℕ) → Writes (writeResult Kernel header rows out) (WriteRefused refusal) left → G
-    never-refused refusal left w = refused-finished (w .outcome ∙ ap (λ result. result .outcome) all-written)
+    -- the bytes that both sizes add up to hold the text
+    pub sizes-fill : (out : List ℕ) → outputRoom ≤ length out → Fills header rows (midOf 0 (first + others - 0) out)
+    sizes-fill out o =
+        sized-fills (record { passes = passes-cause Kernel header (length rows) true p refl; header-size = h; rows-size = r }) (midOf 0 (first + others - 0) out)
+        (omega (arith, mid-len 0 (first + others) out (omega (arith, few-bytes))))
 
 -- ---- translating
 

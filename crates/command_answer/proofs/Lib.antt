@@ -5,5 +5,5 @@ pub mod Readings
 pub mod Joined
 -- Starts: what a run starts from, and that its line has room.
 pub mod Starts
--- Kernels: what the translator wrote is a kernel program that the writer does not refuse.
+-- Kernels: what the translator wrote is a kernel program whose text has room.
 pub mod Kernels

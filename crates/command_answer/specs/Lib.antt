@@ -5,3 +5,5 @@
 pub mod Lines
 -- Output: what it prints for a request, a text and a store file.
 pub mod Output
+-- Inputs: what came of reading standard input and the store file, and what is printed for it.
+pub mod Inputs

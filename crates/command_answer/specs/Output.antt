@@ -106,16 +106,16 @@ translateOutput text = textOutput Source text kernelText
 
 -- ---- all requests
 
-unfoldable pub requestOutput : Request → (text : List ℕ) → (given : Bool) → (stored : List ℕ) → List ℕ
-requestOutput (Check form) text given stored = checkOutput form text
-requestOutput (Run form budget) text given stored = startedOutput form budget text given stored
-requestOutput Translate text given stored = translateOutput text
-requestOutput WrongArguments text given stored = usageLine
-requestOutput WrongBudget text given stored = wrongBudgetLine
+unfoldable pub requestOutput : Request → (text stored : List ℕ) → List ℕ
+requestOutput (Check form) text stored = checkOutput form text
+requestOutput (Run form budget given) text stored = startedOutput form budget text given stored
+requestOutput Translate text stored = translateOutput text
+requestOutput WrongArguments text stored = usageLine
+requestOutput WrongBudget text stored = wrongBudgetLine
 
 -- What is printed: the limits come before the request. (With wrong arguments nothing is read, so that both are empty.)
-unfoldable pub commandOutput : Request → (text : List ℕ) → (given : Bool) → (stored : List ℕ) → List ℕ
-commandOutput request text given stored =
+unfoldable pub commandOutput : Request → (text stored : List ℕ) → List ℕ
+commandOutput request text stored =
     pick (leb (length text) textLimit)
-    (pick (leb (length stored) storeLimit) (requestOutput request text given stored) longStoreLine)
+    (pick (leb (length stored) storeLimit) (requestOutput request text stored) longStoreLine)
     longTextLine

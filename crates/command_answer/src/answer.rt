@@ -1,23 +1,27 @@
-// What is printed for a request. The bytes stand at the start of `out`, and the answer is how many they are.
+// What is printed for a request and what was read for it. The bytes stand at the start of `out`, and the answer is how many they are.
+use super::Input;
 use super::kernel_text::translate_answer;
 use super::line::long_store_line;
 use super::line::long_text_line;
+use super::line::unreadable_store_line;
+use super::line::unreadable_text_line;
 use super::line::usage_line;
 use super::line::wrong_budget_line;
 use super::verbs::check_answer;
 use super::verbs::run_answer;
 use command_request::request::Request;
+ghost use mathlib.Core.Path.{_≡_};
 ghost use Prim.Native.Nat.{_≤_};
 ghost use lib.ListN.{length};
 ghost use Rattle.words.specs.declared.Form.the-variants.{Kernel};
 ghost use Rattle.text_form.specs.Writer.{Put};
+ghost use Rattle.command_answer.specs.Inputs.{isUnreadable, bytesRead, inputsOutput};
 ghost use Rattle.command_answer.specs.Output.{Roomy, outputRoom, storeLimit, requestOutput, commandOutput};
 
 // An arm for each request.
 fn request_answer(
     request: Request,
     text: &[u8],
-    given: bool,
     stored: &[u8],
     header: &mut [i32],
     rows: &mut [i32],
@@ -26,11 +30,11 @@ fn request_answer(
     requires { ⌜ Roomy Kernel (now header) (now rows) ⌝ }
     requires { ⌜ length (now stored) ≤ storeLimit ⌝ }
     requires { ⌜ outputRoom ≤ length (now out) ⌝ }
-    ensures { λ r. ⌜ Put (requestOutput request (now (text .entry)) given (now (stored .entry))) (now (out .entry)) r (now (out .exit)) ⌝ }
+    ensures { λ r. ⌜ Put (requestOutput request (now (text .entry)) (now (stored .entry))) (now (out .entry)) r (now (out .exit)) ⌝ }
 {
     match request {
         Request::Check(form) => check_answer(form, text, header, rows, out),
-        Request::Run(form, budget) => {
+        Request::Run(form, budget, given) => {
             run_answer(form, budget, text, given, stored, header, rows, out)
         }
         Request::Translate => translate_answer(text, header, rows, out),
@@ -39,12 +43,11 @@ fn request_answer(
     }
 }
 
-// What the command prints for a request, the text and, where `given` says that one was named, the bytes of a store file. The tables
-// are lent to work in.
-pub fn answer(
+// What the command prints for a request, the text and, where the request names one, the bytes of a store file. The tables are lent to
+// work in; what stands in them after it is free.
+fn answer(
     request: Request,
     text: &[u8],
-    given: bool,
     stored: &[u8],
     header: &mut [i32],
     rows: &mut [i32],
@@ -52,7 +55,7 @@ pub fn answer(
 ) -> usize
     requires { ⌜ Roomy Kernel (now header) (now rows) ⌝ }
     requires { ⌜ outputRoom ≤ length (now out) ⌝ }
-    ensures { λ r. ⌜ Put (commandOutput request (now (text .entry)) given (now (stored .entry))) (now (out .entry)) r (now (out .exit)) ⌝ }
+    ensures { λ r. ⌜ Put (commandOutput request (now (text .entry)) (now (stored .entry))) (now (out .entry)) r (now (out .exit)) ⌝ }
 {
     if text.len() > 2097152 {
         return long_text_line(out);
@@ -60,5 +63,60 @@ pub fn answer(
     if stored.len() > 196608 {
         return long_store_line(out);
     }
-    request_answer(request, text, given, stored, header, rows, out)
+    request_answer(request, text, stored, header, rows, out)
+}
+
+fn is_unreadable(input: Input) -> bool
+    ensures { λ r. ⌜ r ≡ isUnreadable input ⌝ }
+{
+    match input {
+        Input::Absent => false,
+        Input::Bytes(_) => false,
+        Input::Unreadable => true,
+    }
+}
+
+fn bytes_read(input: Input) -> usize
+    ensures { λ r. ⌜ r ≡ bytesRead input ⌝ }
+{
+    match input {
+        Input::Absent => 0,
+        Input::Bytes(count) => count,
+        Input::Unreadable => 0,
+    }
+}
+
+// What the command prints for a request and what was read for it, which stands at the start of `text` and `stored`. The tables are lent
+// to work in; what stands in them after it is free.
+pub fn inputs_answer(
+    request: Request,
+    text_input: Input,
+    text: &[u8],
+    store_input: Input,
+    stored: &[u8],
+    header: &mut [i32],
+    rows: &mut [i32],
+    out: &mut [u8],
+) -> usize
+    requires { ⌜ (bytesRead «text_input» ≤ length (now text)) × (bytesRead «store_input» ≤ length (now stored)) ⌝ }
+    requires { ⌜ Roomy Kernel (now header) (now rows) ⌝ }
+    requires { ⌜ outputRoom ≤ length (now out) ⌝ }
+    ensures { λ r. ⌜ Put (inputsOutput request «text_input» «store_input» (now (text .entry)) (now (stored .entry))) (now (out .entry)) r (now (out .exit)) ⌝ }
+{
+    if is_unreadable(text_input) {
+        return unreadable_text_line(out);
+    }
+    if is_unreadable(store_input) {
+        return unreadable_store_line(out);
+    }
+    let text_bytes = bytes_read(text_input);
+    let store_bytes = bytes_read(store_input);
+    answer(
+        request,
+        &text[..text_bytes],
+        &stored[..store_bytes],
+        header,
+        rows,
+        out,
+    )
 }

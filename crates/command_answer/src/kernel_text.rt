@@ -2,7 +2,7 @@
 use clight::translate::translate;
 use report::line::refused_line;
 use text_form::ReadAnswer;
-use text_form::WriteAnswer;
+use text_form::writer::put_text;
 use text_form::writer::size_of;
 use translator::TranslateAnswer;
 use words::Form;
@@ -14,19 +14,14 @@ ghost use Rattle.text_form.specs.Text.{textBytes};
 ghost use Rattle.text_form.specs.Writer.{Put};
 ghost use Rattle.command_answer.specs.Output.{Roomy, outputRoom, kernelText, translateOutput};
 
-// Writes a kernel program's text. The writer does not refuse it: by their sizes the words have room.
+// Writes a kernel program's text into as many bytes as it takes. They have room: a word takes at most twelve.
 fn put_kernel(header: &[i32], rows: &[i32], out: &mut [u8]) -> usize
     requires { ⌜ Passes Kernel (now header) (length (now rows)) ⌝ }
     requires { ⌜ outputRoom ≤ length (now out) ⌝ }
     ensures { λ r. ⌜ Put (textBytes (now (header .entry)) (now (rows .entry))) (now (out .entry)) r (now (out .exit)) ⌝ }
 {
-    let header_size = size_of(header);
-    let rows_size = size_of(rows);
-    let answer = text_form::write(Form::Kernel, header, rows, out);
-    match answer {
-        WriteAnswer::Written(bytes) => bytes,
-        WriteAnswer::Refused(_) => header_size + rows_size,
-    }
+    let size = size_of(header) + size_of(rows);
+    put_text(header, rows, &mut out[0..size])
 }
 
 // Translates a program into the lent tables, and writes their text.

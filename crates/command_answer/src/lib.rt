@@ -3,3 +3,10 @@ pub mod answer; // answer.rt: what is printed for a request
 mod kernel_text; // kernel_text.rt: what `translate` prints
 pub mod line; // line.rt: whole lines
 mod verbs; // verbs.rt: what the checks and the runs print
+
+// What came of reading standard input, or the store file: nothing was to be read, or so many bytes were, or none could be.
+pub enum Input {
+    Absent,
+    Bytes(usize),
+    Unreadable,
+}

@@ -25,7 +25,7 @@ part-put-kernel-start : tie.Need-part-put-kernel-start
 part-put-kernel-start c = search needs
 
 part-put-kernel-end : tie.Need-part-put-kernel-end
-part-put-kernel-end c = translated (c .before .before .before .before .before .before .before .before .before .before .args .header .now) (c .before .before .before .before .before .before .before .before .before .before .args .rows .now) (c .before .before .before .before .before .before .before .before .before .before .pre .0) (c .before .before .before .before .before .before .translate .ensures .1) (rw (c .before .before .answer2 .given .1) at (c .before .before .before .before .before .before .translate .ensures .0)) (c .before .before .before .before .before .before .translate .kept .1 .1 .0) (c .before .before .before .before .before .before .translate .kept .1 .1 .1 .0) .header-inside
+part-put-kernel-end c = translated (c .before .before .before .before .before .before .before .before .before .before .args .header .now) (c .before .before .before .before .before .before .before .before .before .before .args .rows .now) (c .before .before .before .before .before .before .before .before .before .before .pre .0) (c .before .before .before .before .before .before .translate .ensures .1 .0) (rw (c .before .before .answer2 .given .1) at (c .before .before .before .before .before .before .translate .ensures .0)) (c .before .before .before .before .before .before .translate .kept .1 .1 .0) (c .before .before .before .before .before .before .translate .kept .1 .1 .1 .0) .header-inside
 
 sub-put-kernel-2 : tie.Need-sub-put-kernel-2
 sub-put-kernel-2 c = search needs
@@ -34,10 +34,10 @@ part-put-kernel-start-2 : tie.Need-part-put-kernel-start-2
 part-put-kernel-start-2 c = search needs
 
 part-put-kernel-end-2 : tie.Need-part-put-kernel-end-2
-part-put-kernel-end-2 c = translated (c .before .before .before .before .before .before .before .before .before .before .before .before .args .header .now) (c .before .before .before .before .before .before .before .before .before .before .before .before .args .rows .now) (c .before .before .before .before .before .before .before .before .before .before .before .before .pre .0) (c .before .before .before .before .before .before .before .before .translate .ensures .1) (rw (c .before .before .before .before .answer2 .given .1) at (c .before .before .before .before .before .before .before .before .translate .ensures .0)) (c .before .before .before .before .before .before .before .before .translate .kept .1 .1 .0) (c .before .before .before .before .before .before .before .before .translate .kept .1 .1 .1 .0) .rows-inside
+part-put-kernel-end-2 c = translated (c .before .before .before .before .before .before .before .before .before .before .before .before .args .header .now) (c .before .before .before .before .before .before .before .before .before .before .before .before .args .rows .now) (c .before .before .before .before .before .before .before .before .before .before .before .before .pre .0) (c .before .before .before .before .before .before .before .before .translate .ensures .1 .0) (rw (c .before .before .before .before .answer2 .given .1) at (c .before .before .before .before .before .before .before .before .translate .ensures .0)) (c .before .before .before .before .before .before .before .before .translate .kept .1 .1 .0) (c .before .before .before .before .before .before .before .before .translate .kept .1 .1 .1 .0) .rows-inside
 
 put-kernel-requires : tie.Need-put-kernel-requires
-put-kernel-requires c κs = (translated (c .before .before .before .before .before .before .before .before .before .before .before .before .before .before .args .header .now) (c .before .before .before .before .before .before .before .before .before .before .before .before .before .before .args .rows .now) (c .before .before .before .before .before .before .before .before .before .before .before .before .before .before .pre .0) (c .before .before .before .before .before .before .before .before .before .before .translate .ensures .1) (rw (c .before .before .before .before .before .before .answer2 .given .1) at (c .before .before .before .before .before .before .before .before .before .before .translate .ensures .0)) (c .before .before .before .before .before .before .before .before .before .before .translate .kept .1 .1 .0) (c .before .before .before .before .before .before .before .before .before .before .translate .kept .1 .1 .1 .0) .passes, c .before .before .before .before .before .before .before .before .before .before .before .before .before .before .pre .1)
+put-kernel-requires c κs = (translated (c .before .before .before .before .before .before .before .before .before .before .before .before .before .before .args .header .now) (c .before .before .before .before .before .before .before .before .before .before .before .before .before .before .args .rows .now) (c .before .before .before .before .before .before .before .before .before .before .before .before .before .before .pre .0) (c .before .before .before .before .before .before .before .before .before .before .translate .ensures .1 .0) (rw (c .before .before .before .before .before .before .answer2 .given .1) at (c .before .before .before .before .before .before .before .before .before .before .translate .ensures .0)) (c .before .before .before .before .before .before .before .before .before .before .translate .kept .1 .1 .0) (c .before .before .before .before .before .before .before .before .before .before .translate .kept .1 .1 .1 .0) .passes, c .before .before .before .before .before .before .before .before .before .before .before .before .before .before .pre .1)
 
 same-length : tie.Need-same-length
 same-length c = search needs
@@ -49,7 +49,7 @@ same-length-3 : tie.Need-same-length-3
 same-length-3 c = search needs
 
 returns : tie.Need-returns
-returns c = put-as (refused-translation (c .before .before .before .before .before .before .before .before .before .before .before .before .before .args .header .now) (c .before .before .before .before .before .before .before .before .before .before .before .before .before .args .rows .now) (c .before .before .before .before .before .before .before .before .before .before .before .before .before .pre .0) (c .before .before .before .before .before .before .before .before .before .translate .ensures .1) _ _ _ (rw (c .before .before .before .before .before .answer .given .1) at (c .before .before .before .before .before .before .before .before .before .translate .ensures .0))) (c .before .before .refused-line .ensures)
+returns c = put-as (refused-translation (c .before .before .before .before .before .before .before .before .before .before .before .before .before .args .header .now) (c .before .before .before .before .before .before .before .before .before .before .before .before .before .args .rows .now) (c .before .before .before .before .before .before .before .before .before .before .before .before .before .pre .0) (c .before .before .before .before .before .before .before .before .before .translate .ensures .1 .0) _ _ _ (rw (c .before .before .before .before .before .answer .given .1) at (c .before .before .before .before .before .before .before .before .before .translate .ensures .0))) (c .before .before .refused-line .ensures)
 
 same-length-4 : tie.Need-same-length-4
 same-length-4 c = search needs
@@ -61,7 +61,7 @@ same-length-6 : tie.Need-same-length-6
 same-length-6 c = search needs
 
 returns-2 : tie.Need-returns-2
-returns-2 c = put-as (translated (c .before .before .before .before .before .before .before .before .before .before .before .before .before .before .before .before .before .args .header .now) (c .before .before .before .before .before .before .before .before .before .before .before .before .before .before .before .before .before .args .rows .now) (c .before .before .before .before .before .before .before .before .before .before .before .before .before .before .before .before .before .pre .0) (c .before .before .before .before .before .before .before .before .before .before .before .before .before .translate .ensures .1) (rw (c .before .before .before .before .before .before .before .before .before .answer2 .given .1) at (c .before .before .before .before .before .before .before .before .before .before .before .before .before .translate .ensures .0)) (c .before .before .before .before .before .before .before .before .before .before .before .before .before .translate .kept .1 .1 .0) (c .before .before .before .before .before .before .before .before .before .before .before .before .before .translate .kept .1 .1 .1 .0) .is) (c .before .before .put-kernel .ensures)
+returns-2 c = put-as (translated (c .before .before .before .before .before .before .before .before .before .before .before .before .before .before .before .before .before .args .header .now) (c .before .before .before .before .before .before .before .before .before .before .before .before .before .before .before .before .before .args .rows .now) (c .before .before .before .before .before .before .before .before .before .before .before .before .before .before .before .before .before .pre .0) (c .before .before .before .before .before .before .before .before .before .before .before .before .before .translate .ensures .1 .0) (rw (c .before .before .before .before .before .before .before .before .before .answer2 .given .1) at (c .before .before .before .before .before .before .before .before .before .before .before .before .before .translate .ensures .0)) (c .before .before .before .before .before .before .before .before .before .before .before .before .before .translate .kept .1 .1 .0) (c .before .before .before .before .before .before .before .before .before .before .before .before .before .translate .kept .1 .1 .1 .0) .is) (c .before .before .put-kernel .ensures)
 
 pub put-translation-spec : {M : Type 1} → statement M
 put-translation-spec =

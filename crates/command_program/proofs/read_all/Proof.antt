@@ -7,8 +7,8 @@ use lib.ListN.{length, take, drop, length-drop}
 use lib.Seq.{take-all}
 use borrow.Rule.Slice.PartMut.{same-len-mid, putMid}
 use borrow.Author.Needs.{needs}
-use Rattle.command.proofs.read_all.Statement.{statement}
-use Rattle.command.proofs.read_all.Tie as tie
+use Rattle.command_program.proofs.read_all.Statement.{statement}
+use Rattle.command_program.proofs.read_all.Tie as tie
 
 -- bytes of the part from `at` on
 behind : (buffer : List ℕ) (at bytes : ℕ) → at ≤ length buffer → bytes ≤ length (take (length buffer - at) (drop at buffer)) → at + bytes ≤ length buffer
@@ -45,7 +45,7 @@ same-length : tie.Need-same-length Inv-loop μ-loop
 same-length c = kept (c .before)
 
 returns : tie.Need-returns Inv-loop μ-loop
-returns c = search needs
+returns c = record { absent = refl; inside = omega arith }
 
 sub-count : tie.Need-sub-count Inv-loop μ-loop
 sub-count c = omega (arith, kept (c .before), c .before .before .before .before .before .before .loop .inv .1)
@@ -63,7 +63,7 @@ same-length-2 : tie.Need-same-length-2 Inv-loop μ-loop
 same-length-2 c = kept (c .before .before .before .before .before)
 
 returns-2 : tie.Need-returns-2 Inv-loop μ-loop
-returns-2 c = search needs
+returns-2 c = record { absent = refl; inside = c .before .before .before .before .before .before .before .before .before .before .loop .inv .1 }
 
 -- what was read has room in it
 total : (c : tie.After-count Inv-loop μ-loop) → c .before .before .before .before .before .before .before .before .before .loop .at + c .count .result ≤ length (c .before .before .before .before .before .before .before .before .before .before .before .args .buffer .now)
@@ -85,7 +85,7 @@ same-length-3 : tie.Need-same-length-3 Inv-loop μ-loop
 same-length-3 c = c .before .loop .inv .0
 
 returns-3 : tie.Need-returns-3 Inv-loop μ-loop
-returns-3 c = search needs
+returns-3 c = record { absent = refl; inside = c .before .loop .inv .1 }
 
 pub read-all-spec : {M : Type 1} → statement M
 read-all-spec =

@@ -1,8 +1,18 @@
--- `respond`: the arrays are as long as `answer` asks.
+-- `respond`: the arrays are as long as `respond_in` asks, and everything that it put at the start of `out` is in it.
+use mathlib.Core.Path.{_≡_, sym}
+use mathlib.Core.List.{List}
+use Prim.Native.Nat.{ℕ, _≤_}
 use native.Mathlib.Omega.{arith}
+use lib.ListN.{length}
+use lib.Seq.{length-take-le}
+use Rattle.text_form.specs.Writer.{Put}
+use Rattle.text_form.specs.PutLaws.{put-fits}
 use borrow.Author.Needs.{needs}
-use Rattle.command.proofs.respond.Statement.{statement}
-use Rattle.command.proofs.respond.Tie as tie
+use Rattle.command_program.proofs.respond.Statement.{statement}
+use Rattle.command_program.proofs.respond.Tie as tie
+
+inside : {bytes before after : List ℕ} {n : ℕ} → Put bytes before n after → length after ≡ length before → n ≤ length after
+inside p e = omega (arith, p .size, put-fits p e, e)
 
 text-buffer-requires : tie.Need-text-buffer-requires
 text-buffer-requires c κs = search needs
@@ -35,7 +45,16 @@ slice-aggregate-respond-in-5 : tie.Need-slice-aggregate-respond-in-5
 slice-aggregate-respond-in-5 c = search needs
 
 respond-in-requires : tie.Need-respond-in-requires
-respond-in-requires c κs = (record { header-room = omega (arith, c .before .before .before .before .before .before .before .header-table .ensures); rows-room = omega (arith, c .before .before .before .before .before .before .row-table .ensures) }, omega (arith, c .before .before .before .before .before .output-buffer .ensures))
+respond-in-requires c κs = search needs
+
+array-share-prefix-out : tie.Need-array-share-prefix-out
+array-share-prefix-out c = inside (c .before .before .before .before .before .respond-in .ensures .printed) (c .before .before .before .before .before .respond-in .kept .1 .1 .1 .1 .1 .0)
+
+slice-aggregate-write-all : tie.Need-slice-aggregate-write-all
+slice-aggregate-write-all c = sym (length-take-le _ _ (inside (c .before .before .before .before .before .before .respond-in .ensures .printed) (c .before .before .before .before .before .before .respond-in .kept .1 .1 .1 .1 .1 .0)))
+
+write-all-requires : tie.Need-write-all-requires
+write-all-requires c κs = search needs
 
 returns : tie.Need-returns
 returns c = search needs
@@ -55,4 +74,7 @@ respond-spec =
     slice-aggregate-respond-in-4
     slice-aggregate-respond-in-5
     respond-in-requires
+    array-share-prefix-out
+    slice-aggregate-write-all
+    write-all-requires
     returns)

@@ -1,0 +1,4 @@
+// The command, run as `translate`.
+fn main() {
+    command_program::run_command();
+}

@@ -3,3 +3,6 @@
 -- ---- definitions
 -- Numbers: the numbers of each answer.
 pub mod Numbers
+-- ---- laws
+-- NumbersLaws: a translation whose answer has no cause was made.
+pub mod NumbersLaws

@@ -1,10 +1,13 @@
 -- Numbers: each answer as a caller in another language gets it.
+use mathlib.Core.Path.{_≡_}
+use mathlib.Core.List.{List}
+use lib.IntN.{ℤ}
 use lib.ListN.{getD}
 use Rattle.words.specs.Numbers.{Numbers, done, refused, verdictNumbers, runNumbers}
 use Rattle.words.specs.declared.Verdict.{Verdict}
 use Rattle.words.specs.declared.RunVerdict.{RunVerdict}
 use Rattle.text_form.specs.Answers.{Outcome, finished, refused as textRefused}
-use Rattle.translator.specs.Translation.{translateNumbers}
+use Rattle.translator.specs.Translation.{translateNumbers, WroteKernelForm}
 use Rattle.translator.specs.declared.TranslateAnswer.{TranslateAnswer}
 use Rattle.exports.specs.declared.Answer.{Answer}
 
@@ -27,3 +30,7 @@ outcomeAnswer outcome = answerOf (outcomeNumbers outcome)
 
 abbrev pub translateAnswer : TranslateAnswer → Answer
 translateAnswer answer = answerOf (translateNumbers answer)
+
+-- Demands 2 and 3 about what stands in both tables after a translation whose answer has no cause.
+abbrev pub WritesIfDone : (header rows : List ℤ) → Answer → (headerLeft rowsLeft : List ℤ) → Type 0
+WritesIfDone header rows answer headerLeft rowsLeft = answer .cause ≡ 0 → WroteKernelForm header rows (answer .first) (answer .second) headerLeft rowsLeft

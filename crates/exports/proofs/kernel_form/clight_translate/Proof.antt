@@ -2,6 +2,7 @@
 use mathlib.Core.Path.{ap, _∙_}
 use Rattle.translator.specs.Translation.{TranslateResult}
 use Rattle.exports.specs.Numbers.{answerOf}
+use Rattle.exports.specs.NumbersLaws.{writes-if-done}
 use borrow.Author.Needs.{needs}
 use Rattle.exports.proofs.kernel_form.clight_translate.Statement.{statement}
 use Rattle.exports.proofs.kernel_form.clight_translate.Tie as tie
@@ -20,9 +21,10 @@ same-length-2 c = search needs
 
 returns : tie.Need-returns
 returns c =
-    let result = c .before .before .before .translate .ensures .0 in (
+    let translated = c .before .before .before .translate in
+    let result = translated .ensures .0 in (
       c .of-translation .ensures ∙ ap (λ (r : TranslateResult). answerOf (r .numbers)) result,
-      (ap (λ (r : TranslateResult). r .header) result, (ap (λ (r : TranslateResult). r .rows) result, c .before .before .before .translate .ensures .1)),
+      (ap (λ (r : TranslateResult). r .header) result, (ap (λ (r : TranslateResult). r .rows) result, (translated .ensures .1 .0, writes-if-done _ _ _ _ _ _ (translated .result) _ (c .of-translation .ensures) result (translated .ensures .1 .1)))),
     )
 
 pub clight-translate-spec : {M : Type 1} → statement M

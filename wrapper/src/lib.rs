@@ -228,9 +228,10 @@ pub fn write_kernel(header: &[i32], rows: &[i32], text: &mut [u8]) -> Result<usi
     write_by(foreign::clight_write_kernel, header, rows, text)
 }
 
-/// Writes the kernel form of a source program; words of both tables beyond the
-/// result keep their content. `kernel_rows(n)` rows are enough for n source
-/// rows, and the kernel header has one word more than the source's.
+/// Writes the kernel form of a source program, a legal kernel program that
+/// shares its fate; words of both tables beyond the result keep their content.
+/// `kernel_rows(n)` rows are enough for n source rows, and the kernel header
+/// has one word more than the source's.
 pub fn translate(
     header: &[i32],
     rows: &[i32],

@@ -6,6 +6,7 @@ use structure::causes::at;
 use structure::causes::structural_refusal;
 use structure::depth::lowest_deep_by;
 use structure::grammar::KINDS;
+use structure::grammar::KindTable;
 use words::Form;
 use words::Found;
 use words::Refusal;
@@ -20,8 +21,7 @@ ghost use mathlib.Core.Path.{_≡_};
 ghost use Prim.Native.Nat.{_/_, _≤_};
 ghost use lib.ListN.{length};
 ghost use Rattle.structure.specs.Structured.{Tree};
-ghost use Rattle.words.specs.Search.{lowestRow};
-ghost use Rattle.structure.specs.Links.{tooDeep};
+ghost use Rattle.structure.specs.Grammar.{grammar};
 ghost use Rattle.structure.specs.Refusal.{structuralRefusal};
 ghost use Rattle.words.specs.declared.Form.the-variants.{Source};
 ghost use Rattle.source_check.specs.Refusal.{laterRefusal, refusal};
@@ -39,23 +39,16 @@ pub enum Note {
     MarkBefore,
 }
 
-// Cause 9, with the table of kinds: it is built here, once, and lent on.
-fn lowest_deep_row(rows: &[i32]) -> Found
-    requires { ⌜ Tree (now rows) ⌝ }
-    ensures { λ r. ⌜ r ≡ lowestRow (now (rows .entry)) (tooDeep Source (now (rows .entry))) ⌝ }
-{
-    lowest_deep_by(&KINDS, Form::Source, rows)
-}
-
 // Causes 7 to 9, in a tree of rows, with the notes of its rows.
 fn noted_refusal(
+    kinds: &KindTable,
     rows: &[i32],
     loops: &[u16],
     breakable: &[u16],
     items: &[u16],
     before: &[u16],
 ) -> Verdict
-    requires { ⌜ Tree (now rows) × (length (now rows) / 6 ≤ 2048) × AllNotes (now rows) (now loops) (now breakable) (now items) (now before) ⌝ }
+    requires { ⌜ Tree (now rows) × (length (now rows) / 6 ≤ 2048) × AllNotes (now rows) (now loops) (now breakable) (now items) (now before) × (now kinds ≡ grammar) ⌝ }
     ensures { λ r. ⌜ r ≡ laterRefusal (now (rows .entry)) ⌝ }
 {
     let misplaced = lowest_misplaced(rows, loops, breakable, items);
@@ -72,20 +65,35 @@ fn noted_refusal(
             place: row,
         });
     }
-    at(9, lowest_deep_row(rows))
+    at(9, lowest_deep_by(kinds, Form::Source, rows))
 }
 
 // Causes 7 to 9, in a tree of rows.
-fn later_refusal(rows: &[i32]) -> Verdict
-    requires { ⌜ Tree (now rows) × (length (now rows) / 6 ≤ 2048) ⌝ }
+fn later_refusal_by(kinds: &KindTable, rows: &[i32]) -> Verdict
+    requires { ⌜ Tree (now rows) × (length (now rows) / 6 ≤ 2048) × (now kinds ≡ grammar) ⌝ }
     ensures { λ r. ⌜ r ≡ laterRefusal (now (rows .entry)) ⌝ }
 {
     let mut loops = [0u16; 2048];
     let mut breakable = [0u16; 2048];
     let mut items = [0u16; 2048];
     let mut before = [0u16; 2048];
-    write_notes(rows, &mut loops, &mut breakable, &mut items, &mut before);
-    noted_refusal(rows, &loops, &breakable, &items, &before)
+    write_notes(
+        kinds,
+        rows,
+        &mut loops,
+        &mut breakable,
+        &mut items,
+        &mut before,
+    );
+    noted_refusal(kinds, rows, &loops, &breakable, &items, &before)
+}
+
+// The same, with the table of kinds: it is built here, once, and lent on.
+fn later_refusal(rows: &[i32]) -> Verdict
+    requires { ⌜ Tree (now rows) × (length (now rows) / 6 ≤ 2048) ⌝ }
+    ensures { λ r. ⌜ r ≡ laterRefusal (now (rows .entry)) ⌝ }
+{
+    later_refusal_by(&KINDS, rows)
 }
 
 // Causes 1 to 6, with room for the marks of a source program.

@@ -1,6 +1,5 @@
 // What a pass along the links notes of each row.
 use super::Note;
-use structure::grammar::KINDS;
 use structure::grammar::KindTable;
 use structure::grammar::between;
 use structure::grammar::link;
@@ -89,7 +88,7 @@ fn write_note(which: Note, rows: &[i32], notes: &mut [u16], word: usize, linked:
 }
 
 // All notes of all rows, in one pass: a row's own notes are written before those of the rows that it links.
-fn write_notes_by(
+pub fn write_notes(
     kinds: &KindTable,
     rows: &[i32],
     loops: &mut [u16],
@@ -107,18 +106,4 @@ fn write_notes_by(
         write_note(Note::SwitchItem, rows, items, word, linked);
         write_note(Note::MarkBefore, rows, before, word, linked);
     }
-}
-
-// The same, with the table of kinds: it is built here, once, and lent on.
-pub fn write_notes(
-    rows: &[i32],
-    loops: &mut [u16],
-    breakable: &mut [u16],
-    items: &mut [u16],
-    before: &mut [u16],
-)
-    requires { ⌜ Tree (now rows) × NoNotes (now rows) (now loops) × NoNotes (now rows) (now breakable) × NoNotes (now rows) (now items) × NoNotes (now rows) (now before) ⌝ }
-    ensures { λ _. ⌜ AllNotes (now (rows .entry)) (now (loops .exit)) (now (breakable .exit)) (now (items .exit)) (now (before .exit)) ⌝ }
-{
-    write_notes_by(&KINDS, rows, loops, breakable, items, before);
 }

@@ -1,53 +1,17 @@
--- `later_refusal` begins without notes and lends what the pass has written.
+-- `later_refusal` lends the constant table. It stands in a function of one parameter: beside more, its check would take long.
+use mathlib.Core.Path.{refl}
 use borrow.Author.Needs.{needs}
+use Rattle.words.specs.Kinds.{kindOf, kindIn, kinds, kindRow, expressionFields, statementFields, markFields}
+use Rattle.structure.specs.Grammar.{grammar}
 use Rattle.source_check.proofs.later_refusal.Statement.{statement}
 use Rattle.source_check.proofs.later_refusal.Tie as tie
 
-slice-aggregate-write-notes : tie.Need-slice-aggregate-write-notes
-slice-aggregate-write-notes c = search needs
-
-slice-aggregate-write-notes-2 : tie.Need-slice-aggregate-write-notes-2
-slice-aggregate-write-notes-2 c = search needs
-
-slice-aggregate-write-notes-3 : tie.Need-slice-aggregate-write-notes-3
-slice-aggregate-write-notes-3 c = search needs
-
-slice-aggregate-write-notes-4 : tie.Need-slice-aggregate-write-notes-4
-slice-aggregate-write-notes-4 c = search needs
-
-write-notes-requires : tie.Need-write-notes-requires
-write-notes-requires c κs = search needs
-
-slice-aggregate-noted-refusal : tie.Need-slice-aggregate-noted-refusal
-slice-aggregate-noted-refusal c = search needs
-
-slice-aggregate-noted-refusal-2 : tie.Need-slice-aggregate-noted-refusal-2
-slice-aggregate-noted-refusal-2 c = search needs
-
-slice-aggregate-noted-refusal-3 : tie.Need-slice-aggregate-noted-refusal-3
-slice-aggregate-noted-refusal-3 c = search needs
-
-slice-aggregate-noted-refusal-4 : tie.Need-slice-aggregate-noted-refusal-4
-slice-aggregate-noted-refusal-4 c = search needs
-
-noted-refusal-requires : tie.Need-noted-refusal-requires
-noted-refusal-requires c κs = search needs
+later-refusal-by-requires : tie.Need-later-refusal-by-requires
+unfolding grammar kindOf kindIn kinds kindRow expressionFields statementFields markFields
+later-refusal-by-requires c κs = (c .before .pre .0, c .before .pre .1, refl)
 
 returns : tie.Need-returns
 returns c = search needs
 
 pub later-refusal-spec : {M : Type 1} → statement M
-later-refusal-spec =
-    tie.close
-    (tie.spec
-    slice-aggregate-write-notes
-    slice-aggregate-write-notes-2
-    slice-aggregate-write-notes-3
-    slice-aggregate-write-notes-4
-    write-notes-requires
-    slice-aggregate-noted-refusal
-    slice-aggregate-noted-refusal-2
-    slice-aggregate-noted-refusal-3
-    slice-aggregate-noted-refusal-4
-    noted-refusal-requires
-    returns)
+later-refusal-spec = tie.close (tie.spec later-refusal-by-requires returns)

@@ -35,8 +35,8 @@ returns-2 c =
 enum-told-2 : tie.Need-enum-told-2
 enum-told-2 c = search needs
 
-lowest-deep-row-requires : tie.Need-lowest-deep-row-requires
-lowest-deep-row-requires c κs = search needs
+lowest-deep-by-requires : tie.Need-lowest-deep-by-requires
+lowest-deep-by-requires c κs = search needs
 
 at-requires : tie.Need-at-requires
 at-requires c κs = search needs
@@ -44,7 +44,7 @@ at-requires c κs = search needs
 returns-3 : tie.Need-returns-3
 unfolding laterRefusal
 returns-3 c =
-    last _ _ _ _ (c .at .ensures) (c .before .lowest-deep-row .ensures)
+    last _ _ _ _ (c .at .ensures) (c .before .lowest-deep-by .ensures)
     ∙ sym (goes-on _ _ _ _ (c .before .before .enum-told2 .given .1) (c .before .before .before .before .lowest-repeated .ensures))
     ∙ sym (goes-on _ _ _ _ (c .before .before .before .before .before .enum-told .given .1) (c .before .before .before .before .before .before .before .lowest-misplaced .ensures))
 
@@ -60,6 +60,6 @@ noted-refusal-spec =
     enum-known-repeated
     returns-2
     enum-told-2
-    lowest-deep-row-requires
+    lowest-deep-by-requires
     at-requires
     returns-3)

@@ -16,7 +16,7 @@ ghost use Rattle.words.specs.declared.Form.the-variants.{Kernel};
 ghost use Rattle.command_request.specs.Requests.{readsText};
 ghost use Rattle.command_answer.specs.Inputs.{Fetched};
 ghost use Rattle.command_answer.specs.Output.{Roomy, outputRoom};
-ghost use Rattle.command_program.specs.Responses.{Responds, Answered};
+ghost use Rattle.command_program.specs.Responses.{Opened, Responds, Answered};
 
 // What was read for a request, and how many bytes are printed for it.
 pub struct Response {
@@ -44,6 +44,18 @@ fn read_all(fd: i32, buffer: &mut [u8]) -> Input
     Input::Bytes(at)
 }
 
+// Reads a file that was opened, and closes it. One that could not be opened is unreadable.
+fn read_opened(fd: i32, buffer: &mut [u8]) -> Input
+    ensures { λ r. ⌜ Opened fd r (length (now (buffer .entry))) ⌝ }
+{
+    if fd < 0 {
+        return Input::Unreadable;
+    }
+    let input = read_all(fd, buffer);
+    libc::close(fd);
+    input
+}
+
 // Reads standard input, where the request is about a text.
 fn read_text(request: Request, buffer: &mut [u8]) -> Input
     ensures { λ r. ⌜ Fetched (readsText request) r (length (now (buffer .entry))) ⌝ }
@@ -63,13 +75,7 @@ fn read_store(wanted: bool, buffer: &mut [u8]) -> Input
     }
     let mut path = io::buffer();
     let length = os::arg(3, &mut path);
-    let fd = os::open_read(&path[..length]);
-    if fd < 0 {
-        return Input::Unreadable;
-    }
-    let input = read_all(fd, buffer);
-    libc::close(fd);
-    input
+    read_opened(os::open_read(&path[..length]), buffer)
 }
 
 // Reads what the request is about, and puts its answer at the start of `out`. The tables are lent to work in; what stands in them after

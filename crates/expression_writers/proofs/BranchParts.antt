@@ -36,7 +36,7 @@ module _ {S : ℕ} {rows : List ℤ} {table : List ℕ} {branch : Branch} {level
 
   pub record BranchSizes (codeRows endRows : ℕ) : Type 0 where
     pub code-is : codeRows ≡ partSize (partAt rows (branch .row))
-    pub end-is : endRows ≡ finishSize (branch .truth) (branch .atom)
+    pub end-is : endRows ≡ finishSize (branch .end)
 
 module _ {S : ℕ} {rows : List ℤ} {table : List ℕ} {branch : Branch} {level base : ℕ} {out : List ℤ} {asked : BranchAsked S rows table branch level base out}
     {codeRows endRows : ℕ} (sizes : BranchSizes asked codeRows endRows) where
@@ -86,15 +86,15 @@ module _ {S : ℕ} {rows : List ℤ} {table : List ℕ} {branch : Branch} {level
   pub code-reach : Reach (1 + codeRows) base (back-in 1 headed code)
   code-reach = put-reach 0 code-put (asked .room) (omega (arith, sizes .code-is))
 
-  pub end-room : Room (finishSize (branch .truth) (branch .atom)) (base + (1 + codeRows)) (length (part (1 + codeRows) (back-in 1 headed code)))
+  pub end-room : Room (finishSize (branch .end)) (base + (1 + codeRows)) (length (part (1 + codeRows) (back-in 1 headed code)))
   end-room = put-room _ code-put (asked .room) (omega (arith, sizes .code-is))
 
   -- ---- the end is written: `end` is the part behind the code
 
   module _ (end : List ℤ)
-      (end-table : end ≡ over (emitItems false (finishCode S (branch .truth) (branch .atom) level) (base + (1 + codeRows))) (part (1 + codeRows) (back-in 1 headed code))) where
-    end-wrote : Wrote false (finishCode S (branch .truth) (branch .atom) level) (base + (1 + codeRows)) endRows (part (1 + codeRows) (back-in 1 headed code)) end
-    end-wrote = record { table = end-table; size = rows-finish S (branch .truth) (branch .atom) level ∙ sym (sizes .end-is) }
+      (end-table : end ≡ over (emitItems false (finishCode S (branch .end) (branch .atom) level) (base + (1 + codeRows))) (part (1 + codeRows) (back-in 1 headed code))) where
+    end-wrote : Wrote false (finishCode S (branch .end) (branch .atom) level) (base + (1 + codeRows)) endRows (part (1 + codeRows) (back-in 1 headed code)) end
+    end-wrote = record { table = end-table; size = rows-finish S (branch .end) (branch .atom) level ∙ sym (sizes .end-is) }
 
     pub branch-length : length (back-in (1 + codeRows) (back-in 1 headed code) end) ≡ length out
     branch-length = put-length (put-next code-put (wrote-put end-wrote)) (branch-room sizes .inside)
@@ -102,5 +102,5 @@ module _ {S : ℕ} {rows : List ℤ} {table : List ℕ} {branch : Branch} {level
     pub branch-written : back-in (1 + codeRows) (back-in 1 headed code) end ≡ over (emitStatement (block (branchCode S rows branch level)) base 0) out
     branch-written =
         reworded _ (put-next code-put (wrote-put end-wrote))
-        (branch-words (operandCode S (partAt rows (branch .row)) level) (finishCode S (branch .truth) (branch .atom) level) base codeRows endRows first more
+        (branch-words (operandCode S (partAt rows (branch .row)) level) (finishCode S (branch .end) (branch .atom) level) base codeRows endRows first more
         (code-wrote .size) (end-wrote .size) (row .first-is) (written .more-is))

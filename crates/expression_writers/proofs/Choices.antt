@@ -1,6 +1,5 @@
 -- What an expression's code ends with, by its shape: a choice between two branches for and, or and a conditional.
 use mathlib.Core.Path.{_≡_, refl, sym, ap, ap₂, subst, _∙_}
-use mathlib.Core.Bool.{Bool, true, false}
 use mathlib.Core.List.{List}
 use Prim.Native.Nat.{ℕ, _+_, _≤_, _<_}
 use native.Mathlib.Omega.{arith}
@@ -10,24 +9,24 @@ use Rattle.words.specs.declared.Operator.the-variants.{NotEqual}
 use Rattle.language.specs.Trees.{Expression, constant, binary, Items, none, _⧺_}
 use Rattle.language.specs.Decode.{expressionAt, partAt}
 use Rattle.language.specs.DecodeLaws.{part-some}
-use Rattle.translation.specs.Translate.{Atom as Held, number, top, atomOf, atom, temporary, assigning, choosing, copyCode, expressionCode}
+use Rattle.translation.specs.Translate.{Atom as Held, number, word, top, atomOf, taken, atom, temporary, assigning, choosing, copyCode, expressionCode}
 use Rattle.translation.specs.TranslateSize.{copyRows, partSize, expressionSize}
 use Rattle.shapes.specs.Shapes.{operationTree, expressionTree, Onward}
 use Rattle.shapes.specs.Source.{ExpressionAt}
-use Rattle.measures.specs.Parts.{isNumberAtom}
 use Rattle.shapes.specs.declared.OperationShape.{OperationShape}
 use Rattle.shapes.specs.declared.OperationShape.the-variants.{Minus, Not, Binary, Comma, Assign, Compound, Prefix, Postfix}
 use Rattle.shapes.specs.declared.ChoiceShape.the-variants.{And, Or, Conditional}
 use Rattle.shapes.specs.declared.ExpressionShape.{ExpressionShape}
 use Rattle.shapes.specs.declared.ExpressionShape.the-variants.{Operation}
 use Rattle.shapes.specs.declared.ExpressionShape.the-variants as expression
-use Rattle.leaves.specs.Atoms.{atomTree, AtomFits, isNumber}
+use Rattle.leaves.specs.Atoms.{atomTree, AtomFits}
 use Rattle.leaves.specs.Straight.{straightCode, lastSize}
 use Rattle.leaves.specs.Asks.{Writing, AtomAt}
 use Rattle.leaves.specs.declared.Atom.{Atom}
-use Rattle.leaves.specs.declared.Atom.the-variants.{Constant, Variable}
 use Rattle.expression_writers.specs.Code.{operandCode, lastCode, finishCode, branchCode}
-use Rattle.expression_writers.specs.Asks.{finishSize, branchSize, BranchFits, ChoiceAt, numberBranch}
+use Rattle.expression_writers.specs.Asks.{endOf, finishSize, branchSize, BranchFits, ChoiceAt, numberBranch}
+use Rattle.expression_writers.specs.declared.End.{End}
+use Rattle.expression_writers.specs.declared.End.the-variants.{Truth, Copy, Stays}
 use Rattle.expression_writers.specs.declared.Branch.{Branch}
 use Rattle.expression_writers.specs.declared.Choice.{Choice}
 use Rattle.expression_writers.specs.declared.Choice.the-variants.{Choose, Straight}
@@ -57,6 +56,18 @@ branches-fit at = record {
   false-later = at .fits .4;
   rows-are = at .fits .5;
 }
+
+-- ---- how a branch of a conditional ends
+
+pub end-stays : (held : Held) {n : ℕ} → n ≡ taken held → n ≡ 1 → Stays ≡ endOf held
+end-stays (number v) e h = absurd (omega arith)
+end-stays (word i) e h = absurd (omega arith)
+end-stays top e h = refl
+
+pub end-copy : (held : Held) {n : ℕ} → n ≡ taken held → (n ≡ 1 → ⊥) → Copy ≡ endOf held
+end-copy (number v) e h = refl
+end-copy (word i) e h = refl
+end-copy top e h = absurd (h e)
 
 -- ---- the choice of a shape
 
@@ -89,8 +100,8 @@ module _ (S : ℕ) (rows : List ℤ) (row level : ℕ) where
   pub straight-operation : {o : OperationShape} → ExpressionAt rows row (Operation o) → ChoiceAt S rows row level Straight
   straight-operation {o} f = straight f (operation-code o)
 
-  abbrev branch : ℕ → Bool → Atom → Branch
-  branch link truth x = record { row = link; truth = truth; atom = x }
+  abbrev branch : ℕ → End → Atom → Branch
+  branch link end x = record { row = link; end = end; atom = x }
 
   -- ---- the code of a branch
 
@@ -102,25 +113,23 @@ module _ (S : ℕ) (rows : List ℤ) (row level : ℕ) where
   truth-of value = assigning S (temporary S level) (binary NotEqual value (constant (pos 0))) none
 
   truth-code : (link : ℕ) (x : Atom) → 0 < link → AtomAt S rows link level x
-      → branchCode S rows (branch link true x) level ≡ expressionCode S (expressionAt rows link) level ⧺ truth-of (atom S level (atomOf (expressionAt rows link)))
+      → branchCode S rows (branch link Truth x) level ≡ expressionCode S (expressionAt rows link) level ⧺ truth-of (atom S level (atomOf (expressionAt rows link)))
   truth-code link x h a = ap₂ (λ (is : Items) (y : Expression). is ⧺ truth-of y) (some-code link h) (a .is)
 
-  -- a number goes into the temporary; a value that is there already stays
-  finish-copy : (x : Atom) (held : Held) → atomTree x ≡ atom S level held → isNumber x ≡ isNumberAtom held → finishCode S false x level ≡ copyCode S level held
-  finish-copy (Constant v) (number w) e n = ap (λ (y : Expression). assigning S (temporary S level) y none) e
-  finish-copy (Constant v) top e n = absurd (let z : _≡_ {A = ℕ} 0 1 = cc in omega arith)
-  finish-copy (Variable k) (number w) e n = absurd (let z : _≡_ {A = ℕ} 0 1 = cc in omega arith)
-  finish-copy (Variable k) top e n = refl
+  -- a number or a variable goes into the temporary; a value that is there already stays
+  finish-copy : (x : Atom) (held : Held) → atomTree x ≡ atom S level held → finishCode S (endOf held) x level ≡ copyCode S level held
+  finish-copy x (number v) e = ap (λ (y : Expression). assigning S (temporary S level) y none) e
+  finish-copy x (word i) e = ap (λ (y : Expression). assigning S (temporary S level) y none) e
+  finish-copy x top e = refl
 
-  finish-rows : (x : Atom) (held : Held) → isNumber x ≡ isNumberAtom held → finishSize false x ≡ copyRows held
-  finish-rows (Constant v) (number w) n = refl
-  finish-rows (Constant v) top n = absurd (let z : _≡_ {A = ℕ} 0 1 = cc in omega arith)
-  finish-rows (Variable k) (number w) n = absurd (let z : _≡_ {A = ℕ} 0 1 = cc in omega arith)
-  finish-rows (Variable k) top n = refl
+  finish-rows : (held : Held) → finishSize (endOf held) ≡ copyRows held
+  finish-rows (number v) = refl
+  finish-rows (word i) = refl
+  finish-rows top = refl
 
   value-code : (link : ℕ) (x : Atom) → 0 < link → AtomAt S rows link level x
-      → branchCode S rows (branch link false x) level ≡ expressionCode S (expressionAt rows link) level ⧺ copyCode S level (atomOf (expressionAt rows link))
-  value-code link x h a = ap₂ _⧺_ (some-code link h) (finish-copy x (atomOf (expressionAt rows link)) (a .is) (a .number))
+      → branchCode S rows (branch link (endOf (atomOf (expressionAt rows link))) x) level ≡ expressionCode S (expressionAt rows link) level ⧺ copyCode S level (atomOf (expressionAt rows link))
+  value-code link x h a = ap₂ _⧺_ (some-code link h) (finish-copy x (atomOf (expressionAt rows link)) (a .is))
 
   number-code : (v : ℤ) → branchCode S rows (numberBranch v) level ≡ assigning S (temporary S level) (constant v) none
   unfolding _⧺_
@@ -129,7 +138,7 @@ module _ (S : ℕ) (rows : List ℤ) (row level : ℕ) where
   -- ---- what a branch asks
 
   module _ {table : List ℕ} (asked : RowAsked S rows table row level) where
-    branch-fits : {link : ℕ} {truth : Bool} {x : Atom} → Onward rows row link → AtomFits x → BranchFits rows (branch link truth x) level
+    branch-fits : {link : ℕ} {end : End} {x : Atom} → Onward rows row link → AtomFits x → BranchFits rows (branch link end x) level
     branch-fits o f = record {
       inside = o .inside;
       level-low = λ h. omega (arith, o .later, asked .level-low);
@@ -161,7 +170,7 @@ module _ (S : ℕ) (rows : List ℤ) (row level : ℕ) where
     if-of test onTrue onFalse = choosing S test onTrue onFalse none
 
     pub and-choice : {a b : ℕ} {test x : Atom} {no : Branch} → ExpressionAt rows row (expression.Choice (And a b)) → AtomAt S rows a level test → AtomAt S rows b level x → no ≡ numberBranch (pos 0)
-        → ChoiceAt S rows row level (Choose test (branch b true x) no)
+        → ChoiceAt S rows row level (Choose test (branch b Truth x) no)
     and-choice {a} {b} {test} {x} {no} f t y n = rw n (record {
       is = as-last _ f (sym (ap₃ if-of (t .is) (truth-code b x (omega (arith, f .onward .1 .later)) y) (number-code (pos 0))));
       fits = (
@@ -175,7 +184,7 @@ module _ (S : ℕ) (rows : List ℤ) (row level : ℕ) where
     })
 
     pub or-choice : {a b : ℕ} {test x : Atom} {onTrue : Branch} → ExpressionAt rows row (expression.Choice (Or a b)) → AtomAt S rows a level test → AtomAt S rows b level x → onTrue ≡ numberBranch (pos 1)
-        → ChoiceAt S rows row level (Choose test onTrue (branch b true x))
+        → ChoiceAt S rows row level (Choose test onTrue (branch b Truth x))
     or-choice {a} {b} {test} {x} {onTrue} f t y n = rw n (record {
       is = as-last _ f (sym (ap₃ if-of (t .is) (number-code (pos 1)) (truth-code b x (omega (arith, f .onward .1 .later)) y)));
       fits = (
@@ -188,9 +197,10 @@ module _ (S : ℕ) (rows : List ℤ) (row level : ℕ) where
       );
     })
 
-    pub conditional-choice : {c a b : ℕ} {test x y : Atom} → ExpressionAt rows row (expression.Choice (Conditional c a b)) → AtomAt S rows c level test → AtomAt S rows a level x → AtomAt S rows b level y
-        → ChoiceAt S rows row level (Choose test (branch a false x) (branch b false y))
-    conditional-choice {c} {a} {b} {test} {x} {y} f t p q = record {
+    pub conditional-choice : {c a b : ℕ} {test x y : Atom} {yesEnd noEnd : End} → ExpressionAt rows row (expression.Choice (Conditional c a b)) → AtomAt S rows c level test
+        → yesEnd ≡ endOf (atomOf (expressionAt rows a)) → AtomAt S rows a level x → noEnd ≡ endOf (atomOf (expressionAt rows b)) → AtomAt S rows b level y
+        → ChoiceAt S rows row level (Choose test (branch a yesEnd x) (branch b noEnd y))
+    conditional-choice {c} {a} {b} {test} {x} {y} f t ea p eb q = rw (ea, eb) (record {
       is = as-last _ f (sym (ap₃ if-of (t .is) (value-code a x (omega (arith, f .onward .1 .later)) p) (value-code b y (omega (arith, f .onward .2 .later)) q)));
       fits = (
         t .fits,
@@ -198,8 +208,6 @@ module _ (S : ℕ) (rows : List ℤ) (row level : ℕ) where
         branch-fits (f .onward .2) (q .fits),
         (λ h. f .onward .1 .later),
         (λ h. f .onward .2 .later),
-        last-size f
-            ∙ omega
-            (arith, some-size (f .onward .1), some-size (f .onward .2), finish-rows x (atomOf (expressionAt rows a)) (p .number), finish-rows y (atomOf (expressionAt rows b)) (q .number)),
+        last-size f ∙ omega (arith, some-size (f .onward .1), some-size (f .onward .2), finish-rows (atomOf (expressionAt rows a)), finish-rows (atomOf (expressionAt rows b))),
       );
-    }
+    })

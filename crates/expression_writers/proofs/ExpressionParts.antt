@@ -1,10 +1,10 @@
--- The parts of an expression in the table: its first operand's code, its second operand's code, what it does with their values. A record
--- for each place between them has what is known there; the laws below it are what the next part asks, and at last that the three are the
--- expression's code.
+-- The parts of an expression in the table: its first operand's code, the copy of its value where it waits, its second operand's code, what
+-- it does with their values. A record for each place between them has what is known there; the laws below it are what the next part asks,
+-- and at last that the four are the expression's code.
 use mathlib.Core.Path.{_≡_, sym, ap, _∙_}
 use mathlib.Core.Bool.{Bool}
 use mathlib.Core.List.{List}
-use Prim.Native.Nat.{ℕ, zero, suc, _+_, _-_, _≤_, _<_}
+use Prim.Native.Nat.{ℕ, zero, suc, _+_, _*_, _-_, _≤_, _<_}
 use native.Mathlib.Omega.{arith}
 use lib.IntN.{ℤ}
 use lib.ListN.{length}
@@ -17,17 +17,19 @@ use Rattle.translation.specs.TranslateSize.{partSize}
 use Rattle.emission.specs.Emission.{emitItems}
 use Rattle.shapes.specs.Shapes.{OptionalOnward}
 use Rattle.shapes.specs.Source.{Source}
-use Rattle.measures.specs.Parts.{aboveFirst, OwnAt}
-use Rattle.measures.specs.MeasureLaws.{size-parts}
+use Rattle.translation.specs.Translate.{atomOf}
+use Rattle.translation.specs.HeldCode.{holdBy}
+use Rattle.measures.specs.Parts.{firstOperand, aboveFirst, firstCopied, OwnAt}
+use Rattle.measures.specs.MeasureLaws.{size-parts, first-copied-most, own-copies}
 use Rattle.measures.specs.declared.Own.{Own}
 use Rattle.measures.proofs.OwnLaws.{above-most}
-use Rattle.leaves.specs.Room.{moreRows}
+use Rattle.leaves.specs.Room.{Room, moreRows}
 use Rattle.leaves.specs.Straight.{lastSize}
 use Rattle.leaves.specs.Asks.{Writing, LastAsks}
 use Rattle.leaves.specs.Chain.{part, back-in, Reach, put-length, put-reach, put-room, room-less, Wrote, wrote-put, wrote-next, wrote-as}
-use Rattle.expression_writers.specs.Code.{operandCode, lastCode}
+use Rattle.expression_writers.specs.Code.{operandCode, waitCode, lastCode}
 use Rattle.expression_writers.specs.Asks.{OperandAsks}
-use Rattle.expression_writers.specs.CodeLaws.{code-parts, rows-operand, rows-last}
+use Rattle.expression_writers.specs.CodeLaws.{code-parts, rows-operand, wait-hold, rows-hold, hold-part, waits-some, rows-last}
 use Rattle.expression_writers.proofs.Ranks.{rank, rank-falls}
 
 -- A link that is absent or goes onward is inside.
@@ -53,16 +55,22 @@ module _ {S : ℕ} {rows : List ℤ} {table : List ℕ} {row level base : ℕ} {
 
   -- ---- the row is not absent, and its operands are known
 
-  pub record OperandsFound (operands : Own) : Type 0 where
+  -- `copied` is 1 where the value of the first one is copied.
+  pub record OperandsFound (copied : ℕ) (operands : Own) : Type 0 where
     pub some : 0 < row
+    pub copied-is : copied ≡ firstCopied (expressionAt rows row)
     pub at : OwnAt rows row operands
 
 module _ {S : ℕ} {rows : List ℤ} {table : List ℕ} {row level base : ℕ} {out : List ℤ} {asked : ExpressionAsked S rows table row level base out}
-    {operands : Own} (found : OperandsFound asked operands) where
-  -- The rows of an expression are those of its operands and those behind them.
-  all-rows : partSize (partAt rows row) ≡ partSize (partAt rows (operands .first)) + partSize (partAt rows (operands .second)) + lastSize (expressionAt rows row)
+    {copied : ℕ} {operands : Own} (found : OperandsFound asked copied operands) where
+  -- The rows of an expression are those of its operands, of the copy, and those behind them.
+  all-rows : partSize (partAt rows row) ≡ partSize (partAt rows (operands .first)) + 4 * copied + partSize (partAt rows (operands .second)) + lastSize (expressionAt rows row)
   all-rows =
-      omega (arith, ap partSize (part-some rows row (found .some)), size-parts (expressionAt rows row), ap partSize (found .at .first .is), ap partSize (found .at .second .is))
+      omega
+      (arith, ap partSize (part-some rows row (found .some)), size-parts (expressionAt rows row), ap partSize (found .at .first .is), ap partSize (found .at .second .is), found .copied-is, own-copies (expressionAt rows row))
+
+  pub copied-most : copied ≤ 1
+  copied-most = omega (arith, found .copied-is, first-copied-most (expressionAt rows row))
 
   pub first-inside : operands .first < rowCount rows
   first-inside = inside-of (operands .first) (source asked) (found .at .first .onward)
@@ -76,13 +84,19 @@ module _ {S : ℕ} {rows : List ℤ} {table : List ℕ} {row level base : ℕ} {
   pub second-small : partSize (partAt rows (operands .second)) ≤ 40980
   second-small = omega (arith, all-rows, all-small asked)
 
+  pub held-within : {firstRows : ℕ} → firstRows ≡ partSize (partAt rows (operands .first)) → firstRows + 4 * copied ≤ partSize (partAt rows row)
+  held-within e = omega (arith, all-rows)
+
   pub operands-within : {firstRows secondRows : ℕ} → firstRows ≡ partSize (partAt rows (operands .first)) → secondRows ≡ partSize (partAt rows (operands .second))
-      → firstRows + secondRows ≤ partSize (partAt rows row)
+      → firstRows + 4 * copied + secondRows ≤ partSize (partAt rows row)
   operands-within e h = omega (arith, all-rows)
 
   -- The second operand is worked out at most one level higher, and no level passes its row.
   pub above-low : {above : ℕ} → above ≡ aboveFirst (expressionAt rows row) → level + above ≤ row + 1
   above-low e = omega (arith, above-most (expressionAt rows row), asked .asks .level-low (found .some))
+
+  pub level-small : level ≤ 4096
+  level-small = omega (arith, asked .asks .level-low (found .some), row-low asked)
 
   pub first-falls : rank rows (operands .first) < rank rows row
   first-falls = rank-falls rows row (operands .first) (found .some) (asked .asks .inside) (λ h. found .at .first .onward h .later)
@@ -106,20 +120,25 @@ module _ {S : ℕ} {rows : List ℤ} {table : List ℕ} {row level base : ℕ} {
     pub all-is : allRows ≡ partSize (partAt rows row)
 
 module _ {S : ℕ} {rows : List ℤ} {table : List ℕ} {row level base : ℕ} {out : List ℤ} {asked : ExpressionAsked S rows table row level base out}
-    {operands : Own} {found : OperandsFound asked operands} {above firstRows secondRows allRows : ℕ}
+    {copied : ℕ} {operands : Own} {found : OperandsFound asked copied operands} {above firstRows secondRows allRows : ℕ}
     (sizes : ExpressionSizes found above firstRows secondRows allRows) where
-  pub sizes-within : firstRows + secondRows ≤ allRows
+  pub sizes-within : firstRows + 4 * copied + secondRows ≤ allRows
   sizes-within = omega (arith, all-rows found, sizes .first-is, sizes .second-is, sizes .all-is)
 
-  last-is : allRows - (firstRows + secondRows) ≡ lastSize (expressionAt rows row)
+  last-is : allRows - (firstRows + 4 * copied + secondRows) ≡ lastSize (expressionAt rows row)
   last-is = omega (arith, all-rows found, sizes .first-is, sizes .second-is, sizes .all-is)
 
-  -- The code of the three parts is the expression's.
-  code-is : (operandCode S (partAt rows (operands .first)) level ⧺ operandCode S (partAt rows (operands .second)) (level + above)) ⧺ lastCode S (expressionAt rows row) level
+  -- The code of the four parts is the expression's.
+  code-is : ((operandCode S (partAt rows (operands .first)) level ⧺ holdBy S level copied (atomOf (expressionAt rows (operands .first)))) ⧺ operandCode S (partAt rows (operands .second)) (level + above)) ⧺ lastCode S (expressionAt rows row) level
       ≡ operandCode S (partAt rows row) level
   code-is =
-      rw (found .at .first .is, found .at .second .is, sizes .above-is)
-      (code-parts S (expressionAt rows row) level ∙ sym (ap (λ p. operandCode S p level) (part-some rows row (found .some))))
+      let e = expressionAt rows row in
+      let copy : holdBy S level copied (atomOf (expressionAt rows (operands .first))) ≡ waitCode S e level =
+      ap (λ (k : ℕ). holdBy S level k (atomOf (expressionAt rows (operands .first)))) (found .copied-is)
+      ∙ hold-part S level rows (operands .first) (firstOperand e) (firstCopied e) (found .at .first .is) (λ h. waits-some e rows (operands .first) h (found .at .first .is))
+      ∙ sym (wait-hold S e level) in
+      rw (copy, found .at .first .is, found .at .second .is, sizes .above-is)
+      (code-parts S e level ∙ sym (ap (λ p. operandCode S p level) (part-some rows row (found .some))))
 
   -- ---- the first operand is written
 
@@ -127,7 +146,7 @@ module _ {S : ℕ} {rows : List ℤ} {table : List ℕ} {row level base : ℕ} {
     pub table-is : firstTable ≡ over (emitItems more (operandCode S (partAt rows (operands .first)) level) base) out
 
 module _ {S : ℕ} {rows : List ℤ} {table : List ℕ} {row level base : ℕ} {out : List ℤ} {asked : ExpressionAsked S rows table row level base out}
-    {operands : Own} {found : OperandsFound asked operands} {above firstRows secondRows allRows : ℕ}
+    {copied : ℕ} {operands : Own} {found : OperandsFound asked copied operands} {above firstRows secondRows allRows : ℕ}
     {sizes : ExpressionSizes found above firstRows secondRows allRows} {more : Bool} {firstTable : List ℤ} (written : FirstOperand sizes more firstTable) where
   first-wrote : Wrote more (operandCode S (partAt rows (operands .first)) level) base firstRows out firstTable
   first-wrote = record { table = written .table-is; size = rows-operand S (partAt rows (operands .first)) level ∙ sym (sizes .first-is) }
@@ -135,34 +154,64 @@ module _ {S : ℕ} {rows : List ℤ} {table : List ℕ} {row level base : ℕ} {
   pub first-reach : Reach firstRows base firstTable
   first-reach = put-reach 0 (wrote-put first-wrote) (asked .asks .room) (omega (arith, all-rows found, sizes .first-is))
 
-  pub second-asks : OperandAsks rows (operands .second) (level + above) (base + firstRows) (length (part firstRows firstTable))
+  pub hold-room : Room (4 * copied) (base + firstRows) (length (part firstRows firstTable))
+  hold-room = put-room _ (wrote-put first-wrote) (asked .asks .room) (omega (arith, all-rows found, sizes .first-is))
+
+  -- ---- the copy is written: `holdWords` is the part behind the first operand
+
+  pub record HeldFirst (held : Bool) (holdWords : List ℤ) : Type 0 where
+    pub more-is : more ≡ moreRows held (4 * copied)
+    pub table-is : holdWords ≡ over (emitItems held (holdBy S level copied (atomOf (expressionAt rows (operands .first)))) (base + firstRows)) (part firstRows firstTable)
+
+module _ {S : ℕ} {rows : List ℤ} {table : List ℕ} {row level base : ℕ} {out : List ℤ} {asked : ExpressionAsked S rows table row level base out}
+    {copied : ℕ} {operands : Own} {found : OperandsFound asked copied operands} {above firstRows secondRows allRows : ℕ}
+    {sizes : ExpressionSizes found above firstRows secondRows allRows} {more : Bool} {firstTable : List ℤ} {first : FirstOperand sizes more firstTable}
+    {held : Bool} {holdWords : List ℤ} (written : HeldFirst first held holdWords) where
+  hold-wrote : Wrote held (holdBy S level copied (atomOf (expressionAt rows (operands .first)))) (base + firstRows) (4 * copied) (part firstRows firstTable) holdWords
+  hold-wrote = record { table = written .table-is; size = rows-hold S level copied (atomOf (expressionAt rows (operands .first))) (copied-most found) }
+
+  held-wrote : Wrote held (operandCode S (partAt rows (operands .first)) level ⧺ holdBy S level copied (atomOf (expressionAt rows (operands .first))))
+      base (firstRows + 4 * copied) out (back-in firstRows firstTable holdWords)
+  held-wrote = wrote-next (rw (written .more-is) at (first-wrote first)) hold-wrote
+
+  pub held-reach : Reach (firstRows + 4 * copied) base (back-in firstRows firstTable holdWords)
+  held-reach = put-reach 0 (wrote-put held-wrote) (asked .asks .room) (omega (arith, all-rows found, sizes .first-is))
+
+  pub second-asks : OperandAsks rows (operands .second) (level + above) (base + (firstRows + 4 * copied)) (length (part (firstRows + 4 * copied) (back-in firstRows firstTable holdWords)))
   second-asks = record {
     inside = second-inside found;
     level-low = λ h. omega (arith, found .at .second .onward h .later, above-low found (sizes .above-is));
-    room = put-room _ (wrote-put first-wrote) (asked .asks .room) (omega (arith, all-rows found, sizes .first-is));
+    room = put-room _ (wrote-put held-wrote) (asked .asks .room) (omega (arith, all-rows found, sizes .first-is));
   }
 
-  -- ---- the second operand is written: `secondWords` is the part behind the first
+  -- ---- the second operand is written: `secondWords` is the part behind the copy
 
   pub record SecondOperand (then : Bool) (secondWords : List ℤ) : Type 0 where
-    pub more-is : more ≡ moreRows then secondRows
-    pub table-is : secondWords ≡ over (emitItems then (operandCode S (partAt rows (operands .second)) (level + above)) (base + firstRows)) (part firstRows firstTable)
+    pub more-is : held ≡ moreRows then secondRows
+    pub table-is : secondWords
+        ≡ over (emitItems then (operandCode S (partAt rows (operands .second)) (level + above)) (base + (firstRows + 4 * copied))) (part (firstRows + 4 * copied) (back-in firstRows firstTable holdWords))
 
 module _ {S : ℕ} {rows : List ℤ} {table : List ℕ} {row level base : ℕ} {out : List ℤ} {asked : ExpressionAsked S rows table row level base out}
-    {operands : Own} {found : OperandsFound asked operands} {above firstRows secondRows allRows : ℕ}
+    {copied : ℕ} {operands : Own} {found : OperandsFound asked copied operands} {above firstRows secondRows allRows : ℕ}
     {sizes : ExpressionSizes found above firstRows secondRows allRows} {more : Bool} {firstTable : List ℤ} {first : FirstOperand sizes more firstTable}
-    {then : Bool} {secondWords : List ℤ} (written : SecondOperand first then secondWords) where
-  second-wrote : Wrote then (operandCode S (partAt rows (operands .second)) (level + above)) (base + firstRows) secondRows (part firstRows firstTable) secondWords
+    {held : Bool} {holdWords : List ℤ} {hold : HeldFirst first held holdWords} {then : Bool} {secondWords : List ℤ} (written : SecondOperand hold then secondWords) where
+  abbrev behind : ℕ
+  behind = firstRows + 4 * copied + secondRows
+
+  abbrev operandsTable : List ℤ
+  operandsTable = back-in (firstRows + 4 * copied) (back-in firstRows firstTable holdWords) secondWords
+
+  second-wrote : Wrote then (operandCode S (partAt rows (operands .second)) (level + above)) (base + (firstRows + 4 * copied)) secondRows (part (firstRows + 4 * copied) (back-in firstRows firstTable holdWords)) secondWords
   second-wrote = record { table = written .table-is; size = rows-operand S (partAt rows (operands .second)) (level + above) ∙ sym (sizes .second-is) }
 
-  both-wrote : Wrote then (operandCode S (partAt rows (operands .first)) level ⧺ operandCode S (partAt rows (operands .second)) (level + above))
-      base (firstRows + secondRows) out (back-in firstRows firstTable secondWords)
-  both-wrote = wrote-next (rw (written .more-is) at (first-wrote first)) second-wrote
+  both-wrote : Wrote then ((operandCode S (partAt rows (operands .first)) level ⧺ holdBy S level copied (atomOf (expressionAt rows (operands .first)))) ⧺ operandCode S (partAt rows (operands .second)) (level + above))
+      base behind out operandsTable
+  both-wrote = wrote-next (rw (written .more-is) at (held-wrote hold)) second-wrote
 
-  pub second-reach : Reach (firstRows + secondRows) base (back-in firstRows firstTable secondWords)
+  pub second-reach : Reach behind base operandsTable
   second-reach = put-reach 0 (wrote-put both-wrote) (asked .asks .room) (omega (arith, sizes-within sizes, sizes .all-is))
 
-  pub last-asks : LastAsks rows row level (base + (firstRows + secondRows)) (length (part (firstRows + secondRows) (back-in firstRows firstTable secondWords)))
+  pub last-asks : LastAsks rows row level (base + behind) (length (part behind operandsTable))
   last-asks = record {
     inside = asked .asks .inside;
     level-low = asked .asks .level-low (found .some);
@@ -172,25 +221,22 @@ module _ {S : ℕ} {rows : List ℤ} {table : List ℕ} {row level base : ℕ} {
   -- ---- the rest is written: `lastWords` is the part behind the operands
 
   pub record LastPart (follows : Bool) (lastWords : List ℤ) : Type 0 where
-    pub more-is : then ≡ moreRows follows (allRows - (firstRows + secondRows))
-    pub table-is : lastWords
-        ≡ over (emitItems follows (lastCode S (expressionAt rows row) level) (base + (firstRows + secondRows))) (part (firstRows + secondRows) (back-in firstRows firstTable secondWords))
+    pub more-is : then ≡ moreRows follows (allRows - behind)
+    pub table-is : lastWords ≡ over (emitItems follows (lastCode S (expressionAt rows row) level) (base + behind)) (part behind operandsTable)
 
 module _ {S : ℕ} {rows : List ℤ} {table : List ℕ} {row level base : ℕ} {out : List ℤ} {asked : ExpressionAsked S rows table row level base out}
-    {operands : Own} {found : OperandsFound asked operands} {above firstRows secondRows allRows : ℕ}
+    {copied : ℕ} {operands : Own} {found : OperandsFound asked copied operands} {above firstRows secondRows allRows : ℕ}
     {sizes : ExpressionSizes found above firstRows secondRows allRows} {more : Bool} {firstTable : List ℤ} {first : FirstOperand sizes more firstTable}
-    {then : Bool} {secondWords : List ℤ} {second : SecondOperand first then secondWords} {follows : Bool} {lastWords : List ℤ}
-    (rest : LastPart second follows lastWords) where
-  last-wrote : Wrote follows (lastCode S (expressionAt rows row) level) (base + (firstRows + secondRows)) (allRows - (firstRows + secondRows))
-      (part (firstRows + secondRows) (back-in firstRows firstTable secondWords)) lastWords
+    {held : Bool} {holdWords : List ℤ} {hold : HeldFirst first held holdWords} {then : Bool} {secondWords : List ℤ} {second : SecondOperand hold then secondWords}
+    {follows : Bool} {lastWords : List ℤ} (rest : LastPart second follows lastWords) where
+  last-wrote : Wrote follows (lastCode S (expressionAt rows row) level) (base + behind second) (allRows - behind second) (part (behind second) (operandsTable second)) lastWords
   last-wrote = record { table = rest .table-is; size = rows-last S (expressionAt rows row) level ∙ sym (last-is sizes) }
 
-  all-wrote : Wrote follows (operandCode S (partAt rows row) level) base (firstRows + secondRows + (allRows - (firstRows + secondRows)))
-      out (back-in (firstRows + secondRows) (back-in firstRows firstTable secondWords) lastWords)
+  all-wrote : Wrote follows (operandCode S (partAt rows row) level) base (behind second + (allRows - behind second)) out (back-in (behind second) (operandsTable second) lastWords)
   all-wrote = wrote-as _ (wrote-next (rw (rest .more-is) at (both-wrote second)) last-wrote) (code-is sizes)
 
-  pub expression-length : length (back-in (firstRows + secondRows) (back-in firstRows firstTable secondWords) lastWords) ≡ length out
+  pub expression-length : length (back-in (behind second) (operandsTable second) lastWords) ≡ length out
   expression-length = put-length (wrote-put all-wrote) (omega (arith, sizes-within sizes, sizes .all-is, asked .asks .room .inside))
 
-  pub expression-written : back-in (firstRows + secondRows) (back-in firstRows firstTable secondWords) lastWords ≡ over (emitItems follows (operandCode S (partAt rows row) level) base) out
+  pub expression-written : back-in (behind second) (operandsTable second) lastWords ≡ over (emitItems follows (operandCode S (partAt rows row) level) base) out
   expression-written = all-wrote .table

@@ -1,18 +1,19 @@
 -- Asks: what the writers of expressions ask of their caller.
 use mathlib.Core.Path.{_≡_}
-use mathlib.Core.Bool.{Bool, true, false}
 use mathlib.Core.List.{List}
 use Prim.Native.Nat.{ℕ, _+_, _≤_, _<_}
 use lib.IntN.{ℤ}
 use Rattle.words.specs.Table.{rowCount}
 use Rattle.language.specs.Decode.{expressionAt, partAt}
+use Rattle.translation.specs.Translate.{Atom as Held, number, word, top}
 use Rattle.translation.specs.TranslateSize.{partSize}
 use Rattle.leaves.specs.Room.{Room}
 use Rattle.leaves.specs.Atoms.{AtomFits}
 use Rattle.leaves.specs.Straight.{lastSize}
-use Rattle.leaves.specs.declared.Atom.{Atom}
-use Rattle.leaves.specs.declared.Atom.the-variants.{Constant, Variable}
+use Rattle.leaves.specs.declared.Atom.the-variants.{Constant}
 use Rattle.expression_writers.specs.Code.{lastCode, chosenCode}
+use Rattle.expression_writers.specs.declared.End.{End}
+use Rattle.expression_writers.specs.declared.End.the-variants.{Truth, Copy, Stays}
 use Rattle.expression_writers.specs.declared.Branch.{Branch}
 use Rattle.expression_writers.specs.declared.Choice.{Choice}
 use Rattle.expression_writers.specs.declared.Choice.the-variants.{Choose, Straight}
@@ -24,13 +25,19 @@ pub record OperandAsks (rows : List ℤ) (row level base words : ℕ) : Type 0 w
   pub room : Room (partSize (partAt rows row)) base words
 
 -- The rows of a branch: its block, its expression, its end.
-abbrev pub finishSize : Bool → Atom → ℕ
-finishSize true x = 6
-finishSize false (Constant v) = 4
-finishSize false (Variable n) = 0
+abbrev pub finishSize : End → ℕ
+finishSize Truth = 6
+finishSize Copy = 4
+finishSize Stays = 0
 
 abbrev pub branchSize : List ℤ → Branch → ℕ
-branchSize rows branch = 1 + partSize (partAt rows (branch .row)) + finishSize (branch .truth) (branch .atom)
+branchSize rows branch = 1 + partSize (partAt rows (branch .row)) + finishSize (branch .end)
+
+-- How a branch of a conditional ends: a value that stands in the temporary stays.
+abbrev pub endOf : Held → End
+endOf (number v) = Copy
+endOf (word i) = Copy
+endOf top = Stays
 
 pub record BranchFits (rows : List ℤ) (branch : Branch) (level : ℕ) : Type 0 where
   pub inside : branch .row < rowCount rows
@@ -52,4 +59,4 @@ pub record ChoiceAt (S : ℕ) (rows : List ℤ) (row level : ℕ) (choice : Choi
 
 -- A branch that puts a number into the result's temporary.
 abbrev pub numberBranch : ℤ → Branch
-numberBranch v = record { row = 0; truth = false; atom = Constant v }
+numberBranch v = record { row = 0; end = Copy; atom = Constant v }

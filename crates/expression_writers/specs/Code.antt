@@ -1,16 +1,18 @@
 -- Code: the parts of an expression's code that have a writer of their own. Each is a part of a clause of expressionCode.
-use mathlib.Core.Bool.{Bool, true, false}
 use mathlib.Core.List.{List}
 use Prim.Native.Nat.{ℕ}
 use lib.IntN.{ℤ, pos}
 use Rattle.words.specs.declared.Operator.the-variants.{NotEqual}
 use Rattle.language.specs.Trees.{Expression, constant, read, minus, not, binary, and, or, comma, conditional, assign, compound, prefix, postfix, Part, absent, present, Items, none, _here_, _⧺_}
+use Rattle.language.specs.Writes.{writes, indexWrites}
 use Rattle.language.specs.Decode.{partAt}
 use Rattle.translation.specs.Translate.{atomOf, atom, temporary, assigning, choosing, copyCode, expressionCode}
+use Rattle.translation.specs.HeldCode.{holdCode}
 use Rattle.leaves.specs.Atoms.{atomTree}
 use Rattle.leaves.specs.Straight.{straightCode}
 use Rattle.leaves.specs.declared.Atom.{Atom}
-use Rattle.leaves.specs.declared.Atom.the-variants.{Constant, Variable}
+use Rattle.expression_writers.specs.declared.End.{End}
+use Rattle.expression_writers.specs.declared.End.the-variants.{Truth, Copy, Stays}
 use Rattle.expression_writers.specs.declared.Branch.{Branch}
 use Rattle.expression_writers.specs.declared.Choice.{Choice}
 use Rattle.expression_writers.specs.declared.Choice.the-variants.{Choose, Straight}
@@ -20,6 +22,22 @@ module _ (S : ℕ) where
   abbrev pub operandCode : Part → ℕ → Items
   operandCode absent t = none
   operandCode (present e) t = expressionCode S e t
+
+  -- The copy of the first operand's value, which waits while the second one is worked out.
+  abbrev pub waitCode : Expression → ℕ → Items
+  waitCode (constant v) t = none
+  waitCode (read p) t = none
+  waitCode (minus e) t = none
+  waitCode (not e) t = none
+  waitCode (binary operator a b) t = holdCode S t (atomOf b) (writes a)
+  waitCode (and a b) t = none
+  waitCode (or a b) t = none
+  waitCode (comma a b) t = none
+  waitCode (conditional c a b) t = none
+  waitCode (assign p e) t = holdCode S t (atomOf e) (indexWrites p)
+  waitCode (compound operator p e) t = holdCode S t (atomOf e) (indexWrites p)
+  waitCode (prefix operator p) t = none
+  waitCode (postfix operator p) t = none
 
   -- What an expression does behind its first two operands.
   abbrev pub lastCode : Expression → ℕ → Items
@@ -41,15 +59,15 @@ module _ (S : ℕ) where
   lastCode (postfix operator p) t = straightCode S (postfix operator p) t
 
   -- The end of a branch: its atom into temporary t, as a truth value, or as it is where it is not there already.
-  abbrev pub finishCode : Bool → Atom → ℕ → Items
-  finishCode true x t = assigning S (temporary S t) (binary NotEqual (atomTree x) (constant (pos 0))) none
-  finishCode false (Constant v) t = assigning S (temporary S t) (constant v) none
-  finishCode false (Variable n) t = none
+  abbrev pub finishCode : End → Atom → ℕ → Items
+  finishCode Truth x t = assigning S (temporary S t) (binary NotEqual (atomTree x) (constant (pos 0))) none
+  finishCode Copy x t = assigning S (temporary S t) (atomTree x) none
+  finishCode Stays x t = none
 
   -- `rows` is the source.
   module _ (rows : List ℤ) where
     abbrev pub branchCode : Branch → ℕ → Items
-    branchCode branch t = operandCode (partAt rows (branch .row)) t ⧺ finishCode (branch .truth) (branch .atom) t
+    branchCode branch t = operandCode (partAt rows (branch .row)) t ⧺ finishCode (branch .end) (branch .atom) t
 
     abbrev pub choiceCode : Atom → Branch → Branch → ℕ → Items
     choiceCode test onTrue onFalse t = choosing S (atomTree test) (branchCode onTrue t) (branchCode onFalse t) none

@@ -1,11 +1,13 @@
 // What and, or and a conditional choose between.
 use super::Branch;
 use super::Choice;
+use super::End;
 use leaves::Atom;
 use leaves::assignments::put_binary;
 use leaves::assignments::put_copy;
 use leaves::atoms::atom_at;
 use leaves::atoms::operand_size;
+use measures::expressions::taken_at;
 use shapes::ChoiceShape;
 use shapes::ExpressionShape;
 use shapes::rows::expression_at;
@@ -15,6 +17,8 @@ ghost use mathlib.Core.Bool.{false};
 ghost use Prim.Native.Nat.{_+_, _≤_, _<_};
 ghost use lib.ListN.{length};
 ghost use Rattle.words.specs.Table.{rowCount};
+ghost use Rattle.language.specs.Decode.{expressionAt};
+ghost use Rattle.translation.specs.Translate.{atomOf};
 ghost use Rattle.emission.specs.Emission.{emitItems};
 ghost use Rattle.measures.specs.Measures.{Measured};
 ghost use Rattle.words.specs.Over.{over};
@@ -22,7 +26,7 @@ ghost use Rattle.leaves.specs.Room.{Room};
 ghost use Rattle.leaves.specs.Atoms.{AtomFits};
 ghost use Rattle.expression_writers.specs.Code.{finishCode};
 ghost use Rattle.leaves.specs.Asks.{Writing};
-ghost use Rattle.expression_writers.specs.Asks.{numberBranch, finishSize, branchSize as sizeOf, ChoiceAt};
+ghost use Rattle.expression_writers.specs.Asks.{endOf, numberBranch, finishSize, branchSize as sizeOf, ChoiceAt};
 
 // A branch that puts a number into the result's temporary.
 fn number_branch(v: i32) -> Branch
@@ -30,9 +34,20 @@ fn number_branch(v: i32) -> Branch
 {
     Branch {
         row: 0,
-        truth: false,
+        end: End::Copy,
         atom: Atom::Constant(v),
     }
+}
+
+// How a branch of a conditional ends, by the value of the expression at a row: one in a temporary stays.
+fn end_at(rows: &[i32], table: &[usize], row: usize) -> End
+    requires { ⌜ Measured (now rows) (now table) × (row < rowCount (now rows)) ⌝ }
+    ensures { λ r. ⌜ r ≡ endOf (atomOf (expressionAt (now (rows .entry)) row)) ⌝ }
+{
+    if taken_at(rows, table, row) == 1 {
+        return End::Stays;
+    }
+    End::Copy
 }
 
 // What the code of the expression at a row ends with.
@@ -50,7 +65,7 @@ pub fn choice_at(rows: &[i32], table: &[usize], store: usize, row: usize, level:
                 let test = atom_at(rows, table, store, a, level);
                 let yes = Branch {
                     row: b,
-                    truth: true,
+                    end: End::Truth,
                     atom: atom_at(rows, table, store, b, level),
                 };
                 Choice::Choose(test, yes, number_branch(0))
@@ -59,7 +74,7 @@ pub fn choice_at(rows: &[i32], table: &[usize], store: usize, row: usize, level:
                 let test = atom_at(rows, table, store, a, level);
                 let no = Branch {
                     row: b,
-                    truth: true,
+                    end: End::Truth,
                     atom: atom_at(rows, table, store, b, level),
                 };
                 Choice::Choose(test, number_branch(1), no)
@@ -68,12 +83,12 @@ pub fn choice_at(rows: &[i32], table: &[usize], store: usize, row: usize, level:
                 let test = atom_at(rows, table, store, t, level);
                 let yes = Branch {
                     row: a,
-                    truth: false,
+                    end: end_at(rows, table, a),
                     atom: atom_at(rows, table, store, a, level),
                 };
                 let no = Branch {
                     row: b,
-                    truth: false,
+                    end: end_at(rows, table, b),
                     atom: atom_at(rows, table, store, b, level),
                 };
                 Choice::Choose(test, yes, no)
@@ -83,15 +98,13 @@ pub fn choice_at(rows: &[i32], table: &[usize], store: usize, row: usize, level:
 }
 
 // The rows of the end of a branch.
-pub fn finish_size(truth: bool, atom: Atom) -> usize
-    ensures { λ r. ⌜ r ≡ finishSize truth atom ⌝ }
+pub fn finish_size(end: End) -> usize
+    ensures { λ r. ⌜ r ≡ finishSize end ⌝ }
 {
-    if truth {
-        return 6;
-    }
-    match atom {
-        Atom::Constant(_) => 4,
-        Atom::Variable(_) => 0,
+    match end {
+        End::Truth => 6,
+        End::Copy => 4,
+        End::Stays => 0,
     }
 }
 
@@ -100,30 +113,22 @@ pub fn branch_size(rows: &[i32], table: &[usize], branch: Branch) -> usize
     requires { ⌜ Measured (now rows) (now table) × (branch .row < rowCount (now rows)) × (sizeOf (now rows) branch ≤ 40980) ⌝ }
     ensures { λ r. ⌜ r ≡ sizeOf (now (rows .entry)) branch ⌝ }
 {
-    let atom = branch.atom;
-    1 + operand_size(rows, table, branch.row) + finish_size(branch.truth, atom)
+    let end = branch.end;
+    1 + operand_size(rows, table, branch.row) + finish_size(end)
 }
 
-// The end of a branch: its atom into the temporary of a level.
-pub fn put_finish(truth: bool, atom: Atom, store: usize, level: usize, base: usize, out: &mut [i32])
-    requires { ⌜ Room (finishSize truth atom) base (length (now out)) × AtomFits atom × (store + level < 65536) ⌝ }
-    ensures { λ _. ⌜ now (out .exit) ≡ over (emitItems false (finishCode store truth atom level) base) (now (out .entry)) ⌝ }
+// The end of a branch: its atom into the temporary of a level, where it is not there already.
+pub fn put_finish(end: End, atom: Atom, store: usize, level: usize, base: usize, out: &mut [i32])
+    requires { ⌜ Room (finishSize end) base (length (now out)) × AtomFits atom × (store + level < 65536) ⌝ }
+    ensures { λ _. ⌜ now (out .exit) ≡ over (emitItems false (finishCode store end atom level) base) (now (out .entry)) ⌝ }
 {
     let number = store + level;
-    if truth {
-        put_binary(
-            number,
-            Operator::NotEqual,
-            atom,
-            Atom::Constant(0),
-            base,
-            false,
-            out,
-        );
-        return;
-    }
-    match atom {
-        Atom::Constant(v) => put_copy(number, Atom::Constant(v), base, false, out),
-        Atom::Variable(_) => {}
+    match end {
+        End::Truth => {
+            let zero = Atom::Constant(0);
+            put_binary(number, Operator::NotEqual, atom, zero, base, false, out);
+        }
+        End::Copy => put_copy(number, atom, base, false, out),
+        End::Stays => {}
     }
 }

@@ -6,11 +6,13 @@ use super::branches::choice_at;
 use super::branches::finish_size;
 use super::branches::put_finish;
 use leaves::Atom;
+use leaves::atoms::operand_copied;
 use leaves::atoms::operand_size;
 use leaves::control::put_block;
 use leaves::control::put_if;
 use leaves::rows::behind;
 use leaves::rows::more;
+use leaves::straight::put_hold;
 use leaves::straight::put_straight;
 use measures::parts::own_at;
 ghost use mathlib.Core.Path.{_≡_};
@@ -44,25 +46,49 @@ pub fn write_expression(
     if row == 0 {
         return;
     }
-    let own = own_at(rows, table, row);
+    let copied = operand_copied(rows, table, row);
+    let own = own_at(rows, table, row, copied);
     let first = own.first;
     let second = own.second;
     let above = level + own.above;
+    let copy = 4 * copied;
     let m = operand_size(rows, table, first);
+    let h = m + copy;
     let k = operand_size(rows, table, second);
-    let n = m + k;
+    let n = h + k;
     let last = operand_size(rows, table, row) - n;
     let then = more(follows, last);
-    write_expression(rows, table, store, first, level, base, more(then, k), out);
+    let held = more(then, k);
+    write_expression(
+        rows,
+        table,
+        store,
+        first,
+        level,
+        base,
+        more(held, copy),
+        out,
+    );
+    put_hold(
+        rows,
+        table,
+        store,
+        first,
+        copied,
+        level,
+        base + m,
+        held,
+        &mut out[6 * m..],
+    );
     write_expression(
         rows,
         table,
         store,
         second,
         above,
-        base + m,
+        base + h,
         then,
-        &mut out[6 * m..],
+        &mut out[6 * h..],
     );
     write_last(
         rows,
@@ -146,12 +172,12 @@ fn write_branch(
     ensures { λ _. ⌜ now (out .exit) ≡ over (emitStatement (block (branchCode store (now (rows .entry)) branch level)) base 0) (now (out .entry)) ⌝ }
 {
     let row = branch.row;
-    let truth = branch.truth;
+    let end = branch.end;
     let atom = branch.atom;
     let k = operand_size(rows, table, row);
-    let end = finish_size(truth, atom);
+    let last = finish_size(end);
     let n = 1 + k;
-    put_block(behind(more(false, k + end), base + 1), 0, out);
+    put_block(behind(more(false, k + last), base + 1), 0, out);
     write_expression(
         rows,
         table,
@@ -159,8 +185,8 @@ fn write_branch(
         row,
         level,
         base + 1,
-        more(false, end),
+        more(false, last),
         &mut out[6..],
     );
-    put_finish(truth, atom, store, level, base + n, &mut out[6 * n..]);
+    put_finish(end, atom, store, level, base + n, &mut out[6 * n..]);
 }

@@ -4,11 +4,17 @@ use leaves::Atom;
 pub mod branches; // branches.rt: what and, or and a conditional choose between
 pub mod expressions; // expressions.rt: the operands' code, and then what the expression does with their values
 
-// A branch that and, or and a conditional choose: an expression, or none where the row is 0; and then its atom goes into the
-// result's temporary, as a truth value or as it is.
+// How a branch ends: its atom goes into the result's temporary, as a truth value or as it is; or it is there already.
+pub enum End {
+    Truth,
+    Copy,
+    Stays,
+}
+
+// A branch that and, or and a conditional choose: an expression, or none where the row is 0; its atom, and how it ends.
 pub struct Branch {
     pub row: usize,
-    pub truth: bool,
+    pub end: End,
     pub atom: Atom,
 }
 

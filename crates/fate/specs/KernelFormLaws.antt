@@ -1,6 +1,6 @@
 -- The theorem: every accepted program has a kernel form that is legal and shares its fate. From the theorems about trees
 -- (`translation-preserves`, `translated-legal`), since decode reads both tables.
-use mathlib.Core.Path.{_≡_, refl}
+use mathlib.Core.Path.{_≡_, refl, ap, _∙_}
 use mathlib.Core.List.{List, _++_}
 use Prim.Native.Nat.{ℕ, _+_, _≤_}
 use native.Mathlib.Omega.{arith}
@@ -24,6 +24,8 @@ use Rattle.language.specs.WellFormed.{SourceTree}
 use Rattle.translation.specs.Translate.{translate, temporaries}
 use Rattle.translation.specs.TranslatePreserves.{SameWords, SharedFate as TreesShareFate, translation-preserves}
 use Rattle.translation.specs.TranslateBounds.{rows-bound, temporaries-bound}
+use Rattle.translation.specs.Copies.{statementCopies, ownCopies, ownResults, total}
+use Rattle.translation.specs.CopyLaws.{copies-exactly}
 use Rattle.translation.specs.TranslateKernel.{header-layout, header-temporaries}
 use Rattle.emission.specs.EmissionLaws.{length-emit}
 use Rattle.emission_legal.specs.EmittedLegal.{translated-legal, translated-decodes}
@@ -134,6 +136,10 @@ module _ (header rows : List ℤ) (legal : Legal header rows) where
             → take (length store) ((runProgram Kernel (kernelHeaderOf header rows) (kernelRowsOf header rows) d (store ++ temporaryWords)) .store) ≡ (runProgram Source header rows b store) .store
         cells b d w = rw (source-run b, kernel-run d, w .same-words) (take-at ((final (source b)) .store) (w .left) (length store) (store-keeps-length (steps b) (exec L (block program)) (start store)))
 
+  copies-allowed : statementCopies (storeSize L) (decode (kernelRowsOf header rows)) ≡ total ownCopies program + total ownResults program
+  unfolding statementCopies
+  copies-allowed = ap (statementCopies (storeSize L)) kernel-tree ∙ copies-exactly L program tree
+
   kernel-form-of : KernelFormOf header rows (kernelHeaderOf header rows) (kernelRowsOf header rows)
   unfolding kernelHeaderOf kernelRowsOf
   kernel-form-of = record {
@@ -141,6 +147,7 @@ module _ (header rows : List ℤ) (legal : Legal header rows) where
     share-fate = λ store temporaryWords s t. shared-fate store temporaryWords s t;
     few-rows = omega (arith, kernel-rows, rows-bound L program, source-rows);
     few-temporaries = omega (arith, kernel-temporaries, temporaries-bound program, source-rows);
+    copies-allowed = copies-allowed;
   }
 
 -- Demands 2 and 3, for every accepted program.

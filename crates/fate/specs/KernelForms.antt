@@ -4,12 +4,14 @@ use mathlib.Core.List.{List}
 use Prim.Native.Nat.{_+_, _*_, _≤_}
 use lib.IntN.{ℤ}
 use Rattle.words.specs.Table.{rowCount}
-use Rattle.words.specs.Layout.{layoutOf, temporariesOf}
+use Rattle.words.specs.Layout.{layoutOf, storeSize, temporariesOf}
 use Rattle.words.specs.declared.Form.the-variants.{Source, Kernel}
 use Rattle.words.specs.declared.Verdict.the-variants.{Accepted}
 use Rattle.language.specs.Trees.{block}
+use Rattle.language.specs.Decode.{decode}
 use Rattle.language.specs.Program.{contents}
 use Rattle.translation.specs.Translate.{translate, temporaries, kernelHeader}
+use Rattle.translation.specs.Copies.{statementCopies, ownCopies, ownResults, total}
 use Rattle.emission.specs.Emission.{emit}
 use Rattle.source_check.specs.Refusal.{refusal as sourceRefusal}
 use Rattle.kernel_check.specs.Refusal.{refusal as kernelRefusal}
@@ -31,6 +33,9 @@ pub record KernelFormOf (header rows kernelHeader kernelRows : List ℤ) : Type 
   -- "From n source rows come at most 20×n+20 kernel rows and at most 4×n temporaries."
   pub few-rows : rowCount kernelRows ≤ 20 * rowCount rows + 20
   pub few-temporaries : temporariesOf Kernel kernelHeader ≤ 4 * rowCount rows
+  -- Change 1: "A variable used as an operand, index, test or selector is copied only if something evaluated after it, and before its use,
+  -- can write that variable": the kernel's statements that move a variable into a temporary are those copies and the results.
+  pub copies-allowed : statementCopies (storeSize (layoutOf Source header)) (decode kernelRows) ≡ total ownCopies (contents rows) + total ownResults (contents rows)
 
 -- What holds of every source program that the check accepts.
 abbrev pub HasKernelForm : List ℤ → List ℤ → Type 0

@@ -4,17 +4,18 @@ use mathlib.Core.List.{List}
 use Prim.Native.Nat.{ℕ, _+_, _*_, _≤_, _<_}
 use lib.IntN.{ℤ}
 use Rattle.words.specs.Table.{rowCount}
+use Rattle.language.specs.Writes.{writes, indexWrites}
 use Rattle.language.specs.Decode.{placeOf, expressionAt}
 use Rattle.translation.specs.Translate.{atomOf, atom, kernelPlace}
-use Rattle.translation.specs.TranslateSize.{indexRows as indexRowsOf}
+use Rattle.translation.specs.TranslateSize.{indexRows as indexRowsOf, copied}
+use Rattle.translation.specs.HeldCode.{heldBy}
 use Rattle.measures.specs.Measures.{Measured}
-use Rattle.shapes.specs.Source.{mostWords, mostArrays}
+use Rattle.shapes.specs.Source.{mostVariables, mostArrays}
 use Rattle.shapes.specs.Shapes.{placeTree as placeShapeTree}
-use Rattle.measures.specs.Parts.{isNumberAtom}
 use Rattle.shapes.specs.declared.PlaceShape.{PlaceShape}
 use Rattle.shapes.specs.declared.PlaceShape.the-variants.{Variable as VariableShape, Element as ElementShape}
 use Rattle.leaves.specs.Room.{Room}
-use Rattle.leaves.specs.Atoms.{atomTree, placeTree, AtomFits, PlaceFits, indexRows, isNumber}
+use Rattle.leaves.specs.Atoms.{atomTree, placeTree, AtomFits, PlaceFits, indexRows}
 use Rattle.leaves.specs.Straight.{lastSize}
 use Rattle.leaves.specs.declared.Atom.{Atom}
 use Rattle.leaves.specs.declared.KernelPlace.{KernelPlace}
@@ -36,11 +37,15 @@ pub record LastAsks (rows : List ℤ) (row level base words : ℕ) : Type 0 wher
 pub record AtomAt (S : ℕ) (rows : List ℤ) (row t : ℕ) (x : Atom) : Type 0 where
   pub is : atomTree x ≡ atom S t (atomOf (expressionAt rows row))
   pub fits : AtomFits x
-  pub number : isNumber x ≡ isNumberAtom (atomOf (expressionAt rows row))
+
+-- The atom of a value that waits, which was copied where `copies` is 1.
+pub record HeldAt (S : ℕ) (rows : List ℤ) (row copies t : ℕ) (x : Atom) : Type 0 where
+  pub is : atomTree x ≡ atom S t (heldBy copies (atomOf (expressionAt rows row)))
+  pub fits : AtomFits x
 
 -- The numbers and the index row of a place are inside.
 abbrev pub PlaceInside : List ℤ → PlaceShape → Type 0
-PlaceInside rows (VariableShape i) = i < mostWords
+PlaceInside rows (VariableShape i) = i < mostVariables
 PlaceInside rows (ElementShape array index) = (array < mostArrays) × (index < rowCount rows)
 
 -- A place whose index is held at level t.
@@ -57,10 +62,18 @@ pub record PlaceAt (S : ℕ) (rows : List ℤ) (row t : ℕ) (p : KernelPlace) :
 
 -- ---- what ends the code of an expression
 
-pub record AssignmentAsks (rows : List ℤ) (table : List ℕ) (S place value level base words : ℕ) : Type 0 where
+pub record ReadAsks (rows : List ℤ) (table : List ℕ) (S : ℕ) (place : PlaceShape) (level base words : ℕ) : Type 0 where
+  pub writing : Writing rows table S
+  pub place-inside : PlaceInside rows place
+  pub level-low : level ≤ 2048
+  pub room : Room (5 * indexRowsOf (placeShapeTree rows place)) base words
+
+-- `copies` is 1 where the value of the first operand was copied.
+pub record AssignmentAsks (rows : List ℤ) (table : List ℕ) (S place value copies level base words : ℕ) : Type 0 where
   pub writing : Writing rows table S
   pub place-inside : place < rowCount rows
   pub value-inside : value < rowCount rows
+  pub copies-are : copies ≡ copied (atomOf (expressionAt rows value)) (indexWrites (placeOf (expressionAt rows place)))
   pub level-low : level ≤ 2048
   pub room : Room (4 + indexRowsOf (placeOf (expressionAt rows place))) base words
 
@@ -70,9 +83,10 @@ pub record OperationAsks (rows : List ℤ) (table : List ℕ) (S place level bas
   pub level-low : level ≤ 2048
   pub room : Room (10 + 6 * indexRowsOf (placeOf (expressionAt rows place))) base words
 
-pub record OperatorAsks (rows : List ℤ) (table : List ℕ) (S left right level base words : ℕ) : Type 0 where
+pub record OperatorAsks (rows : List ℤ) (table : List ℕ) (S left right copies level base words : ℕ) : Type 0 where
   pub writing : Writing rows table S
   pub left-inside : left < rowCount rows
   pub right-inside : right < rowCount rows
+  pub copies-are : copies ≡ copied (atomOf (expressionAt rows right)) (writes (expressionAt rows left))
   pub level-low : level ≤ 2048
   pub room : Room 6 base words

@@ -1,18 +1,21 @@
 -- Laws of atoms and places: the kernel's atom of an expression at a row, and the kernel's place.
 use mathlib.Core.Path.{_≡_, refl, sym, ap, subst, _∙_}
+use mathlib.Core.Bool.{Bool}
 use mathlib.Core.List.{List}
 use Prim.Native.Nat.{ℕ, _+_, _<_}
 use native.Mathlib.Omega.{arith}
 use lib.IntN.{ℤ}
+use borrow.Author.Tests.{eq-eqb, ne-eqb}
 use Rattle.words.specs.Table.{rowCount}
 use Rattle.language.specs.Trees.{Expression, Place, element, none}
 use Rattle.language.specs.Sizes.{expressionRows}
 use Rattle.language.specs.Decode.{expressionAt}
-use Rattle.translation.specs.Translate.{Atom as Held, number, top, atomOf, atom, kernelPlace}
-use Rattle.translation.specs.TranslateSize.{indexRows as indexRowsOf}
-use Rattle.shapes.specs.Shapes.{choiceTree, expressionTree, PlaceOnward}
-use Rattle.shapes.specs.Source.{mostWords, mostArrays, ExpressionAt, PlaceAt as ShapePlaceAt}
-use Rattle.measures.specs.Parts.{plainAtom, isNumberAtom}
+use Rattle.translation.specs.Translate.{Atom as Held, top, held, atomOf, taken, temporary, atom, assigning, kernelPlace}
+use Rattle.translation.specs.TranslateSize.{indexRows as indexRowsOf, copied}
+use Rattle.translation.specs.HeldCode.{taken-held, heldBy, held-by, holdBy}
+use Rattle.shapes.specs.Shapes.{choiceTree, expressionTree, PlaceOnward, ExpressionOnward}
+use Rattle.shapes.specs.Source.{mostVariables, mostArrays, ExpressionAt, PlaceAt as ShapePlaceAt}
+use Rattle.measures.specs.Parts.{plainAtom}
 use Rattle.measures.specs.MeasureLaws.{operation-top, choice-top}
 use Rattle.shapes.specs.declared.PlaceShape.{PlaceShape}
 use Rattle.shapes.specs.declared.PlaceShape.the-variants.{Variable as VariableShape, Element as ElementShape}
@@ -22,8 +25,8 @@ use Rattle.shapes.specs.declared.ExpressionShape.{ExpressionShape}
 use Rattle.shapes.specs.declared.ExpressionShape.the-variants.{Number, Read, Operation, Choice}
 use Rattle.leaves.specs.Room.{Room}
 use Rattle.leaves.specs.Straight.{straightCode, lastSize}
-use Rattle.leaves.specs.Atoms.{atomTree, AtomFits, isNumber}
-use Rattle.leaves.specs.Asks.{AtomAt, PlaceInside, HeldPlace, PlaceAt}
+use Rattle.leaves.specs.Atoms.{atomTree, AtomFits}
+use Rattle.leaves.specs.Asks.{AtomAt, HeldAt, PlaceInside, HeldPlace, PlaceAt}
 use Rattle.leaves.specs.declared.Atom.{Atom}
 use Rattle.leaves.specs.declared.Atom.the-variants.{Constant, Variable}
 use Rattle.leaves.specs.declared.KernelPlace.{KernelPlace}
@@ -32,7 +35,8 @@ use Rattle.leaves.specs.declared.KernelPlace.the-variants.{Variable as V
 -- What the code makes of the shape of the row that the value comes from; n is the temporary.
 abbrev pub atomBy : ExpressionShape → ℕ → Atom
 atomBy (Number v) n = Constant v
-atomBy (Read p) n = Variable n
+atomBy (Read (VariableShape i)) n = Variable i
+atomBy (Read (ElementShape array index)) n = Variable n
 atomBy (Operation o) n = Variable n
 atomBy (Choice c) n = Variable n
 
@@ -40,21 +44,45 @@ atomBy (Choice c) n = Variable n
 record Holds (S t : ℕ) (held : Held) (x : Atom) : Type 0 where
   pub is : atomTree x ≡ atom S t held
   pub fits : AtomFits x
-  pub number : isNumber x ≡ isNumberAtom held
 
 holds-top : (S t : ℕ) {held : Held} → held ≡ top → S + t < 65536 → Holds S t held (Variable (S + t))
-holds-top S t {held} e h = rw e (record { is = refl; fits = h; number = refl })
+holds-top S t {held} e h = rw e (record { is = refl; fits = h })
 
-holds : (S t : ℕ) (rows : List ℤ) (s : ExpressionShape) → S + t < 65536 → Holds S t (plainAtom (expressionTree rows s)) (atomBy s (S + t))
-holds S t rows (Number v) h = record { is = refl; fits = tt; number = refl }
-holds S t rows (Read p) h = record { is = refl; fits = h; number = refl }
-holds S t rows (Operation o) h = holds-top S t (operation-top rows o) h
-holds S t rows (Choice c) h = holds-top S t (choice-top rows c) h
+holds : (S t : ℕ) (rows : List ℤ) (row : ℕ) (s : ExpressionShape) → ExpressionOnward rows row mostVariables mostArrays s → S + t < 65536 → Holds S t (plainAtom (expressionTree rows s)) (atomBy s (S + t))
+holds S t rows row (Number v) o h = record { is = refl; fits = tt }
+holds S t rows row (Read (VariableShape i)) o h = record { is = refl; fits = omega (arith, o) }
+holds S t rows row (Read (ElementShape array index)) o h = record { is = refl; fits = h }
+holds S t rows row (Operation o) on h = holds-top S t (operation-top rows o) h
+holds S t rows row (Choice c) o h = holds-top S t (choice-top rows c) h
 
 pub atom-found : {rows : List ℤ} {row value : ℕ} {s : ExpressionShape} (S t : ℕ) {x : Atom} → ExpressionAt rows value s → plainAtom (expressionAt rows value) ≡ atomOf (expressionAt rows row) → S + t < 65536 → x ≡ atomBy s (S + t) → AtomAt S rows row t x
 atom-found {rows} {row} {value} {s} S t {x} f h l e =
-    let o : Holds S t (atomOf (expressionAt rows row)) x = subst (λ (held : Held). Holds S t held x) (ap plainAtom (sym (f .is)) ∙ h) (rw e (holds S t rows s l)) in
-    record { is = o .is; fits = o .fits; number = o .number }
+    let o : Holds S t (atomOf (expressionAt rows row)) x = subst (λ (held : Held). Holds S t held x) (ap plainAtom (sym (f .is)) ∙ h) (rw e (holds S t rows value s (f .onward) l)) in
+    record { is = o .is; fits = o .fits }
+
+-- A value that waits: the temporary where it was copied, else its own atom.
+pub held-copy : {rows : List ℤ} (row : ℕ) (S t : ℕ) {k : ℕ} → k ≡ 1 → S + t < 65536 → HeldAt S rows row k t (Variable (S + t))
+held-copy {rows} row S t {k} e h = record { is = rw (eq-eqb k 1 e); fits = h }
+
+pub held-own : {rows : List ℤ} {row : ℕ} {S t k : ℕ} {x : Atom} → (k ≡ 1 → ⊥) → AtomAt S rows row t x → HeldAt S rows row k t x
+held-own {k = k} n a = record { is = rw (ne-eqb k 1 n) (a .is); fits = a .fits }
+
+-- what holds a value that waits while W may be written
+pub held-is : {S : ℕ} {rows : List ℤ} {row k t : ℕ} {x : Atom} (W : ℕ → Bool) → k ≡ copied (atomOf (expressionAt rows row)) W → HeldAt S rows row k t x → atomTree x ≡ atom S t (held (atomOf (expressionAt rows row)) W)
+held-is {S} {rows} {row} {k} {t} W e a =
+    let h = atomOf (expressionAt rows row) in
+    a .is ∙ ap (λ (n : ℕ). atom S t (heldBy n h)) e ∙ ap (atom S t) (sym (held-by h W))
+
+-- what is worked out meanwhile stands above it
+pub above-held : {n k : ℕ} (t : ℕ) (h : Held) (W : ℕ → Bool) → n ≡ taken h → k ≡ copied h W → t + n + k ≡ t + taken (held h W)
+above-held t h W e f = omega (arith, taken-held h W)
+
+-- the copy of a value that waits, or nothing
+pub hold-copied : (S t k : ℕ) {rows : List ℤ} {row : ℕ} {x : Atom} → k ≡ 1 → AtomAt S rows row t x → assigning S (temporary S t) (atomTree x) none ≡ holdBy S t k (atomOf (expressionAt rows row))
+hold-copied S t k e a = rw (eq-eqb k 1 e, a .is)
+
+pub hold-nothing : (S t k : ℕ) (h : Held) → (k ≡ 1 → ⊥) → none ≡ holdBy S t k h
+hold-nothing S t k h n = rw (ne-eqb k 1 n)
 
 -- an atom is one row
 pub atom-rows : (x : Atom) → expressionRows (atomTree x) ≡ 1
@@ -64,7 +92,7 @@ atom-rows (Variable n) = refl
 
 -- ---- places
 
-pub onward-inside : (rows : List ℤ) (row : ℕ) (p : PlaceShape) → PlaceOnward rows row mostWords mostArrays p → PlaceInside rows p
+pub onward-inside : (rows : List ℤ) (row : ℕ) (p : PlaceShape) → PlaceOnward rows row mostVariables mostArrays p → PlaceInside rows p
 onward-inside rows row (VariableShape i) f = f
 onward-inside rows row (ElementShape array index) f = (f .0, f .1 .inside)
 

@@ -1,5 +1,4 @@
 -- Atoms: the kernel's atoms and places, as the code holds them.
-use mathlib.Core.Bool.{Bool, true, false}
 use mathlib.Core.List.{List}
 use Prim.Native.Nat.{ℕ, _<_}
 use lib.IntN.{ℤ, pos}
@@ -36,7 +35,3 @@ PlaceFits (Element array index) = (array < 65536) × AtomFits index
 abbrev pub indexRows : KernelPlace → ℕ
 indexRows (VariablePlace n) = 0
 indexRows (Element array index) = 1
-
-abbrev pub isNumber : Atom → Bool
-isNumber (Constant v) = true
-isNumber (Variable n) = false

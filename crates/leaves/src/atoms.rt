@@ -1,6 +1,7 @@
 // Kernel atoms and places, from the source rows.
 use super::Atom;
 use super::KernelPlace;
+use measures::COPIED;
 use measures::ROWS;
 use measures::VALUE;
 use measures::WIDTH;
@@ -16,8 +17,9 @@ ghost use Rattle.words.specs.Table.{rowCount};
 ghost use Rattle.language.specs.Decode.{placeOf, expressionAt, partAt};
 ghost use Rattle.translation.specs.Translate.{placeTaken};
 ghost use Rattle.translation.specs.TranslateSize.{partSize};
+ghost use Rattle.measures.specs.Parts.{firstCopied};
 ghost use Rattle.measures.specs.Measures.{Measured};
-ghost use Rattle.leaves.specs.Asks.{Writing, AtomAt, PlaceInside, HeldPlace, PlaceAt};
+ghost use Rattle.leaves.specs.Asks.{Writing, AtomAt, HeldAt, PlaceInside, HeldPlace, PlaceAt};
 
 // The atom of the expression at a row, worked out at a level.
 pub fn atom_at(rows: &[i32], table: &[usize], store: usize, row: usize, level: usize) -> Atom
@@ -28,10 +30,39 @@ pub fn atom_at(rows: &[i32], table: &[usize], store: usize, row: usize, level: u
     let shape = expression_at(rows, table[WIDTH * row + VALUE]);
     match shape {
         ExpressionShape::Number(value) => Atom::Constant(value),
-        ExpressionShape::Read(_) => temporary,
+        ExpressionShape::Read(place) => match place {
+            PlaceShape::Variable(number) => Atom::Variable(number),
+            PlaceShape::Element(_, _) => temporary,
+        },
         ExpressionShape::Operation(_) => temporary,
         ExpressionShape::Choice(_) => temporary,
     }
+}
+
+// 1 where the expression at a row copies the value of its first operand, else 0.
+pub fn operand_copied(rows: &[i32], table: &[usize], row: usize) -> usize
+    requires { ⌜ Measured (now rows) (now table) × (row < rowCount (now rows)) ⌝ }
+    ensures { λ r. ⌜ r ≡ firstCopied (expressionAt (now (rows .entry)) row) ⌝ }
+{
+    table[WIDTH * row + COPIED]
+}
+
+// The atom of a value that waits for its use: where it was copied, the temporary of its level.
+pub fn held_atom(
+    rows: &[i32],
+    table: &[usize],
+    store: usize,
+    row: usize,
+    copied: usize,
+    level: usize,
+) -> Atom
+    requires { ⌜ Writing (now rows) (now table) store × (row < rowCount (now rows)) × (level ≤ 4096) ⌝ }
+    ensures { λ r. ⌜ HeldAt store (now (rows .entry)) row copied level r ⌝ }
+{
+    if copied == 1 {
+        return Atom::Variable(store + level);
+    }
+    atom_at(rows, table, store, row, level)
 }
 
 // A place, whose index is held at a level.

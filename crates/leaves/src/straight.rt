@@ -8,41 +8,64 @@ use super::assignments::put_fetch;
 use super::assignments::put_minus;
 use super::assignments::put_store;
 use super::atoms::atom_at;
-use super::atoms::held_place;
+use super::atoms::held_atom;
 use super::atoms::kernel_place;
+use super::atoms::operand_copied;
 use super::atoms::place_taken;
 use measures::expressions::taken_at;
 use shapes::ExpressionShape;
 use shapes::OperationShape;
+use shapes::PlaceShape;
 use shapes::rows::expression_at;
 use words::Operator;
 ghost use mathlib.Core.Path.{_≡_};
-ghost use Prim.Native.Nat.{_+_, _*_, _<_};
+ghost use Prim.Native.Nat.{_+_, _*_, _≤_, _<_};
 ghost use lib.ListN.{length};
-ghost use Rattle.language.specs.Trees.{read, binary, assign, variable, express, none, _then_};
+ghost use Rattle.words.specs.Table.{rowCount};
+ghost use Rattle.language.specs.Trees.{binary, assign, express, none, _then_};
 ghost use Rattle.language.specs.Decode.{placeOf, expressionAt};
-ghost use Rattle.translation.specs.Translate.{placeTaken, kernelPlace, updateCode, postfixCode};
+ghost use Rattle.translation.specs.Translate.{atomOf, placeTaken, readCode, kernelPlace, updateCode, postfixCode};
+ghost use Rattle.translation.specs.HeldCode.{holdBy};
+ghost use Rattle.shapes.specs.Shapes.{placeTree as placeShapeTree};
 ghost use Rattle.emission.specs.Emission.{emitItems};
 ghost use Rattle.words.specs.Over.{over};
 ghost use Rattle.leaves.specs.Room.{Room};
 ghost use Rattle.leaves.specs.Atoms.{atomTree, placeTree, AtomFits, PlaceFits, indexRows};
 ghost use Rattle.leaves.specs.Straight.{straightCode, elementUpdate};
-ghost use Rattle.leaves.specs.Asks.{Writing, LastAsks, AssignmentAsks, OperationAsks, OperatorAsks};
+ghost use Rattle.leaves.specs.Asks.{Writing, LastAsks, ReadAsks, AssignmentAsks, OperationAsks, OperatorAsks};
 
-// variable := place
-fn put_read(number: usize, place: KernelPlace, base: usize, follows: bool, out: &mut [i32])
-    requires { ⌜ Room (4 + indexRows place) base (length (now out)) × (number < 65536) × PlaceFits place ⌝ }
-    ensures { λ _. ⌜ now (out .exit) ≡ over (emitItems follows (express (assign (variable number) (read (placeTree place))) then none) base) (now (out .entry)) ⌝ }
+// The copy of a value that waits, into the temporary of its level; nothing where it is not copied.
+pub fn put_hold(
+    rows: &[i32],
+    table: &[usize],
+    store: usize,
+    value: usize,
+    copied: usize,
+    level: usize,
+    base: usize,
+    follows: bool,
+    out: &mut [i32],
+)
+    requires { ⌜ Writing (now rows) (now table) store × (value < rowCount (now rows)) × (level ≤ 4096) × Room (4 * copied) base (length (now out)) ⌝ }
+    ensures { λ _. ⌜ now (out .exit) ≡ over (emitItems follows (holdBy store level copied (atomOf (expressionAt (now (rows .entry)) value))) base) (now (out .entry)) ⌝ }
+{
+    if copied == 1 {
+        let source = atom_at(rows, table, store, value, level);
+        put_copy(store + level, source, base, follows, out);
+    }
+}
+
+// An element's value into the temporary of the level; a variable stands for its own.
+fn put_read(rows: &[i32], table: &[usize], place: PlaceShape, at: Position, out: &mut [i32])
+    requires { ⌜ ReadAsks (now rows) (now table) (at .store) place (at .level) (at .base) (length (now out)) ⌝ }
+    ensures { λ _. ⌜ now (out .exit) ≡ over (emitItems (at .follows) (readCode (at .store) (placeShapeTree (now (rows .entry)) place) (at .level)) (at .base)) (now (out .entry)) ⌝ }
 {
     match place {
-        KernelPlace::Variable(source) => put_copy(
-            number,
-            Atom::Variable(source),
-            base,
-            follows,
-            out,
-        ),
-        KernelPlace::Element(array, index) => put_fetch(number, array, index, base, follows, out),
+        PlaceShape::Variable(_) => {}
+        PlaceShape::Element(array, index) => {
+            let atom = atom_at(rows, table, at.store, index, at.level);
+            put_fetch(at.store + at.level, array, atom, at.base, at.follows, out);
+        }
     }
 }
 
@@ -166,14 +189,15 @@ fn put_assignment(
     table: &[usize],
     place: usize,
     value: usize,
+    copied: usize,
     at: Position,
     out: &mut [i32],
 )
-    requires { ⌜ AssignmentAsks (now rows) (now table) (at .store) place value (at .level) (at .base) (length (now out)) ⌝ }
+    requires { ⌜ AssignmentAsks (now rows) (now table) (at .store) place value copied (at .level) (at .base) (length (now out)) ⌝ }
     ensures { λ _. ⌜ now (out .exit) ≡ over (emitItems (at .follows) (straightCode (at .store) (assign (placeOf (expressionAt (now (rows .entry)) place)) (expressionAt (now (rows .entry)) value)) (at .level)) (at .base)) (now (out .entry)) ⌝ }
 {
-    let source = atom_at(rows, table, at.store, value, at.level);
-    let above = at.level + taken_at(rows, table, value);
+    let source = held_atom(rows, table, at.store, value, copied, at.level);
+    let above = at.level + taken_at(rows, table, value) + copied;
     let target = kernel_place(rows, table, at.store, place, above);
     put_assign(target, source, at.base, at.follows, out);
 }
@@ -239,14 +263,15 @@ fn put_operator(
     operator: Operator,
     left: usize,
     right: usize,
+    copied: usize,
     at: Position,
     out: &mut [i32],
 )
-    requires { ⌜ OperatorAsks (now rows) (now table) (at .store) left right (at .level) (at .base) (length (now out)) ⌝ }
+    requires { ⌜ OperatorAsks (now rows) (now table) (at .store) left right copied (at .level) (at .base) (length (now out)) ⌝ }
     ensures { λ _. ⌜ now (out .exit) ≡ over (emitItems (at .follows) (straightCode (at .store) (binary operator (expressionAt (now (rows .entry)) left) (expressionAt (now (rows .entry)) right)) (at .level)) (at .base)) (now (out .entry)) ⌝ }
 {
-    let right_atom = atom_at(rows, table, at.store, right, at.level);
-    let above = at.level + taken_at(rows, table, right);
+    let right_atom = held_atom(rows, table, at.store, right, copied, at.level);
+    let above = at.level + taken_at(rows, table, right) + copied;
     let left_atom = atom_at(rows, table, at.store, left, above);
     put_binary(
         at.store + at.level,
@@ -280,13 +305,11 @@ pub fn put_straight(
         base,
         follows,
     };
+    let copied = operand_copied(rows, table, row);
     let shape = expression_at(rows, row);
     match shape {
         ExpressionShape::Number(_) => {}
-        ExpressionShape::Read(place) => {
-            let target = held_place(rows, table, store, place, level);
-            put_read(number, target, base, follows, out);
-        }
+        ExpressionShape::Read(place) => put_read(rows, table, place, at, out),
         ExpressionShape::Operation(operation) => match operation {
             OperationShape::Minus(operand) => {
                 let atom = atom_at(rows, table, store, operand, level);
@@ -298,14 +321,14 @@ pub fn put_straight(
                 put_binary(number, Operator::Equal, atom, zero, base, follows, out);
             }
             OperationShape::Binary(operator, left, right) => {
-                put_operator(rows, table, operator, left, right, at, out)
+                put_operator(rows, table, operator, left, right, copied, at, out)
             }
             OperationShape::Comma(_, _) => {}
             OperationShape::Assign(place, value) => {
-                put_assignment(rows, table, place, value, at, out)
+                put_assignment(rows, table, place, value, copied, at, out)
             }
             OperationShape::Compound(operator, place, value) => {
-                let atom = atom_at(rows, table, store, value, level);
+                let atom = held_atom(rows, table, store, value, copied, level);
                 put_operation(rows, table, operator, place, atom, at, out);
             }
             OperationShape::Prefix(operator, place) => {

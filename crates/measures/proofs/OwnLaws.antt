@@ -1,12 +1,17 @@
 -- What an expression's own row brings, kind by kind; and an expression's measures from those of its operands.
-use mathlib.Core.Path.{_≡_, refl, sym, ap, subst, _∙_}
+use mathlib.Core.Path.{_≡_, refl, sym, ap, ap₂, subst, _∙_}
 use mathlib.Core.List.{List}
 use Prim.Native.Nat.{ℕ, _+_, _*_, _-_, _≤_, _<_, max}
 use native.Mathlib.Omega.{arith}
+use lib.Dec.{eqb}
 use lib.IntN.{ℤ}
+use borrow.Author.Tests.{eq-eqb, ne-eqb}
+use Rattle.words.specs.Word.{pick}
+use Rattle.words.specs.Laws.{by-cases}
 use Rattle.words.specs.Table.{rowCount}
 use Rattle.words.specs.declared.Operator.{Operator}
 use Rattle.language.specs.Trees.{Expression, constant, read, minus, not, binary, and, or, comma, conditional, assign, compound, prefix, postfix, Part, absent, present}
+use Rattle.language.specs.Writes.{writes, indexWrites}
 use Rattle.language.specs.Decode.{placeOf, expressionAt, partAt}
 use Rattle.language.specs.DecodeLaws.{part-some}
 use Rattle.shapes.specs.Shapes.{expressionTree, Onward, OptionalOnward}
@@ -16,10 +21,11 @@ use Rattle.shapes.specs.declared.OperationShape.the-variants.{Minus, Not, Binar
 use Rattle.shapes.specs.declared.ChoiceShape.the-variants.{And, Or, Conditional}
 use Rattle.shapes.specs.declared.ExpressionShape.{ExpressionShape}
 use Rattle.shapes.specs.declared.ExpressionShape.the-variants.{Number, Read, Operation, Choice}
-use Rattle.translation.specs.Translate.{Atom, number, top, atomOf, taken, expressionLevels, partLevels}
+use Rattle.translation.specs.Translate.{Atom, number, word, top, held, atomOf, taken, expressionLevels, partLevels}
 use Rattle.translation.specs.TranslateSize.{indexRows, copyRows, ownRows, expressionSize, partSize}
-use Rattle.translation.specs.TranslateBounds.{copy-most, index-most, taken-most}
-use Rattle.measures.specs.Parts.{indexOf, updateOwn, firstOperand, secondOperand, thirdOperand, fourthOperand, aboveFirst, ownLevels, plainAtom, Operand, Brings, OwnAt, PlaceOwnAt}
+use Rattle.translation.specs.HeldCode.{taken-held, heldBy, held-by}
+use Rattle.translation.specs.TranslateBounds.{copy-most, hold-most, index-most, taken-most}
+use Rattle.measures.specs.Parts.{indexOf, updateOwn, firstOperand, secondOperand, thirdOperand, fourthOperand, aboveFirst, firstCopied, ownLevels, plainAtom, Operand, Brings, OwnAt, PlaceOwnAt}
 use Rattle.measures.specs.Measures.{limited, rowsSlot, levelsSlot, valueSlot, slotAt, MeasuredFrom}
 use Rattle.measures.specs.MeasureLaws.{at-some, link-measured, part-rows, part-levels, size-parts, levels-parts, operation-top, choice-top}
 use Rattle.measures.specs.declared.Own.{Own}
@@ -68,7 +74,15 @@ own a b c d above n levels value = record { first = a; second = b; third = c; fo
 
 pub copy-taken : (h : Atom) → copyRows h ≡ 4 - 4 * taken h
 copy-taken (number v) = refl
+copy-taken (word i) = refl
 copy-taken top = refl
+
+-- the row that an assignment's value comes from
+pub value-own : (k row other : ℕ) → k ≡ 1 → row ≡ pick (eqb k 1) row other
+value-own k row other e = rw (eq-eqb k 1 e)
+
+pub value-other : (k row : ℕ) {other x : ℕ} → (k ≡ 1 → ⊥) → x ≡ other → x ≡ pick (eqb k 1) row other
+value-other k row n e = rw (ne-eqb k 1 n) e
 
 module _ {rows : List ℤ} {row : ℕ} where
   own-by : {s : ExpressionShape} (a b c d above n levels value : ℕ) → ExpressionAt rows row s
@@ -87,13 +101,16 @@ module _ {rows : List ℤ} {row : ℕ} where
         → {o : Own} → o ≡ own a b c d above n levels row → OwnAt rows row o
     own-plain a b c d above n levels f pa pb pc pd ea en el ev e = own-by a b c d above n levels row f pa pb pc pd ea en el (ap plainAtom (f .is) ∙ ev) inside e
 
+    copies-of : {s : ExpressionShape} {k : ℕ} → ExpressionAt rows row s → k ≡ firstCopied (expressionAt rows row) → k ≡ firstCopied (expressionTree rows s)
+    copies-of f ek = ek ∙ ap firstCopied (f .is)
+
     pub own-number : {v : ℤ} {o : Own} → ExpressionAt rows row (Number v) → o ≡ own 0 0 0 0 0 0 0 row → OwnAt rows row o
     unfolding atomOf
     own-number f e = own-plain 0 0 0 0 0 0 0 f (nothing rows row) (nothing rows row) (nothing rows row) (nothing rows row) refl refl refl refl e
 
-    pub own-variable : {i : ℕ} {o : Own} → ExpressionAt rows row (Read (Variable i)) → o ≡ own 0 0 0 0 0 4 1 row → OwnAt rows row o
+    pub own-variable : {i : ℕ} {o : Own} → ExpressionAt rows row (Read (Variable i)) → o ≡ own 0 0 0 0 0 0 0 row → OwnAt rows row o
     unfolding atomOf
-    own-variable f e = own-plain 0 0 0 0 0 4 1 f (nothing rows row) (nothing rows row) (nothing rows row) (nothing rows row) refl refl refl refl e
+    own-variable f e = own-plain 0 0 0 0 0 0 0 f (nothing rows row) (nothing rows row) (nothing rows row) (nothing rows row) refl refl refl refl e
 
     pub own-element : {array index : ℕ} {o : Own} → ExpressionAt rows row (Read (Element array index)) → o ≡ own index 0 0 0 0 5 1 row → OwnAt rows row o
     unfolding atomOf
@@ -107,9 +124,13 @@ module _ {rows : List ℤ} {row : ℕ} where
     unfolding atomOf
     own-not {a} f e = own-plain a 0 0 0 0 6 1 f (some rows row (f .onward)) (nothing rows row) (nothing rows row) (nothing rows row) refl refl refl refl e
 
-    pub own-binary : {operator : Operator} {a b t : ℕ} {o : Own} → ExpressionAt rows row (Operation (Binary operator a b)) → t ≡ taken (atomOf (expressionAt rows b)) → o ≡ own b a 0 0 t 6 1 row → OwnAt rows row o
+    pub own-binary : {operator : Operator} {a b t k : ℕ} {o : Own} → ExpressionAt rows row (Operation (Binary operator a b)) → t ≡ taken (atomOf (expressionAt rows b)) → k ≡ firstCopied (expressionAt rows row)
+        → o ≡ own b a 0 0 (t + k) (6 + 4 * k) 1 row → OwnAt rows row o
     unfolding atomOf
-    own-binary {operator} {a} {b} {t} f et e = own-plain b a 0 0 t 6 1 f (some rows row (f .onward .1)) (some rows row (f .onward .0)) (nothing rows row) (nothing rows row) et refl refl refl e
+    own-binary {operator} {a} {b} {t} {k} f et ek e =
+        let copies = copies-of f ek in
+        own-plain b a 0 0 (t + k) (6 + 4 * k) 1 f (some rows row (f .onward .1)) (some rows row (f .onward .0)) (nothing rows row) (nothing rows row)
+        (ap₂ _+_ et copies ∙ sym (taken-held (atomOf (expressionAt rows b)) (writes (expressionAt rows a)))) (ap (λ (n : ℕ). 6 + 4 * n) copies) refl refl e
 
     pub own-and : {a b : ℕ} {o : Own} → ExpressionAt rows row (Choice (And a b)) → o ≡ own a 0 b 0 0 14 1 row → OwnAt rows row o
     unfolding atomOf
@@ -127,12 +148,12 @@ module _ {rows : List ℤ} {row : ℕ} where
         (omega (arith, copy-taken (atomOf (expressionAt rows a)), copy-taken (atomOf (expressionAt rows b)), taken-most (atomOf (expressionAt rows a)), taken-most (atomOf (expressionAt rows b))))
         refl refl e
 
-    pub own-compound : {operator : Operator} {place v : ℕ} {p : PlaceOwn} {o : Own} → ExpressionAt rows row (Operation (Compound operator place v)) → PlaceOwnAt rows place p
-        → o ≡ own v (p .index) 0 0 1 (10 + 6 * p .rows) (p .levels) row → OwnAt rows row o
+    pub own-compound : {operator : Operator} {place v k : ℕ} {p : PlaceOwn} {o : Own} → ExpressionAt rows row (Operation (Compound operator place v)) → PlaceOwnAt rows place p → k ≡ firstCopied (expressionAt rows row)
+        → o ≡ own v (p .index) 0 0 1 (10 + 6 * p .rows + 4 * k) (p .levels) row → OwnAt rows row o
     unfolding atomOf
-    own-compound {operator} {place} {v} {p} f q e =
-        own-plain v (p .index) 0 0 1 (10 + 6 * p .rows) (p .levels) f (some rows row (f .onward .1)) (indexed rows row (f .onward .0) (q .index)) (nothing rows row) (nothing rows row) refl
-        (ap (λ (n : ℕ). 10 + 6 * n) (q .rows-are)) (q .levels-are) refl e
+    own-compound {operator} {place} {v} {k} {p} f q ek e =
+        own-plain v (p .index) 0 0 1 (10 + 6 * p .rows + 4 * k) (p .levels) f (some rows row (f .onward .1)) (indexed rows row (f .onward .0) (q .index)) (nothing rows row) (nothing rows row) refl
+        (ap₂ (λ (n m : ℕ). 10 + 6 * n + 4 * m) (q .rows-are) (copies-of f ek)) (q .levels-are) refl e
 
     pub own-prefix : {operator : Operator} {place : ℕ} {p : PlaceOwn} {o : Own} → ExpressionAt rows row (Operation (Prefix operator place)) → PlaceOwnAt rows place p
         → o ≡ own 0 (p .index) 0 0 1 (10 + 6 * p .rows) (p .levels) row → OwnAt rows row o
@@ -159,26 +180,42 @@ module _ {rows : List ℤ} {row : ℕ} where
         let found = value-of (f .onward .1) ev in
         own-by a b 0 0 0 0 0 value f (some rows row (f .onward .0)) (some rows row (f .onward .1)) (nothing rows row) (nothing rows row) refl refl refl (found .0) (found .1) e
 
-    pub own-assign : {place v t value : ℕ} {p : PlaceOwn} {o : Own} → ExpressionAt rows row (Operation (Assign place v)) → PlaceOwnAt rows place p → t ≡ taken (atomOf (expressionAt rows v)) → value ≡ slotAt table v valueSlot
-        → o ≡ own v (p .index) 0 0 t (4 + p .rows) 0 value → OwnAt rows row o
+    -- where the value of an assignment comes from: its own row, where it was copied, or where its right side's comes from
+    assigned : {place v k value : ℕ} → row < rowCount rows → ExpressionAt rows row (Operation (Assign place v)) → k ≡ firstCopied (expressionAt rows row) → value ≡ pick (eqb k 1) row (slotAt table v valueSlot)
+        → (plainAtom (expressionAt rows value) ≡ held (atomOf (expressionAt rows v)) (indexWrites (placeOf (expressionAt rows place)))) × (value < rowCount rows)
+    assigned {place} {v} {k} {value} inside f ek ev =
+        let h = atomOf (expressionAt rows v) in
+        let W = indexWrites (placeOf (expressionAt rows place)) in
+        let copies = copies-of inside f ek in
+        let holds = held-by h W ∙ ap (λ (n : ℕ). heldBy n h) (sym copies) in
+        by-cases (eqb k 1)
+        (λ b. let own = rw b at ev in (ap (λ (n : ℕ). plainAtom (expressionAt rows n)) own ∙ ap plainAtom (f .is) ∙ sym (rw b at holds), omega (arith, own, inside)))
+        (λ b. let found = value-of (f .onward .1) (rw b at ev) in (found .0 ∙ sym (rw b at holds), found .1))
+
+    pub own-assign : {place v t k value : ℕ} {p : PlaceOwn} {o : Own} → row < rowCount rows → ExpressionAt rows row (Operation (Assign place v)) → PlaceOwnAt rows place p → t ≡ taken (atomOf (expressionAt rows v)) → k ≡ firstCopied (expressionAt rows row)
+        → value ≡ pick (eqb k 1) row (slotAt table v valueSlot) → o ≡ own v (p .index) 0 0 (t + k) (4 + p .rows + 4 * k) 0 value → OwnAt rows row o
     unfolding atomOf
-    own-assign {place} {v} {t} {value} {p} f q et ev e =
-        let found = value-of (f .onward .1) ev in
-        own-by v (p .index) 0 0 t (4 + p .rows) 0 value f (some rows row (f .onward .1)) (indexed rows row (f .onward .0) (q .index)) (nothing rows row) (nothing rows row) et
-        (ap (λ (n : ℕ). 4 + n) (q .rows-are)) refl (found .0) (found .1) e
+    own-assign {place} {v} {t} {k} {value} {p} inside f q et ek ev e =
+        let copies = copies-of inside f ek in
+        let found = assigned inside f ek ev in
+        own-by v (p .index) 0 0 (t + k) (4 + p .rows + 4 * k) 0 value f (some rows row (f .onward .1)) (indexed rows row (f .onward .0) (q .index)) (nothing rows row) (nothing rows row)
+        (ap₂ _+_ et copies ∙ sym (taken-held (atomOf (expressionAt rows v)) (indexWrites (placeOf (expressionAt rows place)))))
+        (ap₂ (λ (n m : ℕ). 4 + n + 4 * m) (q .rows-are) copies) refl (found .0) (found .1) e
 
 -- ---- values
 
 -- whether a plain expression takes a temporary
 abbrev pub takenBy : ExpressionShape → ℕ
 takenBy (Number v) = 0
-takenBy (Read p) = 1
+takenBy (Read (Variable i)) = 0
+takenBy (Read (Element array index)) = 1
 takenBy (Operation o) = 1
 takenBy (Choice c) = 1
 
 taken-plain : (rows : List ℤ) (s : ExpressionShape) → takenBy s ≡ taken (plainAtom (expressionTree rows s))
 taken-plain rows (Number v) = refl
-taken-plain rows (Read p) = refl
+taken-plain rows (Read (Variable i)) = refl
+taken-plain rows (Read (Element array index)) = refl
 taken-plain rows (Operation o) = sym (ap taken (operation-top rows o))
 taken-plain rows (Choice c) = sym (ap taken (choice-top rows c))
 
@@ -229,18 +266,18 @@ module _ (rows : List ℤ) (table : List ℕ) (row : ℕ) (m : MeasuredFrom rows
         let qd = part-level (o .fourth) (fourthOperand e) d (at .fourth .is) (at .fourth .onward) ed in
         rw (qa, qb, qc, qd, eo, ev, levels-parts e) (simp (limited-max, limited-twice, limited-more))
 
-pub own-most : (e : Expression) → ownRows e ≤ 16
+pub own-most : (e : Expression) → ownRows e ≤ 20
 own-most (constant v) = omega arith
 own-most (read p) = omega (arith, index-most p)
 own-most (minus e) = omega arith
 own-most (not e) = omega arith
-own-most (binary operator a b) = omega arith
+own-most (binary operator a b) = omega (arith, hold-most (atomOf b) (writes a))
 own-most (and a b) = omega arith
 own-most (or a b) = omega arith
 own-most (comma a b) = omega arith
 own-most (conditional c a b) = omega (arith, copy-most (atomOf a), copy-most (atomOf b))
-own-most (assign p e) = omega (arith, index-most p)
-own-most (compound operator p e) = omega (arith, index-most p)
+own-most (assign p e) = omega (arith, index-most p, hold-most (atomOf e) (indexWrites p))
+own-most (compound operator p e) = omega (arith, index-most p, hold-most (atomOf e) (indexWrites p))
 own-most (prefix operator p) = omega (arith, index-most p)
 own-most (postfix operator p) = omega (arith, index-most p)
 
@@ -249,12 +286,12 @@ above-most (constant v) = omega arith
 above-most (read p) = omega arith
 above-most (minus e) = omega arith
 above-most (not e) = omega arith
-above-most (binary operator a b) = taken-most (atomOf b)
+above-most (binary operator a b) = taken-most (held (atomOf b) (writes a))
 above-most (and a b) = omega arith
 above-most (or a b) = omega arith
 above-most (comma a b) = omega arith
 above-most (conditional c a b) = omega arith
-above-most (assign p e) = taken-most (atomOf e)
+above-most (assign p e) = taken-most (held (atomOf e) (indexWrites p))
 above-most (compound operator p e) = omega arith
 above-most (prefix operator p) = omega arith
 above-most (postfix operator p) = omega arith

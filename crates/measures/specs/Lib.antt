@@ -3,6 +3,8 @@
 -- ---- definitions
 -- Parts: an expression's code in parts, and what its own row brings.
 pub mod Parts
+-- Write sets: what the table of write sets holds.
+pub mod WriteSets
 -- Measures: what the table of measures holds.
 pub mod Measures
 -- ---- laws

@@ -8,7 +8,9 @@ use lib.ListN.{length}
 use Rattle.words.specs.Table.{rowCount}
 use Rattle.language.specs.Trees.{Expression, constant, read, minus, not, binary, and, or, comma, conditional, assign, compound, prefix, postfix, variable, element, present, _here_}
 use Rattle.language.specs.Decode.{expressionAt, statementAt, listAt, partAt}
-use Rattle.translation.specs.Translate.{top, labels, itemsLabels, expressionLevels, partLevels, statementLevels, itemsLevels}
+use Rattle.translation.specs.Translate.{top, atomOf, labels, itemsLabels, expressionLevels, partLevels, statementLevels, itemsLevels}
+use Rattle.language.specs.Writes.{writes, indexWrites}
+use Rattle.translation.specs.HeldCode.{copied-most}
 use Rattle.translation.specs.TranslateSize.{ownRows, expressionSize, partSize, statementSize, itemsSize, cases}
 use Rattle.shapes.specs.Shapes.{operationTree, choiceTree, Onward, OptionalOnward}
 use Rattle.shapes.specs.Source.{Source}
@@ -16,8 +18,8 @@ use Rattle.shapes.specs.declared.OperationShape.{OperationShape}
 use Rattle.shapes.specs.declared.OperationShape.the-variants.{Minus, Not, Binary, Comma, Assign, Compound, Prefix, Postfix}
 use Rattle.shapes.specs.declared.ChoiceShape.{ChoiceShape}
 use Rattle.shapes.specs.declared.ChoiceShape.the-variants.{And, Or, Conditional}
-use Rattle.measures.specs.Parts.{firstOperand, secondOperand, thirdOperand, fourthOperand, aboveFirst, ownLevels, plainAtom}
-use Rattle.measures.specs.Measures.{limited, defaultPlace, width, rowsSlot, levelsSlot, valueSlot, statementRowsSlot, statementLevelsSlot, statementLabelsSlot, listRowsSlot, listLevelsSlot, listLabelsSlot, listCasesSlot, listDefaultSlot, slot, slotAt, LinkMeasured, MeasuredRow, MeasuredFrom, Measured}
+use Rattle.measures.specs.Parts.{firstOperand, secondOperand, thirdOperand, fourthOperand, aboveFirst, firstCopied, ownLevels, plainAtom}
+use Rattle.measures.specs.Measures.{limited, defaultPlace, width, rowsSlot, levelsSlot, valueSlot, statementRowsSlot, statementLevelsSlot, statementLabelsSlot, listRowsSlot, listLevelsSlot, listLabelsSlot, listCasesSlot, listDefaultSlot, copiedSlot, slot, slotAt, LinkMeasured, MeasuredRow, MeasuredFrom, Measured}
 
 -- ---- sums that are cut off
 
@@ -125,7 +127,7 @@ size-parts (postfix operator (element array i)) = omega arith
 pub levels-parts : (e : Expression)
     → expressionLevels e
     ≡ max (ownLevels e) (max (max (partLevels (firstOperand e)) (aboveFirst e + partLevels (secondOperand e))) (max (partLevels (thirdOperand e)) (partLevels (fourthOperand e))))
-unfolding expressionLevels
+unfolding expressionLevels atomOf
 levels-parts (constant v) = refl
 levels-parts (read (variable i)) = refl
 levels-parts (read (element array e)) = omega arith
@@ -162,6 +164,39 @@ choice-top rows (And a b) = refl
 choice-top rows (Or a b) = refl
 choice-top rows (Conditional c a b) = refl
 
+-- ---- the copy of the first operand's value
+
+pub first-copied-most : (e : Expression) → firstCopied e ≤ 1
+first-copied-most (constant v) = omega arith
+first-copied-most (read p) = omega arith
+first-copied-most (minus e) = omega arith
+first-copied-most (not e) = omega arith
+first-copied-most (binary operator a b) = copied-most (atomOf b) (writes a)
+first-copied-most (and a b) = omega arith
+first-copied-most (or a b) = omega arith
+first-copied-most (comma a b) = omega arith
+first-copied-most (conditional c a b) = omega arith
+first-copied-most (assign p e) = copied-most (atomOf e) (indexWrites p)
+first-copied-most (compound operator p e) = copied-most (atomOf e) (indexWrites p)
+first-copied-most (prefix operator p) = omega arith
+first-copied-most (postfix operator p) = omega arith
+
+-- its rows are among the own ones
+pub own-copies : (e : Expression) → 4 * firstCopied e ≤ ownRows e
+own-copies (constant v) = omega arith
+own-copies (read p) = omega arith
+own-copies (minus e) = omega arith
+own-copies (not e) = omega arith
+own-copies (binary operator a b) = omega arith
+own-copies (and a b) = omega arith
+own-copies (or a b) = omega arith
+own-copies (comma a b) = omega arith
+own-copies (conditional c a b) = omega arith
+own-copies (assign p e) = omega arith
+own-copies (compound operator p e) = omega arith
+own-copies (prefix operator p) = omega arith
+own-copies (postfix operator p) = omega arith
+
 -- ---- what calls ask
 
 pub limited-as : {x : ℕ} (n : ℕ) → x ≡ limited n → x ≤ 65536
@@ -179,7 +214,8 @@ measured-small s m (suc (suc (suc (suc (suc (suc (suc zero))))))) h = limited-as
 measured-small s m (suc (suc (suc (suc (suc (suc (suc (suc zero)))))))) h = limited-as _ (m .list .labels-are)
 measured-small s m (suc (suc (suc (suc (suc (suc (suc (suc (suc zero))))))))) h = limited-as _ (m .list .cases-are)
 measured-small s m (suc (suc (suc (suc (suc (suc (suc (suc (suc (suc zero)))))))))) h = limited-as _ (m .list .default-is)
-measured-small s m (suc (suc (suc (suc (suc (suc (suc (suc (suc (suc (suc k))))))))))) h = absurd (omega arith)
+measured-small {rows} {table} {row} s m (suc (suc (suc (suc (suc (suc (suc (suc (suc (suc (suc zero))))))))))) h = omega (arith, m .expression .copied-is, first-copied-most (expressionAt rows row))
+measured-small s m (suc (suc (suc (suc (suc (suc (suc (suc (suc (suc (suc (suc k)))))))))))) h = absurd (omega arith)
 
 pub measured-less : {rows : List ℤ} {table : List ℕ} {k : ℕ} (j : ℕ) → MeasuredFrom rows table k → k ≤ j → MeasuredFrom rows table j
 measured-less j m h = record { source = m .source; room = m .room; row-measured = λ row l. m .row-measured row (omega arith) }

@@ -11,7 +11,7 @@ use Rattle.language.specs.Decode.{expressionAt, statementAt, itemsAt}
 use Rattle.translation.specs.Translate.{atomOf, labels, itemsLabels, expressionLevels, statementLevels, itemsLevels}
 use Rattle.translation.specs.TranslateSize.{expressionSize, statementSize, itemsSize, cases}
 use Rattle.shapes.specs.Source.{Source}
-use Rattle.measures.specs.Parts.{plainAtom}
+use Rattle.measures.specs.Parts.{firstCopied, plainAtom}
 use Rattle.measures.specs.declared.ExpressionMeasures.{ExpressionMeasures}
 use Rattle.measures.specs.declared.StatementMeasures.{StatementMeasures}
 use Rattle.measures.specs.declared.ListMeasures.{ListMeasures}
@@ -40,6 +40,8 @@ pub record ExpressionMeasured (rows : List ℤ) (e : Expression) (m : Expression
   -- the row that the value comes from
   pub value-is : plainAtom (expressionAt rows (m .value)) ≡ atomOf e
   pub value-inside : m .value < rowCount rows
+  -- 1 where the value of the first operand is copied
+  pub copied-is : m .copied ≡ firstCopied e
 
 pub record StatementMeasured (s : Statement) (m : StatementMeasures) : Type 0 where
   pub rows-are : m .rows ≡ limited (statementSize s)
@@ -57,7 +59,7 @@ pub record ListMeasured (is : Items) (m : ListMeasures) : Type 0 where
 
 -- The words of a row, and where each measure stands among them.
 abbrev pub width : ℕ
-width = 11
+width = 12
 
 abbrev pub rowsSlot : ℕ
 rowsSlot = 0
@@ -92,6 +94,9 @@ listCasesSlot = 9
 abbrev pub listDefaultSlot : ℕ
 listDefaultSlot = 10
 
+abbrev pub copiedSlot : ℕ
+copiedSlot = 11
+
 abbrev pub slot : List ℕ → ℕ → ℕ → ℕ
 slot table row k = getD table (width * row + k) 0
 
@@ -114,7 +119,7 @@ pub record SlotIs (table : List ℕ) (link k r : ℕ) : Type 0 where
   pub small : r ≤ 65536
 
 abbrev pub expressionSlots : List ℕ → ℕ → ExpressionMeasures
-expressionSlots table row = record { rows = slot table row rowsSlot; levels = slot table row levelsSlot; value = slot table row valueSlot }
+expressionSlots table row = record { rows = slot table row rowsSlot; levels = slot table row levelsSlot; value = slot table row valueSlot; copied = slot table row copiedSlot }
 
 abbrev pub statementSlots : List ℕ → ℕ → StatementMeasures
 statementSlots table row = record { rows = slot table row statementRowsSlot; levels = slot table row statementLevelsSlot; labels = slot table row statementLabelsSlot }
@@ -125,7 +130,7 @@ listSlots table row = record { rows = slot table row listRowsSlot; levels = slot
 -- The words of a row.
 abbrev pub rowWords : ExpressionMeasures → StatementMeasures → ListMeasures → List ℕ
 rowWords e s l =
-    e .rows ∷ e .levels ∷ e .value ∷ s .rows ∷ s .levels ∷ s .labels ∷ l .rows ∷ l .levels ∷ l .labels ∷ l .cases ∷ l .default ∷ []
+    e .rows ∷ e .levels ∷ e .value ∷ s .rows ∷ s .levels ∷ s .labels ∷ l .rows ∷ l .levels ∷ l .labels ∷ l .cases ∷ l .default ∷ e .copied ∷ []
 
 -- A loop's test: its code and 5 rows, where it is there.
 abbrev pub testSlots : List ℕ → ℕ → ℕ

@@ -5,11 +5,13 @@ use super::Own;
 use super::ROWS;
 use super::VALUE;
 use super::WIDTH;
+use super::copies::copied_at;
 use super::parts::own_at;
 use super::table::larger;
 use super::table::limited;
 use super::table::measure_at;
 use shapes::ExpressionShape;
+use shapes::PlaceShape;
 use shapes::rows::expression_at;
 ghost use mathlib.Core.Path.{_≡_};
 ghost use Prim.Native.Nat.{_+_, _*_, _≤_, _<_};
@@ -20,6 +22,7 @@ ghost use Rattle.translation.specs.Translate.{atomOf, taken as takenOf, express
 ghost use Rattle.translation.specs.TranslateSize.{expressionSize};
 ghost use Rattle.shapes.specs.Source.{Source};
 ghost use Rattle.measures.specs.Parts.{OwnAt};
+ghost use Rattle.measures.specs.WriteSets.{Sets};
 ghost use Rattle.measures.specs.Measures.{limited as limitedTo, width, MeasuredFrom, MeasuredRow, ExpressionMeasured};
 
 // Whether the value of the expression at a row takes a temporary: 1 or 0.
@@ -30,7 +33,10 @@ pub fn taken_at(rows: &[i32], table: &[usize], row: usize) -> usize
     let shape = expression_at(rows, table[WIDTH * row + VALUE]);
     match shape {
         ExpressionShape::Number(_) => 0,
-        ExpressionShape::Read(_) => 1,
+        ExpressionShape::Read(place) => match place {
+            PlaceShape::Variable(_) => 0,
+            PlaceShape::Element(_, _) => 1,
+        },
         ExpressionShape::Operation(_) => 1,
         ExpressionShape::Choice(_) => 1,
     }
@@ -63,14 +69,21 @@ fn expression_levels(rows: &[i32], table: &[usize], row: usize, own: Own) -> usi
     ))
 }
 
-pub fn measured_expression(rows: &[i32], table: &[usize], row: usize) -> ExpressionMeasures
-    requires { ⌜ MeasuredFrom (now rows) (now table) (row + 1) × (row < rowCount (now rows)) ⌝ }
+pub fn measured_expression(
+    rows: &[i32],
+    sets: &[u64],
+    table: &[usize],
+    row: usize,
+) -> ExpressionMeasures
+    requires { ⌜ Sets (now rows) (now sets) × MeasuredFrom (now rows) (now table) (row + 1) × (row < rowCount (now rows)) ⌝ }
     ensures { λ r. ⌜ ExpressionMeasured (now (rows .entry)) (expressionAt (now (rows .entry)) row) r ⌝ }
 {
-    let own = own_at(rows, table, row);
+    let copied = copied_at(rows, sets, table, row);
+    let own = own_at(rows, table, row, copied);
     ExpressionMeasures {
         rows: expression_rows(rows, table, row, own),
         levels: expression_levels(rows, table, row, own),
         value: own.value,
+        copied,
     }
 }

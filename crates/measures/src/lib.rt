@@ -1,15 +1,17 @@
 // Measures: how many kernel rows, temporaries and labels the code of each source row takes, found by one pass before anything is
 // written. So every link of the translation is known when its row is written.
+pub mod copies; // copies.rt: which values are copied
 pub mod expressions; // expressions.rt: the measures of an expression
 pub mod lists; // lists.rt: the measures of a list
 pub mod parts; // parts.rt: what an expression's own row brings
 pub mod pass; // pass.rt: the pass over the rows
 pub mod statements; // statements.rt: the measures of a statement
 pub mod table; // table.rt: the words of the table of measures
+pub mod writes; // writes.rt: the write sets of the rows
 
 // The words of a row in the table of measures, and where each measure stands among them: of the row as an expression, as a statement,
 // and of the list from it on.
-pub const WIDTH: usize = 11;
+pub const WIDTH: usize = 12;
 
 pub const ROWS: usize = 0;
 
@@ -33,6 +35,8 @@ pub const LIST_CASES: usize = 9;
 
 pub const LIST_DEFAULT: usize = 10;
 
+pub const COPIED: usize = 11;
+
 // What an expression's own row brings: the rows of its operands, of which 0 is absent, the first two worked out before all else, the
 // second `above` levels above the first, the others in branches; the kernel rows and the levels of its own code; and the row that its
 // value comes from.
@@ -54,11 +58,13 @@ pub struct PlaceOwn {
     pub levels: usize,
 }
 
-// The measures of an expression: kernel rows, levels, and the row that its value comes from.
+// The measures of an expression: kernel rows, levels, the row that its value comes from, and 1 where the value of its first operand is
+// copied, because the second one can write it, else 0.
 pub struct ExpressionMeasures {
     pub rows: usize,
     pub levels: usize,
     pub value: usize,
+    pub copied: usize,
 }
 
 // The measures of a statement: kernel rows, levels, labels.

@@ -1,4 +1,5 @@
 // The words of the table of measures.
+use super::COPIED;
 use super::ExpressionMeasures;
 use super::LEVELS;
 use super::LIST_CASES;
@@ -73,4 +74,5 @@ pub fn set_measures(
     table[at + LIST_LABELS] = list.labels;
     table[at + LIST_CASES] = list.cases;
     table[at + LIST_DEFAULT] = list.default;
+    table[at + COPIED] = expression.copied;
 }

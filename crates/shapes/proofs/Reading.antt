@@ -39,7 +39,7 @@ module _ (rows : List ℤ) (row : ℕ) where
 
 module _ {rows : List ℤ} {row : ℕ} (source : Source rows) (inside : row < rowCount rows) where
   pub expression-read : {shape : Shape} {e : ExpressionShape} → shape ≡ shapeAt rows row → e ≡ expressionIn shape → ExpressionAt rows row e
-  expression-read {shape} {e} h g = subst (λ (x : ExpressionShape). ExpressionAt rows row x) (sym (g ∙ ap expressionIn h)) (expression-found (source .sound) inside (source .few-words) (source .few-arrays))
+  expression-read {shape} {e} h g = subst (λ (x : ExpressionShape). ExpressionAt rows row x) (sym (g ∙ ap expressionIn h)) (expression-found (source .sound) inside (source .few-variables row inside) (source .few-arrays))
 
   pub statement-read : {shape : Shape} {s : StatementShape} → shape ≡ shapeAt rows row → s ≡ statementIn shape → StatementAt rows row s
   statement-read {shape} {s} h g = subst (λ (x : StatementShape). StatementAt rows row x) (sym (g ∙ ap statementIn h)) (statement-found (source .sound) inside)

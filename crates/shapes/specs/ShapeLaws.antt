@@ -61,16 +61,16 @@ module _ {rows : List ℤ} {L : Layout} {words : ℕ} (sound : Sound rows L word
   next : OptionalOnward rows row (f 5)
   next p = onward 5 (behind sound inside p)
 
-  -- ---- expressions: `most` bounds the words of the store, `arrays` the arrays
+  -- ---- expressions: `variables` bounds the numbers of variables, `arrays` those of arrays
 
-  module _ {most arrays : ℕ} (few-words : words ≤ most) (few-arrays : length (L .lengths) ≤ arrays) where
+  module _ {variables arrays : ℕ} (few-variables : kindAt rows row ≡ group.OfExpression Variable → f 1 < variables) (few-arrays : length (L .lengths) ≤ arrays) where
     abbrev E : ExpressionShape → Type 0
-    E s = ExpressionWithin rows row most arrays s
+    E s = ExpressionWithin rows row variables arrays s
 
     expression-of : (kind : ExpressionKind) → kindAt rows row ≡ group.OfExpression kind → E (expressionAs rows row kind)
     unfolding sortIn kindRow expressionFields isRequired
     expression-of Constant k = record { is = at-constant rows whole row k; onward = tt }
-    expression-of Variable k = record { is = at-variable rows whole row k; onward = omega (arith, field-of sound inside k 1 (omega arith) (omega arith) .names-word refl) }
+    expression-of Variable k = record { is = at-variable rows whole row k; onward = few-variables k }
     expression-of Element k =
         let b = required k 2 (omega arith) (omega arith) refl in
         record { is = at-element rows whole row k (b .later); onward = (omega (arith, field-of sound inside k 1 (omega arith) (omega arith) .names-array refl), b) }
@@ -208,7 +208,7 @@ no-place-chosen rows (choice.Or a b) = refl
 no-place-chosen rows (choice.Conditional c a b) = refl
 
 -- What a row is as a place; variable 0 where it is none.
-pub place-in : {rows : List ℤ} {row words arrays : ℕ} (s : ExpressionShape) → 0 < words → ExpressionWithin rows row words arrays s → PlaceWithin rows row words arrays (placeIn s)
+pub place-in : {rows : List ℤ} {row variables arrays : ℕ} (s : ExpressionShape) → 0 < variables → ExpressionWithin rows row variables arrays s → PlaceWithin rows row variables arrays (placeIn s)
 place-in (Number v) some found = record { is = ap placeOf (found .is); onward = some }
 place-in (Read p) some found = record { is = ap placeOf (found .is); onward = found .onward }
 place-in {rows} (Operation o) some found = record { is = ap placeOf (found .is) ∙ no-place rows o; onward = some }
@@ -216,11 +216,11 @@ place-in {rows} (Choice c) some found = record { is = ap placeOf (found .is) ∙
 
 -- ---- what a match tells
 
-pub expressed : {rows : List ℤ} {row words arrays : ℕ} {s t : ExpressionShape} → ExpressionWithin rows row words arrays s → s ≡ t → ExpressionWithin rows row words arrays t
-expressed {rows} {row} {words} {arrays} found e = subst (λ (s : ExpressionShape). ExpressionWithin rows row words arrays s) e found
+pub expressed : {rows : List ℤ} {row variables arrays : ℕ} {s t : ExpressionShape} → ExpressionWithin rows row variables arrays s → s ≡ t → ExpressionWithin rows row variables arrays t
+expressed {rows} {row} {variables} {arrays} found e = subst (λ (s : ExpressionShape). ExpressionWithin rows row variables arrays s) e found
 
-pub placed : {rows : List ℤ} {row words arrays : ℕ} {p q : PlaceShape} → PlaceWithin rows row words arrays p → p ≡ q → PlaceWithin rows row words arrays q
-placed {rows} {row} {words} {arrays} found e = subst (λ (p : PlaceShape). PlaceWithin rows row words arrays p) e found
+pub placed : {rows : List ℤ} {row variables arrays : ℕ} {p q : PlaceShape} → PlaceWithin rows row variables arrays p → p ≡ q → PlaceWithin rows row variables arrays q
+placed {rows} {row} {variables} {arrays} found e = subst (λ (p : PlaceShape). PlaceWithin rows row variables arrays p) e found
 
 pub stated : {rows : List ℤ} {row : ℕ} {s t : StatementShape} → StatementAt rows row s → s ≡ t → StatementAt rows row t
 stated {rows} {row} found e = subst (λ (s : StatementShape). StatementAt rows row s) e found

@@ -180,10 +180,10 @@ module _ (rows : List ℤ) where
   module _ (row : ℕ) where
     -- ---- the links lead on
 
-    -- Numbers of variables are below `words`, those of arrays below `arrays`.
+    -- Numbers of variables are below `variables`, those of arrays below `arrays`.
     abbrev pub PlaceOnward : ℕ → ℕ → PlaceShape → Type 0
-    PlaceOnward words arrays (Variable i) = i < words
-    PlaceOnward words arrays (Element array index) = (array < arrays) × Onward rows row index
+    PlaceOnward variables arrays (Variable i) = i < variables
+    PlaceOnward variables arrays (Element array index) = (array < arrays) × Onward rows row index
 
     abbrev pub OperationOnward : OperationShape → Type 0
     OperationOnward (Minus a) = Onward rows row a
@@ -201,10 +201,10 @@ module _ (rows : List ℤ) where
     ChoiceOnward (Conditional c a b) = Onward rows row c × Onward rows row a × Onward rows row b
 
     abbrev pub ExpressionOnward : ℕ → ℕ → ExpressionShape → Type 0
-    ExpressionOnward words arrays (Number v) = Unit {0}
-    ExpressionOnward words arrays (Read p) = PlaceOnward words arrays p
-    ExpressionOnward words arrays (Operation o) = OperationOnward o
-    ExpressionOnward words arrays (Choice c) = ChoiceOnward c
+    ExpressionOnward variables arrays (Number v) = Unit {0}
+    ExpressionOnward variables arrays (Read p) = PlaceOnward variables arrays p
+    ExpressionOnward variables arrays (Operation o) = OperationOnward o
+    ExpressionOnward variables arrays (Choice c) = ChoiceOnward c
 
     abbrev pub StatementOnward : StatementShape → Type 0
     StatementOnward Empty = Unit {0}
@@ -221,13 +221,13 @@ module _ (rows : List ℤ) where
 
     -- ---- what stands at a row
 
-    pub record PlaceWithin (words arrays : ℕ) (place : PlaceShape) : Type 0 where
+    pub record PlaceWithin (variables arrays : ℕ) (place : PlaceShape) : Type 0 where
       pub is : placeOf (expressionAt rows row) ≡ placeTree place
-      pub onward : PlaceOnward words arrays place
+      pub onward : PlaceOnward variables arrays place
 
-    pub record ExpressionWithin (words arrays : ℕ) (shape : ExpressionShape) : Type 0 where
+    pub record ExpressionWithin (variables arrays : ℕ) (shape : ExpressionShape) : Type 0 where
       pub is : expressionAt rows row ≡ expressionTree shape
-      pub onward : ExpressionOnward words arrays shape
+      pub onward : ExpressionOnward variables arrays shape
 
     pub record StatementAt (shape : StatementShape) : Type 0 where
       pub is : statementAt rows row ≡ statementTree shape

@@ -1,17 +1,21 @@
 -- Sources: what the translator asks of a table of source rows, which the check gives; and what stands at a row of one.
+use mathlib.Core.Path.{_≡_}
 use mathlib.Core.List.{List}
-use Prim.Native.Nat.{ℕ, _≤_}
+use Prim.Native.Nat.{ℕ, _≤_, _<_}
 use lib.IntN.{ℤ}
 use lib.ListN.{length}
-use Rattle.words.specs.Table.{rowCount}
+use Rattle.words.specs.Table.{rowCount, numberAt}
+use Rattle.words.specs.Kinds.{kindAt}
 use Rattle.words.specs.Layout.{Layout}
+use Rattle.words.specs.declared.Kind.the-variants.{OfExpression}
+use Rattle.words.specs.declared.ExpressionKind.the-variants.{Variable}
 use Rattle.language.specs.Sound.{Sound}
 use Rattle.shapes.specs.Shapes.{PlaceWithin, ExpressionWithin}
 use Rattle.shapes.specs.declared.PlaceShape.{PlaceShape}
 use Rattle.shapes.specs.declared.ExpressionShape.{ExpressionShape}
 
-abbrev pub mostWords : ℕ
-mostWords = 8192
+abbrev pub mostVariables : ℕ
+mostVariables = 256
 
 abbrev pub mostArrays : ℕ
 mostArrays = 32
@@ -21,11 +25,11 @@ pub record Source (rows : List ℤ) : Type 0 where
   pub words : ℕ
   pub sound : Sound rows layout words
   pub few-rows : rowCount rows ≤ 2048
-  pub few-words : words ≤ mostWords
+  pub few-variables : (row : ℕ) → row < rowCount rows → kindAt rows row ≡ OfExpression Variable → numberAt rows row 1 < mostVariables
   pub few-arrays : length (layout .lengths) ≤ mostArrays
 
 abbrev pub PlaceAt : List ℤ → ℕ → PlaceShape → Type 0
-PlaceAt rows row place = PlaceWithin rows row mostWords mostArrays place
+PlaceAt rows row place = PlaceWithin rows row mostVariables mostArrays place
 
 abbrev pub ExpressionAt : List ℤ → ℕ → ExpressionShape → Type 0
-ExpressionAt rows row shape = ExpressionWithin rows row mostWords mostArrays shape
+ExpressionAt rows row shape = ExpressionWithin rows row mostVariables mostArrays shape

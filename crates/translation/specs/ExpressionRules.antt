@@ -1,27 +1,30 @@
 -- An expression and its code go alike: a rule a kind, over any computation and any code of its parts. Straight code computes; each
 -- rule follows the source's computation by cases and pays for the kernel's steps.
 use mathlib.Core.Path.{_≡_, refl, _∙_}
-use Prim.Native.Nat.{ℕ, zero, suc, _+_, _*_, _≤_, _<_}
+use mathlib.Core.Bool.{Bool, true, false}
+use Prim.Native.Nat.{ℕ, zero, suc, _+_, _*_, _-_, _≤_, _<_}
 use native.Mathlib.Omega.{arith}
 use lib.Dec.{eqb·suc-zero}
 use lib.IntN.{ℤ, pos, negsuc}
 use lib.ListN.{getD}
-use Rattle.words.specs.Word.{sameWord}
+use Rattle.words.specs.Word.{sameWord, pick}
 use Rattle.words.specs.Layout.{arrayBase, arrayLength}
 use Rattle.words.specs.Arithmetic.{Outcome, value, isTrue, truth, bit, logicalNot, apply, minus as minusWord, element as elementWord}
 use Rattle.words.specs.Laws.{by-cases}
 use Rattle.words.specs.declared.Operator.{Operator}
 use Rattle.words.specs.declared.Operator.the-variants.{Equal, NotEqual}
 use Rattle.computation.specs.Computation.{Computation, ret, _>>=_, load, save, settle, _>>_}
-use Rattle.computation.specs.Run.{State, Result}
+use Rattle.computation.specs.Run.{State, Result, ok, rounds, run}
 use Rattle.language.specs.Trees.{constant, read, minus, binary, Place, variable, element, Items, none, _⧺_}
 use Rattle.language.specs.Meaning.{Signal, next, enter, ifTrue, update, oldValue, newValue, evaluate, perform, items}
-use Rattle.translation.specs.Translate.{Atom, number, top, taken, temporary, atom, assigning, choosing, copyCode, updateCode, postfixCode}
-use Rattle.translation.specs.TranslateSize.{copyRows}
+use Rattle.language.specs.Untouched.{Untouched, untouched-ok, Leaves, Any}
+use Rattle.translation.specs.Translate.{Atom, number, word, top, held, taken, temporary, atom, assigning, choosing, copyCode, moveCode, updateCode, postfixCode}
+use Rattle.translation.specs.HeldCode.{holdCode}
+use Rattle.translation.specs.TranslateSize.{copyRows, holdRows}
 use Rattle.translation.specs.Stack.{Stack, _▹_, depth}
-use Rattle.translation.specs.RunThen.{runThen}
-use Rattle.translation.specs.Related.{Frame, Related, Alike, alike-stop, alike-logged, logs-temporary, related-logged, by-outcome, related-step, related-ran, related-less, related-load, related-save, related-push, related-top, related-pop, related-skip, related-over}
-use Rattle.translation.specs.Held.{Holds, holds-number, holds-top, holds-still, holds-depth, source, kernel, kernel-append, see, release, Kept, kept-still, keep, Aims, aims-variable, aims-element, aims-inside, aims-release, see-place, aims-under}
+use Rattle.translation.specs.RunThen.{runThen, then-run, runThen-run}
+use Rattle.translation.specs.Related.{Frame, Related, Alike, alike-ok, alike-then, alike-stop, alike-logged, logs-temporary, related-logged, by-outcome, related-step, related-ran, related-less, related-load, related-save, related-push, related-top, related-pop, related-skip, related-over}
+use Rattle.translation.specs.Held.{Holds, holds-number, holds-word, holds-top, Keeps, holds-later, holds-stored, after-step, holds-depth, source, kernel, kernel-append, see, release, Kept, kept-later, keep, Aims, aims-variable, aims-element, aims-inside, aims-release, see-place, aims-under}
 
 -- == 0 and != 0 give the truth of a value.
 zero-equal : (v : ℤ) → apply Equal v (pos 0) ≡ value (logicalNot v)
@@ -39,7 +42,7 @@ zero-differs (negsuc n) = refl
 module _ (fr : Frame) {C D : Type 0} (R : C → D → State → State → Type 0) where
   -- Where the atom h, above the stack F, holds the value of an expression, what follows goes alike.
   abbrev pub ValueFollows : Stack ℤ → Atom → ℕ → (ℤ → State → Result C) → (Signal → State → Result D) → Type 0
-  ValueFollows F h x f g = (v : ℤ) (F' : Stack ℤ) (τ ν : State) → Holds F h v F' τ → Related fr F' x τ ν → Alike fr R (f v τ) (g next ν)
+  ValueFollows F h x f g = (v : ℤ) (F' : Stack ℤ) (τ ν : State) → Holds fr F h v F' τ → Related fr F' x τ ν → Alike fr R (f v τ) (g next ν)
 
   -- The promise of expression translation. The computation m and the kernel items xs go alike, at a cost of `own` kernel steps beyond
   -- what m's own steps pay; after them the atom h, above the stack F, holds m's value.
@@ -47,12 +50,43 @@ module _ (fr : Frame) {C D : Type 0} (R : C → D → State → State → Type 0
     pub goes : (x y : ℕ) (σ κ : State) (f : ℤ → State → Result C) (g : Signal → State → Result D) → Related fr F y σ κ → x + own ≤ y → ValueFollows F h x f g
         → Alike fr R (source fr m σ f) (kernel fr xs next κ g)
 
-  -- The same for a place, whose index takes k temporaries. Where it is outside its array, the source's run stops at once and the kernel's when it
-  -- uses the place.
-  pub record Points (F : Stack ℤ) (m : Computation ℕ) (xs : Items) (q : Place) (n k : ℕ) : Type 0 where
-    pub goes : (x : ℕ) (σ κ : State) (f : ℕ → State → Result C) (g : Signal → State → Result D) → Related fr F x σ κ
-        → ((o : Outcome ℕ) (F' : Stack ℤ) (τ ν : State) → Aims fr F q o F' n → depth F' ≡ depth F + k → Related fr F' x τ ν → Alike fr R (source fr (settle o) τ f) (g next ν))
+  -- The same of a computation that writes no variable but those of W: what is held meanwhile stays held.
+  pub record GoesWithin (W : ℕ → Bool) (F : Stack ℤ) (m : Computation ℤ) (xs : Items) (h : Atom) : Type 0 where
+    pub goes : (x : ℕ) (σ κ : State) (f : ℤ → State → Result C) (g : Signal → State → Result D) → Related fr F x σ κ
+        → ((v : ℤ) (F' : Stack ℤ) (τ ν : State) → Keeps fr W σ τ → Holds fr F h v F' τ → Related fr F' x τ ν → Alike fr R (f v τ) (g next ν))
         → Alike fr R (source fr m σ f) (kernel fr xs next κ g)
+
+  -- The same for a place, whose index takes k temporaries and writes no variable but those of W. Where it is outside its array, the source's run stops at
+  -- once and the kernel's when it uses the place.
+  pub record Points (W : ℕ → Bool) (F : Stack ℤ) (m : Computation ℕ) (xs : Items) (q : Place) (n k : ℕ) : Type 0 where
+    pub goes : (x : ℕ) (σ κ : State) (f : ℕ → State → Result C) (g : Signal → State → Result D) → Related fr F x σ κ
+        → ((o : Outcome ℕ) (F' : Stack ℤ) (τ ν : State) → Keeps fr W σ τ → Aims fr F q o F' n τ → depth F' ≡ depth F + k → Related fr F' x τ ν → Alike fr R (source fr (settle o) τ f) (g next ν))
+        → Alike fr R (source fr m σ f) (kernel fr xs next κ g)
+
+-- ---- what an expression leaves alone
+
+-- A value held above F, where the kernel's list is at its end.
+pub record HeldAtEnd (fr : Frame) (F : Stack ℤ) (h : Atom) (x : ℕ) (v : ℤ) (s : Signal) (σ κ : State) : Type 0 where
+  pub stack : Stack ℤ
+  pub holds : Holds fr F h v stack σ
+  pub related : Related fr stack x σ κ
+  pub at-end : s ≡ next
+
+module _ (fr : Frame) {C D : Type 0} {R : C → D → State → State → Type 0} {F : Stack ℤ} where
+  -- A rule that holds whatever follows, of a computation that leaves alone the variables outside W.
+  pub within : {m : Computation ℤ} {xs : Items} {h : Atom} (W : ℕ → Bool)
+      → ((x : ℕ) → Goes fr (HeldAtEnd fr F h x) 0 F m xs h) → ((i : ℕ) → i < fr .layout .variables → W i ≡ false → Leaves i Any m) → GoesWithin fr R W F m xs h
+  within {m} {xs} {h} W p leaves = record {
+    goes = λ x σ κ f g n k.
+        let alone : Alike fr (HeldAtEnd fr F h x) (run (rounds (fr .rounds)) m σ) (run (rounds (fr .rounds)) (items (fr .layout) xs next) κ) =
+        rw (← runThen-run (fr .rounds) m σ, ← runThen-run (fr .rounds) (items (fr .layout) xs next) κ)
+        (p x .goes x x σ κ ok ok n (omega arith) λ v F' τ ν holds l. alike-ok (record { stack = F'; holds = holds; related = l; at-end = refl })) in
+        rw (then-run (fr .rounds) m σ f, then-run (fr .rounds) (items (fr .layout) xs next) κ g) (alike-then alone
+        (λ v s τ ν e q. rw (q .at-end) (k v (q .stack) τ ν (record { keeps = λ i b o. kept i (rw e at (leaves i b o .leaves (rounds (fr .rounds)) σ)) }) (q .holds) (q .related))));
+  }
+    where
+      kept : {v w : ℤ} {τ : State} (i : ℕ) → Untouched i Any w (ok v τ) → getD (τ .store) i (pos 0) ≡ w
+      kept i (untouched-ok e q) = e
 
 module _ (fr : Frame) {C D : Type 0} {R : C → D → State → State → Type 0} {F : Stack ℤ} where
   -- The step of entering the row pays.
@@ -64,22 +98,27 @@ module _ (fr : Frame) {C D : Type 0} {R : C → D → State → State → Type 0
   unfolding runThen items
   goes-constant v = record { goes = λ x y σ κ f g n le k. k v F σ κ holds-number (related-less (omega arith) n) }
 
-  pub points-variable : (i : ℕ) → i < fr .words → Points fr R F (ret i) none (variable i) 0 0
+  -- A variable stands for its own value: no code, no step.
+  pub goes-variable : (i : ℕ) → i < fr .layout .variables → Goes fr R 0 F (do position ← ret i; load position) none (word i)
   unfolding runThen items
-  points-variable i b = record { goes = λ x σ κ f g n k. k (value i) F σ κ (aims-variable b) (omega arith) n }
+  goes-variable i b = record { goes = λ x y σ κ f g n le k. k _ F σ κ (holds-word b refl) (related-less (omega arith) n) }
+
+  pub points-variable : {W : ℕ → Bool} (i : ℕ) → i < fr .words → Points fr R W F (ret i) none (variable i) 0 0
+  unfolding runThen items
+  points-variable i b = record { goes = λ x σ κ f g n k. k (value i) F σ κ (record { keeps = λ i b e. refl }) (aims-variable b) (omega arith) n }
 
 module _ (fr : Frame) {C D : Type 0} {R : C → D → State → State → Type 0} {F : Stack ℤ} {t : ℕ} (at : depth F ≡ t) where
-  pub points-element : {m : Computation ℤ} {xs : Items} {h : Atom} (array : ℕ) → arrayBase (fr .layout) array + arrayLength (fr .layout) array ≤ fr .words → Goes fr R 0 F m xs h
-      → Points fr R F (do index ← m; settle (elementWord (arrayBase (fr .layout) array) (arrayLength (fr .layout) array) index)) xs (element array (atom (fr .words) t h)) 1 (taken h)
+  pub points-element : {W : ℕ → Bool} {m : Computation ℤ} {xs : Items} {h : Atom} (array : ℕ) → arrayBase (fr .layout) array + arrayLength (fr .layout) array ≤ fr .words → GoesWithin fr R W F m xs h
+      → Points fr R W F (do index ← m; settle (elementWord (arrayBase (fr .layout) array) (arrayLength (fr .layout) array) index)) xs (element array (atom (fr .words) t h)) 1 (taken h)
   unfolding runThen items
-  points-element array s p = record { goes = λ x σ κ f g n k. p .goes x x _ _ _ _ n (omega arith) λ v F' τ ν holds m. k _ F' τ ν (aims-element s at holds) (holds-depth refl holds) m }
+  points-element array s p = record { goes = λ x σ κ f g n k. p .goes x _ _ _ _ n λ v F' τ ν kept holds m. k _ F' τ ν kept (aims-element s at holds) (holds-depth fr refl holds) m }
 
-  pub goes-read : {m : Computation ℕ} {xs : Items} {q : Place} {n k : ℕ} → t < fr .temporaries → Points fr R F m xs q n k
+  pub goes-read : {W : ℕ → Bool} {m : Computation ℕ} {xs : Items} {q : Place} {n k : ℕ} → t < fr .temporaries → Points fr R W F m xs q n k
       → Goes fr R (4 + n) F (do position ← m; load position) (xs ⧺ assigning (fr .words) (temporary (fr .words) t) (read q) none) top
   unfolding runThen items perform evaluate
   goes-read room p = record {
     goes = λ x y σ κ f g n le k.
-        rw kernel-append (p .goes y _ _ _ _ n λ o F' τ ν aims _ m.
+        rw kernel-append (p .goes y _ _ _ _ n λ o F' τ ν _ aims _ m.
         rw (see-place fr aims m, runThen) (by-outcome o
         (λ i e. rw (e, runThen, related-load i (aims-inside fr aims i e) m) (k _ _ _ _ holds-top (related-push _ at room (aims-release fr aims (related-ran _ (omega arith) m)))))
         (λ _ e. rw (e, runThen) (alike-stop _ (omega arith) m))));
@@ -105,17 +144,37 @@ module _ (fr : Frame) {C D : Type 0} {R : C → D → State → State → Type 0
         rw (see fr at holds m, runThen, zero-equal v, runThen) (k _ _ _ _ holds-top (related-push _ at room (release fr holds (related-ran _ (omega arith) m)))));
   }
 
-  pub goes-binary : {a b : Computation ℤ} {xs ys : Items} {ha hb : Atom} (operator : Operator) → t < fr .temporaries → Goes fr R 0 F b ys hb → ((F' : Stack ℤ) → depth F' ≡ t + taken hb → Goes fr R 0 F' a xs ha)
-      → Goes fr R 6 F (do right ← b; left ← a; settle (apply operator left right))
-      (ys ⧺ xs ⧺ assigning (fr .words) (temporary (fr .words) t) (binary operator (atom (fr .words) (t + taken hb) ha) (atom (fr .words) t hb)) none) top
+  -- A waiting value is copied where it is a variable that can be written meanwhile.
+  hold-word : (b : Bool) {i : ℕ} {v : ℤ} {F' : Stack ℤ} {τ : State} → t + taken (pick b top (word i)) ≤ fr .temporaries → Holds fr F (word i) v F' τ
+      → (x y : ℕ) (ν : State) (r : Result C) (g : Signal → State → Result D) → Related fr F' y τ ν → x + 4 * (taken (pick b top (word i)) - 0) ≤ y
+      → ((F'' : Stack ℤ) (ν' : State) → Holds fr F (pick b top (word i)) v F'' τ → Related fr F'' x τ ν' → Alike fr R r (g next ν'))
+      → Alike fr R r (kernel fr (moveCode (fr .words) t (word i) (pick b top (word i))) next ν g)
   unfolding runThen items perform evaluate
-  goes-binary operator room p q = record {
+  hold-word true {i = i} room (holds-word b e) x y ν r g m le k = rw (related-load i (omega (arith, fr .variables-inside)) m, e) (k _ _ holds-top (related-push _ at (omega arith) (related-ran _ (omega arith) m)))
+  hold-word false room holds x y ν r g m le k = k _ _ holds (related-less (omega arith) m)
+
+  hold : (h : Atom) (W : ℕ → Bool) {v : ℤ} {F' : Stack ℤ} {τ : State} → t + taken (held h W) ≤ fr .temporaries → Holds fr F h v F' τ
+      → (x y : ℕ) (ν : State) (r : Result C) (g : Signal → State → Result D) → Related fr F' y τ ν → x + holdRows h W ≤ y
+      → ((F'' : Stack ℤ) (ν' : State) → Holds fr F (held h W) v F'' τ → Related fr F'' x τ ν' → Alike fr R r (g next ν'))
+      → Alike fr R r (kernel fr (holdCode (fr .words) t h W) next ν g)
+  unfolding runThen items
+  hold (number u) W room holds-number x y ν r g m le k = k _ _ holds-number (related-less (omega arith) m)
+  hold (word i) W room holds x y ν r g m le k = hold-word (W i) room holds x y ν r g m le k
+  hold top W room holds-top x y ν r g m le k = k _ _ holds-top (related-less (omega arith) m)
+
+  pub goes-binary : {a b : Computation ℤ} {xs ys : Items} {ha hb : Atom} {W : ℕ → Bool} (operator : Operator) → t < fr .temporaries → t + taken (held hb W) ≤ fr .temporaries → Goes fr R 0 F b ys hb
+      → ((F' : Stack ℤ) → depth F' ≡ t + taken (held hb W) → GoesWithin fr R W F' a xs ha)
+      → Goes fr R (6 + holdRows hb W) F (do right ← b; left ← a; settle (apply operator left right))
+      (ys ⧺ holdCode (fr .words) t hb W ⧺ xs ⧺ assigning (fr .words) (temporary (fr .words) t) (binary operator (atom (fr .words) (t + taken (held hb W)) ha) (atom (fr .words) t (held hb W))) none) top
+  unfolding runThen items perform evaluate
+  goes-binary {hb = hb} {W = W} operator room above p q = record {
     goes = λ x y σ κ f g n le k.
-        rw kernel-append (p .goes y y _ _ _ _ n (omega arith) λ right F' τ ν holds-right m.
-        rw kernel-append (q F' (holds-depth at holds-right) .goes y y _ _ _ _ m (omega arith) λ left F'' τ ν holds-left m.
-        rw (see fr at (holds-still holds-right) (release fr holds-left m), see fr (holds-depth at holds-right) holds-left m, runThen) (by-outcome (apply operator left right)
+        rw kernel-append (p .goes y y _ _ _ _ n (omega arith) λ right F' τ ν holds m.
+        rw kernel-append (hold hb W above holds (x + 6) y ν _ _ m (omega arith) λ F' ν holds-right m.
+        rw kernel-append (q F' (holds-depth fr at holds-right) .goes (x + 6) _ _ _ _ m λ left F'' τ ν kept holds-left m.
+        rw (see fr at (holds-later fr hb W kept holds-right) (release fr holds-left m), see fr (holds-depth fr at holds-right) holds-left m, runThen) (by-outcome (apply operator left right)
         (λ v e. rw (e, runThen) (k _ _ _ _ holds-top (related-push v at room (release fr holds-right (release fr holds-left (related-ran _ (omega arith) m))))))
-        (λ _ e. rw (e, runThen) (alike-stop _ (omega arith) m)))));
+        (λ _ e. rw (e, runThen) (alike-stop _ (omega arith) m))))));
   }
 
   pub goes-and : {a b : Computation ℤ} {xs ys : Items} {ha hb : Atom} → t < fr .temporaries → Goes fr R 0 F a xs ha → Goes fr R 0 F b ys hb
@@ -156,11 +215,12 @@ module _ (fr : Frame) {C D : Type 0} {R : C → D → State → State → Type 0
   -- The value of a branch, in the temporary of its level.
   pub goes-copy : {m : Computation ℤ} {xs : Items} {h : Atom} → t < fr .temporaries → Goes fr R 0 F m xs h → Goes fr R (copyRows h) F m (xs ⧺ copyCode (fr .words) t h) top
   unfolding runThen items perform evaluate
-  goes-copy {h = h} room p = record { goes = λ x y σ κ f g n le k. rw kernel-append (p .goes y y _ _ _ _ n (omega arith) λ v F' τ ν holds m. copied h holds x y τ ν f g m le k) }
+  goes-copy {h = h} room p = record { goes = λ x y σ κ f g n le k. rw kernel-append (p .goes y y _ _ _ _ n (omega arith) λ v F' τ ν holds m. copied h holds x y ν f g m le k) }
     where
-      copied : (h : Atom) {v : ℤ} {F' : Stack ℤ} {ρ : State} → Holds F h v F' ρ → (x y : ℕ) (τ ν : State) (f : ℤ → State → Result C) (g : Signal → State → Result D) → Related fr F' y τ ν → x + copyRows h ≤ y → ValueFollows fr R F top x f g → Alike fr R (f v τ) (kernel fr (copyCode (fr .words) t h) next ν g)
-      copied (number v) holds-number x y τ ν f g m le k = k _ _ _ _ holds-top (related-push _ at room (related-ran _ (omega arith) m))
-      copied top holds-top x y τ ν f g m le k = k _ _ _ _ holds-top (related-less (omega arith) m)
+      copied : (h : Atom) {v : ℤ} {F' : Stack ℤ} {τ : State} → Holds fr F h v F' τ → (x y : ℕ) (ν : State) (f : ℤ → State → Result C) (g : Signal → State → Result D) → Related fr F' y τ ν → x + copyRows h ≤ y → ValueFollows fr R F top x f g → Alike fr R (f v τ) (kernel fr (copyCode (fr .words) t h) next ν g)
+      copied (number v) holds-number x y ν f g m le k = k _ _ _ _ holds-top (related-push _ at room (related-ran _ (omega arith) m))
+      copied (word i) (holds-word b e) x y ν f g m le k = rw (related-load i (omega (arith, fr .variables-inside)) m, e) (k _ _ _ _ holds-top (related-push _ at room (related-ran _ (omega arith) m)))
+      copied top holds-top x y ν f g m le k = k _ _ _ _ holds-top (related-less (omega arith) m)
 
   pub goes-conditional : {a b c : Computation ℤ} {xs ys zs : Items} {hc : Atom} {na nb : ℕ} → Goes fr R 0 F c zs hc → Goes fr R na F a xs top → Goes fr R nb F b ys top
       → Goes fr R (4 + na + nb) F (do test ← c; ifTrue test a b) (zs ⧺ choosing (fr .words) (atom (fr .words) t hc) xs ys none) top
@@ -173,34 +233,40 @@ module _ (fr : Frame) {C D : Type 0} {R : C → D → State → State → Type 0
         (λ e. rw (e, runThen) (s .goes x (x + nb) _ _ _ _ (release fr holds (related-ran _ (omega arith) m)) (omega arith) k))));
   }
 
-  pub goes-assign : {a : Computation ℕ} {b : Computation ℤ} {xs ys : Items} {h : Atom} {q : Place} {n k : ℕ} → Goes fr R 0 F b ys h → ((F' : Stack ℤ) → depth F' ≡ t + taken h → Points fr R F' a xs q n k)
-      → Goes fr R (4 + n) F (do v ← b; position ← enter a; save position v; ret v) (ys ⧺ xs ⧺ assigning (fr .words) q (atom (fr .words) t h) none) h
+  pub goes-assign : {a : Computation ℕ} {b : Computation ℤ} {xs ys : Items} {h : Atom} {W : ℕ → Bool} {q : Place} {n k : ℕ} → t + taken (held h W) ≤ fr .temporaries → Goes fr R 0 F b ys h
+      → ((F' : Stack ℤ) → depth F' ≡ t + taken (held h W) → Points fr R W F' a xs q n k)
+      → Goes fr R (4 + n + holdRows h W) F (do v ← b; position ← enter a; save position v; ret v) (ys ⧺ holdCode (fr .words) t h W ⧺ xs ⧺ assigning (fr .words) q (atom (fr .words) t (held h W)) none) (held h W)
   unfolding runThen items perform evaluate
-  goes-assign p q = record {
+  goes-assign {h = h} {W = W} {n = rows} above p q = record {
     goes = λ x y σ κ f g n le k.
         rw kernel-append (p .goes y y _ _ _ _ n (omega arith) λ v F' τ ν holds m.
-        rw kernel-append (q F' (holds-depth at holds) .goes y _ _ _ _ (related-step (omega arith) m) λ o F'' τ ν aims _ m.
-        rw (see fr at (holds-still holds) (aims-release fr aims m), see-place fr aims m, runThen) (by-outcome o
-        (λ i e. rw (e, runThen) (k _ _ _ _ (holds-still holds) (related-save i v (aims-inside fr aims i e) (aims-release fr aims (related-ran _ (omega arith) m)))))
-        (λ _ e. rw (e, runThen) (alike-stop _ (omega arith) m)))));
+        rw kernel-append (hold h W above holds (x + (4 + rows)) y ν _ _ m (omega arith) λ F' ν holds m.
+        rw kernel-append (q F' (holds-depth fr at holds) .goes (x + (4 + rows)) _ _ _ _ (related-step (omega arith) m) λ o F'' τ ν kept aims _ m.
+        let later = holds-later fr h W (after-step fr kept) holds in
+        rw (see fr at later (aims-release fr aims m), see-place fr aims m, runThen) (by-outcome o
+        (λ i e. rw (e, runThen) (k _ _ _ _ (holds-stored fr i later) (related-save i v (aims-inside fr aims i e) (aims-release fr aims (related-ran _ (omega arith) m)))))
+        (λ _ e. rw (e, runThen) (alike-stop _ (omega arith) m))))));
   }
 
   -- t is kept for the result, so the index stands above it, and above that an element's old value.
-  pub goes-compound : {a : Computation ℕ} {b : Computation ℤ} {xs ys : Items} {h : Atom} {q : Place} {n k : ℕ} (operator : Operator) → t + 1 + k + n ≤ fr .temporaries → Goes fr R 0 F b ys h → ((w : ℤ) → Points fr R (F ▹ w) a xs q n k)
-      → Goes fr R (10 + 6 * n) F (do right ← b; position ← enter a; update operator position right newValue) (ys ⧺ xs ⧺ updateCode (fr .words) operator q (atom (fr .words) t h) t (t + 1 + k)) top
+  pub goes-compound : {a : Computation ℕ} {b : Computation ℤ} {xs ys : Items} {h : Atom} {W : ℕ → Bool} {q : Place} {n k : ℕ} (operator : Operator) → t + 1 + k + n ≤ fr .temporaries → t + taken (held h W) ≤ fr .temporaries → Goes fr R 0 F b ys h
+      → ((w : ℤ) → Points fr R W (F ▹ w) a xs q n k)
+      → Goes fr R (10 + 6 * n + holdRows h W) F (do right ← b; position ← enter a; update operator position right newValue)
+      (ys ⧺ holdCode (fr .words) t h W ⧺ xs ⧺ updateCode (fr .words) operator q (atom (fr .words) t (held h W)) t (t + 1 + k)) top
   unfolding runThen items perform evaluate
-  goes-compound {h = h} operator room p q = record {
+  goes-compound {h = h} {W = W} {n = rows} operator room above p q = record {
     goes = λ x y σ κ f g n le k.
         rw kernel-append (p .goes y y _ _ _ _ n (omega arith) λ right F' τ ν holds m.
+        rw kernel-append (hold h W above holds (x + (10 + 6 * rows)) y ν _ _ m (omega arith) λ F' ν holds m.
         let s = keep fr (omega arith) holds m in
-        rw kernel-append (q (s .0) .goes y _ _ _ _ (related-step (omega arith) (s .2)) λ o G τ ν aims level m.
-        updated (kept-still fr (s .1)) aims (omega arith) room x y ν f g m le k));
+        rw kernel-append (q (s .0) .goes (x + (10 + 6 * rows)) _ _ _ _ (related-step (omega arith) (s .2)) λ o G τ ν kept aims level m.
+        updated (kept-later fr h W (after-step fr kept) (s .1)) aims (omega arith) room x (x + (10 + 6 * rows)) ν f g m (omega arith) k)));
   }
     where
-      through : {q : Place} {n u : ℕ} {w right : ℤ} {o : Outcome ℕ} {G : Stack ℤ} {τ : State} → Kept fr F h right w τ → Aims fr (F ▹ w) q o G n → depth G ≡ u → u < fr .temporaries
+      through : {q : Place} {n u : ℕ} {w right : ℤ} {o : Outcome ℕ} {G : Stack ℤ} {τ : State} → Kept fr F (held h W) right w τ → Aims fr (F ▹ w) q o G n τ → depth G ≡ u → u < fr .temporaries
           → (x y : ℕ) (ν : State) (f : ℤ → State → Result C) (g : Signal → State → Result D) → Related fr G y τ ν → x + (14 + 2 * n) ≤ y → ValueFollows fr R F top x f g
           → Alike fr R (source fr (do position ← settle o; update operator position right newValue) τ f)
-          (kernel fr (assigning (fr .words) (temporary (fr .words) u) (read q) (assigning (fr .words) (temporary (fr .words) t) (binary operator (read (temporary (fr .words) u)) (atom (fr .words) t h)) (assigning (fr .words) q (read (temporary (fr .words) t)) none))) next ν g)
+          (kernel fr (assigning (fr .words) (temporary (fr .words) u) (read q) (assigning (fr .words) (temporary (fr .words) t) (binary operator (read (temporary (fr .words) u)) (atom (fr .words) t (held h W))) (assigning (fr .words) q (read (temporary (fr .words) t)) none))) next ν g)
       through {u = u} {right = right} {o = o} {τ = τ} kept aims above room x y ν f g m le k =
           rw (see-place fr aims m, runThen) (by-outcome o
           (λ i e. let old = getD (τ .store) i (pos 0) in
@@ -212,31 +278,31 @@ module _ (fr : Frame) {C D : Type 0} {R : C → D → State → State → Type 0
           (λ _ d. rw (d, runThen) (alike-logged _ _ (omega arith) (logs-temporary u (m .logs)) m2))))
           (λ _ e. rw (e, runThen) (alike-stop _ (omega arith) m)))
 
-      updated : {q : Place} {n u : ℕ} {w right : ℤ} {o : Outcome ℕ} {G : Stack ℤ} {τ : State} → Kept fr F h right w τ → Aims fr (F ▹ w) q o G n → depth G ≡ u → u + n ≤ fr .temporaries
+      updated : {q : Place} {n u : ℕ} {w right : ℤ} {o : Outcome ℕ} {G : Stack ℤ} {τ : State} → Kept fr F (held h W) right w τ → Aims fr (F ▹ w) q o G n τ → depth G ≡ u → u + n ≤ fr .temporaries
           → (x y : ℕ) (ν : State) (f : ℤ → State → Result C) (g : Signal → State → Result D) → Related fr G y τ ν → x + (10 + 6 * n) ≤ y → ValueFollows fr R F top x f g
-          → Alike fr R (source fr (do position ← settle o; update operator position right newValue) τ f) (kernel fr (updateCode (fr .words) operator q (atom (fr .words) t h) t u) next ν g)
+          → Alike fr R (source fr (do position ← settle o; update operator position right newValue) τ f) (kernel fr (updateCode (fr .words) operator q (atom (fr .words) t (held h W)) t u) next ν g)
       updated {right = right} {τ = τ} kept (aims-variable {i = i} inside) above room x y ν f g m le k =
           rw (see fr at (kept .holds) (kept .pops m), related-load i inside m, runThen) (by-outcome (apply operator (getD (τ .store) i (pos 0)) right)
           (λ v e. rw (e, runThen, related-top at (related-over v at m)) (k _ _ _ _ holds-top (related-save i v inside (related-logged _ _ (omega arith) (logs-temporary t (m .logs)) (related-over v at m)))))
           (λ _ e. rw (e, runThen) (alike-stop _ (omega arith) m)))
-      updated kept (aims-element {σ = ρ} bounds level holds) above room x y ν f g m le k = through kept (aims-element {σ = ρ} bounds level holds) above (omega arith) x y ν f g m le k
+      updated kept (aims-element bounds level holds) above room x y ν f g m le k = through kept (aims-element bounds level holds) above (omega arith) x y ν f g m le k
 
-  pub goes-prefix : {a : Computation ℕ} {xs : Items} {q : Place} {n k : ℕ} (operator : Operator) → t + 1 + k + n ≤ fr .temporaries → ((w : ℤ) → Points fr R (F ▹ w) a xs q n k)
+  pub goes-prefix : {W : ℕ → Bool} {a : Computation ℕ} {xs : Items} {q : Place} {n k : ℕ} (operator : Operator) → t + 1 + k + n ≤ fr .temporaries → ((w : ℤ) → Points fr R W (F ▹ w) a xs q n k)
       → Goes fr R (10 + 6 * n) F (do position ← enter a; update operator position (pos 1) newValue) (xs ⧺ updateCode (fr .words) operator q (constant (pos 1)) t (t + 1 + k)) top
   unfolding runThen _⧺_
-  goes-prefix operator room q = record { goes = goes-compound operator room (goes-constant fr (pos 1)) q .goes }
+  goes-prefix operator room q = record { goes = λ x y σ κ f g n le k. goes-compound operator room (omega arith) (goes-constant fr (pos 1)) q .goes x y σ κ f g n (omega arith) k }
 
-  pub goes-postfix : {a : Computation ℕ} {xs : Items} {q : Place} {n k : ℕ} (operator : Operator) → t + 1 + k + n ≤ fr .temporaries → ((w : ℤ) → Points fr R (F ▹ w) a xs q n k)
+  pub goes-postfix : {W : ℕ → Bool} {a : Computation ℕ} {xs : Items} {q : Place} {n k : ℕ} (operator : Operator) → t + 1 + k + n ≤ fr .temporaries → ((w : ℤ) → Points fr R W (F ▹ w) a xs q n k)
       → Goes fr R (10 + 6 * n) F (do position ← enter a; update operator position (pos 1) oldValue) (xs ⧺ postfixCode (fr .words) operator q t (t + 1 + k)) top
   unfolding runThen items perform evaluate
   goes-postfix operator room q = record {
     goes = λ x y σ κ f g n le k.
         let s = related-skip (omega arith) n in
-        rw kernel-append (q (s .0) .goes y _ _ _ _ (related-step (omega arith) (s .1)) λ o G τ ν aims level m.
+        rw kernel-append (q (s .0) .goes y _ _ _ _ (related-step (omega arith) (s .1)) λ o G τ ν _ aims level m.
         updated aims (omega arith) room x y ν f g m le k);
   }
     where
-      through : {q : Place} {n u : ℕ} {w : ℤ} {o : Outcome ℕ} {G : Stack ℤ} {τ : State} → Aims fr (F ▹ w) q o G n → depth G ≡ u → u < fr .temporaries
+      through : {q : Place} {n u : ℕ} {w : ℤ} {o : Outcome ℕ} {G : Stack ℤ} {τ : State} → Aims fr (F ▹ w) q o G n τ → depth G ≡ u → u < fr .temporaries
           → (x y : ℕ) (ν : State) (f : ℤ → State → Result C) (g : Signal → State → Result D) → Related fr G y τ ν → x + (14 + 2 * n) ≤ y → ValueFollows fr R F top x f g
           → Alike fr R (source fr (do position ← settle o; update operator position (pos 1) oldValue) τ f)
           (kernel fr (assigning (fr .words) (temporary (fr .words) t) (read q) (assigning (fr .words) (temporary (fr .words) u) (binary operator (read (temporary (fr .words) t)) (constant (pos 1))) (assigning (fr .words) q (read (temporary (fr .words) u)) none))) next ν g)
@@ -251,7 +317,7 @@ module _ (fr : Frame) {C D : Type 0} {R : C → D → State → State → Type 0
           (λ _ d. rw (d, runThen) (alike-logged _ _ (omega arith) (logs-temporary t (m .logs)) (under .3)))))
           (λ _ e. rw (e, runThen) (alike-stop _ (omega arith) m)))
 
-      updated : {q : Place} {n u : ℕ} {w : ℤ} {o : Outcome ℕ} {G : Stack ℤ} {τ : State} → Aims fr (F ▹ w) q o G n → depth G ≡ u → u + n ≤ fr .temporaries
+      updated : {q : Place} {n u : ℕ} {w : ℤ} {o : Outcome ℕ} {G : Stack ℤ} {τ : State} → Aims fr (F ▹ w) q o G n τ → depth G ≡ u → u + n ≤ fr .temporaries
           → (x y : ℕ) (ν : State) (f : ℤ → State → Result C) (g : Signal → State → Result D) → Related fr G y τ ν → x + (10 + 6 * n) ≤ y → ValueFollows fr R F top x f g
           → Alike fr R (source fr (do position ← settle o; update operator position (pos 1) oldValue) τ f) (kernel fr (postfixCode (fr .words) operator q t u) next ν g)
       updated {τ = τ} (aims-variable {i = i} inside) above room x y ν f g m le k =
@@ -259,4 +325,4 @@ module _ (fr : Frame) {C D : Type 0} {R : C → D → State → State → Type 0
           rw (related-load i inside m, related-top at (related-over old at m), runThen) (by-outcome (apply operator old (pos 1))
           (λ v e. rw (e, runThen) (k _ _ _ _ holds-top (related-save i v inside (related-logged _ _ (omega arith) (logs-temporary t (m .logs)) (related-over old at m)))))
           (λ _ e. rw (e, runThen) (alike-logged _ _ (omega arith) (logs-temporary t (m .logs)) (related-over old at m))))
-      updated (aims-element {σ = ρ} bounds level holds) above room x y ν f g m le k = through (aims-element {σ = ρ} bounds level holds) above (omega arith) x y ν f g m le k
+      updated (aims-element bounds level holds) above room x y ν f g m le k = through (aims-element bounds level holds) above (omega arith) x y ν f g m le k

@@ -7,7 +7,11 @@ pub mod Translate
 pub mod TranslateSize
 -- Kernel form, as a predicate on trees.
 pub mod KernelForm
+-- Copies of variables in a code, and those that the rule allows.
+pub mod Copies
 -- ---- laws: preservation
+-- A held value: the copy is made or not.
+pub mod HeldCode
 -- The temporaries in use as a stack, and a store laid out with them.
 pub mod Stack
 -- A computation run with what follows it.
@@ -43,6 +47,9 @@ pub mod TranslateBounds
 pub mod TranslateDepth
 -- Every translation is a kernel program's tree.
 pub mod TranslateKernel
+-- ---- laws: no needless copy
+-- A translation copies a variable exactly where that is allowed.
+pub mod CopyLaws
 -- ---- laws: examples
 -- Document 01's program and a switch, with their translations.
 pub mod WorkedExamples

@@ -5,12 +5,14 @@ use mathlib.Core.Bool.{Bool, true, false, _||_}
 use Prim.Native.Nat.{ℕ, _+_, _≤_, _<_}
 use native.Mathlib.Omega.{arith}
 use borrow.Author.Tests.{ne-eqb}
-use Rattle.words.specs.Laws.{by-cases}
+use Rattle.words.specs.Laws.{by-cases, neither}
 use Rattle.words.specs.declared.Operator.{Operator}
 use Rattle.computation.specs.Run.{State, Result}
 use Rattle.language.specs.Trees.{Expression, constant, read, minus, not, binary, and, or, comma, conditional, assign, compound, prefix, postfix, Place, variable, element, Part, absent, present, Mark, case, default, label, sameMark, has, Statement, empty, express, block, ifThen, ifElse, while, doWhile, for, switch, break, continue, goto, Items, none, _then_, _here_, _⧺_}
 use Rattle.language.specs.Meaning.{Signal, seeking, items}
-use Rattle.translation.specs.Translate.{taken, atomOf, kernelPlace, updateCode, postfixCode, expressionCode, indexCode, partCode, orEmpty, caseTests, labels, itemsLabels, labelOf, Exits, exits, statementCode, itemsCode}
+use Rattle.language.specs.Writes.{writes, indexWrites}
+use Rattle.translation.specs.Translate.{Atom, number, word, top, held, taken, copyCode, readCode, atomOf, kernelPlace, updateCode, postfixCode, expressionCode, indexCode, partCode, orEmpty, caseTests, labels, itemsLabels, labelOf, Exits, exits, statementCode, itemsCode}
+use Rattle.translation.specs.HeldCode.{holdCode, hold-either}
 use Rattle.translation.specs.RunThen.{runThen}
 use Rattle.translation.specs.Related.{Frame}
 use Rattle.translation.specs.Held.{kernel}
@@ -19,14 +21,6 @@ use Rattle.translation.specs.Held.{kernel}
 
 or-false : (a b : Bool) → a ≡ false → b ≡ false → (a || b) ≡ false
 or-false a b e f = rw (e, f)
-
-or-left : (a b : Bool) → (a || b) ≡ false → a ≡ false
-or-left true b e = e
-or-left false b e = refl
-
-or-right : (a b : Bool) → (a || b) ≡ false → b ≡ false
-or-right true b e = absurd (let z : _≡_ {A = ℕ} 0 1 = cc in omega arith)
-or-right false b e = e
 
 pub has-append : (m : Mark) (xs ys : Items) → has m (xs ⧺ ys) ≡ (has m xs || has m ys)
 unfolding has _⧺_
@@ -46,11 +40,26 @@ pub passes : (fr : Frame) {D : Type 0} (m : Mark) (xs : Items) (κ : State) (g :
 unfolding runThen items has
 passes fr m none κ g e = refl
 passes fr m (s then xs) κ g e = passes fr m xs κ g e
-passes fr m (n here xs) κ g e = rw (or-left (sameMark m n) (has m xs) e, runThen) (passes fr m xs κ g (or-right (sameMark m n) (has m xs) e))
+passes fr m (n here xs) κ g e = let apart = neither (sameMark m n) (has m xs) e in rw (apart .0, runThen) (passes fr m xs κ g (apart .1))
 
 -- ---- expressions
 
 module _ (S : ℕ) where
+  plain-read : (p : Place) (t : ℕ) (m : Mark) → has m (readCode S p t) ≡ false
+  unfolding has
+  plain-read (variable i) t m = refl
+  plain-read (element array e) t m = refl
+
+  plain-copy : (t : ℕ) (h : Atom) (m : Mark) → has m (copyCode S t h) ≡ false
+  unfolding has
+  plain-copy t (number v) m = refl
+  plain-copy t (word i) m = refl
+  plain-copy t top m = refl
+
+  plain-hold : (t : ℕ) (h : Atom) (W : ℕ → Bool) (m : Mark) → has m (holdCode S t h W) ≡ false
+  unfolding has
+  plain-hold t h W m = hold-either S (λ (xs : Items). has m xs ≡ false) t h W (plain-copy t h m) refl
+
   plain-update : (operator : Operator) (p : Place) (x : Expression) (i t u : ℕ) (m : Mark) → has m (updateCode S operator (kernelPlace S p i) x t u) ≡ false
   unfolding has kernelPlace
   plain-update operator (variable j) x i t u m = refl
@@ -67,16 +76,16 @@ module _ (S : ℕ) where
     -- The code of an expression has no mark.
     pub plain-expression : (e : Expression) (t : ℕ) (m : Mark) → has m (expressionCode S e t) ≡ false
     plain-expression (constant v) t m = refl
-    plain-expression (read p) t m = simp (has-append, plain-index p t m)
+    plain-expression (read p) t m = simp (has-append, plain-index p t m, plain-read p t m)
     plain-expression (minus e) t m = simp (has-append, plain-expression e t m)
     plain-expression (not e) t m = simp (has-append, plain-expression e t m)
-    plain-expression (binary operator a b) t m = simp (has-append, plain-expression b t m, plain-expression a (t + taken (atomOf b)) m)
+    plain-expression (binary operator a b) t m = simp (has-append, plain-expression b t m, plain-hold t (atomOf b) (writes a) m, plain-expression a (t + taken (held (atomOf b) (writes a))) m)
     plain-expression (and a b) t m = simp (has-append, plain-expression a t m)
     plain-expression (or a b) t m = simp (has-append, plain-expression a t m)
     plain-expression (comma a b) t m = simp (has-append, plain-expression a t m, plain-expression b t m)
     plain-expression (conditional c a b) t m = simp (has-append, plain-expression c t m)
-    plain-expression (assign p e) t m = simp (has-append, plain-expression e t m, plain-index p (t + taken (atomOf e)) m)
-    plain-expression (compound operator p e) t m = simp (has-append, plain-expression e t m, plain-index p (t + 1) m, plain-update)
+    plain-expression (assign p e) t m = simp (has-append, plain-expression e t m, plain-hold t (atomOf e) (indexWrites p) m, plain-index p (t + taken (held (atomOf e) (indexWrites p))) m)
+    plain-expression (compound operator p e) t m = simp (has-append, plain-expression e t m, plain-hold t (atomOf e) (indexWrites p) m, plain-index p (t + 1) m, plain-update)
     plain-expression (prefix operator p) t m = simp (has-append, plain-index p (t + 1) m, plain-update)
     plain-expression (postfix operator p) t m = simp (has-append, plain-index p (t + 1) m, plain-postfix)
 
@@ -152,4 +161,4 @@ pub label-absent : (m : Mark) (is : Items) (l other : ℕ) → has m is ≡ fals
 unfolding has labelOf
 label-absent m none l other e = refl
 label-absent m (s then is) l other e = label-absent m is (l + labels s) other e
-label-absent m (n here is) l other e = rw (or-left (sameMark m n) (has m is) e) (label-absent m is (l + 1) other (or-right (sameMark m n) (has m is) e))
+label-absent m (n here is) l other e = let apart = neither (sameMark m n) (has m is) e in rw (apart .0) (label-absent m is (l + 1) other (apart .1))

@@ -11,7 +11,7 @@ use Rattle.words.specs.Layout.{Layout, arrayBase, arrayLength}
 use Rattle.words.specs.Arithmetic.{Outcome, value, fault as faulty}
 use Rattle.words.specs.declared.FaultSort.{FaultSort}
 use Rattle.computation.specs.Computation.{Turn, again, leave}
-use Rattle.computation.specs.Run.{Write, State, stepped, written, spent, fault, Result, ok, stopped}
+use Rattle.computation.specs.Run.{Write, State, stepped, written, spent, fault, Result, ok, stopped, andThen}
 use Rattle.translation.specs.Stack.{Stack, bottom, _▹_, depth, laid, read-word, write-word, read-behind, write-behind}
 use Rattle.translation.specs.RunThen.{roundsThen}
 
@@ -136,6 +136,15 @@ alike-logged u ws h l n = alike-fault (related-end (related-logged {y = 0} u ws 
 pub alike-stop : {fr : Frame} {A B : Type 0} {R : A → B → State → State → Type 0} {F : Stack ℤ} {x : ℕ} {σ κ : State} {sort : FaultSort} (u : ℕ) → u ≤ κ .count + x → Related fr F x σ κ
     → Alike fr R (stopped (fault sort) σ) (stopped (fault sort) (record { store = κ .store; count = u; writes = κ .writes }))
 alike-stop {κ = κ} u h n = alike-logged u (κ .writes) h (n .logs) n
+
+-- ---- what follows two runs that go alike
+
+module _ {fr : Frame} {A B C D : Type 0} {Q : A → B → State → State → Type 0} {R : C → D → State → State → Type 0} where
+  pub alike-then : {r : Result A} {q : Result B} {f : A → State → Result C} {g : B → State → Result D} → Alike fr Q r q
+      → ((a : A) (b : B) (σ κ : State) → r ≡ ok a σ → Q a b σ κ → Alike fr R (f a σ) (g b κ)) → Alike fr R (andThen r f) (andThen q g)
+  alike-then (alike-ok e) k = k _ _ _ _ refl e
+  alike-then (alike-spent n) k = alike-spent n
+  alike-then (alike-fault n) k = alike-fault n
 
 -- ---- cases
 

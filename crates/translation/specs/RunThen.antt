@@ -42,7 +42,8 @@ module _ {A B : Type 0} (c : ℕ) (body : State → Result (Turn A)) (bodies : S
       turned h again τ = h τ
       turned h (leave a) τ = refl
 
-then-run : {A B : Type 0} (c : ℕ) (m : Computation A) (σ : State) (k : A → State → Result B) → runThen c m σ k ≡ andThen (run (rounds c) m σ) k
+-- It is `run`, and then what follows.
+pub then-run : {A B : Type 0} (c : ℕ) (m : Computation A) (σ : State) (k : A → State → Result B) → runThen c m σ k ≡ andThen (run (rounds c) m σ) k
 unfolding runThen run
 then-run {A} {B} c m = elim m as (λ A m. (σ : State) (k : A → State → Result B) → runThen c m σ k ≡ andThen (run (rounds c) m σ) k) [
   | ret a ↦ λ σ k. refl

@@ -48,10 +48,10 @@ own-statement continue = omega arith
 own-statement (goto l) = omega arith
 
 -- The numbers of a source tree are in range.
-abbrev PartInRange : Layout → Part → Type 0
+abbrev pub PartInRange : Layout → Part → Type 0
 PartInRange L p = NamedPart (λ i. i < L .variables) (length (L .lengths)) p
 
-abbrev StatementInRange : Layout → Statement → Type 0
+abbrev pub StatementInRange : Layout → Statement → Type 0
 StatementInRange L s = NamedStatement (λ i. i < L .variables) (length (L .lengths)) s
 
 abbrev pub ItemsInRange : Layout → Items → Type 0

@@ -231,7 +231,7 @@ module _ (fr : Frame) {C D : Type 0} {R : C → D → State → State → Type 0
 
 -- ---- switch
 
-module _ (fr : Frame) {C D : Type 0} {R : C → D → State → State → Type 0} {h : Atom} {v : ℤ} {F : Stack ℤ} {σ : State} (holds : Holds bottom h v F σ) (above : depth F ≡ taken h) (room : taken h < fr .temporaries)
+module _ (fr : Frame) {C D : Type 0} {R : C → D → State → State → Type 0} {h : Atom} {v : ℤ} {F : Stack ℤ} {σ : State} (holds : Holds fr bottom h v F σ) (above : depth F ≡ taken h) (room : taken h < fr .temporaries)
     (r : Result C) (g : Signal → State → Result D) (c other : ℕ) where
   -- The tests come to the label of the case that equals v, or to their end.
   tests-go : (is : Items) (l y : ℕ) (κ : State) → Related fr F y σ κ → c + 11 * cases is ≤ y
@@ -258,7 +258,7 @@ module _ (fr : Frame) {C D : Type 0} {R : C → D → State → State → Type 0
   runs-switch {is = is} {ys = ys} {l = l} below room p q = record {
     runs = λ c y σ κ f g n le k.
         rw kernel-append (p .goes y y _ _ _ _ n (omega arith) λ v F τ ν holds m.
-        rw kernel-append (tests-go fr holds (omega (arith, holds-depth refl holds)) room _ _ (c + 2) l is (l + 1) y ν m (omega arith)
+        rw kernel-append (tests-go fr holds (omega (arith, holds-depth fr refl holds)) room _ _ (c + 2) l is (l + 1) y ν m (omega arith)
         (λ e ν m. rw (e, kernel-append fr ys) (q .finds (case v) e l (c + 1) _ _ _ _ (related-less (omega arith) m) (λ t u τ ν s m. ends c f g k s m)))
         (λ e ν m. rw (e, kernel-append fr ys) (by-cases (has default is)
         (λ i. rw i (q .finds default i l (c + 1) _ _ _ _ (related-ran _ (omega arith) m) (λ t u τ ν s m. ends c f g k s m)))

@@ -1,5 +1,6 @@
 -- The translation: source trees to kernel trees, a clause a kind. docs/REWRITING.md shows each clause in C, and says which rule of
 -- Preprint 97, part 3, it replaces.
+use mathlib.Core.Bool.{Bool}
 use mathlib.Core.List.{List, _∷_, map}
 use Prim.Native.Nat.{ℕ, _+_, max}
 use lib.IntN.{ℤ, pos}
@@ -8,18 +9,28 @@ use Rattle.words.specs.Layout.{Layout, storeSize}
 use Rattle.words.specs.declared.Operator.{Operator}
 use Rattle.words.specs.declared.Operator.the-variants.{Equal, NotEqual}
 use Rattle.language.specs.Trees.{Expression, constant, read, minus, not, binary, and, or, comma, conditional, assign, compound, prefix, postfix, Place, variable, element, Part, absent, present, Mark, case, default, label, sameMark, Statement, empty, express, block, ifThen, ifElse, while, doWhile, for, switch, break, continue, goto, Items, none, _then_, _here_, _⧺_}
+use Rattle.language.specs.Writes.{writes, indexWrites}
 
 -- ---- atoms and levels
 
--- The temporaries are a stack, numbered by levels from 0. What holds the value of an expression after its code, until it is used:
--- the number itself, or the top of the stack, which is the temporary of the expression's level.
+-- The temporaries are a stack, numbered by levels from 0. What holds the value of an expression after its code: the number itself; a
+-- variable, while it still holds it; or the top of the stack, which is the temporary of the expression's level.
 pub data Atom : Type 0 where
   number : ℤ → Atom
+  word : ℕ → Atom
   top : Atom
+
+-- What holds a value that waits for its use while something is worked out that can write the variables W: a variable among them is copied
+-- into the temporary.
+abbrev pub held : Atom → (ℕ → Bool) → Atom
+held (number v) W = number v
+held (word i) W = pick (W i) top (word i)
+held top W = top
 
 unfoldable pub atomOf : Expression → Atom
 atomOf (constant v) = number v
-atomOf (read p) = top
+atomOf (read (variable i)) = word i
+atomOf (read (element array e)) = top
 atomOf (minus e) = top
 atomOf (not e) = top
 atomOf (binary operator a b) = top
@@ -27,7 +38,7 @@ atomOf (and a b) = top
 atomOf (or a b) = top
 atomOf (comma a b) = atomOf b
 atomOf (conditional c a b) = top
-atomOf (assign p e) = atomOf e
+atomOf (assign p e) = held (atomOf e) (indexWrites p)
 atomOf (compound operator p e) = top
 atomOf (prefix operator p) = top
 atomOf (postfix operator p) = top
@@ -35,6 +46,7 @@ atomOf (postfix operator p) = top
 -- How many temporaries an atom takes, and the index of a place. What is worked out while it is held stands that much higher.
 abbrev pub taken : Atom → ℕ
 taken (number v) = 0
+taken (word i) = 0
 taken top = 1
 
 unfoldable pub placeTaken : Place → ℕ
@@ -89,6 +101,7 @@ module _ (S : ℕ) where
   -- The kernel's expression for an atom at level t.
   abbrev pub atom : ℕ → Atom → Expression
   atom t (number v) = constant v
+  atom t (word i) = read (variable i)
   atom t top = read (temporary t)
 
   -- p := e, and then the rest.
@@ -99,15 +112,27 @@ module _ (S : ℕ) where
   abbrev pub choosing : Expression → Items → Items → Items → Items
   choosing test onTrue onFalse rest = ifElse test (block onTrue) (block onFalse) then rest
 
-  -- A number into the temporary of its level; a value that is there already stays.
+  -- A value into the temporary of its level; one that is there already stays.
   abbrev pub copyCode : ℕ → Atom → Items
   copyCode t (number v) = assigning (temporary t) (constant v) none
+  copyCode t (word i) = assigning (temporary t) (read (variable i)) none
   copyCode t top = none
+
+  -- What brings a value to the atom that holds it: where that is the temporary, a copy.
+  abbrev pub moveCode : ℕ → Atom → Atom → Items
+  moveCode t h (number v) = none
+  moveCode t h (word i) = none
+  moveCode t h top = copyCode t h
 
   -- A place in the kernel, its index held at level t.
   unfoldable pub kernelPlace : Place → ℕ → Place
   kernelPlace (variable i) t = variable i
   kernelPlace (element array e) t = element array (atom t (atomOf e))
+
+  -- An element's value into temporary t; a variable stands for its own.
+  abbrev pub readCode : Place → ℕ → Items
+  readCode (variable i) t = none
+  readCode (element array e) t = assigning (temporary t) (read (element array (atom t (atomOf e)))) none
 
   -- old op x into temporary t, and from there into the place; an element's old value goes through temporary u.
   abbrev pub updateCode : Operator → Place → Expression → ℕ → ℕ → Items
@@ -127,12 +152,13 @@ module _ (S : ℕ) where
     -- An expression at level t: its code writes no temporary below t, and after it `atom t (atomOf e)` holds the value.
     pub expressionCode : Expression → ℕ → Items
     expressionCode (constant v) t = none
-    expressionCode (read p) t = indexCode p t ⧺ assigning (temporary t) (read (kernelPlace p t)) none
+    expressionCode (read p) t = indexCode p t ⧺ readCode p t
     expressionCode (minus e) t = expressionCode e t ⧺ assigning (temporary t) (minus (atom t (atomOf e))) none
     expressionCode (not e) t = expressionCode e t ⧺ assigning (temporary t) (binary Equal (atom t (atomOf e)) (constant (pos 0))) none
-    -- the right operand first; the left one above it
+    -- the right operand first, held while the left one is worked out above it
     expressionCode (binary operator a b) t =
-        expressionCode b t ⧺ expressionCode a (t + taken (atomOf b)) ⧺ assigning (temporary t) (binary operator (atom (t + taken (atomOf b)) (atomOf a)) (atom t (atomOf b))) none
+        let right = held (atomOf b) (writes a) in
+        expressionCode b t ⧺ moveCode t (atomOf b) right ⧺ expressionCode a (t + taken right) ⧺ assigning (temporary t) (binary operator (atom (t + taken right) (atomOf a)) (atom t right)) none
     -- the right operand inside the branch that needs it, and its truth by != 0
     expressionCode (and a b) t =
         expressionCode a t ⧺ choosing (atom t (atomOf a)) (expressionCode b t ⧺ assigning (temporary t) (binary NotEqual (atom t (atomOf b)) (constant (pos 0))) none) (assigning (temporary t) (constant (pos 0)) none) none
@@ -141,11 +167,14 @@ module _ (S : ℕ) where
     expressionCode (comma a b) t = expressionCode a t ⧺ expressionCode b t
     expressionCode (conditional c a b) t =
         expressionCode c t ⧺ choosing (atom t (atomOf c)) (expressionCode a t ⧺ copyCode t (atomOf a)) (expressionCode b t ⧺ copyCode t (atomOf b)) none
-    -- the value first; the index above it
+    -- the value first, held while the index is worked out above it
     expressionCode (assign p e) t =
-        expressionCode e t ⧺ indexCode p (t + taken (atomOf e)) ⧺ assigning (kernelPlace p (t + taken (atomOf e))) (atom t (atomOf e)) none
+        let value = held (atomOf e) (indexWrites p) in
+        expressionCode e t ⧺ moveCode t (atomOf e) value ⧺ indexCode p (t + taken value) ⧺ assigning (kernelPlace p (t + taken value)) (atom t value) none
     -- t is kept for the result, so the index stands above it
-    expressionCode (compound operator p e) t = expressionCode e t ⧺ indexCode p (t + 1) ⧺ updateCode operator (kernelPlace p (t + 1)) (atom t (atomOf e)) t (t + 1 + placeTaken p)
+    expressionCode (compound operator p e) t =
+        let value = held (atomOf e) (indexWrites p) in
+        expressionCode e t ⧺ moveCode t (atomOf e) value ⧺ indexCode p (t + 1) ⧺ updateCode operator (kernelPlace p (t + 1)) (atom t value) t (t + 1 + placeTaken p)
     expressionCode (prefix operator p) t = indexCode p (t + 1) ⧺ updateCode operator (kernelPlace p (t + 1)) (constant (pos 1)) t (t + 1 + placeTaken p)
     expressionCode (postfix operator p) t = indexCode p (t + 1) ⧺ postfixCode operator (kernelPlace p (t + 1)) t (t + 1 + placeTaken p)
 
@@ -221,15 +250,15 @@ translate L program = itemsCode (storeSize L) program (exits 0 0) 1
 unfoldable mutual
   pub expressionLevels : Expression → ℕ
   expressionLevels (constant v) = 0
-  expressionLevels (read p) = max 1 (indexLevels p)
+  expressionLevels (read p) = max (taken (atomOf (read p))) (indexLevels p)
   expressionLevels (minus e) = max 1 (expressionLevels e)
   expressionLevels (not e) = max 1 (expressionLevels e)
-  expressionLevels (binary operator a b) = max 1 (max (expressionLevels b) (taken (atomOf b) + expressionLevels a))
+  expressionLevels (binary operator a b) = max 1 (max (expressionLevels b) (taken (held (atomOf b) (writes a)) + expressionLevels a))
   expressionLevels (and a b) = max 1 (max (expressionLevels a) (expressionLevels b))
   expressionLevels (or a b) = max 1 (max (expressionLevels a) (expressionLevels b))
   expressionLevels (comma a b) = max (expressionLevels a) (expressionLevels b)
   expressionLevels (conditional c a b) = max 1 (max (expressionLevels c) (max (expressionLevels a) (expressionLevels b)))
-  expressionLevels (assign p e) = max (expressionLevels e) (taken (atomOf e) + indexLevels p)
+  expressionLevels (assign p e) = max (expressionLevels e) (taken (held (atomOf e) (indexWrites p)) + indexLevels p)
   expressionLevels (compound operator p e) = max (expressionLevels e) (1 + updateLevels p)
   expressionLevels (prefix operator p) = 1 + updateLevels p
   expressionLevels (postfix operator p) = 1 + updateLevels p

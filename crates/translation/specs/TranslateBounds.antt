@@ -1,20 +1,30 @@
 -- How large a translation is: "From n source rows come at most 20×n+20 kernel rows and at most 4×n temporaries." By induction on the
 -- tree, each row with its own share.
-use Prim.Native.Nat.{_+_, _*_, _≤_}
+use mathlib.Core.Bool.{Bool}
+use Prim.Native.Nat.{ℕ, _+_, _*_, _≤_}
 use native.Mathlib.Omega.{arith}
 use Rattle.words.specs.Layout.{Layout}
+use Rattle.words.specs.Laws.{by-cases}
 use Rattle.language.specs.Trees.{Expression, constant, read, minus, not, binary, and, or, comma, conditional, assign, compound, prefix, postfix, Place, variable, element, Part, absent, present, case, default, label, Statement, empty, express, block, ifThen, ifElse, while, doWhile, for, switch, break, continue, goto, Items, none, _then_, _here_}
+use Rattle.language.specs.Writes.{writes, indexWrites}
 use Rattle.language.specs.Sizes.{expressionRows, placeRows, partRows, statementRows, itemsRows}
-use Rattle.translation.specs.Translate.{Atom, number, top, taken, atomOf, labels, itemsLabels, translate, expressionLevels, indexLevels, updateLevels, partLevels, statementLevels, itemsLevels, temporaries}
+use Rattle.translation.specs.Translate.{Atom, number, word, top, held, taken, atomOf, labels, itemsLabels, translate, expressionLevels, indexLevels, updateLevels, partLevels, statementLevels, itemsLevels, temporaries}
 use Rattle.translation.specs.TranslateRows.{translation-rows}
-use Rattle.translation.specs.TranslateSize.{indexRows, copyRows, expressionSize, indexSize, partSize, testSize, cases, statementSize, itemsSize}
+use Rattle.translation.specs.TranslateSize.{indexRows, copyRows, holdRows, expressionSize, indexSize, partSize, testSize, cases, statementSize, itemsSize}
 
 pub copy-most : (h : Atom) → copyRows h ≤ 4
 copy-most (number v) = omega arith
+copy-most (word i) = omega arith
 copy-most top = omega arith
+
+pub hold-most : (h : Atom) (W : ℕ → Bool) → holdRows h W ≤ 4
+hold-most (number v) W = omega arith
+hold-most (word i) W = by-cases (W i) (λ e. rw e (omega arith)) (λ e. rw e (omega arith))
+hold-most top W = omega arith
 
 pub taken-most : (h : Atom) → taken h ≤ 1
 taken-most (number v) = omega arith
+taken-most (word i) = omega arith
 taken-most top = omega arith
 
 pub index-most : (p : Place) → indexRows p ≤ 1
@@ -53,13 +63,13 @@ mutual
   expression-most (read p) = omega (arith, index-size-most p, index-most p)
   expression-most (minus e) = omega (arith, expression-most e)
   expression-most (not e) = omega (arith, expression-most e)
-  expression-most (binary operator a b) = omega (arith, expression-most a, expression-most b)
+  expression-most (binary operator a b) = omega (arith, expression-most a, expression-most b, hold-most (atomOf b) (writes a))
   expression-most (and a b) = omega (arith, expression-most a, expression-most b)
   expression-most (or a b) = omega (arith, expression-most a, expression-most b)
   expression-most (comma a b) = omega (arith, expression-most a, expression-most b)
   expression-most (conditional c a b) = omega (arith, expression-most c, expression-most a, expression-most b, copy-most (atomOf a), copy-most (atomOf b))
-  expression-most (assign p e) = omega (arith, index-size-most p, expression-most e, index-most p)
-  expression-most (compound operator p e) = omega (arith, index-size-most p, expression-most e, index-most p)
+  expression-most (assign p e) = omega (arith, index-size-most p, expression-most e, index-most p, hold-most (atomOf e) (indexWrites p))
+  expression-most (compound operator p e) = omega (arith, index-size-most p, expression-most e, index-most p, hold-most (atomOf e) (indexWrites p))
   expression-most (prefix operator p) = omega (arith, index-size-most p, index-most p)
   expression-most (postfix operator p) = omega (arith, index-size-most p, index-most p)
 
@@ -113,15 +123,15 @@ mutual
 
   levels-most : (e : Expression) → expressionLevels e ≤ expressionRows e
   levels-most (constant v) = omega arith
-  levels-most (read p) = omega (arith, index-levels-most p, place-some p)
+  levels-most (read p) = omega (arith, index-levels-most p, place-some p, taken-most (atomOf (read p)))
   levels-most (minus e) = omega (arith, levels-most e)
   levels-most (not e) = omega (arith, levels-most e)
-  levels-most (binary operator a b) = omega (arith, levels-most a, levels-most b, taken-most (atomOf b))
+  levels-most (binary operator a b) = omega (arith, levels-most a, levels-most b, taken-most (held (atomOf b) (writes a)))
   levels-most (and a b) = omega (arith, levels-most a, levels-most b)
   levels-most (or a b) = omega (arith, levels-most a, levels-most b)
   levels-most (comma a b) = omega (arith, levels-most a, levels-most b)
   levels-most (conditional c a b) = omega (arith, levels-most c, levels-most a, levels-most b)
-  levels-most (assign p e) = omega (arith, index-levels-most p, levels-most e, taken-most (atomOf e))
+  levels-most (assign p e) = omega (arith, index-levels-most p, levels-most e, taken-most (held (atomOf e) (indexWrites p)))
   levels-most (compound operator p e) = omega (arith, update-levels-most p, levels-most e)
   levels-most (prefix operator p) = omega (arith, update-levels-most p)
   levels-most (postfix operator p) = omega (arith, update-levels-most p)

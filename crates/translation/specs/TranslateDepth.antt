@@ -1,13 +1,16 @@
 -- How deep a translation is: at most twice the source's depth plus 1. By induction on the tree: a block in an if or a while lies two
 -- rows deeper, and an assignment takes four.
+use mathlib.Core.Bool.{Bool}
 use Prim.Native.Nat.{ℕ, _+_, _*_, _≤_, max}
 use native.Mathlib.Omega.{arith}
 use lib.IntN.{pos}
 use Rattle.words.specs.Layout.{Layout, storeSize}
 use Rattle.words.specs.declared.Operator.{Operator}
 use Rattle.language.specs.Trees.{Expression, constant, read, minus, not, binary, and, or, comma, conditional, assign, compound, prefix, postfix, Place, variable, element, Part, absent, present, Mark, case, default, label, Statement, empty, express, block, ifThen, ifElse, while, doWhile, for, switch, break, continue, goto, Items, none, _then_, _here_, _⧺_}
+use Rattle.language.specs.Writes.{writes, indexWrites}
 use Rattle.language.specs.Sizes.{expressionDepth, placeDepth, partDepth, statementDepth, itemsDepth}
-use Rattle.translation.specs.Translate.{Atom, number, top, taken, placeTaken, atomOf, atom, copyCode, kernelPlace, updateCode, postfixCode, expressionCode, indexCode, partCode, orEmpty, testCode, loopCode, caseTests, labels, Exits, exits, statementCode, itemsCode, translate}
+use Rattle.translation.specs.HeldCode.{holdCode, hold-either}
+use Rattle.translation.specs.Translate.{Atom, number, word, top, held, taken, placeTaken, atomOf, atom, copyCode, readCode, kernelPlace, updateCode, postfixCode, expressionCode, indexCode, partCode, orEmpty, testCode, loopCode, caseTests, labels, Exits, exits, statementCode, itemsCode, translate}
 
 -- A bound on the depth of a list. (A record, so that the list is determined.)
 record Deep (d : ℕ) (xs : Items) : Type 0 where
@@ -72,6 +75,7 @@ module _ (S : ℕ) where
   depth-atom : (t : ℕ) (h : Atom) → expressionDepth (atom S t h) ≤ 1
   unfolding expressionDepth
   depth-atom t (number v) = omega arith
+  depth-atom t (word i) = omega arith
   depth-atom t top = omega arith
 
   depth-place : (p : Place) (t : ℕ) → placeDepth (kernelPlace S p t) ≤ 2
@@ -82,7 +86,16 @@ module _ (S : ℕ) where
   deep-copy : {d : ℕ} (t : ℕ) (h : Atom) → 4 ≤ d → Deep d (copyCode S t h)
   unfolding expressionDepth
   deep-copy t (number v) h = deep-assign h (omega arith) (omega arith) deep-none
+  deep-copy t (word i) h = deep-assign h (omega arith) (omega arith) deep-none
   deep-copy t top h = deep-none
+
+  deep-hold : {d : ℕ} (t : ℕ) (h : Atom) (W : ℕ → Bool) → 4 ≤ d → Deep d (holdCode S t h W)
+  deep-hold {d} t h W le = hold-either S (λ (xs : Items). Deep d xs) t h W (deep-copy t h le) deep-none
+
+  deep-read : {d : ℕ} (p : Place) (t : ℕ) → 4 ≤ d → Deep d (readCode S p t)
+  unfolding expressionDepth
+  deep-read (variable i) t le = deep-none
+  deep-read (element array e) t le = deep-assign le (omega arith) (omega (arith, depth-atom t (atomOf e))) deep-none
 
   deep-update : {d : ℕ} (operator : Operator) (p : Place) (h : Atom) (i t u : ℕ) → 4 ≤ d → Deep d (updateCode S operator (kernelPlace S p i) (atom S t h) t u)
   unfolding expressionDepth kernelPlace
@@ -101,11 +114,12 @@ module _ (S : ℕ) where
 
     deep-expression : (e : Expression) (t d : ℕ) → expressionDepth e * 2 + 2 ≤ d → Deep d (expressionCode S e t)
     deep-expression (constant v) t d h = deep-none
-    deep-expression (read p) t d h = deep-append (deep-index p t d (omega arith)) (deep-assign (omega (arith, place-depth-some p)) (omega arith) (depth-place p t) deep-none)
+    deep-expression (read p) t d h = deep-append (deep-index p t d (omega arith)) (deep-read p t (omega (arith, place-depth-some p)))
     deep-expression (minus e) t d h = deep-append (deep-expression e t d (omega arith)) (deep-assign (omega arith) (omega arith) (omega (arith, depth-atom t (atomOf e))) deep-none)
     deep-expression (not e) t d h = deep-append (deep-expression e t d (omega arith)) (deep-assign (omega arith) (omega arith) (omega (arith, depth-atom t (atomOf e))) deep-none)
-    deep-expression (binary operator a b) t d h = deep-append (deep-expression b t d (omega arith)) (deep-append (deep-expression a (t + taken (atomOf b)) d (omega arith))
-        (deep-assign (omega arith) (omega arith) (omega (arith, depth-atom (t + taken (atomOf b)) (atomOf a), depth-atom t (atomOf b))) deep-none))
+    deep-expression (binary operator a b) t d h = let right = held (atomOf b) (writes a) in
+        deep-append (deep-expression b t d (omega arith)) (deep-append (deep-hold t (atomOf b) (writes a) (omega arith)) (deep-append (deep-expression a (t + taken right) d (omega arith))
+        (deep-assign (omega arith) (omega arith) (omega (arith, depth-atom (t + taken right) (atomOf a), depth-atom t right)) deep-none)))
     deep-expression (and a b) t d h = deep-append (deep-expression a t d (omega arith)) (deep-if (expressionDepth b * 2 + 2) (depth-atom t (atomOf a)) (omega arith)
         (deep-append (deep-expression b t _ (omega arith)) (deep-assign (omega (arith, depth-some b)) (omega arith) (omega (arith, depth-atom t (atomOf b))) deep-none)) (deep-assign (omega (arith, depth-some b)) (omega arith) (omega arith) deep-none) deep-none)
     deep-expression (or a b) t d h = deep-append (deep-expression a t d (omega arith)) (deep-if (expressionDepth b * 2 + 2) (depth-atom t (atomOf a)) (omega arith) (deep-assign (omega (arith, depth-some b)) (omega arith) (omega arith) deep-none)
@@ -114,9 +128,11 @@ module _ (S : ℕ) where
     deep-expression (conditional c a b) t d h = deep-append (deep-expression c t d (omega arith)) (deep-if (max (expressionDepth a) (expressionDepth b) * 2 + 2) (depth-atom t (atomOf c)) (omega arith)
         (deep-append (deep-expression a t _ (omega arith)) (deep-copy t (atomOf a) (omega (arith, depth-some a))))
         (deep-append (deep-expression b t _ (omega arith)) (deep-copy t (atomOf b) (omega (arith, depth-some a)))) deep-none)
-    deep-expression (assign p e) t d h = deep-append (deep-expression e t d (omega arith)) (deep-append (deep-index p (t + taken (atomOf e)) d (omega arith))
-        (deep-assign (omega arith) (depth-place p (t + taken (atomOf e))) (omega (arith, depth-atom t (atomOf e))) deep-none))
-    deep-expression (compound operator p e) t d h = deep-append (deep-expression e t d (omega arith)) (deep-append (deep-index p (t + 1) d (omega arith)) (deep-update operator p (atomOf e) (t + 1) t (t + 1 + placeTaken p) (omega arith)))
+    deep-expression (assign p e) t d h = let value = held (atomOf e) (indexWrites p) in
+        deep-append (deep-expression e t d (omega arith)) (deep-append (deep-hold t (atomOf e) (indexWrites p) (omega arith)) (deep-append (deep-index p (t + taken value) d (omega arith))
+        (deep-assign (omega arith) (depth-place p (t + taken value)) (omega (arith, depth-atom t value)) deep-none)))
+    deep-expression (compound operator p e) t d h = deep-append (deep-expression e t d (omega arith)) (deep-append (deep-hold t (atomOf e) (indexWrites p) (omega arith))
+        (deep-append (deep-index p (t + 1) d (omega arith)) (deep-update operator p (held (atomOf e) (indexWrites p)) (t + 1) t (t + 1 + placeTaken p) (omega arith))))
     deep-expression (prefix operator p) t d h = deep-append (deep-index p (t + 1) d (omega arith)) (deep-update operator p (number (pos 1)) (t + 1) t (t + 1 + placeTaken p) (omega arith))
     deep-expression (postfix operator p) t d h = deep-append (deep-index p (t + 1) d (omega arith)) (deep-postfix operator p (t + 1) t (t + 1 + placeTaken p) (omega arith))
 

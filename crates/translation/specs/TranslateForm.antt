@@ -10,7 +10,9 @@ use Rattle.words.specs.declared.Operator.{Operator}
 use Rattle.language.specs.Trees.{Expression, constant, read, minus, not, binary, and, or, comma, conditional, assign, compound, prefix, postfix, Place, variable, element, Part, absent, present, Mark, case, default, label, sameMark, has, Statement, empty, express, block, ifThen, ifElse, while, doWhile, for, switch, break, continue, goto, Items, none, _then_, _here_, _⧺_}
 use Rattle.language.specs.WellFormed.{Placed, PlacedItems}
 use Rattle.language.specs.TreeLaws.{append-append, has-next, has-left, has-right}
-use Rattle.translation.specs.Translate.{Atom, number, top, taken, placeTaken, atomOf, atom, copyCode, kernelPlace, updateCode, postfixCode, expressionCode, indexCode, partCode, orEmpty, testCode, loopCode, caseTests, labels, itemsLabels, labelOf, Exits, exits, statementCode, itemsCode}
+use Rattle.language.specs.Writes.{writes, indexWrites}
+use Rattle.translation.specs.HeldCode.{holdCode, hold-either}
+use Rattle.translation.specs.Translate.{Atom, number, word, top, held, taken, placeTaken, atomOf, atom, copyCode, readCode, kernelPlace, updateCode, postfixCode, expressionCode, indexCode, partCode, orEmpty, testCode, loopCode, caseTests, labels, itemsLabels, labelOf, Exits, exits, statementCode, itemsCode}
 use Rattle.translation.specs.KernelForm.{IsAtom, constant-atom, variable-atom, Assigns, assigns-atom, assigns-minus, assigns-operation, assigns-element, assigns-to-element, isLabelNumber, KernelStatement, kernel-empty, kernel-assign, kernel-block, kernel-if, kernel-while, kernel-goto, KernelItems, kernel-none, kernel-then, kernel-label}
 use Rattle.translation.specs.PassedCode.{label-absent}
 use Rattle.translation.specs.StatementRules.{Below}
@@ -35,12 +37,12 @@ assignment h = kernel-then (kernel-assign h) kernel-none
 module _ (S : ℕ) where
   form-atom : (t : ℕ) (h : Atom) → IsAtom (atom S t h)
   form-atom t (number v) = constant-atom
+  form-atom t (word i) = variable-atom
   form-atom t top = variable-atom
 
-  form-read : (i : ℕ) (p : Place) (t : ℕ) → Assigns (assign (variable i) (read (kernelPlace S p t)))
-  unfolding kernelPlace
-  form-read i (variable j) t = assigns-atom variable-atom
-  form-read i (element array e) t = assigns-element (form-atom t (atomOf e))
+  form-read : (p : Place) (t : ℕ) (r : Items) → KernelItems r (readCode S p t)
+  form-read (variable j) t r = kernel-none
+  form-read (element array e) t r = assignment (assigns-element (form-atom t (atomOf e)))
 
   form-write : (p : Place) (t : ℕ) {e : Expression} → IsAtom e → Assigns (assign (kernelPlace S p t) e)
   unfolding kernelPlace
@@ -49,7 +51,11 @@ module _ (S : ℕ) where
 
   form-copy : (t : ℕ) (h : Atom) (r : Items) → KernelItems r (copyCode S t h)
   form-copy t (number v) r = assignment (assigns-atom constant-atom)
+  form-copy t (word i) r = assignment (assigns-atom variable-atom)
   form-copy t top r = kernel-none
+
+  form-hold : (t : ℕ) (h : Atom) (W : ℕ → Bool) (r : Items) → KernelItems r (holdCode S t h W)
+  form-hold t h W r = hold-either S (λ (xs : Items). KernelItems r xs) t h W (form-copy t h r) kernel-none
 
   form-update : (operator : Operator) (p : Place) (i t u : ℕ) (r : Items) {x : Expression} → IsAtom x → KernelItems r (updateCode S operator (kernelPlace S p i) x t u)
   unfolding kernelPlace
@@ -66,11 +72,12 @@ module _ (S : ℕ) where
 
     form-expression : (e : Expression) (t : ℕ) (r : Items) → KernelItems r (expressionCode S e t)
     form-expression (constant v) t r = kernel-none
-    form-expression (read p) t r = append r (indexCode S p t) _ (form-index p t _) (assignment (form-read _ p t))
+    form-expression (read p) t r = append r (indexCode S p t) _ (form-index p t _) (form-read p t r)
     form-expression (minus e) t r = append r (expressionCode S e t) _ (form-expression e t _) (assignment (assigns-minus (form-atom t (atomOf e))))
     form-expression (not e) t r = append r (expressionCode S e t) _ (form-expression e t _) (assignment (assigns-operation (form-atom t (atomOf e)) constant-atom))
-    form-expression (binary operator a b) t r = append r (expressionCode S b t) _ (form-expression b t _) (append r (expressionCode S a (t + taken (atomOf b))) _ (form-expression a (t + taken (atomOf b)) _)
-        (assignment (assigns-operation (form-atom (t + taken (atomOf b)) (atomOf a)) (form-atom t (atomOf b)))))
+    form-expression (binary operator a b) t r = let right = held (atomOf b) (writes a) in
+        append r (expressionCode S b t) _ (form-expression b t _) (append r (holdCode S t (atomOf b) (writes a)) _ (form-hold t (atomOf b) (writes a) _)
+        (append r (expressionCode S a (t + taken right)) _ (form-expression a (t + taken right) _) (assignment (assigns-operation (form-atom (t + taken right) (atomOf a)) (form-atom t right)))))
     form-expression (and a b) t r = append r (expressionCode S a t) _ (form-expression a t _) (kernel-then (kernel-if (form-atom t (atomOf a))
         (append _ (expressionCode S b t) _ (form-expression b t _) (assignment (assigns-operation (form-atom t (atomOf b)) constant-atom))) (assignment (assigns-atom constant-atom))) kernel-none)
     form-expression (or a b) t r = append r (expressionCode S a t) _ (form-expression a t _) (kernel-then (kernel-if (form-atom t (atomOf a)) (assignment (assigns-atom constant-atom))
@@ -78,8 +85,11 @@ module _ (S : ℕ) where
     form-expression (comma a b) t r = append r (expressionCode S a t) _ (form-expression a t _) (form-expression b t r)
     form-expression (conditional c a b) t r = append r (expressionCode S c t) _ (form-expression c t _) (kernel-then (kernel-if (form-atom t (atomOf c))
         (append _ (expressionCode S a t) _ (form-expression a t _) (form-copy t (atomOf a) _)) (append _ (expressionCode S b t) _ (form-expression b t _) (form-copy t (atomOf b) _))) kernel-none)
-    form-expression (assign p e) t r = append r (expressionCode S e t) _ (form-expression e t _) (append r (indexCode S p (t + taken (atomOf e))) _ (form-index p (t + taken (atomOf e)) _) (assignment (form-write p (t + taken (atomOf e)) (form-atom t (atomOf e)))))
-    form-expression (compound operator p e) t r = append r (expressionCode S e t) _ (form-expression e t _) (append r (indexCode S p (t + 1)) _ (form-index p (t + 1) _) (form-update operator p (t + 1) t (t + 1 + placeTaken p) r (form-atom t (atomOf e))))
+    form-expression (assign p e) t r = let value = held (atomOf e) (indexWrites p) in
+        append r (expressionCode S e t) _ (form-expression e t _) (append r (holdCode S t (atomOf e) (indexWrites p)) _ (form-hold t (atomOf e) (indexWrites p) _)
+        (append r (indexCode S p (t + taken value)) _ (form-index p (t + taken value) _) (assignment (form-write p (t + taken value) (form-atom t value)))))
+    form-expression (compound operator p e) t r = append r (expressionCode S e t) _ (form-expression e t _) (append r (holdCode S t (atomOf e) (indexWrites p)) _ (form-hold t (atomOf e) (indexWrites p) _)
+        (append r (indexCode S p (t + 1)) _ (form-index p (t + 1) _) (form-update operator p (t + 1) t (t + 1 + placeTaken p) r (form-atom t (held (atomOf e) (indexWrites p))))))
     form-expression (prefix operator p) t r = append r (indexCode S p (t + 1)) _ (form-index p (t + 1) _) (form-update operator p (t + 1) t (t + 1 + placeTaken p) r constant-atom)
     form-expression (postfix operator p) t r = append r (indexCode S p (t + 1)) _ (form-index p (t + 1) _) (form-postfix operator p (t + 1) t (t + 1 + placeTaken p) r)
 

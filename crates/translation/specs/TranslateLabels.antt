@@ -1,6 +1,7 @@
 -- No label stands twice in a translation. By induction on the tree: how often label j stands in the code of labels l to e, added to
 -- [j < l], is [j < e]; so the counts of parts add up.
 use mathlib.Core.Path.{_≡_, refl}
+use mathlib.Core.Bool.{Bool}
 use Prim.Native.Nat.{ℕ, _+_, _≤_, _<_}
 use native.Mathlib.Omega.{arith}
 use borrow.Author.Tests.{ltb-true, ltb-false, lt-ltb, le-ltb, eqb-true, eqb-false, ne-eqb}
@@ -10,7 +11,9 @@ use Rattle.words.specs.Word.{pick}
 use Rattle.words.specs.Laws.{by-cases}
 use Rattle.words.specs.declared.Operator.{Operator}
 use Rattle.language.specs.Trees.{Expression, constant, read, minus, not, binary, and, or, comma, conditional, assign, compound, prefix, postfix, Place, variable, element, Part, absent, present, case, default, label, Statement, empty, express, block, ifThen, ifElse, while, doWhile, for, switch, break, continue, goto, Items, none, _then_, _here_, _⧺_}
-use Rattle.translation.specs.Translate.{Atom, number, top, taken, placeTaken, atomOf, atom, copyCode, kernelPlace, updateCode, postfixCode, expressionCode, indexCode, partCode, orEmpty, testCode, caseTests, labels, itemsLabels, Exits, exits, statementCode, itemsCode}
+use Rattle.language.specs.Writes.{writes, indexWrites}
+use Rattle.translation.specs.Translate.{Atom, number, word, top, held, taken, placeTaken, atomOf, atom, copyCode, readCode, kernelPlace, updateCode, postfixCode, expressionCode, indexCode, partCode, orEmpty, testCode, caseTests, labels, itemsLabels, Exits, exits, statementCode, itemsCode}
+use Rattle.translation.specs.HeldCode.{holdCode, hold-either}
 use Rattle.translation.specs.KernelForm.{markTimes, itemsTimes}
 
 -- 1 where j is below c.
@@ -43,7 +46,17 @@ module _ (S j : ℕ) where
   times-copy : (t : ℕ) (h : Atom) → itemsTimes j (copyCode S t h) ≡ 0
   unfolding itemsTimes
   times-copy t (number v) = refl
+  times-copy t (word i) = refl
   times-copy t top = refl
+
+  times-hold : (t : ℕ) (h : Atom) (W : ℕ → Bool) → itemsTimes j (holdCode S t h W) ≡ 0
+  unfolding itemsTimes
+  times-hold t h W = hold-either S (λ (xs : Items). itemsTimes j xs ≡ 0) t h W (times-copy t h) refl
+
+  times-read : (p : Place) (t : ℕ) → itemsTimes j (readCode S p t) ≡ 0
+  unfolding itemsTimes
+  times-read (variable i) t = refl
+  times-read (element array e) t = refl
 
   times-update : (operator : Operator) (p : Place) (x : Expression) (i t u : ℕ) → itemsTimes j (updateCode S operator (kernelPlace S p i) x t u) ≡ 0
   unfolding itemsTimes kernelPlace
@@ -66,16 +79,16 @@ module _ (S j : ℕ) where
 
     times-expression : (e : Expression) (t : ℕ) → itemsTimes j (expressionCode S e t) ≡ 0
     times-expression (constant v) t = refl
-    times-expression (read p) t = simp times-append (omega (arith, times-index p t))
+    times-expression (read p) t = simp (times-append, times-read) (omega (arith, times-index p t))
     times-expression (minus e) t = simp times-append (omega (arith, times-expression e t))
     times-expression (not e) t = simp times-append (omega (arith, times-expression e t))
-    times-expression (binary operator a b) t = simp times-append (omega (arith, times-expression b t, times-expression a (t + taken (atomOf b))))
+    times-expression (binary operator a b) t = simp (times-append, times-hold) (omega (arith, times-expression b t, times-expression a (t + taken (held (atomOf b) (writes a)))))
     times-expression (and a b) t = simp times-append (omega (arith, times-expression a t, times-expression b t))
     times-expression (or a b) t = simp times-append (omega (arith, times-expression a t, times-expression b t))
     times-expression (comma a b) t = simp times-append (omega (arith, times-expression a t, times-expression b t))
     times-expression (conditional c a b) t = simp (times-append, times-copy) (omega (arith, times-expression c t, times-expression a t, times-expression b t))
-    times-expression (assign p e) t = simp times-append (omega (arith, times-expression e t, times-index p (t + taken (atomOf e))))
-    times-expression (compound operator p e) t = simp times-append (omega (arith, times-expression e t, times-index p (t + 1), times-update operator p (atom S t (atomOf e)) (t + 1) t (t + 1 + placeTaken p)))
+    times-expression (assign p e) t = simp (times-append, times-hold) (omega (arith, times-expression e t, times-index p (t + taken (held (atomOf e) (indexWrites p)))))
+    times-expression (compound operator p e) t = simp (times-append, times-hold) (omega (arith, times-expression e t, times-index p (t + 1), times-update operator p (atom S t (held (atomOf e) (indexWrites p))) (t + 1) t (t + 1 + placeTaken p)))
     times-expression (prefix operator p) t = simp times-append (omega (arith, times-index p (t + 1), times-update operator p (constant (pos 1)) (t + 1) t (t + 1 + placeTaken p)))
     times-expression (postfix operator p) t = simp times-append (omega (arith, times-index p (t + 1), times-postfix operator p (t + 1) t (t + 1 + placeTaken p)))
 

@@ -1,11 +1,16 @@
 -- The variables and arrays that a translation names: the source's, and temporaries. By induction on the tree, for any property of
 -- names that the source's variables and the temporaries have.
+use mathlib.Core.Bool.{Bool, true, false}
 use Prim.Native.Nat.{ℕ, _+_, _≤_, _<_}
 use native.Mathlib.Omega.{arith}
+use Rattle.words.specs.Word.{pick}
 use Rattle.words.specs.declared.Operator.{Operator}
 use Rattle.language.specs.Trees.{Expression, constant, read, minus, not, binary, and, or, comma, conditional, assign, compound, prefix, postfix, Place, variable, element, Part, absent, present, case, default, label, Statement, empty, express, block, ifThen, ifElse, while, doWhile, for, switch, break, continue, goto, Items, none, _then_, _here_, _⧺_}
 use Rattle.language.specs.WellFormed.{NamedExpression, NamedPlace, NamedPart, NamedStatement, NamedItems}
-use Rattle.translation.specs.Translate.{Atom, number, top, taken, placeTaken, atomOf, atom, copyCode, kernelPlace, updateCode, postfixCode, expressionCode, indexCode, partCode, orEmpty, testCode, loopCode, caseTests, labels, Exits, exits, statementCode, itemsCode, expressionLevels, indexLevels, updateLevels, partLevels, statementLevels, itemsLevels}
+use Rattle.language.specs.Writes.{writes, indexWrites}
+use Rattle.translation.specs.HeldCode.{holdCode, held-either}
+use Rattle.translation.specs.TranslateBounds.{taken-most}
+use Rattle.translation.specs.Translate.{Atom, number, word, top, held, taken, placeTaken, atomOf, atom, copyCode, moveCode, readCode, kernelPlace, updateCode, postfixCode, expressionCode, indexCode, partCode, orEmpty, testCode, loopCode, caseTests, labels, Exits, exits, statementCode, itemsCode, expressionLevels, indexLevels, updateLevels, partLevels, statementLevels, itemsLevels}
 
 -- An expression whose value is in a temporary has one.
 taken-level : (e : Expression) → taken (atomOf e) ≤ expressionLevels e
@@ -19,7 +24,7 @@ taken-level (and a b) = omega arith
 taken-level (or a b) = omega arith
 taken-level (comma a b) = omega (arith, taken-level b)
 taken-level (conditional c a b) = omega arith
-taken-level (assign p e) = omega (arith, taken-level e)
+taken-level (assign p e) = omega arith
 taken-level (compound operator p e) = omega arith
 taken-level (prefix operator p) = omega arith
 taken-level (postfix operator p) = omega arith
@@ -32,28 +37,77 @@ module _ (Names : ℕ → Type 0) (arrays : ℕ) where
   named-append (m here xs) ys h k = named-append xs ys h k
 
   module _ (S T : ℕ) (temporary-named : (t : ℕ) → t < T → Names (S + t)) where
-    -- an atom at level t, where its temporary is one of T
-    named-atom : (t : ℕ) (h : Atom) → t + taken h ≤ T → NamedExpression Names arrays (atom S t h)
-    unfolding NamedExpression
-    named-atom t (number v) h = tt
-    named-atom t top h = temporary-named t (omega arith)
+    -- the variable that an atom names
+    abbrev NamedAtom : Atom → Type 0
+    NamedAtom (number v) = Unit {0}
+    NamedAtom (word i) = Names i
+    NamedAtom top = Unit {0}
 
-    named-copy : (t : ℕ) (h : Atom) → t < T → NamedItems Names arrays (copyCode S t h)
+    mutual
+      unfolding NamedExpression atomOf
+
+      atom-named : (e : Expression) → NamedExpression Names arrays e → NamedAtom (atomOf e)
+      atom-named (constant v) h = tt
+      atom-named (read p) h = read-named p h
+      atom-named (minus e) h = tt
+      atom-named (not e) h = tt
+      atom-named (binary operator a b) h = tt
+      atom-named (and a b) h = tt
+      atom-named (or a b) h = tt
+      atom-named (comma a b) h = atom-named b (h .1)
+      atom-named (conditional c a b) h = tt
+      atom-named (assign p e) h = held-either NamedAtom (atomOf e) (indexWrites p) (atom-named e (h .1)) tt
+      atom-named (compound operator p e) h = tt
+      atom-named (prefix operator p) h = tt
+      atom-named (postfix operator p) h = tt
+
+      read-named : (p : Place) → NamedPlace Names arrays p → NamedAtom (atomOf (read p))
+      read-named (variable i) h = h
+      read-named (element array e) h = tt
+
+    held-named : (e : Expression) (W : ℕ → Bool) → NamedExpression Names arrays e → NamedAtom (held (atomOf e) W)
+    held-named e W h = held-either NamedAtom (atomOf e) W (atom-named e h) tt
+
+    -- an atom at level t, where its temporary is one of T
+    named-atom : (t : ℕ) (h : Atom) → NamedAtom h → t + taken h ≤ T → NamedExpression Names arrays (atom S t h)
+    unfolding NamedExpression
+    named-atom t (number v) k h = tt
+    named-atom t (word i) k h = k
+    named-atom t top k h = temporary-named t (omega arith)
+
+    named-copy : (t : ℕ) (h : Atom) → NamedAtom h → t < T → NamedItems Names arrays (copyCode S t h)
     unfolding NamedExpression NamedItems
-    named-copy t (number v) h = ((temporary-named t h, tt), tt)
-    named-copy t top h = tt
+    named-copy t (number v) k h = ((temporary-named t h, tt), tt)
+    named-copy t (word i) k h = ((temporary-named t h, k), tt)
+    named-copy t top k h = tt
+
+    -- a copy is made only into a temporary that is taken
+    named-hold : (t : ℕ) (h : Atom) (W : ℕ → Bool) → NamedAtom h → t + taken (held h W) ≤ T → NamedItems Names arrays (holdCode S t h W)
+    unfolding NamedExpression NamedItems
+    named-hold t (number v) W k h = tt
+    named-hold t (word i) W k h = by (W i) h
+      where
+        by : (b : Bool) → t + taken (pick b top (word i)) ≤ T → NamedItems Names arrays (moveCode S t (word i) (pick b top (word i)))
+        by true n = ((temporary-named t (omega arith), k), tt)
+        by false n = tt
+    named-hold t top W k h = tt
+
+    named-read : (p : Place) (t : ℕ) → NamedPlace Names arrays p → t + expressionLevels (read p) ≤ T → NamedItems Names arrays (readCode S p t)
+    unfolding NamedExpression NamedItems expressionLevels atomOf
+    named-read (variable i) t h n = tt
+    named-read (element array e) t h n = ((temporary-named t (omega arith), (h .0, named-atom t (atomOf e) (atom-named e (h .1)) (omega (arith, taken-level e)))), tt)
 
     named-place : (p : Place) (t : ℕ) → NamedPlace Names arrays p → t + indexLevels p ≤ T → NamedPlace Names arrays (kernelPlace S p t)
     unfolding NamedExpression kernelPlace expressionLevels
     named-place (variable i) t h n = h
-    named-place (element array e) t h n = (h .0, named-atom t (atomOf e) (omega (arith, taken-level e)))
+    named-place (element array e) t h n = (h .0, named-atom t (atomOf e) (atom-named e (h .1)) (omega (arith, taken-level e)))
 
     named-update : (operator : Operator) (p : Place) (x : Expression) (t : ℕ) → NamedPlace Names arrays p → NamedExpression Names arrays x → t + (1 + updateLevels p) ≤ T
         → NamedItems Names arrays (updateCode S operator (kernelPlace S p (t + 1)) x t (t + 1 + placeTaken p))
     unfolding NamedExpression NamedItems kernelPlace placeTaken expressionLevels
     named-update operator (variable i) x t h k n = ((temporary-named t (omega arith), (h, k)), ((h, temporary-named t (omega arith)), tt))
     named-update operator (element array e) x t h k n =
-        let index : NamedPlace Names arrays (element array (atom S (t + 1) (atomOf e))) = (h .0, named-atom (t + 1) (atomOf e) (omega arith)) in
+        let index : NamedPlace Names arrays (element array (atom S (t + 1) (atomOf e))) = (h .0, named-atom (t + 1) (atomOf e) (atom-named e (h .1)) (omega arith)) in
         let above : Names (S + (t + 1 + taken (atomOf e))) = temporary-named (t + 1 + taken (atomOf e)) (omega arith) in
         ((above, index), ((temporary-named t (omega arith), (above, k)), ((index, temporary-named t (omega arith)), tt)))
 
@@ -62,7 +116,7 @@ module _ (Names : ℕ → Type 0) (arrays : ℕ) where
     unfolding NamedExpression NamedItems kernelPlace placeTaken expressionLevels
     named-postfix operator (variable i) t h n = ((temporary-named t (omega arith), h), ((h, (temporary-named t (omega arith), tt)), tt))
     named-postfix operator (element array e) t h n =
-        let index : NamedPlace Names arrays (element array (atom S (t + 1) (atomOf e))) = (h .0, named-atom (t + 1) (atomOf e) (omega arith)) in
+        let index : NamedPlace Names arrays (element array (atom S (t + 1) (atomOf e))) = (h .0, named-atom (t + 1) (atomOf e) (atom-named e (h .1)) (omega arith)) in
         let above : Names (S + (t + 1 + taken (atomOf e))) = temporary-named (t + 1 + taken (atomOf e)) (omega arith) in
         ((temporary-named t (omega arith), index), ((above, (temporary-named t (omega arith), tt)), ((index, above), tt)))
 
@@ -76,40 +130,49 @@ module _ (Names : ℕ → Type 0) (arrays : ℕ) where
 
       named-expression : (e : Expression) (t : ℕ) → NamedExpression Names arrays e → t + expressionLevels e ≤ T → NamedItems Names arrays (expressionCode S e t)
       named-expression (constant v) t h n = tt
-      named-expression (read p) t h n = named-append (indexCode S p t) _ (named-index p t h (omega arith)) ((temporary-named t (omega arith), named-place p t h (omega arith)), tt)
-      named-expression (minus e) t h n = named-append (expressionCode S e t) _ (named-expression e t h (omega arith)) ((temporary-named t (omega arith), named-atom t (atomOf e) (omega (arith, taken-level e))), tt)
-      named-expression (not e) t h n = named-append (expressionCode S e t) _ (named-expression e t h (omega arith)) ((temporary-named t (omega arith), (named-atom t (atomOf e) (omega (arith, taken-level e)), tt)), tt)
-      named-expression (binary operator a b) t h n = named-append (expressionCode S b t) _ (named-expression b t (h .1) (omega arith)) (named-append (expressionCode S a (t + taken (atomOf b))) _ (named-expression a (t + taken (atomOf b)) (h .0) (omega arith))
-          ((temporary-named t (omega arith), (named-atom (t + taken (atomOf b)) (atomOf a) (omega (arith, taken-level a)), named-atom t (atomOf b) (omega (arith, taken-level b)))), tt))
+      named-expression (read p) t h n = named-append (indexCode S p t) _ (named-index p t h (omega arith)) (named-read p t h n)
+      named-expression (minus e) t h n = named-append (expressionCode S e t) _ (named-expression e t h (omega arith)) ((temporary-named t (omega arith), named-atom t (atomOf e) (atom-named e h) (omega (arith, taken-level e))), tt)
+      named-expression (not e) t h n = named-append (expressionCode S e t) _ (named-expression e t h (omega arith)) ((temporary-named t (omega arith), (named-atom t (atomOf e) (atom-named e h) (omega (arith, taken-level e)), tt)), tt)
+      named-expression (binary operator a b) t h n =
+          let right = held (atomOf b) (writes a) in
+          named-append (expressionCode S b t) _ (named-expression b t (h .1) (omega arith)) (named-append (holdCode S t (atomOf b) (writes a)) _ (named-hold t (atomOf b) (writes a) (atom-named b (h .1)) (omega arith))
+          (named-append (expressionCode S a (t + taken right)) _ (named-expression a (t + taken right) (h .0) (omega arith))
+          ((temporary-named t (omega arith), (named-atom (t + taken right) (atomOf a) (atom-named a (h .0)) (omega (arith, taken-level a)), named-atom t right (held-named b (writes a) (h .1)) (omega arith))), tt)))
       named-expression (and a b) t h n = named-append (expressionCode S a t) _ (named-expression a t (h .0) (omega arith)) (
         (
-          named-atom t (atomOf a) (omega (arith, taken-level a)),
-          named-append (expressionCode S b t) _ (named-expression b t (h .1) (omega arith)) ((temporary-named t (omega arith), (named-atom t (atomOf b) (omega (arith, taken-level b)), tt)), tt),
+          named-atom t (atomOf a) (atom-named a (h .0)) (omega (arith, taken-level a)),
+          named-append (expressionCode S b t) _ (named-expression b t (h .1) (omega arith)) ((temporary-named t (omega arith), (named-atom t (atomOf b) (atom-named b (h .1)) (omega (arith, taken-level b)), tt)), tt),
           ((temporary-named t (omega arith), tt), tt),
         ),
         tt,
       )
       named-expression (or a b) t h n = named-append (expressionCode S a t) _ (named-expression a t (h .0) (omega arith)) (
         (
-          named-atom t (atomOf a) (omega (arith, taken-level a)),
+          named-atom t (atomOf a) (atom-named a (h .0)) (omega (arith, taken-level a)),
           ((temporary-named t (omega arith), tt), tt),
-          named-append (expressionCode S b t) _ (named-expression b t (h .1) (omega arith)) ((temporary-named t (omega arith), (named-atom t (atomOf b) (omega (arith, taken-level b)), tt)), tt),
+          named-append (expressionCode S b t) _ (named-expression b t (h .1) (omega arith)) ((temporary-named t (omega arith), (named-atom t (atomOf b) (atom-named b (h .1)) (omega (arith, taken-level b)), tt)), tt),
         ),
         tt,
       )
       named-expression (comma a b) t h n = named-append (expressionCode S a t) _ (named-expression a t (h .0) (omega arith)) (named-expression b t (h .1) (omega arith))
       named-expression (conditional c a b) t h n = named-append (expressionCode S c t) _ (named-expression c t (h .0) (omega arith)) (
         (
-          named-atom t (atomOf c) (omega (arith, taken-level c)),
-          named-append (expressionCode S a t) _ (named-expression a t (h .1) (omega arith)) (named-copy t (atomOf a) (omega arith)),
-          named-append (expressionCode S b t) _ (named-expression b t (h .2) (omega arith)) (named-copy t (atomOf b) (omega arith)),
+          named-atom t (atomOf c) (atom-named c (h .0)) (omega (arith, taken-level c)),
+          named-append (expressionCode S a t) _ (named-expression a t (h .1) (omega arith)) (named-copy t (atomOf a) (atom-named a (h .1)) (omega arith)),
+          named-append (expressionCode S b t) _ (named-expression b t (h .2) (omega arith)) (named-copy t (atomOf b) (atom-named b (h .2)) (omega arith)),
         ),
         tt,
       )
-      named-expression (assign p e) t h n = named-append (expressionCode S e t) _ (named-expression e t (h .1) (omega arith)) (named-append (indexCode S p (t + taken (atomOf e))) _ (named-index p (t + taken (atomOf e)) (h .0) (omega arith))
-          ((named-place p (t + taken (atomOf e)) (h .0) (omega arith), named-atom t (atomOf e) (omega (arith, taken-level e))), tt))
-      named-expression (compound operator p e) t h n = named-append (expressionCode S e t) _ (named-expression e t (h .1) (omega arith)) (named-append (indexCode S p (t + 1)) _ (named-index p (t + 1) (h .0) (index-most p t (omega arith)))
-          (named-update operator p (atom S t (atomOf e)) t (h .0) (named-atom t (atomOf e) (omega (arith, taken-level e))) (omega arith)))
+      named-expression (assign p e) t h n =
+          let value = held (atomOf e) (indexWrites p) in
+          named-append (expressionCode S e t) _ (named-expression e t (h .1) (omega arith)) (named-append (holdCode S t (atomOf e) (indexWrites p)) _ (named-hold t (atomOf e) (indexWrites p) (atom-named e (h .1)) (omega arith))
+          (named-append (indexCode S p (t + taken value)) _ (named-index p (t + taken value) (h .0) (omega arith))
+          ((named-place p (t + taken value) (h .0) (omega arith), named-atom t value (held-named e (indexWrites p) (h .1)) (omega arith)), tt)))
+      named-expression (compound operator p e) t h n =
+          let value = held (atomOf e) (indexWrites p) in
+          named-append (expressionCode S e t) _ (named-expression e t (h .1) (omega arith)) (named-append (holdCode S t (atomOf e) (indexWrites p)) _ (named-hold t (atomOf e) (indexWrites p) (atom-named e (h .1)) (omega (arith, taken-most value)))
+          (named-append (indexCode S p (t + 1)) _ (named-index p (t + 1) (h .0) (index-most p t (omega arith)))
+          (named-update operator p (atom S t value) t (h .0) (named-atom t value (held-named e (indexWrites p) (h .1)) (omega (arith, taken-most value))) (omega arith))))
       named-expression (prefix operator p) t h n = named-append (indexCode S p (t + 1)) _ (named-index p (t + 1) h (index-most p t n)) (named-update operator p _ t h tt n)
       named-expression (postfix operator p) t h n = named-append (indexCode S p (t + 1)) _ (named-index p (t + 1) h (index-most p t n)) (named-postfix operator p t h n)
 
@@ -131,15 +194,15 @@ module _ (Names : ℕ → Type 0) (arrays : ℕ) where
     named-test : (p : Part) (l : ℕ) (xs : Items) → NamedPart Names arrays p → partLevels p ≤ T → NamedItems Names arrays xs → NamedItems Names arrays (testCode S p l xs)
     unfolding NamedItems
     named-test absent l xs h n k = k
-    named-test (present e) l xs h n k = named-append (expressionCode S e 0) _ (named-expression e 0 h (omega arith)) ((named-atom 0 (atomOf e) (omega (arith, taken-level e)), tt, (tt, tt)), k)
+    named-test (present e) l xs h n k = named-append (expressionCode S e 0) _ (named-expression e 0 h (omega arith)) ((named-atom 0 (atomOf e) (atom-named e h) (omega (arith, taken-level e)), tt, (tt, tt)), k)
 
-    named-cases : (h : Atom) (is : Items) (l : ℕ) → taken h < T → NamedItems Names arrays (caseTests S (atom S 0 h) (taken h) is l)
+    named-cases : (h : Atom) (is : Items) (l : ℕ) → NamedAtom h → taken h < T → NamedItems Names arrays (caseTests S (atom S 0 h) (taken h) is l)
     unfolding NamedExpression NamedItems caseTests
-    named-cases h none l n = tt
-    named-cases h (s then is) l n = named-cases h is (l + labels s) n
-    named-cases h (case v here is) l n = ((temporary-named (taken h) n, (named-atom 0 h (omega arith), tt)), ((temporary-named (taken h) n, (tt, tt), tt), named-cases h is (l + 1) n))
-    named-cases h (default here is) l n = named-cases h is (l + 1) n
-    named-cases h (label k here is) l n = named-cases h is (l + 1) n
+    named-cases h none l k n = tt
+    named-cases h (s then is) l k n = named-cases h is (l + labels s) k n
+    named-cases h (case v here is) l k n = ((temporary-named (taken h) n, (named-atom 0 h k (omega arith), tt)), ((temporary-named (taken h) n, (tt, tt), tt), named-cases h is (l + 1) k n))
+    named-cases h (default here is) l k n = named-cases h is (l + 1) k n
+    named-cases h (label j here is) l k n = named-cases h is (l + 1) k n
 
     -- the rounds of while and for, and those of do, around the code of the body
     named-rounds : (test action : Part) (l : ℕ) (body : Items) → NamedPart Names arrays test → partLevels test ≤ T → NamedPart Names arrays action → partLevels action ≤ T → NamedItems Names arrays body
@@ -159,15 +222,15 @@ module _ (Names : ℕ → Type 0) (arrays : ℕ) where
       named-statement empty x l h n = (tt, tt)
       named-statement (express e) x l h n = named-empty (expressionCode S e 0) (named-expression e 0 h (omega arith))
       named-statement (block is) x l h n = (named-items is x l h n, tt)
-      named-statement (ifThen e onTrue) x l h n = named-append (expressionCode S e 0) _ (named-expression e 0 (h .0) (omega arith)) ((named-atom 0 (atomOf e) (omega (arith, taken-level e)), named-statement onTrue x l (h .1) (omega arith), tt), tt)
+      named-statement (ifThen e onTrue) x l h n = named-append (expressionCode S e 0) _ (named-expression e 0 (h .0) (omega arith)) ((named-atom 0 (atomOf e) (atom-named e (h .0)) (omega (arith, taken-level e)), named-statement onTrue x l (h .1) (omega arith), tt), tt)
       named-statement (ifElse e onTrue onFalse) x l h n = named-append (expressionCode S e 0) _ (named-expression e 0 (h .0) (omega arith))
-          ((named-atom 0 (atomOf e) (omega (arith, taken-level e)), named-statement onTrue x l (h .1) (omega arith), named-statement onFalse x (l + labels onTrue) (h .2) (omega arith)), tt)
+          ((named-atom 0 (atomOf e) (atom-named e (h .0)) (omega (arith, taken-level e)), named-statement onTrue x l (h .1) (omega arith), named-statement onFalse x (l + labels onTrue) (h .2) (omega arith)), tt)
       named-statement (while e body) x l h n = named-rounds (present e) absent l (statementCode S body (exits l (l + 1)) (l + 2)) (h .0) (omega arith) tt (omega arith) (named-statement body _ _ (h .1) (omega arith))
       named-statement (doWhile body e) x l h n = named-do e l (statementCode S body (exits l (l + 1)) (l + 2)) (h .1) (omega arith) (named-statement body _ _ (h .0) (omega arith))
       named-statement (for first test action body) x l h n = named-append (partCode S first) _ (named-part first (h .0) (omega arith))
           (named-rounds test action l (statementCode S body (exits l (l + 1)) (l + 2)) (h .1) (omega arith) (h .2) (omega arith) (named-statement body _ _ (h .3) (omega arith)))
       named-statement (switch e is) x l h n = named-append (expressionCode S e 0) _ (named-expression e 0 (h .0) (omega arith))
-          (named-append (caseTests S (atom S 0 (atomOf e)) (taken (atomOf e)) is (l + 1)) _ (named-cases (atomOf e) is (l + 1) (omega arith))
+          (named-append (caseTests S (atom S 0 (atomOf e)) (taken (atomOf e)) is (l + 1)) _ (named-cases (atomOf e) is (l + 1) (atom-named e (h .0)) (omega arith))
           (tt, named-append (itemsCode S is (exits l (x .onContinue)) (l + 1)) _ (named-items is _ _ (h .1) (omega arith)) tt))
       named-statement break x l h n = (tt, tt)
       named-statement continue x l h n = (tt, tt)

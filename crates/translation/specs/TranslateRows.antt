@@ -1,16 +1,20 @@
 -- The rows of a translation's code are those that TranslateSize counts. By induction on the tree: `simp` takes the code apart, `omega`
 -- adds up.
 use mathlib.Core.Path.{_≡_, refl, ap}
-use Prim.Native.Nat.{ℕ, _+_, _*_, max}
+use mathlib.Core.Bool.{Bool, true, false}
+use Prim.Native.Nat.{ℕ, _+_, _*_, _-_, max}
 use native.Mathlib.Omega.{arith}
 use lib.IntN.{pos}
+use Rattle.words.specs.Word.{pick}
 use Rattle.words.specs.Layout.{Layout, storeSize}
 use Rattle.words.specs.declared.Operator.{Operator}
 use Rattle.language.specs.Trees.{Expression, constant, read, minus, not, binary, and, or, comma, conditional, assign, compound, prefix, postfix, Place, variable, element, Part, absent, present, case, default, label, Statement, empty, express, block, ifThen, ifElse, while, doWhile, for, switch, break, continue, goto, Items, none, _then_, _here_, _⧺_}
 use Rattle.language.specs.Sizes.{expressionRows, placeRows, statementRows, itemsRows}
 use Rattle.language.specs.TreeLaws.{statement-some}
-use Rattle.translation.specs.Translate.{Atom, number, top, atomOf, taken, placeTaken, atom, copyCode, kernelPlace, updateCode, postfixCode, expressionCode, indexCode, partCode, orEmpty, testCode, caseTests, labels, Exits, exits, statementCode, itemsCode, translate}
-use Rattle.translation.specs.TranslateSize.{indexRows, copyRows, expressionSize, indexSize, partSize, testSize, cases, statementSize, itemsSize}
+use Rattle.language.specs.Writes.{writes, indexWrites}
+use Rattle.translation.specs.Translate.{Atom, number, word, top, held, atomOf, taken, placeTaken, atom, copyCode, moveCode, readCode, kernelPlace, updateCode, postfixCode, expressionCode, indexCode, partCode, orEmpty, testCode, caseTests, labels, Exits, exits, statementCode, itemsCode, translate}
+use Rattle.translation.specs.HeldCode.{holdCode}
+use Rattle.translation.specs.TranslateSize.{indexRows, copyRows, holdRows, expressionSize, indexSize, partSize, testSize, cases, statementSize, itemsSize}
 
 pub rows-append : (xs ys : Items) → itemsRows (xs ⧺ ys) ≡ itemsRows xs + itemsRows ys
 unfolding itemsRows _⧺_
@@ -22,12 +26,29 @@ module _ (S : ℕ) where
   pub rows-atom : (t : ℕ) (h : Atom) → expressionRows (atom S t h) ≡ 1
   unfolding expressionRows
   rows-atom t (number v) = refl
+  rows-atom t (word i) = refl
   rows-atom t top = refl
 
   rows-copy : (t : ℕ) (h : Atom) → itemsRows (copyCode S t h) ≡ copyRows h
   unfolding expressionRows itemsRows
   rows-copy t (number v) = refl
+  rows-copy t (word i) = refl
   rows-copy t top = refl
+
+  rows-read : (p : Place) (t : ℕ) → itemsRows (readCode S p t) ≡ 5 * indexRows p
+  unfolding expressionRows itemsRows
+  rows-read (variable i) t = refl
+  rows-read (element array e) t = simp rows-atom
+
+  rows-hold : (t : ℕ) (h : Atom) (W : ℕ → Bool) → itemsRows (holdCode S t h W) ≡ holdRows h W
+  unfolding expressionRows itemsRows
+  rows-hold t (number v) W = refl
+  rows-hold t (word i) W = by (W i)
+    where
+      by : (b : Bool) → itemsRows (moveCode S t (word i) (pick b top (word i))) ≡ 4 * (taken (pick b top (word i)) - 0)
+      by true = refl
+      by false = refl
+  rows-hold t top W = refl
 
   rows-place : (p : Place) (t : ℕ) → placeRows (kernelPlace S p t) ≡ 1 + indexRows p
   unfolding expressionRows kernelPlace
@@ -55,16 +76,16 @@ module _ (S : ℕ) where
 
     pub rows-expression : (e : Expression) (t : ℕ) → itemsRows (expressionCode S e t) ≡ expressionSize e
     rows-expression (constant v) t = refl
-    rows-expression (read p) t = simp (rows-append, rows-place) (omega (arith, rows-index p t))
+    rows-expression (read p) t = simp (rows-append, rows-read) (omega (arith, rows-index p t))
     rows-expression (minus e) t = simp (rows-append, rows-atom) (omega (arith, rows-expression e t))
     rows-expression (not e) t = simp (rows-append, rows-atom) (omega (arith, rows-expression e t))
-    rows-expression (binary operator a b) t = simp (rows-append, rows-atom) (omega (arith, rows-expression b t, rows-expression a (t + taken (atomOf b))))
+    rows-expression (binary operator a b) t = simp (rows-append, rows-atom, rows-hold) (omega (arith, rows-expression b t, rows-expression a (t + taken (held (atomOf b) (writes a)))))
     rows-expression (and a b) t = simp (rows-append, rows-atom) (omega (arith, rows-expression a t, rows-expression b t))
     rows-expression (or a b) t = simp (rows-append, rows-atom) (omega (arith, rows-expression a t, rows-expression b t))
     rows-expression (comma a b) t = simp rows-append (omega (arith, rows-expression a t, rows-expression b t))
     rows-expression (conditional c a b) t = simp (rows-append, rows-atom, rows-copy) (omega (arith, rows-expression c t, rows-expression a t, rows-expression b t))
-    rows-expression (assign p e) t = simp (rows-append, rows-atom, rows-place) (omega (arith, rows-expression e t, rows-index p (t + taken (atomOf e))))
-    rows-expression (compound operator p e) t = simp rows-append (omega (arith, rows-expression e t, rows-index p (t + 1), rows-update operator p (atomOf e) t (t + 1) (t + 1 + placeTaken p)))
+    rows-expression (assign p e) t = simp (rows-append, rows-atom, rows-place, rows-hold) (omega (arith, rows-expression e t, rows-index p (t + taken (held (atomOf e) (indexWrites p)))))
+    rows-expression (compound operator p e) t = simp (rows-append, rows-hold) (omega (arith, rows-expression e t, rows-index p (t + 1), rows-update operator p (held (atomOf e) (indexWrites p)) t (t + 1) (t + 1 + placeTaken p)))
     rows-expression (prefix operator p) t = simp rows-append (omega (arith, rows-index p (t + 1), rows-update operator p (number (pos 1)) t (t + 1) (t + 1 + placeTaken p)))
     rows-expression (postfix operator p) t = simp rows-append (omega (arith, rows-index p (t + 1), rows-postfix operator p t (t + 1) (t + 1 + placeTaken p)))
 

@@ -1,7 +1,9 @@
 -- Sizes: the kernel rows that come of a source tree, a clause a kind.
-use Prim.Native.Nat.{ℕ, _+_, _*_, max}
+use mathlib.Core.Bool.{Bool}
+use Prim.Native.Nat.{ℕ, _+_, _*_, _-_, max}
 use Rattle.language.specs.Trees.{Expression, constant, read, minus, not, binary, and, or, comma, conditional, assign, compound, prefix, postfix, Place, variable, element, Part, absent, present, case, default, label, Statement, empty, express, block, ifThen, ifElse, while, doWhile, for, switch, break, continue, goto, Items, none, _then_, _here_}
-use Rattle.translation.specs.Translate.{Atom, number, top, atomOf}
+use Rattle.language.specs.Writes.{writes, indexWrites}
+use Rattle.translation.specs.Translate.{Atom, number, word, top, held, atomOf, taken}
 
 -- The rows below a kernel place's own: its index.
 abbrev pub indexRows : Place → ℕ
@@ -11,21 +13,29 @@ indexRows (element array e) = 1
 -- The rows that copy an atom's value into its temporary.
 abbrev pub copyRows : Atom → ℕ
 copyRows (number v) = 4
+copyRows (word i) = 4
 copyRows top = 0
+
+-- 1 where a waiting value is copied: it takes a temporary, and did not before. And the rows of the copy.
+abbrev pub copied : Atom → (ℕ → Bool) → ℕ
+copied h W = taken (held h W) - taken h
+
+abbrev pub holdRows : Atom → (ℕ → Bool) → ℕ
+holdRows h W = 4 * copied h W
 
 -- The kernel rows that an expression's own row brings, beyond those of its parts.
 abbrev pub ownRows : Expression → ℕ
 ownRows (constant v) = 0
-ownRows (read p) = 4 + indexRows p
+ownRows (read p) = 5 * indexRows p
 ownRows (minus e) = 5
 ownRows (not e) = 6
-ownRows (binary operator a b) = 6
+ownRows (binary operator a b) = 6 + holdRows (atomOf b) (writes a)
 ownRows (and a b) = 14
 ownRows (or a b) = 14
 ownRows (comma a b) = 0
 ownRows (conditional c a b) = 4 + copyRows (atomOf a) + copyRows (atomOf b)
-ownRows (assign p e) = 4 + indexRows p
-ownRows (compound operator p e) = 10 + 6 * indexRows p
+ownRows (assign p e) = 4 + indexRows p + holdRows (atomOf e) (indexWrites p)
+ownRows (compound operator p e) = 10 + 6 * indexRows p + holdRows (atomOf e) (indexWrites p)
 ownRows (prefix operator p) = 10 + 6 * indexRows p
 ownRows (postfix operator p) = 10 + 6 * indexRows p
 

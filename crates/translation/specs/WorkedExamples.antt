@@ -9,6 +9,7 @@ use Rattle.words.specs.declared.Operator.the-variants.{Add, Subtract, Equal}
 use Rattle.computation.specs.Run.{start, rounds, run, final}
 use Rattle.language.specs.Trees.{Expression, constant, read, binary, assign, compound, postfix, Place, variable, element, case, default, label, Statement, express, block, ifElse, switch, goto, Items, none, _then_, _here_, _⧺_, sameMark}
 use Rattle.language.specs.Meaning.{evaluate, perform, exec}
+use Rattle.language.specs.Writes.{writes}
 use Rattle.translation.specs.Translate.{atomOf, placeTaken, labels, labelOf, kernelPlace, expressionCode, caseTests, statementCode, translate, expressionLevels, statementLevels, temporaries}
 
 -- One variable and one array of 3, so S = 4: temporaries 0 and 1 are variables 4 and 5.
@@ -47,14 +48,32 @@ worked-kernel = refl
 abbrev choice : Items
 choice = switch (read (variable 0)) (default here set (element 0 (constant (pos 0))) (constant (pos 1)) then case (pos 2) here set (element 0 (constant (pos 1))) (constant (pos 1)) then none) then none
 
--- t0 = v0; t1 = t0 == 2; if (t1) { goto L3; } else { } goto L2; L2: a[0] = 1; L3: a[1] = 1; L1:
+-- t0 = v0 == 2; if (t0) { goto L3; } else { } goto L2; L2: a[0] = 1; L3: a[1] = 1; L1:
 pub choice-translation : translate layout choice
-    ≡ set (variable 4) (read (variable 0))
-    then set (variable 5) (binary Equal (read (variable 4)) (constant (pos 2)))
-    then ifElse (read (variable 5)) (block (goto 3 then none)) (block none)
+    ≡ set (variable 4) (binary Equal (read (variable 0)) (constant (pos 2)))
+    then ifElse (read (variable 4)) (block (goto 3 then none)) (block none)
     then goto 2
     then label 2 here set (element 0 (constant (pos 0))) (constant (pos 1))
     then label 3 here set (element 0 (constant (pos 1))) (constant (pos 1))
     then label 1 here none
 unfolding translate statementCode expressionCode caseTests atomOf placeTaken kernelPlace labels labelOf sameMark storeSize sum _⧺_
 choice-translation = refl
+
+-- Two variables: S = 2.
+abbrev pair : Layout
+pair = record { variables = 2; lengths = [] }
+
+abbrev sum-of : Expression → Expression → Items
+sum-of a b = set (variable 1) (binary Add a b) then none
+
+-- v1 = v1 + v0: no copy; t0 = v1 + v0; v1 = t0
+pub plain-operands : translate pair (sum-of (read (variable 1)) (read (variable 0)))
+    ≡ set (variable 2) (binary Add (read (variable 1)) (read (variable 0))) then set (variable 1) (read (variable 2)) then none
+unfolding translate statementCode expressionCode atomOf writes placeTaken kernelPlace labels storeSize sum _⧺_
+plain-operands = refl
+
+-- v1 = (v0 = 5) + v0: the left operand writes v0; t0 = v0; v0 = 5; t0 = 5 + t0; v1 = t0
+pub copied-operand : translate pair (sum-of (assign (variable 0) (constant (pos 5))) (read (variable 0)))
+    ≡ set (variable 2) (read (variable 0)) then set (variable 0) (constant (pos 5)) then set (variable 2) (binary Add (constant (pos 5)) (read (variable 2))) then set (variable 1) (read (variable 2)) then none
+unfolding translate statementCode expressionCode atomOf writes placeTaken kernelPlace labels storeSize sum _⧺_
+copied-operand = refl

@@ -1,18 +1,19 @@
 -- Laws of an accepted source program: what the measures and the writers ask of it, and that its kernel form is as large as row 0
 -- measures.
-use mathlib.Core.Path.{_≡_, sym, ap, _∙_}
+use mathlib.Core.Path.{_≡_, refl, sym, ap, _∙_}
 use mathlib.Core.Bool.{true}
 use mathlib.Core.List.{List}
-use Prim.Native.Nat.{ℕ, _+_, _*_, _≤_}
+use Prim.Native.Nat.{ℕ, _+_, _*_, _≤_, _<_}
 use native.Mathlib.Omega.{arith}
 use lib.IntN.{ℤ}
 use lib.ListN.{length}
-use Rattle.words.specs.Table.{rowCount}
-use Rattle.words.specs.Kinds.{kindAt}
+use Rattle.words.specs.Table.{rowCount, numberAt}
+use Rattle.words.specs.Kinds.{kindAt, expressionFields, kindRow, sortIn}
 use Rattle.words.specs.Layout.{headerFits, layoutOf, storeSize, storeWords}
 use Rattle.words.specs.Laws.{headerFits-facts, countFits-facts}
 use Rattle.words.specs.declared.Form.the-variants.{Source as SourceForm}
-use Rattle.words.specs.declared.Kind.the-variants.{OfStatement}
+use Rattle.words.specs.declared.Kind.the-variants.{OfExpression, OfStatement}
+use Rattle.words.specs.declared.ExpressionKind.the-variants.{Variable}
 use Rattle.words.specs.declared.StatementKind.the-variants.{Block}
 use Rattle.words.specs.declared.Verdict.the-variants.{Accepted}
 use Rattle.language.specs.Trees.{block}
@@ -26,9 +27,11 @@ use Rattle.emission.specs.EmissionLaws.{length-emit}
 use Rattle.source_check.specs.Refusal.{refusal as sourceRefusal}
 use Rattle.source_check.specs.Legal.{Legal}
 use Rattle.source_check.specs.AcceptsLegal.{accepts-legal}
+use Rattle.accepted.specs.Fields.{names-variable}
+use Rattle.accepted.specs.Names.{source-variable}
 use Rattle.accepted.specs.Source.{legal-sound, legal-rows}
 use Rattle.accepted.specs.Statements.{root-kind}
-use Rattle.shapes.specs.Source.{Source}
+use Rattle.shapes.specs.Source.{mostVariables, Source}
 use Rattle.measures.specs.Measures.{statementRowsSlot, statementLevelsSlot, slot, Measured}
 use Rattle.writers.specs.Program.{ProgramAsks, kernelProgram}
 use Rattle.writers.specs.WholeProgram.{is-translation, program-rows, program-levels}
@@ -45,6 +48,13 @@ module _ (header rows : List ℤ) (accepted : sourceRefusal header rows ≡ Acce
   few-rows : rowCount rows ≤ 2048
   few-rows = omega (arith, countFits-facts SourceForm (length rows) (legal .structured .count-fits) .most)
 
+  -- "Numbers V to S−1 name nothing", and a source has no temporaries.
+  few-variables : (row : ℕ) → row < rowCount rows → kindAt rows row ≡ OfExpression Variable → numberAt rows row 1 < mostVariables
+  unfolding sortIn kindRow expressionFields
+  few-variables row inside k =
+      let h = headerFits-facts SourceForm header accepted-header in
+      omega (arith, source-variable header (numberAt rows row 1) (names-variable SourceForm _ rows (legal .structured) row inside k 1 refl), h .few-variables)
+
   -- What the measures ask.
   pub accepted-source : Source rows
   unfolding storeWords
@@ -55,7 +65,7 @@ module _ (header rows : List ℤ) (accepted : sourceRefusal header rows ≡ Acce
         words = storeWords SourceForm header;
         sound = legal-sound header rows legal;
         few-rows = few-rows;
-        few-words = omega (arith, h .small-store);
+        few-variables = few-variables;
         few-arrays = h .few-arrays;
       }
 

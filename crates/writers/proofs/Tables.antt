@@ -10,7 +10,7 @@ use Rattle.language.specs.Decode.{statementAt, listAt}
 use Rattle.translation.specs.Translate.{labels, itemsLabels, labelOf}
 use Rattle.translation.specs.TranslateSize.{statementSize, itemsSize, cases}
 use Rattle.shapes.specs.Shapes.{OptionalOnward}
-use Rattle.measures.specs.Measures.{pastLabels, defaultPlace, statementRowsSlot, statementLabelsSlot, listRowsSlot, listCasesSlot, listDefaultSlot, slot, slotAt, SlotAsks, Measured, MeasuredFrom}
+use Rattle.measures.specs.Measures.{width, pastLabels, defaultPlace, statementRowsSlot, statementLabelsSlot, listRowsSlot, listCasesSlot, listDefaultSlot, slot, slotAt, SlotAsks, Measured, MeasuredFrom}
 use Rattle.measures.specs.MeasureLaws.{limited-small, list-rows, list-cases, list-default, slot-asks}
 
 -- ---- the label of a list's default, from its place
@@ -62,7 +62,7 @@ module _ (rows : List ℤ) (table : List ℕ) (measured : Measured rows table) w
   as-link link inside h = record { later = h; inside = inside }
 
   -- What the function that reads a word of a link's row asks.
-  pub word-asks : (link k : ℕ) → link < rowCount rows → k < 11 → SlotAsks table link k
+  pub word-asks : (link k : ℕ) → link < rowCount rows → k < width → SlotAsks table link k
   word-asks link k inside h = slot-asks later-measured (as-link link inside) k h
 
   pub statement-rows : (row : ℕ) → row < rowCount rows → statementSize (statementAt rows row) ≤ 40980 → slot table row statementRowsSlot ≡ statementSize (statementAt rows row)

@@ -7,6 +7,10 @@ use Rattle.expression_writers.proofs.Choices.{RowAsked, level-small, st
 use borrow.Author.Needs.{needs}
 use Rattle.expression_writers.proofs.branches.choice_at.Statement.{statement}
 use Rattle.expression_writers.proofs.branches.choice_at.Tie as tie
+use Rattle.expression_writers.proofs.branches.end_at.Reads as end-at-reads
+use Rattle.expression_writers.proofs.branches.number_branch.Reads as number-branch-reads
+use Rattle.leaves.proofs.atoms.atom_at.Reads as atom-at-reads
+use Rattle.shapes.proofs.rows.expression_at.Reads as expression-at-reads
 
 at-start : (c : tie.Start) →
     let args = c .args in
@@ -33,16 +37,14 @@ enum-known-choice c = search needs
 
 atom-at-requires : tie.Need-atom-at-requires
 atom-at-requires c κs =
-    let known = c .before in
-    let asked = at-start (known .before .before .before .before .before .before .before) in
-    let shape = expressed (expressed (known .before .before .before .before .before .expression-at .ensures) (known .before .before .before .shape .given .1)) (ap expression.Choice (known .choice .given .1)) in
+    let asked = at-start (c .before .before .before .before .before .before .before .before) in
+    let shape = expressed (expressed (c .before .before .before .before .before .before .expression-at .ensures) (c .before .before .before .before .shape .given .1)) (ap expression.Choice (c .before .choice .given .1)) in
     (asked .writing, shape .onward .0 .inside, omega (arith, level-small asked))
 
 atom-at-requires-2 : tie.Need-atom-at-requires-2
 atom-at-requires-2 c κs =
-    let known = c .before .before in
-    let asked = at-start (known .before .before .before .before .before .before .before) in
-    let shape = expressed (expressed (known .before .before .before .before .before .expression-at .ensures) (known .before .before .before .shape .given .1)) (ap expression.Choice (known .choice .given .1)) in
+    let asked = at-start (c .before .before .before .before .before .before .before .before .before) in
+    let shape = expressed (expressed (c .before .before .before .before .before .before .before .expression-at .ensures) (c .before .before .before .before .before .shape .given .1)) (ap expression.Choice (c .before .before .choice .given .1)) in
     (asked .writing, shape .onward .1 .inside, omega (arith, level-small asked))
 
 number-branch-requires : tie.Need-number-branch-requires
@@ -53,16 +55,14 @@ enum-known-choice-2 c = search needs
 
 atom-at-requires-3 : tie.Need-atom-at-requires-3
 atom-at-requires-3 c κs =
-    let known = c .before in
-    let asked = at-start (known .before .before .before .before .before .before .before) in
-    let shape = expressed (expressed (known .before .before .before .before .before .expression-at .ensures) (known .before .before .before .shape .given .1)) (ap expression.Choice (known .choice2 .given .1)) in
+    let asked = at-start (c .before .before .before .before .before .before .before .before) in
+    let shape = expressed (expressed (c .before .before .before .before .before .before .expression-at .ensures) (c .before .before .before .before .shape .given .1)) (ap expression.Choice (c .before .choice2 .given .1)) in
     (asked .writing, shape .onward .0 .inside, omega (arith, level-small asked))
 
 atom-at-requires-4 : tie.Need-atom-at-requires-4
 atom-at-requires-4 c κs =
-    let known = c .before .before in
-    let asked = at-start (known .before .before .before .before .before .before .before) in
-    let shape = expressed (expressed (known .before .before .before .before .before .expression-at .ensures) (known .before .before .before .shape .given .1)) (ap expression.Choice (known .choice2 .given .1)) in
+    let asked = at-start (c .before .before .before .before .before .before .before .before .before) in
+    let shape = expressed (expressed (c .before .before .before .before .before .before .before .expression-at .ensures) (c .before .before .before .before .before .shape .given .1)) (ap expression.Choice (c .before .before .choice2 .given .1)) in
     (asked .writing, shape .onward .1 .inside, omega (arith, level-small asked))
 
 number-branch-requires-2 : tie.Need-number-branch-requires-2
@@ -73,23 +73,32 @@ enum-known-choice-3 c = search needs
 
 atom-at-requires-5 : tie.Need-atom-at-requires-5
 atom-at-requires-5 c κs =
-    let known = c .before in
-    let asked = at-start (known .before .before .before .before .before .before .before) in
-    let shape = expressed (expressed (known .before .before .before .before .before .expression-at .ensures) (known .before .before .before .shape .given .1)) (ap expression.Choice (known .choice3 .given .1)) in
+    let asked = at-start (c .before .before .before .before .before .before .before .before) in
+    let shape = expressed (expressed (c .before .before .before .before .before .before .expression-at .ensures) (c .before .before .before .before .shape .given .1)) (ap expression.Choice (c .before .choice3 .given .1)) in
     (asked .writing, shape .onward .0 .inside, omega (arith, level-small asked))
+
+end-at-requires : tie.Need-end-at-requires
+end-at-requires c κs =
+    let asked = at-start (c .before .before .before .before .before .before .before .before .before) in
+    let shape = expressed (expressed (c .before .before .before .before .before .before .before .expression-at .ensures) (c .before .before .before .before .before .shape .given .1)) (ap expression.Choice (c .before .before .choice3 .given .1)) in
+    (asked .writing .measured, shape .onward .1 .inside)
 
 atom-at-requires-6 : tie.Need-atom-at-requires-6
 atom-at-requires-6 c κs =
-    let known = c .before .before in
-    let asked = at-start (known .before .before .before .before .before .before .before) in
-    let shape = expressed (expressed (known .before .before .before .before .before .expression-at .ensures) (known .before .before .before .shape .given .1)) (ap expression.Choice (known .choice3 .given .1)) in
+    let asked = at-start (c .before .before .before .before .before .before .before .before .before .before) in
+    let shape = expressed (expressed (c .before .before .before .before .before .before .before .before .expression-at .ensures) (c .before .before .before .before .before .before .shape .given .1)) (ap expression.Choice (c .before .before .before .choice3 .given .1)) in
     (asked .writing, shape .onward .1 .inside, omega (arith, level-small asked))
+
+end-at-requires-2 : tie.Need-end-at-requires-2
+end-at-requires-2 c κs =
+    let asked = at-start (c .before .before .before .before .before .before .before .before .before .before .before) in
+    let shape = expressed (expressed (c .before .before .before .before .before .before .before .before .before .expression-at .ensures) (c .before .before .before .before .before .before .before .shape .given .1)) (ap expression.Choice (c .before .before .before .before .choice3 .given .1)) in
+    (asked .writing .measured, shape .onward .2 .inside)
 
 atom-at-requires-7 : tie.Need-atom-at-requires-7
 atom-at-requires-7 c κs =
-    let known = c .before .before .before in
-    let asked = at-start (known .before .before .before .before .before .before .before) in
-    let shape = expressed (expressed (known .before .before .before .before .before .expression-at .ensures) (known .before .before .before .shape .given .1)) (ap expression.Choice (known .choice3 .given .1)) in
+    let asked = at-start (c .before .before .before .before .before .before .before .before .before .before .before .before) in
+    let shape = expressed (expressed (c .before .before .before .before .before .before .before .before .before .before .expression-at .ensures) (c .before .before .before .before .before .before .before .before .shape .given .1)) (ap expression.Choice (c .before .before .before .before .before .choice3 .given .1)) in
     (asked .writing, shape .onward .2 .inside, omega (arith, level-small asked))
 
 returns : tie.Need-returns
@@ -103,24 +112,21 @@ returns-3 c = straight-operation _ _ _ _ (expressed (c .before .before .expressi
 
 returns-4 : tie.Need-returns-4
 returns-4 c =
-    let known = c .before .before .before .before in
-    let asked = at-start (known .before .before .before .before .before .before .before) in
-    let shape = expressed (expressed (known .before .before .before .before .before .expression-at .ensures) (known .before .before .before .shape .given .1)) (ap expression.Choice (known .choice .given .1)) in
+    let asked = at-start (c .before .before .before .before .before .before .before .before .before .before .before) in
+    let shape = expressed (expressed (c .before .before .before .before .before .before .before .before .before .expression-at .ensures) (c .before .before .before .before .before .before .before .shape .given .1)) (ap expression.Choice (c .before .before .before .before .choice .given .1)) in
     and-choice _ _ _ _ asked shape (c .before .before .atom-at .ensures) (c .before .atom-at2 .ensures) (c .number-branch .ensures)
 
 returns-5 : tie.Need-returns-5
 returns-5 c =
-    let known = c .before .before .before .before in
-    let asked = at-start (known .before .before .before .before .before .before .before) in
-    let shape = expressed (expressed (known .before .before .before .before .before .expression-at .ensures) (known .before .before .before .shape .given .1)) (ap expression.Choice (known .choice2 .given .1)) in
+    let asked = at-start (c .before .before .before .before .before .before .before .before .before .before .before) in
+    let shape = expressed (expressed (c .before .before .before .before .before .before .before .before .before .expression-at .ensures) (c .before .before .before .before .before .before .before .shape .given .1)) (ap expression.Choice (c .before .before .before .before .choice2 .given .1)) in
     or-choice _ _ _ _ asked shape (c .before .before .atom-at3 .ensures) (c .before .atom-at4 .ensures) (c .number-branch2 .ensures)
 
 returns-6 : tie.Need-returns-6
 returns-6 c =
-    let known = c .before .before .before .before in
-    let asked = at-start (known .before .before .before .before .before .before .before) in
-    let shape = expressed (expressed (known .before .before .before .before .before .expression-at .ensures) (known .before .before .before .shape .given .1)) (ap expression.Choice (known .choice3 .given .1)) in
-    conditional-choice _ _ _ _ asked shape (c .before .before .atom-at5 .ensures) (c .before .atom-at6 .ensures) (c .atom-at7 .ensures)
+    let asked = at-start (c .before .before .before .before .before .before .before .before .before .before .before .before .before) in
+    let shape = expressed (expressed (c .before .before .before .before .before .before .before .before .before .before .before .expression-at .ensures) (c .before .before .before .before .before .before .before .before .before .shape .given .1)) (ap expression.Choice (c .before .before .before .before .before .before .choice3 .given .1)) in
+    conditional-choice _ _ _ _ asked shape (c .before .before .before .before .atom-at5 .ensures) (c .before .before .before .end-at .ensures) (c .before .before .atom-at6 .ensures) (c .before .end-at2 .ensures) (c .atom-at7 .ensures)
 
 pub choice-at-spec : {M : Type 1} → statement M
 choice-at-spec =
@@ -141,7 +147,9 @@ choice-at-spec =
     number-branch-requires-2
     enum-known-choice-3
     atom-at-requires-5
+    end-at-requires
     atom-at-requires-6
+    end-at-requires-2
     atom-at-requires-7
     returns
     returns-2

@@ -7,9 +7,11 @@ use Rattle.shapes.specs.ShapeLaws.{expressed}
 use Rattle.measures.specs.MeasureLaws.{whole-row}
 use Rattle.leaves.specs.declared.Atom.the-variants.{Constant}
 use Rattle.leaves.specs.AtomLaws.{atom-found}
+use Rattle.shapes.specs.declared.ExpressionShape.the-variants.{Read}
 use borrow.Author.Needs.{needs}
 use Rattle.leaves.proofs.atoms.atom_at.Statement.{statement}
 use Rattle.leaves.proofs.atoms.atom_at.Tie as tie
+use Rattle.shapes.proofs.rows.expression_at.Reads as expression-at-reads
 
 add-expression-at : tie.Need-add-expression-at
 add-expression-at c = search needs
@@ -32,6 +34,12 @@ expression-at-requires c κs = (c .before .before .pre .0 .measured .source, who
 enum-known-shape : tie.Need-enum-known-shape
 enum-known-shape c = search needs
 
+enum-known-shape-2 : tie.Need-enum-known-shape-2
+enum-known-shape-2 c = search needs
+
+enum-known-place : tie.Need-enum-known-place
+enum-known-place c = search needs
+
 enum-told : tie.Need-enum-told
 enum-told c = search needs
 
@@ -45,13 +53,16 @@ returns : tie.Need-returns
 returns c = atom-found _ _ (expressed (c .before .before .before .expression-at .ensures) (c .before .shape .given .1)) (whole-row (c .before .before .before .before .before .before .pre .0 .measured) (c .before .before .before .before .before .before .pre .1) .expression .value-is) (omega (arith, c .before .before .before .before .before .before .pre .0 .small-store, c .before .before .before .before .before .before .pre .2)) (ap Constant (toZ-ofZ {w = w32} (search needs)))
 
 returns-2 : tie.Need-returns-2
-returns-2 c = atom-found _ _ (expressed (c .before .before .expression-at .ensures) (c .enum-told .given .1)) (whole-row (c .before .before .before .before .before .pre .0 .measured) (c .before .before .before .before .before .pre .1) .expression .value-is) (omega (arith, c .before .before .before .before .before .pre .0 .small-store, c .before .before .before .before .before .pre .2)) refl
+returns-2 c = atom-found _ _ (expressed (expressed (c .before .before .before .before .before .before .expression-at .ensures) (c .before .before .before .before .shape2 .given .1)) (ap Read (c .before .place .given .1))) (whole-row (c .before .before .before .before .before .before .before .before .before .pre .0 .measured) (c .before .before .before .before .before .before .before .before .before .pre .1) .expression .value-is) (omega (arith, c .before .before .before .before .before .before .before .before .before .pre .0 .small-store, c .before .before .before .before .before .before .before .before .before .pre .2)) refl
 
 returns-3 : tie.Need-returns-3
-returns-3 c = atom-found _ _ (expressed (c .before .before .expression-at .ensures) (c .enum-told2 .given .1)) (whole-row (c .before .before .before .before .before .pre .0 .measured) (c .before .before .before .before .before .pre .1) .expression .value-is) (omega (arith, c .before .before .before .before .before .pre .0 .small-store, c .before .before .before .before .before .pre .2)) refl
+returns-3 c = atom-found _ _ (expressed (expressed (c .before .before .before .before .before .expression-at .ensures) (c .before .before .before .shape2 .given .1)) (ap Read (c .enum-told .given .1))) (whole-row (c .before .before .before .before .before .before .before .before .pre .0 .measured) (c .before .before .before .before .before .before .before .before .pre .1) .expression .value-is) (omega (arith, c .before .before .before .before .before .before .before .before .pre .0 .small-store, c .before .before .before .before .before .before .before .before .pre .2)) refl
 
 returns-4 : tie.Need-returns-4
-returns-4 c = atom-found _ _ (expressed (c .before .before .expression-at .ensures) (c .enum-told3 .given .1)) (whole-row (c .before .before .before .before .before .pre .0 .measured) (c .before .before .before .before .before .pre .1) .expression .value-is) (omega (arith, c .before .before .before .before .before .pre .0 .small-store, c .before .before .before .before .before .pre .2)) refl
+returns-4 c = atom-found _ _ (expressed (c .before .before .expression-at .ensures) (c .enum-told2 .given .1)) (whole-row (c .before .before .before .before .before .pre .0 .measured) (c .before .before .before .before .before .pre .1) .expression .value-is) (omega (arith, c .before .before .before .before .before .pre .0 .small-store, c .before .before .before .before .before .pre .2)) refl
+
+returns-5 : tie.Need-returns-5
+returns-5 c = atom-found _ _ (expressed (c .before .before .expression-at .ensures) (c .enum-told3 .given .1)) (whole-row (c .before .before .before .before .before .pre .0 .measured) (c .before .before .before .before .before .pre .1) .expression .value-is) (omega (arith, c .before .before .before .before .before .pre .0 .small-store, c .before .before .before .before .before .pre .2)) refl
 
 pub atom-at-spec : {M : Type 1} → statement M
 atom-at-spec =
@@ -64,10 +75,13 @@ atom-at-spec =
     shared-slice-read-expression-at
     expression-at-requires
     enum-known-shape
+    enum-known-shape-2
+    enum-known-place
     enum-told
     enum-told-2
     enum-told-3
     returns
     returns-2
     returns-3
-    returns-4)
+    returns-4
+    returns-5)

@@ -8,42 +8,61 @@ use Rattle.translation.specs.Translate.{atomOf, atom}
 use Rattle.translation.specs.TranslateBounds.{taken-most}
 use Rattle.measures.specs.MeasureLaws.{whole-asks}
 use Rattle.leaves.specs.LeafLaws.{recoded}
+use Rattle.language.specs.Writes.{writes}
+use Rattle.translation.specs.HeldCode.{copied-most}
+use Rattle.leaves.specs.AtomLaws.{held-is, above-held}
 use borrow.Author.Needs.{needs}
 use Rattle.leaves.proofs.straight.put_operator.Statement.{statement}
 use Rattle.leaves.proofs.straight.put_operator.Tie as tie
+use Rattle.leaves.proofs.assignments.put_binary.Reads as put-binary-reads
+use Rattle.leaves.proofs.atoms.atom_at.Reads as atom-at-reads
+use Rattle.leaves.proofs.atoms.held_atom.Reads as held-atom-reads
+use Rattle.measures.proofs.expressions.taken_at.Reads as taken-at-reads
 
-atom-at-requires : tie.Need-atom-at-requires
-atom-at-requires c κs = (c .before .pre .writing, c .before .pre .right-inside, omega (arith, c .before .pre .level-low))
+held-atom-requires : tie.Need-held-atom-requires
+held-atom-requires c κs = search needs
 
 taken-at-requires : tie.Need-taken-at-requires
 taken-at-requires c κs = whole-asks (c .before .before .pre .writing .measured) (c .before .before .pre .right-inside)
 
 add-above : tie.Need-add-above
-add-above c = omega (arith, c .before .before .before .before .pre .level-low, c .before .taken-at .ensures, taken-most (atomOf (expressionAt (c .before .before .before .before .args .rows .now) (c .before .before .before .before .args .right))))
+add-above c = omega (arith, c .before .before .before .before .pre .level-low, c .before .taken-at .ensures, taken-most (atomOf (expressionAt (c .before .before .before .before .args .rows .now) (c .before .before .before .before .args .right))), c .before .before .before .before .pre .copies-are, copied-most (atomOf (expressionAt (c .before .before .before .before .args .rows .now) (c .before .before .before .before .args .right))) (writes (expressionAt (c .before .before .before .before .args .rows .now) (c .before .before .before .before .args .left))))
 
-atom-at-requires-2 : tie.Need-atom-at-requires-2
-atom-at-requires-2 c κs = (c .before .before .before .before .pre .writing, c .before .before .before .before .pre .left-inside, omega (arith, c .before .before .before .before .pre .level-low, c .before .taken-at .ensures, taken-most (atomOf (expressionAt (c .before .before .before .before .args .rows .now) (c .before .before .before .before .args .right)))))
+add-above-2 : tie.Need-add-above-2
+add-above-2 c = omega (arith, c .before .before .before .before .pre .level-low, c .before .taken-at .ensures, taken-most (atomOf (expressionAt (c .before .before .before .before .args .rows .now) (c .before .before .before .before .args .right))), c .before .before .before .before .pre .copies-are, copied-most (atomOf (expressionAt (c .before .before .before .before .args .rows .now) (c .before .before .before .before .args .right))) (writes (expressionAt (c .before .before .before .before .args .rows .now) (c .before .before .before .before .args .left))))
+
+atom-at-requires : tie.Need-atom-at-requires
+atom-at-requires c κs = (c .before .before .before .before .pre .writing, c .before .before .before .before .pre .left-inside, omega (arith, c .before .before .before .before .pre .level-low, c .before .taken-at .ensures, taken-most (atomOf (expressionAt (c .before .before .before .before .args .rows .now) (c .before .before .before .before .args .right))), c .before .before .before .before .pre .copies-are, copied-most (atomOf (expressionAt (c .before .before .before .before .args .rows .now) (c .before .before .before .before .args .right))) (writes (expressionAt (c .before .before .before .before .args .rows .now) (c .before .before .before .before .args .left)))))
 
 add-put-binary : tie.Need-add-put-binary
 add-put-binary c = search needs
 
 put-binary-requires : tie.Need-put-binary-requires
-put-binary-requires c κs = (c .before .before .before .before .before .before .before .pre .room, omega (arith, c .before .before .before .before .before .before .before .pre .level-low, c .before .before .before .before .before .before .before .pre .writing .small-store), c .before .before .atom-at2 .ensures .fits, c .before .before .before .before .before .atom-at .ensures .fits)
+put-binary-requires c κs = search needs
 
 same-length : tie.Need-same-length
 same-length c = search needs
 
 returns : tie.Need-returns
-returns c = recoded _ _ _ _ _ _ (c .before .put-binary .ensures) (ap₂ (λ (x y : Expression). express (assign (variable (c .before .before .before .before .before .before .before .before .before .args .at .store + c .before .before .before .before .before .before .before .before .before .args .at .level)) (binary (c .before .before .before .before .before .before .before .before .before .args .operator) x y)) then none) (c .before .before .before .before .atom-at2 .ensures .is ∙ ap (λ (n : ℕ). atom (c .before .before .before .before .before .before .before .before .before .args .at .store) (c .before .before .before .before .before .before .before .before .before .args .at .level + n) (atomOf (expressionAt (c .before .before .before .before .before .before .before .before .before .args .rows .now) (c .before .before .before .before .before .before .before .before .before .args .left)))) (c .before .before .before .before .before .before .taken-at .ensures)) (c .before .before .before .before .before .before .before .atom-at .ensures .is))
+returns c =
+    let args = c .before .before .before .before .before .before .before .before .before .args in
+    let left = expressionAt (args .rows .now) (args .left) in
+    let right = expressionAt (args .rows .now) (args .right) in
+    let copies = c .before .before .before .before .before .before .before .before .before .pre .copies-are in
+    recoded _ _ _ _ _ _ (c .before .put-binary .ensures)
+    (ap₂ (λ (x y : Expression). express (assign (variable (args .at .store + args .at .level)) (binary (args .operator) x y)) then none)
+    (c .before .before .before .before .atom-at .ensures .is ∙ ap (λ (n : ℕ). atom (args .at .store) n (atomOf left)) (above-held (args .at .level) (atomOf right) (writes left) (c .before .before .before .before .before .before .taken-at .ensures) copies))
+    (held-is (writes left) copies (c .before .before .before .before .before .before .before .held-atom .ensures)))
 
 pub put-operator-spec : {M : Type 1} → statement M
 put-operator-spec =
     tie.close
     (tie.spec
-    atom-at-requires
+    held-atom-requires
     taken-at-requires
     add-above
-    atom-at-requires-2
+    add-above-2
+    atom-at-requires
     add-put-binary
     put-binary-requires
     same-length

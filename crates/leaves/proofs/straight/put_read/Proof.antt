@@ -1,48 +1,65 @@
--- variable := place, by the place.
-use mathlib.Core.Path.{sym, ap, subst}
+-- An element into the temporary of the level; nothing for a variable.
+use mathlib.Core.Path.{sym, ap, subst, _∙_}
+use Prim.Native.Nat.{_+_, _*_}
 use native.Mathlib.Omega.{arith}
-use Rattle.language.specs.Trees.{read, assign, variable, express, none, _then_}
-use Rattle.leaves.specs.Atoms.{placeTree, PlaceFits, indexRows}
+use Rattle.language.specs.Trees.{Expression, read, assign, variable, element, express, none, _then_}
+use Rattle.translation.specs.Translate.{readCode}
+use Rattle.translation.specs.TranslateSize.{indexRows}
+use Rattle.shapes.specs.Shapes.{placeTree}
+use Rattle.shapes.specs.declared.PlaceShape.{PlaceShape}
+use Rattle.leaves.specs.Asks.{PlaceInside}
 use Rattle.leaves.specs.Chain.{room-less}
-use Rattle.leaves.specs.LeafLaws.{recoded}
-use Rattle.leaves.specs.declared.KernelPlace.{KernelPlace}
+use Rattle.leaves.specs.AtomLaws.{place-index}
+use Rattle.leaves.specs.LeafLaws.{recoded, nothing-wrote}
 use borrow.Author.Needs.{needs}
 use Rattle.leaves.proofs.straight.put_read.Statement.{statement}
 use Rattle.leaves.proofs.straight.put_read.Tie as tie
+use Rattle.leaves.proofs.assignments.put_fetch.Reads as put-fetch-reads
+use Rattle.leaves.proofs.atoms.atom_at.Reads as atom-at-reads
+
+enum-told : tie.Need-enum-told
+enum-told c = search needs
 
 enum-known-place : tie.Need-enum-known-place
 enum-known-place c = search needs
 
-put-copy-requires : tie.Need-put-copy-requires
-put-copy-requires c κs = (room-less 4 (c .before .before .before .before .pre .0) (omega arith), c .before .before .before .before .pre .1, subst (λ (p : KernelPlace). PlaceFits p) (c .before .before .place .given .1) (c .before .before .before .before .pre .2))
+atom-at-requires : tie.Need-atom-at-requires
+atom-at-requires c κs = (c .before .before .before .before .pre .writing, place-index _ (c .before .before .before .before .pre .place-inside) (c .before .place .given .1), omega (arith, c .before .before .before .before .pre .level-low))
 
-enum-known-place-2 : tie.Need-enum-known-place-2
-enum-known-place-2 c = search needs
+add-put-fetch : tie.Need-add-put-fetch
+add-put-fetch c = search needs
 
 put-fetch-requires : tie.Need-put-fetch-requires
-put-fetch-requires c κs = let f = subst (λ (p : KernelPlace). PlaceFits p) (c .before .before .place2 .given .1) (c .before .before .before .before .pre .2) in (room-less 5 (c .before .before .before .before .pre .0) (omega (arith, ap indexRows (c .before .before .place2 .given .1))), c .before .before .before .before .pre .1, f .0, f .1)
+put-fetch-requires c κs =
+    let inside = subst (λ (p : PlaceShape). PlaceInside (c .before .before .before .before .before .before .before .args .rows .now) p) (c .before .before .before .before .place .given .1) (c .before .before .before .before .before .before .before .pre .place-inside) in
+    let size = ap (λ (p : PlaceShape). 5 * indexRows (placeTree (c .before .before .before .before .before .before .before .args .rows .now) p)) (c .before .before .before .before .place .given .1) in
+    (room-less 5 (c .before .before .before .before .before .before .before .pre .room) (omega (arith, size)), omega (arith, c .before .before .before .before .before .before .before .pre .level-low, c .before .before .before .before .before .before .before .pre .writing .small-store), omega (arith, inside .0), c .before .before .atom-at .ensures .fits)
+
+returns : tie.Need-returns
+returns c =
+    let args = c .before .before .before .args in
+    recoded _ _ _ _ _ _ (nothing-wrote (args .at .follows) (args .at .base) _)
+    (ap (λ (p : PlaceShape). readCode (args .at .store) (placeTree (args .rows .now) p) (args .at .level)) (sym (c .enum-told .given .1)))
 
 same-length : tie.Need-same-length
 same-length c = search needs
 
-returns : tie.Need-returns
-returns c = recoded _ _ _ _ _ _ (c .before .put-copy .ensures) (ap (λ (p : KernelPlace). express (assign (variable (c .before .before .before .before .before .before .args .number)) (read (placeTree p))) then none) (sym (c .before .before .before .before .place .given .1)))
-
-same-length-2 : tie.Need-same-length-2
-same-length-2 c = search needs
-
 returns-2 : tie.Need-returns-2
-returns-2 c = recoded _ _ _ _ _ _ (c .before .put-fetch .ensures) (ap (λ (p : KernelPlace). express (assign (variable (c .before .before .before .before .before .before .args .number)) (read (placeTree p))) then none) (sym (c .before .before .before .before .place2 .given .1)))
+returns-2 c =
+    let args = c .before .before .before .before .before .before .before .before .before .args in
+    recoded _ _ _ _ _ _ (c .before .put-fetch .ensures)
+    (ap (λ (x : Expression). express (assign (variable (args .at .store + args .at .level)) (read (element (c .before .before .before .before .before .before .place .given .0 .0) x))) then none) (c .before .before .before .before .atom-at .ensures .is)
+    ∙ ap (λ (p : PlaceShape). readCode (args .at .store) (placeTree (args .rows .now) p) (args .at .level)) (sym (c .before .before .before .before .before .before .place .given .1)))
 
 pub put-read-spec : {M : Type 1} → statement M
 put-read-spec =
     tie.close
     (tie.spec
+    enum-told
     enum-known-place
-    put-copy-requires
-    enum-known-place-2
+    atom-at-requires
+    add-put-fetch
     put-fetch-requires
-    same-length
     returns
-    same-length-2
+    same-length
     returns-2)

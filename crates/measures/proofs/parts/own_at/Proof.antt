@@ -29,7 +29,7 @@ enum-known-shape-2 : tie.Need-enum-known-shape-2
 enum-known-shape-2 c = search needs
 
 own-operation-requires : tie.Need-own-operation-requires
-own-operation-requires c κs = (c .before .before .before .before .before .pre .0, c .before .before .before .before .before .pre .1, expressed (c .before .before .before .expression-at .ensures) (c .before .shape2 .given .1))
+own-operation-requires c κs = (c .before .before .before .before .before .pre .0, c .before .before .before .before .before .pre .1, expressed (c .before .before .before .expression-at .ensures) (c .before .shape2 .given .1), c .before .before .before .before .before .pre .2)
 
 enum-known-shape-3 : tie.Need-enum-known-shape-3
 enum-known-shape-3 c = search needs

@@ -1,51 +1,36 @@
--- The rows from the loop's row on are measured.
-use mathlib.Core.Path.{_≡_, refl, _∙_}
-use Prim.Native.Nat.{_≤_, _-_}
+-- The sets of the rows, and then their measures.
+use mathlib.Core.Path.{refl, sym}
 use native.Mathlib.Omega.{arith}
-use lib.ListN.{length}
-use Rattle.words.specs.Table.{rowCount}
-use Rattle.measures.specs.Measures.{MeasuredFrom}
-use Rattle.measures.specs.MeasureLaws.{measured-none, measured-back, measured-zero}
 use Rattle.measures.proofs.pass.measure.Statement.{statement}
 use Rattle.measures.proofs.pass.measure.Tie as tie
+use Rattle.measures.proofs.pass.measure_rows.Reads as measure-rows-reads
+use Rattle.measures.proofs.writes.fill_sets.Reads as fill-sets-reads
 
-abbrev Inv-loop : tie.InvT-loop
-Inv-loop rows table₀ row₀ table row = (row ≤ rowCount rows) × MeasuredFrom rows table row × (length table ≡ length table₀)
+slice-aggregate-fill-sets : tie.Need-slice-aggregate-fill-sets
+slice-aggregate-fill-sets c = refl
 
-abbrev μ-loop : tie.MeasureT-loop
-μ-loop rows table₀ row₀ table row = row
+fill-sets-requires : tie.Need-fill-sets-requires
+fill-sets-requires c κs = (c .before .before .pre .0, omega (arith, c .before .before .pre .0 .few-rows))
 
-loop-holds : tie.Need-loop-holds Inv-loop μ-loop
-loop-holds c = (omega arith, measured-none (c .before .pre .0) (c .before .pre .1), refl)
+slice-aggregate-measure-rows : tie.Need-slice-aggregate-measure-rows
+slice-aggregate-measure-rows c = sym (c .before .before .fill-sets .kept .1 .0)
 
-sub-row : tie.Need-sub-row Inv-loop μ-loop
-sub-row c = omega arith
+measure-rows-requires : tie.Need-measure-rows-requires
+measure-rows-requires c κs = (c .before .before .before .fill-sets .ensures, c .before .before .before .before .before .before .pre .1)
 
-measure-row-requires : tie.Need-measure-row-requires Inv-loop μ-loop
-measure-row-requires c κs = (measured-back (c .before .before .loop .row) (omega arith) (c .before .before .loop .inv .1), omega (arith, c .before .before .loop .inv .0))
+same-length : tie.Need-same-length
+same-length c = c .before .before .measure-rows .kept .1 .1 .0
 
-loop-less : tie.Need-loop-less Inv-loop μ-loop
-loop-less c = omega arith
-
-loop-again : tie.Need-loop-again Inv-loop μ-loop
-loop-again c = (omega (arith, c .before .before .before .before .before .loop .inv .0), c .before .before .measure-row .ensures, c .before .before .measure-row .kept .1 .0 ∙ c .before .before .before .before .before .loop .inv .2)
-
-same-length : tie.Need-same-length Inv-loop μ-loop
-same-length c = c .before .loop .inv .2
-
-returns : tie.Need-returns Inv-loop μ-loop
-returns c = measured-zero (c .before .loop .row) (omega arith) (c .before .loop .inv .1)
+returns : tie.Need-returns
+returns c = c .before .before .measure-rows .ensures
 
 pub measure-spec : {M : Type 1} → statement M
 measure-spec =
     tie.close
     (tie.spec
-    Inv-loop
-    μ-loop
-    loop-holds
-    sub-row
-    measure-row-requires
-    loop-less
-    loop-again
+    slice-aggregate-fill-sets
+    fill-sets-requires
+    slice-aggregate-measure-rows
+    measure-rows-requires
     same-length
     returns)

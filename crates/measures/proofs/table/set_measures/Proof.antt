@@ -1,7 +1,7 @@
 -- The stores of a row's measures.
 use native.Mathlib.Omega.{arith}
 use lib.ListN.{length-set}
-use Rattle.measures.proofs.Stores.{eleven-stores}
+use Rattle.measures.proofs.Stores.{twelve-stores}
 use borrow.Author.Needs.{needs}
 use Rattle.measures.proofs.table.set_measures.Statement.{statement}
 use Rattle.measures.proofs.table.set_measures.Tie as tie
@@ -108,11 +108,20 @@ mul-table-11 c = search needs
 slice-write-table-11 : tie.Need-slice-write-table-11
 slice-write-table-11 c = simp length-set (omega arith)
 
+add-table-12 : tie.Need-add-table-12
+add-table-12 c = search needs
+
+mul-table-12 : tie.Need-mul-table-12
+mul-table-12 c = search needs
+
+slice-write-table-12 : tie.Need-slice-write-table-12
+slice-write-table-12 c = simp length-set (omega arith)
+
 same-length : tie.Need-same-length
 same-length c = simp length-set
 
 returns : tie.Need-returns
-returns c = eleven-stores _ _ _ _ _ _ _ _ _ _ _ _ _ (c .pre)
+returns c = twelve-stores _ _ _ _ _ _ _ _ _ _ _ _ _ _ (c .pre)
 
 pub set-measures-spec : {M : Type 1} → statement M
 set-measures-spec =
@@ -152,5 +161,8 @@ set-measures-spec =
     add-table-11
     mul-table-11
     slice-write-table-11
+    add-table-12
+    mul-table-12
+    slice-write-table-12
     same-length
     returns)

@@ -20,11 +20,13 @@ use Rattle.expression_writers.proofs.branches.branch_size.Reads as bran
 use Rattle.expression_writers.proofs.branches.choice_at.Reads as choice-at-reads
 use Rattle.expression_writers.proofs.branches.finish_size.Reads as finish-size-reads
 use Rattle.expression_writers.proofs.branches.put_finish.Reads as put-finish-reads
+use Rattle.leaves.proofs.atoms.operand_copied.Reads as operand-copied-reads
 use Rattle.leaves.proofs.atoms.operand_size.Reads as operand-size-reads
 use Rattle.leaves.proofs.rows.behind.Reads as behind-reads
 use Rattle.leaves.proofs.rows.more.Reads as more-reads
 use Rattle.leaves.proofs.control.put_block.Reads as put-block-reads
 use Rattle.leaves.proofs.control.put_if.Reads as put-if-reads
+use Rattle.leaves.proofs.straight.put_hold.Reads as put-hold-reads
 use Rattle.leaves.proofs.straight.put_straight.Reads as put-straight-reads
 use Rattle.measures.proofs.parts.own_at.Reads as own-at-reads
 use Rattle.expression_writers.proofs.Ranks.{rank}
@@ -110,6 +112,8 @@ write-choice-claims t = (
 
 abbrev pub write-expression-claims : ℕ → write-expression-lts.Claims
 write-expression-claims t = (
+  operand-copied-reads.Asked,
+  operand-copied-reads.Learnt,
   own-at-reads.Asked,
   own-at-reads.Learnt,
   operand-size-reads.Asked,
@@ -118,6 +122,8 @@ write-expression-claims t = (
   more-reads.Learnt,
   write-expression-below t,
   write-expression.Post,
+  put-hold-reads.Asked,
+  put-hold-reads.Learnt,
   write-last-below t,
   write-last.Post,
 )

@@ -1,4 +1,4 @@
--- An expression is written as its code: the operands' code and what is done with their values stand one behind the other. What is known at
+-- An expression is written as its code: the operands' code, the copy between them and what is done with their values stand one behind the other. What is known at
 -- each place is gathered once, in a record of ExpressionParts; each need is a law of the nearest record.
 use mathlib.Core.Path.{sym, ap}
 use Prim.Native.Nat.{ℕ}
@@ -9,8 +9,8 @@ use Rattle.leaves.specs.LeafLaws.{recoded, nothing-wrote}
 use Rattle.expression_writers.specs.Code.{operandCode}
 use Rattle.expression_writers.proofs.Ranks.{rank-some}
 use Rattle.expression_writers.proofs.ExpressionParts.{ExpressionAsked, all-small, row-low}
-use Rattle.expression_writers.proofs.ExpressionParts.{OperandsFound, first-inside, first-small, second-inside, second-small, operands-within, above-low, first-falls, second-falls, first-asks}
-use Rattle.expression_writers.proofs.ExpressionParts.{ExpressionSizes, sizes-within, FirstOperand, first-reach, second-asks, SecondOperand, second-reach, last-asks}
+use Rattle.expression_writers.proofs.ExpressionParts.{OperandsFound, copied-most, first-inside, first-small, second-inside, second-small, held-within, operands-within, above-low, level-small, first-falls, second-falls, first-asks}
+use Rattle.expression_writers.proofs.ExpressionParts.{ExpressionSizes, sizes-within, FirstOperand, first-reach, hold-room, HeldFirst, held-reach, second-asks, SecondOperand, second-reach, last-asks}
 use Rattle.expression_writers.proofs.ExpressionParts.{LastPart, expression-length, expression-written}
 use Rattle.expression_writers.proofs.expressions.write_expression.Reads as reads
 use Rattle.expression_writers.proofs.expressions.+write_branch+write_choice+write_expression+write_last.Lts-write_expression as lts
@@ -33,10 +33,10 @@ module _ (t : ℕ) where
   Found = lts.After-own-at (write-expression-claims t) (write-expression-at t) reads.Post
 
   abbrev found-start : Found → Start
-  found-start c = c .before .before .before
+  found-start c = c .before .before .before .before
 
-  at-operands : (c : Found) → OperandsFound (at-start (found-start c)) (c .own-at .result)
-  at-operands c = record { some = omega (arith, c .before .if1 .left); at = c .own-at .ensures }
+  at-operands : (c : Found) → OperandsFound (at-start (found-start c)) (c .before .operand-copied .result) (c .own-at .result)
+  at-operands c = record { some = omega (arith, c .before .before .if1 .left); copied-is = c .before .operand-copied .ensures; at = c .own-at .ensures }
 
   -- All sizes are known.
   abbrev Sized : Type 0
@@ -60,40 +60,53 @@ module _ (t : ℕ) where
   FirstWritten = lts.After-out (write-expression-claims t) (write-expression-at t) reads.Post
 
   abbrev first-sized : FirstWritten → Sized
-  first-sized c = c .before .before .before .before .before
+  first-sized c = c .before .before .before .before .before .before
 
   at-first : (c : FirstWritten) →
       let firstTable = c .before .write-expression .last .1 .1 .1 .1 .1 .1 .1 .0 in
-      FirstOperand (at-sizes (first-sized c)) (c .before .before .before .more2 .result) firstTable
+      FirstOperand (at-sizes (first-sized c)) (c .before .before .before .more3 .result) firstTable
   at-first c = record { table-is = c .before .write-expression .ensures }
+
+  -- The copy of its value is written.
+  abbrev HoldWritten : Type 0
+  HoldWritten = lts.After-out2 (write-expression-claims t) (write-expression-at t) reads.Post
+
+  abbrev hold-first : HoldWritten → FirstWritten
+  hold-first c = c .before .before .before
+
+  at-hold : (c : HoldWritten) →
+      let written = hold-first c in
+      let holdWords = c .before .put-hold .last .1 .1 .1 .1 .1 .1 .1 .1 .0 in
+      HeldFirst (at-first written) (written .before .before .before .before .more2 .result) holdWords
+  at-hold c = record { more-is = hold-first c .before .before .before .more3 .ensures; table-is = c .before .put-hold .ensures }
 
   -- The second operand is written.
   abbrev SecondWritten : Type 0
-  SecondWritten = lts.After-out2 (write-expression-claims t) (write-expression-at t) reads.Post
+  SecondWritten = lts.After-out3 (write-expression-claims t) (write-expression-at t) reads.Post
 
-  abbrev second-first : SecondWritten → FirstWritten
-  second-first c = c .before .before .before
+  abbrev second-hold : SecondWritten → HoldWritten
+  second-hold c = c .before .before .before
 
   at-second : (c : SecondWritten) →
-      let written = second-first c in
+      let written = second-hold c in
       let secondWords = c .before .write-expression2 .last .1 .1 .1 .1 .1 .1 .1 .0 in
-      SecondOperand (at-first written) (written .before .before .before .before .more .result) secondWords
-  at-second c = record { more-is = second-first c .before .before .before .more2 .ensures; table-is = c .before .write-expression2 .ensures }
+      SecondOperand (at-hold written) (hold-first written .before .before .before .before .before .more .result) secondWords
+  at-second c = record { more-is = hold-first (second-hold c) .before .before .before .before .more2 .ensures; table-is = c .before .write-expression2 .ensures }
 
   -- All is written.
   abbrev LastWritten : Type 0
-  LastWritten = lts.After-out3 (write-expression-claims t) (write-expression-at t) reads.Post
+  LastWritten = lts.After-out4 (write-expression-claims t) (write-expression-at t) reads.Post
 
   abbrev last-second : LastWritten → SecondWritten
   last-second c = c .before .before .before
 
   at-last : (c : LastWritten) →
       let written = last-second c in
-      let follows = found-start (sized-found (first-sized (second-first written))) .args .follows in
+      let follows = found-start (sized-found (first-sized (hold-first (second-hold written)))) .args .follows in
       let lastWords = c .before .write-last .last .1 .1 .1 .1 .1 .1 .1 .0 in
       LastPart (at-second written) follows lastWords
   at-last c =
-      let past-more = second-first (last-second c) .before .before .before .before .more in
+      let past-more = hold-first (second-hold (last-second c)) .before .before .before .before .before .more in
       record { more-is = past-more .ensures; table-is = c .before .write-last .ensures }
 
   -- ---- an absent expression
@@ -106,21 +119,34 @@ module _ (t : ℕ) where
 
   -- ---- the operands and the sizes
 
+  pub operand-copied-requires : lts.Need-operand-copied-requires (write-expression-claims t) (write-expression-at t) reads.Post
+  operand-copied-requires c κs =
+      let asked = at-start (c .before .before) in
+      (asked .writing .measured, asked .asks .inside)
+
   pub own-at-requires : lts.Need-own-at-requires (write-expression-claims t) (write-expression-at t) reads.Post
   own-at-requires c κs =
-      let asked = at-start (c .before .before) in
-      (whole-behind (asked .writing .measured) _, asked .asks .inside)
+      let asked = at-start (c .before .before .before) in
+      (whole-behind (asked .writing .measured) _, asked .asks .inside, c .operand-copied .ensures)
 
   pub add-above : lts.Need-add-above (write-expression-claims t) (write-expression-at t) reads.Post
   add-above c =
       let found = c .before in
       omega (arith, above-low (at-operands found) (found .own-at .ensures .above-is), row-low (at-start (found-start found)))
 
+  pub mul-copy : lts.Need-mul-copy (write-expression-claims t) (write-expression-at t) reads.Post
+  mul-copy c = omega (arith, copied-most (at-operands (c .before)))
+
   pub operand-size-requires : lts.Need-operand-size-requires (write-expression-claims t) (write-expression-at t) reads.Post
   operand-size-requires c κs =
       let found = c .before in
       let operands = at-operands found in
       (at-start (found-start found) .writing .measured, first-inside operands, first-small operands)
+
+  pub add-h : lts.Need-add-h (write-expression-claims t) (write-expression-at t) reads.Post
+  add-h c =
+      let found = c .before .before in
+      omega (arith, held-within (at-operands found) (c .operand-size .ensures), all-small (at-start (found-start found)))
 
   pub operand-size-requires-2 : lts.Need-operand-size-requires-2 (write-expression-claims t) (write-expression-at t) reads.Post
   operand-size-requires-2 c κs =
@@ -148,43 +174,73 @@ module _ (t : ℕ) where
   pub more-requires-2 : lts.Need-more-requires-2 (write-expression-claims t) (write-expression-at t) reads.Post
   more-requires-2 c κs = tt
 
+  pub more-requires-3 : lts.Need-more-requires-3 (write-expression-claims t) (write-expression-at t) reads.Post
+  more-requires-3 c κs = tt
+
   -- ---- the first operand
 
   pub write-expression-requires : lts.Need-write-expression-requires (write-expression-claims t) (write-expression-at t) reads.Post
   write-expression-requires c κs =
-      let found = sized-found (c .before .before .before) in
+      let found = sized-found (c .before .before .before .before) in
       let operands = at-operands found in
       let start = found-start found in
       let measure = start .pre .0 in
       (omega (arith, first-falls operands, measure), (at-start start .writing, first-asks operands))
 
+  -- ---- the copy of its value
+
+  pub add-put-hold : lts.Need-add-put-hold (write-expression-claims t) (write-expression-at t) reads.Post
+  add-put-hold c = omega (arith, first-reach (at-first c))
+
+  pub mul-put-hold : lts.Need-mul-put-hold (write-expression-claims t) (write-expression-at t) reads.Post
+  mul-put-hold c = omega (arith, first-reach (at-first c))
+
+  pub mul-put-hold-2 : lts.Need-mul-put-hold-2 (write-expression-claims t) (write-expression-at t) reads.Post
+  mul-put-hold-2 c = omega (arith, first-reach (at-first c))
+
+  pub sub-put-hold : lts.Need-sub-put-hold (write-expression-claims t) (write-expression-at t) reads.Post
+  sub-put-hold c = omega (arith, first-reach (at-first c))
+
+  pub part-put-hold-start : lts.Need-part-put-hold-start (write-expression-claims t) (write-expression-at t) reads.Post
+  part-put-hold-start c = omega (arith, first-reach (at-first c))
+
+  pub part-put-hold-end : lts.Need-part-put-hold-end (write-expression-claims t) (write-expression-at t) reads.Post
+  part-put-hold-end c = omega (arith, first-reach (at-first c))
+
+  pub put-hold-requires : lts.Need-put-hold-requires (write-expression-claims t) (write-expression-at t) reads.Post
+  put-hold-requires c κs =
+      let written = c .before in
+      let found = sized-found (first-sized written) in
+      let operands = at-operands found in
+      (at-start (found-start found) .writing, first-inside operands, level-small operands, hold-room (at-first written))
+
   -- ---- the second operand
 
   pub add-write-expression : lts.Need-add-write-expression (write-expression-claims t) (write-expression-at t) reads.Post
-  add-write-expression c = omega (arith, first-reach (at-first c))
+  add-write-expression c = omega (arith, held-reach (at-hold c))
 
   pub mul-write-expression : lts.Need-mul-write-expression (write-expression-claims t) (write-expression-at t) reads.Post
-  mul-write-expression c = omega (arith, first-reach (at-first c))
+  mul-write-expression c = omega (arith, held-reach (at-hold c))
 
   pub mul-write-expression-2 : lts.Need-mul-write-expression-2 (write-expression-claims t) (write-expression-at t) reads.Post
-  mul-write-expression-2 c = omega (arith, first-reach (at-first c))
+  mul-write-expression-2 c = omega (arith, held-reach (at-hold c))
 
   pub sub-write-expression : lts.Need-sub-write-expression (write-expression-claims t) (write-expression-at t) reads.Post
-  sub-write-expression c = omega (arith, first-reach (at-first c))
+  sub-write-expression c = omega (arith, held-reach (at-hold c))
 
   pub part-write-expression-start : lts.Need-part-write-expression-start (write-expression-claims t) (write-expression-at t) reads.Post
-  part-write-expression-start c = omega (arith, first-reach (at-first c))
+  part-write-expression-start c = omega (arith, held-reach (at-hold c))
 
   pub part-write-expression-end : lts.Need-part-write-expression-end (write-expression-claims t) (write-expression-at t) reads.Post
-  part-write-expression-end c = omega (arith, first-reach (at-first c))
+  part-write-expression-end c = omega (arith, held-reach (at-hold c))
 
   pub write-expression-requires-2 : lts.Need-write-expression-requires-2 (write-expression-claims t) (write-expression-at t) reads.Post
   write-expression-requires-2 c κs =
       let written = c .before in
-      let found = sized-found (first-sized written) in
+      let found = sized-found (first-sized (hold-first written)) in
       let start = found-start found in
       let measure = start .pre .0 in
-      (omega (arith, second-falls (at-operands found), measure), (at-start start .writing, second-asks (at-first written)))
+      (omega (arith, second-falls (at-operands found), measure), (at-start start .writing, second-asks (at-hold written)))
 
   -- ---- what is done with the operands' values
 
@@ -209,7 +265,7 @@ module _ (t : ℕ) where
   pub write-last-requires : lts.Need-write-last-requires (write-expression-claims t) (write-expression-at t) reads.Post
   write-last-requires c κs =
       let written = c .before in
-      let found = sized-found (first-sized (second-first written)) in
+      let found = sized-found (first-sized (hold-first (second-hold written))) in
       let start = found-start found in
       let measure = start .pre .0 in
       let asked = at-start start in

@@ -1,0 +1,174 @@
+-- Copies of variables: those that kernel code makes, and those that Change 1 allows. "A variable used as an operand, index, test or
+-- selector is copied only if something evaluated after it, and before its use, can write that variable".
+use mathlib.Core.Bool.{Bool, true, not, _&&_}
+use Prim.Native.Nat.{ℕ, _+_, _*_}
+use lib.Dec.{leb}
+use Rattle.words.specs.Word.{pick}
+use Rattle.language.specs.Trees.{Expression, constant, read, minus, not as notTrue, binary, and, or, comma, conditional, assign, compound, prefix, postfix, Place, variable, element, Part, absent, present, Statement, empty, express, block, ifThen, ifElse, while, doWhile, for, switch, break, continue, goto, Items, none, _then_, _here_}
+use Rattle.language.specs.Writes.{writes, indexWrites}
+
+-- ---- in kernel code
+
+abbrev pub isVariable : Place → ℕ
+isVariable (variable i) = 1
+isVariable (element array e) = 0
+
+-- Each function of this part counts 1 or 0.
+abbrev pub readsVariable : Expression → ℕ
+readsVariable (constant v) = 0
+readsVariable (read p) = isVariable p
+readsVariable (minus e) = 0
+readsVariable (notTrue e) = 0
+readsVariable (binary operator a b) = 0
+readsVariable (and a b) = 0
+readsVariable (or a b) = 0
+readsVariable (comma a b) = 0
+readsVariable (conditional c a b) = 0
+readsVariable (assign p e) = 0
+readsVariable (compound operator p e) = 0
+readsVariable (prefix operator p) = 0
+readsVariable (postfix operator p) = 0
+
+-- The temporaries begin at store word S.
+module _ (S : ℕ) where
+  abbrev pub isTemporary : Place → ℕ
+  isTemporary (variable i) = pick (leb S i) 1 0
+  isTemporary (element array e) = 0
+
+  -- temporary := variable
+  abbrev pub isCopy : Expression → ℕ
+  isCopy (constant v) = 0
+  isCopy (read p) = 0
+  isCopy (minus e) = 0
+  isCopy (notTrue e) = 0
+  isCopy (binary operator a b) = 0
+  isCopy (and a b) = 0
+  isCopy (or a b) = 0
+  isCopy (comma a b) = 0
+  isCopy (conditional c a b) = 0
+  isCopy (assign p e) = isTemporary p * readsVariable e
+  isCopy (compound operator p e) = 0
+  isCopy (prefix operator p) = 0
+  isCopy (postfix operator p) = 0
+
+  -- How many statements of kernel code copy a variable into a temporary.
+  unfoldable mutual
+    pub statementCopies : Statement → ℕ
+    statementCopies empty = 0
+    statementCopies (express e) = isCopy e
+    statementCopies (block is) = copies is
+    statementCopies (ifThen e onTrue) = statementCopies onTrue
+    statementCopies (ifElse e onTrue onFalse) = statementCopies onTrue + statementCopies onFalse
+    statementCopies (while e body) = statementCopies body
+    statementCopies (doWhile body e) = statementCopies body
+    statementCopies (for first test action body) = statementCopies body
+    statementCopies (switch e is) = copies is
+    statementCopies break = 0
+    statementCopies continue = 0
+    statementCopies (goto l) = 0
+
+    pub copies : Items → ℕ
+    copies none = 0
+    copies (s then is) = statementCopies s + copies is
+    copies (m here is) = copies is
+
+-- ---- in the source
+
+-- 1 where the value of an expression is that of a variable, which can be written (W) before the value is used; else 0.
+unfoldable pub waiting : Expression → (ℕ → Bool) → ℕ
+waiting (constant v) W = 0
+waiting (read (variable i)) W = pick (W i) 1 0
+waiting (read (element array e)) W = 0
+waiting (minus e) W = 0
+waiting (notTrue e) W = 0
+waiting (binary operator a b) W = 0
+waiting (and a b) W = 0
+waiting (or a b) W = 0
+-- "the result is the right's"
+waiting (comma a b) W = waiting b W
+waiting (conditional c a b) W = 0
+-- "The result is the value stored": the right side's, unless the assignment has copied it already
+waiting (assign p e) W = waiting e (λ i. W i && not (indexWrites p i))
+waiting (compound operator p e) W = 0
+waiting (prefix operator p) W = 0
+waiting (postfix operator p) W = 0
+
+-- The copies that the sentence allows for an expression's own row. A value waits for its use in three places: the right operand, while the
+-- left one is worked out; the value of an assignment or compound, while the index of its place is. Every other value is used at once.
+abbrev pub ownCopies : Expression → ℕ
+ownCopies (constant v) = 0
+ownCopies (read p) = 0
+ownCopies (minus e) = 0
+ownCopies (notTrue e) = 0
+ownCopies (binary operator a b) = waiting b (writes a)
+ownCopies (and a b) = 0
+ownCopies (or a b) = 0
+ownCopies (comma a b) = 0
+ownCopies (conditional c a b) = 0
+ownCopies (assign p e) = waiting e (indexWrites p)
+ownCopies (compound operator p e) = waiting e (indexWrites p)
+ownCopies (prefix operator p) = 0
+ownCopies (postfix operator p) = 0
+
+-- A variable's value that is a result and no operand, and so goes into the result's temporary: that of a branch of a conditional, and the
+-- old value that e++ and e−− give.
+abbrev pub ownResults : Expression → ℕ
+ownResults (constant v) = 0
+ownResults (read p) = 0
+ownResults (minus e) = 0
+ownResults (notTrue e) = 0
+ownResults (binary operator a b) = 0
+ownResults (and a b) = 0
+ownResults (or a b) = 0
+ownResults (comma a b) = 0
+ownResults (conditional c a b) = waiting a (λ i. true) + waiting b (λ i. true)
+ownResults (assign p e) = 0
+ownResults (compound operator p e) = 0
+ownResults (prefix operator p) = 0
+ownResults (postfix operator p) = isVariable p
+
+-- The sum of a number over all expressions of a tree.
+module _ (own : Expression → ℕ) where
+  unfoldable mutual
+    pub expressionTotal : Expression → ℕ
+    expressionTotal (constant v) = own (constant v)
+    expressionTotal (read p) = own (read p) + indexTotal p
+    expressionTotal (minus e) = own (minus e) + expressionTotal e
+    expressionTotal (notTrue e) = own (notTrue e) + expressionTotal e
+    expressionTotal (binary operator a b) = own (binary operator a b) + expressionTotal a + expressionTotal b
+    expressionTotal (and a b) = own (and a b) + expressionTotal a + expressionTotal b
+    expressionTotal (or a b) = own (or a b) + expressionTotal a + expressionTotal b
+    expressionTotal (comma a b) = own (comma a b) + expressionTotal a + expressionTotal b
+    expressionTotal (conditional c a b) = own (conditional c a b) + expressionTotal c + expressionTotal a + expressionTotal b
+    expressionTotal (assign p e) = own (assign p e) + indexTotal p + expressionTotal e
+    expressionTotal (compound operator p e) = own (compound operator p e) + indexTotal p + expressionTotal e
+    expressionTotal (prefix operator p) = own (prefix operator p) + indexTotal p
+    expressionTotal (postfix operator p) = own (postfix operator p) + indexTotal p
+
+    pub indexTotal : Place → ℕ
+    indexTotal (variable i) = 0
+    indexTotal (element array e) = expressionTotal e
+
+  abbrev pub partTotal : Part → ℕ
+  partTotal absent = 0
+  partTotal (present e) = expressionTotal e
+
+  unfoldable mutual
+    pub statementTotal : Statement → ℕ
+    statementTotal empty = 0
+    statementTotal (express e) = expressionTotal e
+    statementTotal (block is) = total is
+    statementTotal (ifThen e onTrue) = expressionTotal e + statementTotal onTrue
+    statementTotal (ifElse e onTrue onFalse) = expressionTotal e + statementTotal onTrue + statementTotal onFalse
+    statementTotal (while e body) = expressionTotal e + statementTotal body
+    statementTotal (doWhile body e) = expressionTotal e + statementTotal body
+    statementTotal (for first test action body) = partTotal first + partTotal test + partTotal action + statementTotal body
+    statementTotal (switch e is) = expressionTotal e + total is
+    statementTotal break = 0
+    statementTotal continue = 0
+    statementTotal (goto l) = 0
+
+    pub total : Items → ℕ
+    total none = 0
+    total (s then is) = statementTotal s + total is
+    total (m here is) = total is

@@ -1,0 +1,183 @@
+-- The translation makes the copies that Change 1 allows, and no others. By induction on the tree: `simp` takes the code apart, `omega`
+-- adds up.
+use mathlib.Core.Path.{_≡_, refl, _∙_}
+use mathlib.Core.Bool.{Bool, true, false, not, _&&_, and-true, and-false}
+use Prim.Native.Nat.{ℕ, _+_, _-_, _≤_}
+use native.Mathlib.Omega.{arith}
+use lib.Dec.{leb}
+use lib.IntN.{pos}
+use borrow.Author.Tests.{le-leb, lt-leb}
+use Rattle.words.specs.Word.{pick}
+use Rattle.words.specs.Layout.{Layout, storeSize}
+use Rattle.words.specs.Laws.{by-cases}
+use Rattle.words.specs.declared.Operator.{Operator}
+use Rattle.language.specs.Trees.{Expression, constant, read, minus, not as notTrue, binary, and, or, comma, conditional, assign, compound, prefix, postfix, Place, variable, element, Part, absent, present, case, default, label, Statement, empty, express, block, ifThen, ifElse, while, doWhile, for, switch, break, continue, goto, Items, none, _then_, _here_, _⧺_}
+use Rattle.language.specs.WellFormed.{NamedExpression, NamedPlace, NamedStatement, SourceTree}
+use Rattle.language.specs.Writes.{writes, indexWrites}
+use Rattle.translation.specs.Translate.{Atom, number, word, top, held, atomOf, taken, placeTaken, atom, temporary, copyCode, moveCode, readCode, kernelPlace, updateCode, postfixCode, expressionCode, indexCode, partCode, orEmpty, testCode, caseTests, labels, Exits, exits, statementCode, itemsCode, translate}
+use Rattle.translation.specs.HeldCode.{holdCode}
+use Rattle.translation.specs.TranslateSize.{copied}
+use Rattle.translation.specs.ExpressionPreserves.{InRange, PlaceInRange}
+use Rattle.translation.specs.StatementPreserves.{PartInRange, StatementInRange, ItemsInRange}
+use Rattle.translation.specs.Copies.{isVariable, isTemporary, copies, waiting, ownCopies, ownResults, expressionTotal, indexTotal, partTotal, statementTotal, total}
+
+-- ---- which values wait
+
+-- A variable that was copied for the index waits no longer.
+copied-held : (h : Atom) (index W : ℕ → Bool) → copied (held h index) W ≡ copied h (λ i. W i && not (index i))
+copied-held (number v) index W = refl
+copied-held (word i) index W = by (index i)
+  where
+    by : (b : Bool) → copied (pick b top (word i)) W ≡ copied (word i) (λ j. W j && not b)
+    by true = rw and-false
+    by false = rw and-true
+copied-held top index W = refl
+
+waiting-copied : (e : Expression) (W : ℕ → Bool) → copied (atomOf e) W ≡ waiting e W
+unfolding atomOf waiting
+waiting-copied (constant v) W = refl
+waiting-copied (read (variable i)) W = by-cases (W i) (λ e. rw e) (λ e. rw e)
+waiting-copied (read (element array e)) W = refl
+waiting-copied (minus e) W = refl
+waiting-copied (notTrue e) W = refl
+waiting-copied (binary operator a b) W = refl
+waiting-copied (and a b) W = refl
+waiting-copied (or a b) W = refl
+waiting-copied (comma a b) W = waiting-copied b W
+waiting-copied (conditional c a b) W = refl
+waiting-copied (assign p e) W = copied-held (atomOf e) (indexWrites p) W ∙ waiting-copied e (λ i. W i && not (indexWrites p i))
+waiting-copied (compound operator p e) W = refl
+waiting-copied (prefix operator p) W = refl
+waiting-copied (postfix operator p) W = refl
+
+-- ---- the code's copies
+
+module _ (L : Layout) (S : ℕ) (inside : L .variables ≤ S) where
+  copies-append : (xs ys : Items) → copies S (xs ⧺ ys) ≡ copies S xs + copies S ys
+  unfolding copies _⧺_
+  copies-append none ys = omega arith
+  copies-append (s then xs) ys = omega (arith, copies-append xs ys)
+  copies-append (m here xs) ys = omega (arith, copies-append xs ys)
+
+  a-temporary : (t : ℕ) → leb S (S + t) ≡ true
+  a-temporary t = le-leb S (S + t) (omega arith)
+
+  -- A place of the source is no temporary.
+  no-temporary : (p : Place) (t : ℕ) → PlaceInRange L p → isTemporary S (kernelPlace S p t) ≡ 0
+  unfolding kernelPlace NamedPlace
+  no-temporary (variable i) t n = rw (lt-leb S i (omega arith))
+  no-temporary (element array e) t n = refl
+
+  copies-copy : (t : ℕ) (h : Atom) → copies S (copyCode S t h) ≡ copied h (λ i. true)
+  unfolding copies
+  copies-copy t (number v) = omega arith
+  copies-copy t (word i) = rw (a-temporary t)
+  copies-copy t top = refl
+
+  copies-hold : (t : ℕ) (h : Atom) (W : ℕ → Bool) → copies S (holdCode S t h W) ≡ copied h W
+  unfolding copies
+  copies-hold t (number v) W = refl
+  copies-hold t (word i) W = by (W i)
+    where
+      by : (b : Bool) → copies S (moveCode S t (word i) (pick b top (word i))) ≡ taken (pick b top (word i)) - 0
+      by true = rw (a-temporary t)
+      by false = refl
+  copies-hold t top W = refl
+
+  copies-read : (p : Place) (t : ℕ) → copies S (readCode S p t) ≡ 0
+  unfolding copies
+  copies-read (variable i) t = refl
+  copies-read (element array e) t = omega arith
+
+  copies-update : (operator : Operator) (p : Place) (x : Expression) (t i u : ℕ) → PlaceInRange L p → copies S (updateCode S operator (kernelPlace S p i) x t u) ≡ 0
+  unfolding copies kernelPlace NamedPlace
+  copies-update operator (variable j) x t i u n = rw (lt-leb S j (omega arith)) (omega arith)
+  copies-update operator (element array e) x t i u n = omega arith
+
+  copies-postfix : (operator : Operator) (p : Place) (t i u : ℕ) → PlaceInRange L p → copies S (postfixCode S operator (kernelPlace S p i) t u) ≡ isVariable p
+  unfolding copies kernelPlace NamedPlace
+  copies-postfix operator (variable j) t i u n = rw (a-temporary t) (omega arith)
+  copies-postfix operator (element array e) t i u n = omega arith
+
+  copies-empty : (xs : Items) → copies S (orEmpty S xs) ≡ copies S xs
+  unfolding copies
+  copies-empty none = refl
+  copies-empty (s then xs) = refl
+  copies-empty (m here xs) = refl
+
+  mutual
+    unfolding expressionCode copies kernelPlace expressionTotal NamedExpression
+
+    -- Every expression's code makes the copies that the sentence allows, and moves the results.
+    pub copies-expression : (e : Expression) (t : ℕ) → InRange L e → copies S (expressionCode S e t) ≡ expressionTotal ownCopies e + expressionTotal ownResults e
+    copies-expression (constant v) t n = refl
+    copies-expression (read p) t n = simp (copies-append, copies-read) (omega (arith, copies-index p t n))
+    copies-expression (minus e) t n = simp copies-append (omega (arith, copies-expression e t n))
+    copies-expression (notTrue e) t n = simp copies-append (omega (arith, copies-expression e t n))
+    copies-expression (binary operator a b) t n =
+        simp (copies-append, copies-hold, waiting-copied) (omega (arith, copies-expression b t (n .1), copies-expression a (t + taken (held (atomOf b) (writes a))) (n .0)))
+    copies-expression (and a b) t n = simp copies-append (omega (arith, copies-expression a t (n .0), copies-expression b t (n .1)))
+    copies-expression (or a b) t n = simp copies-append (omega (arith, copies-expression a t (n .0), copies-expression b t (n .1)))
+    copies-expression (comma a b) t n = simp copies-append (omega (arith, copies-expression a t (n .0), copies-expression b t (n .1)))
+    copies-expression (conditional c a b) t n =
+        simp (copies-append, copies-copy, waiting-copied) (omega (arith, copies-expression c t (n .0), copies-expression a t (n .1), copies-expression b t (n .2)))
+    copies-expression (assign p e) t n =
+        let above = t + taken (held (atomOf e) (indexWrites p)) in
+        simp (copies-append, copies-hold, waiting-copied, no-temporary p above (n .0)) (omega (arith, copies-expression e t (n .1), copies-index p above (n .0)))
+    copies-expression (compound operator p e) t n =
+        simp (copies-append, copies-hold, waiting-copied, copies-update operator p (atom S t (held (atomOf e) (indexWrites p))) t (t + 1) (t + 1 + placeTaken p) (n .0)) (omega (arith, copies-expression e t (n .1), copies-index p (t + 1) (n .0)))
+    copies-expression (prefix operator p) t n = simp (copies-append, copies-update operator p (constant (pos 1)) t (t + 1) (t + 1 + placeTaken p) n) (omega (arith, copies-index p (t + 1) n))
+    copies-expression (postfix operator p) t n = simp (copies-append, copies-postfix operator p t (t + 1) (t + 1 + placeTaken p) n) (omega (arith, copies-index p (t + 1) n))
+
+    copies-index : (p : Place) (t : ℕ) → PlaceInRange L p → copies S (indexCode S p t) ≡ indexTotal ownCopies p + indexTotal ownResults p
+    copies-index (variable i) t n = refl
+    copies-index (element array e) t n = copies-expression e t (n .1)
+
+  copies-part : (p : Part) → PartInRange L p → copies S (partCode S p) ≡ partTotal ownCopies p + partTotal ownResults p
+  unfolding copies
+  copies-part absent n = refl
+  copies-part (present e) n = copies-expression e 0 n
+
+  copies-test : (p : Part) (l : ℕ) (xs : Items) → PartInRange L p → copies S (testCode S p l xs) ≡ partTotal ownCopies p + partTotal ownResults p + copies S xs
+  unfolding copies
+  copies-test absent l xs n = omega arith
+  copies-test (present e) l xs n = simp copies-append (omega (arith, copies-expression e 0 n))
+
+  copies-cases : (x : Expression) (u : ℕ) (is : Items) (l : ℕ) → copies S (caseTests S x u is l) ≡ 0
+  unfolding copies caseTests
+  copies-cases x u none l = refl
+  copies-cases x u (s then is) l = copies-cases x u is (l + labels s)
+  copies-cases x u (case v here is) l = omega (arith, copies-cases x u is (l + 1))
+  copies-cases x u (default here is) l = copies-cases x u is (l + 1)
+  copies-cases x u (label k here is) l = copies-cases x u is (l + 1)
+
+  mutual
+    unfolding statementCode copies statementTotal NamedStatement
+
+    copies-statement : (s : Statement) (x : Exits) (l : ℕ) → StatementInRange L s → copies S (statementCode S s x l) ≡ statementTotal ownCopies s + statementTotal ownResults s
+    copies-statement empty x l n = refl
+    copies-statement (express e) x l n = simp copies-empty (omega (arith, copies-expression e 0 n))
+    copies-statement (block is) x l n = omega (arith, copies-items is x l n)
+    copies-statement (ifThen e onTrue) x l n = simp copies-append (omega (arith, copies-expression e 0 (n .0), copies-statement onTrue x l (n .1)))
+    copies-statement (ifElse e onTrue onFalse) x l n =
+        simp copies-append (omega (arith, copies-expression e 0 (n .0), copies-statement onTrue x l (n .1), copies-statement onFalse x (l + labels onTrue) (n .2)))
+    copies-statement (while e body) x l n = simp copies-append (omega (arith, copies-expression e 0 (n .0), copies-statement body (exits l (l + 1)) (l + 2) (n .1)))
+    copies-statement (doWhile body e) x l n = simp copies-append (omega (arith, copies-expression e 0 (n .1), copies-statement body (exits l (l + 1)) (l + 2) (n .0)))
+    copies-statement (for first test action body) x l n =
+        let round = statementCode S body (exits l (l + 1)) (l + 2) ⧺ label (l + 1) here partCode S action in
+        let behind = copies-append (statementCode S body (exits l (l + 1)) (l + 2)) (label (l + 1) here partCode S action) in
+        simp copies-append (omega (arith, copies-part first (n .0), copies-test test l round (n .1), behind, copies-part action (n .2), copies-statement body (exits l (l + 1)) (l + 2) (n .3)))
+    copies-statement (switch e is) x l n = simp (copies-append, copies-cases) (omega (arith, copies-expression e 0 (n .0), copies-items is (exits l (x .onContinue)) (l + 1) (n .1)))
+    copies-statement break x l n = refl
+    copies-statement continue x l n = refl
+    copies-statement (goto k) x l n = refl
+
+    copies-items : (is : Items) (x : Exits) (l : ℕ) → ItemsInRange L is → copies S (itemsCode S is x l) ≡ total ownCopies is + total ownResults is
+    copies-items none x l n = refl
+    copies-items (s then is) x l n = simp copies-append (omega (arith, copies-statement s x l (n .0), copies-items is x (l + labels s) (n .1)))
+    copies-items (m here is) x l n = omega (arith, copies-items is x (l + 1) n)
+
+-- "Copied only if": of the statements that copy a variable into a temporary, as many as the sentence allows; the others move a result.
+pub copies-exactly : (L : Layout) (program : Items) → SourceTree L program → copies (storeSize L) (translate L program) ≡ total ownCopies program + total ownResults program
+unfolding translate storeSize
+copies-exactly L program tree = copies-items L (storeSize L) (omega arith) program (exits 0 0) 1 (tree .named)

@@ -3,9 +3,13 @@
 -- ---- definitions
 -- Runs: the answers of run and kernel run, and what they leave in the store.
 pub mod Runs
+-- Previews: the answer of preview, and what it leaves in the store and in the scratch.
+pub mod Previews
 -- Acceptance: the second promise of check and kernel check: they accept the legal programs and no others.
 pub mod Acceptance
 -- ---- laws
+-- Laws of previews: the tally, and that a preview tells the run.
+pub mod PreviewLaws
 -- Laws of acceptance: the checks' answers keep the second promise.
 pub mod AcceptanceLaws
 -- Laws of accepted programs, of both forms.

@@ -1,5 +1,22 @@
 // The public entries. None has a `requires`: for all words that it is lent, each gives its result or the one refusal that document
 // 01's table of causes names, and a refusal leaves everything lent as it was. `run_accepted` is for callers that have the check's answer.
+pub mod previews; // previews.rt: what a run would do
 pub mod runs; // runs.rt: check, run, kernel check, kernel run
 pub mod texts; // texts.rt: reader and writer of both forms' texts
 pub mod translate; // translate.rt: the translation
+
+use words::Ending;
+use words::Refusal;
+
+// "The ending, the count and how many store words would differ".
+pub struct PreviewAnswer {
+    pub ending: Ending,
+    pub count: u32,
+    pub differing: usize,
+}
+
+// What a preview answers.
+pub enum PreviewVerdict {
+    Previewed(PreviewAnswer),
+    Refused(Refusal),
+}

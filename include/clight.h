@@ -11,8 +11,8 @@
  *   - a slice that the function may write (no const) shares no element with another slice of the same call;
  *   - 1 MiB of stack (docs/PERFORMANCE.md has the figures).
  *
- * Every answer has a cause. CLIGHT_DONE means that the function did its work; first and second say what it gave. Any other cause
- * is a refusal: first is its place (a row, a line of the text from 1, or 0), second is 0, and nothing lent was changed. */
+ * Every answer has a cause. CLIGHT_DONE means that the function did its work; the other values say what it gave. Any other cause
+ * is a refusal: first is its place (a row, a line of the text from 1, or 0), all else is 0, and nothing lent was changed. */
 #ifndef CLIGHT_H
 #define CLIGHT_H
 
@@ -29,7 +29,15 @@ typedef struct clight_answer {
     size_t second;
 } clight_answer;
 
-/* Causes: document 01's numbers. */
+/* The answer of a preview: that of a run, and how many store words would differ. */
+typedef struct clight_preview_answer {
+    uint32_t cause;
+    size_t first;
+    size_t second;
+    size_t differing;
+} clight_preview_answer;
+
+/* Causes: the numbers of documents 01 and 02. */
 enum clight_cause {
     CLIGHT_DONE = 0,
     CLIGHT_HEADER = 1,            /* header outside its limits; place 0 */
@@ -45,7 +53,8 @@ enum clight_cause {
     CLIGHT_STORE = 11,            /* store not S (source) or S+T (kernel) words; place 0 */
     CLIGHT_KERNEL_FORM = 12,      /* statement not of kernel form; the statement's row */
     CLIGHT_LABEL = 13,            /* goto without its label ahead, or label repeated; the row of the goto or the later label */
-    CLIGHT_TEXT = 14              /* text malformed; the line, from 1 */
+    CLIGHT_TEXT = 14,             /* text malformed; the line, from 1 */
+    CLIGHT_SCRATCH = 15           /* scratch shorter than S words; place 0 */
 };
 
 /* Endings of a run, in the first value of its answer: `endingNumber` (crates/words/specs/Answers.antt). */
@@ -74,6 +83,13 @@ clight_answer clight_check(const int32_t *header, size_t header_words, const int
  * count of steps, at most budget, and the store is as the run left it. Causes 1 to 9, then 11. */
 clight_answer clight_run(const int32_t *header, size_t header_words, const int32_t *rows, size_t row_words, int32_t *store,
                          size_t store_words, uint32_t budget);
+
+/* Tells what clight_run would do, and runs on a copy of the store. Done: first is the ending, second the count of steps, differing
+ * how many of the S store words would be unequal at the end. The first S words of the scratch are the store that the run would leave;
+ * the rest of the scratch keeps its content. A spent or faulted run is told as it is. Causes 1 to 9, then 11, then 15. */
+clight_preview_answer clight_preview(const int32_t *header, size_t header_words, const int32_t *rows, size_t row_words,
+                                     const int32_t *store, size_t store_words, uint32_t budget, int32_t *scratch,
+                                     size_t scratch_words);
 
 /* Writes the kernel form of a source program. Done: first is the words of the kernel header, second those of the kernel rows; words
  * of both tables beyond these keep their content. The words written are a legal kernel program that shares the source's fate. Causes

@@ -3,7 +3,8 @@
 //!
 //! A program is a header and rows of six words, in one of two forms: the source
 //! form, and the kernel form that translations have. There is no translation
-//! here. `check` gives the first cause of refusal, `run` checks and then runs.
+//! here. `check` gives the first cause of refusal, `run` checks and then runs,
+//! `preview` runs on a copy of the store.
 
 pub mod cases;
 pub mod check;
@@ -12,6 +13,7 @@ pub mod form;
 pub mod generate;
 pub mod generate_kernel;
 pub mod machine;
+pub mod preview;
 pub mod random;
 pub mod rules;
 pub mod table;
@@ -23,4 +25,5 @@ pub mod trial;
 pub use check::check;
 pub use form::Form;
 pub use machine::{run, Ending, Fault, Outcome};
+pub use preview::{preview, Preview};
 pub use table::Refusal;

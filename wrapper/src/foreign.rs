@@ -10,6 +10,16 @@ pub struct Answer {
     pub second: usize,
 }
 
+/// The numbers of a run, and how many store words would differ.
+#[repr(C)]
+#[derive(Clone, Copy, Debug, PartialEq, Eq)]
+pub struct PreviewAnswer {
+    pub cause: u32,
+    pub first: usize,
+    pub second: usize,
+    pub differing: usize,
+}
+
 /// A check, of either form.
 pub type Check = unsafe extern "C" fn(*const i32, usize, *const i32, usize) -> Answer;
 /// A run, of either form.
@@ -38,6 +48,18 @@ extern "C" {
         store_words: usize,
         budget: u32,
     ) -> Answer;
+
+    pub fn clight_preview(
+        header: *const i32,
+        header_words: usize,
+        rows: *const i32,
+        row_words: usize,
+        store: *const i32,
+        store_words: usize,
+        budget: u32,
+        scratch: *mut i32,
+        scratch_words: usize,
+    ) -> PreviewAnswer;
 
     pub fn clight_translate(
         header: *const i32,

@@ -12,7 +12,7 @@
 #[doc(hidden)]
 pub mod foreign;
 
-use foreign::Answer;
+use foreign::{Answer, PreviewAnswer};
 
 /// Words of a row: kind, a, b, c, d, next.
 pub const ROW_WORDS: usize = 6;
@@ -45,10 +45,11 @@ pub enum Cause {
     KernelForm = 12,
     Label = 13,
     Text = 14,
+    Scratch = 15,
 }
 
 /// Every cause, in order of number.
-pub const CAUSES: [Cause; 14] = [
+pub const CAUSES: [Cause; 15] = [
     Cause::Header,
     Cause::RowCount,
     Cause::Kind,
@@ -63,6 +64,7 @@ pub const CAUSES: [Cause; 14] = [
     Cause::KernelForm,
     Cause::Label,
     Cause::Text,
+    Cause::Scratch,
 ];
 
 /// A cause and its place: a row, a line of the text from 1, or 0.
@@ -112,6 +114,14 @@ pub struct Run {
     pub count: u32,
 }
 
+/// What a run would do: its ending, its count, and how many store words would differ.
+#[derive(Clone, Copy, Debug, PartialEq, Eq)]
+pub struct Preview {
+    pub ending: Ending,
+    pub count: u32,
+    pub differing: usize,
+}
+
 /// How many words of the two lent tables are the result.
 #[derive(Clone, Copy, Debug, PartialEq, Eq)]
 pub struct Tables {
@@ -131,6 +141,20 @@ impl Answer {
     fn tables(self) -> Result<Tables, Refusal> {
         let (header_words, row_words) = self.values()?;
         Ok(Tables { header_words, row_words })
+    }
+
+    /// The ending and the count of a run, or the refusal.
+    fn run(self) -> Result<Run, Refusal> {
+        let (ending, count) = self.values()?;
+        Ok(Run { ending: ENDINGS[ending].0, count: count as u32 })
+    }
+}
+
+impl PreviewAnswer {
+    fn preview(self) -> Result<Preview, Refusal> {
+        let PreviewAnswer { cause, first, second, differing } = self;
+        let Run { ending, count } = Answer { cause, first, second }.run()?;
+        Ok(Preview { ending, count, differing })
     }
 }
 
@@ -152,10 +176,7 @@ fn run_by(
     let (header, header_words) = (header.as_ptr(), header.len());
     let (rows, row_words) = (rows.as_ptr(), rows.len());
     let (store, store_words) = (store.as_mut_ptr(), store.len());
-    let answer =
-        unsafe { entry(header, header_words, rows, row_words, store, store_words, budget) };
-    let (ending, count) = answer.values()?;
-    Ok(Run { ending: ENDINGS[ending].0, count: count as u32 })
+    unsafe { entry(header, header_words, rows, row_words, store, store_words, budget) }.run()
 }
 
 fn read_by(
@@ -196,6 +217,32 @@ pub fn kernel_check(header: &[i32], rows: &[i32]) -> Result<(), Refusal> {
 /// Runs a source program on a store of S words.
 pub fn run(header: &[i32], rows: &[i32], store: &mut [i32], budget: u32) -> Result<Run, Refusal> {
     run_by(foreign::clight_run, header, rows, store, budget)
+}
+
+/// Tells what a run of a source program on a store of S words would do. The
+/// store that it would leave stands in the first S words of the scratch; the
+/// rest of the scratch keeps its content.
+pub fn preview(
+    header: &[i32],
+    rows: &[i32],
+    store: &[i32],
+    budget: u32,
+    scratch: &mut [i32],
+) -> Result<Preview, Refusal> {
+    unsafe {
+        foreign::clight_preview(
+            header.as_ptr(),
+            header.len(),
+            rows.as_ptr(),
+            rows.len(),
+            store.as_ptr(),
+            store.len(),
+            budget,
+            scratch.as_mut_ptr(),
+            scratch.len(),
+        )
+    }
+    .preview()
 }
 
 /// Runs a kernel program on a store of S+T words.

@@ -1,6 +1,7 @@
 -- Numbers: each answer as a caller in another language gets it.
 use mathlib.Core.Path.{_≡_}
 use mathlib.Core.List.{List}
+use Prim.Native.Nat.{ℕ}
 use lib.IntN.{ℤ}
 use lib.ListN.{getD}
 use Rattle.words.specs.Numbers.{Numbers, done, refused, verdictNumbers, runNumbers}
@@ -10,6 +11,7 @@ use Rattle.text_form.specs.Answers.{Outcome, finished, refused as textRefused}
 use Rattle.translator.specs.Translation.{translateNumbers, WroteKernelForm}
 use Rattle.translator.specs.declared.TranslateAnswer.{TranslateAnswer}
 use Rattle.exports.specs.declared.Answer.{Answer}
+use Rattle.exports.specs.declared.PreviewAnswer.{PreviewAnswer}
 
 abbrev pub answerOf : Numbers → Answer
 answerOf numbers = record { cause = numbers .cause; first = numbers .first; second = numbers .second }
@@ -19,6 +21,10 @@ verdictAnswer verdict = answerOf (verdictNumbers verdict)
 
 abbrev pub runAnswer : RunVerdict → Answer
 runAnswer verdict = answerOf (runNumbers verdict)
+
+-- A preview: the numbers of the run, and how many store words would differ.
+abbrev pub previewAnswer : Numbers → ℕ → PreviewAnswer
+previewAnswer numbers tally = record { cause = numbers .cause; first = numbers .first; second = numbers .second; differing = tally }
 
 -- A reader: the header words and the row words. A writer: the bytes, and 0. Or the refusal.
 abbrev pub outcomeNumbers : Outcome → Numbers

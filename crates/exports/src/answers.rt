@@ -1,5 +1,7 @@
 // The numbers of each answer.
 use super::Answer;
+use super::PreviewAnswer;
+use clight::PreviewVerdict;
 use text_form::ReadAnswer;
 use text_form::WriteAnswer;
 use translator::TranslateAnswer;
@@ -9,10 +11,12 @@ use words::RunVerdict;
 use words::Verdict;
 use words::endings::ending_number;
 ghost use mathlib.Core.Path.{_≡_};
-ghost use Rattle.words.specs.Numbers.{refused as refusedOf};
+ghost use Rattle.words.specs.Numbers.{refused as refusedOf, runNumbers};
 ghost use Rattle.words.specs.declared.RunVerdict.the-variants.{Ran};
 ghost use Rattle.text_form.specs.Answers.{readOutcome, writeOutcome};
-ghost use Rattle.exports.specs.Numbers.{answerOf, runAnswer, verdictAnswer, outcomeAnswer, translateAnswer};
+ghost use Rattle.clight.specs.declared.PreviewVerdict.the-variants.{Previewed};
+ghost use Rattle.clight.specs.Previews.{toldRun, tallyOf};
+ghost use Rattle.exports.specs.Numbers.{answerOf, runAnswer, verdictAnswer, previewAnswer, outcomeAnswer, translateAnswer};
 
 pub fn refused(refusal: Refusal) -> Answer
     ensures { λ r. ⌜ r ≡ answerOf (refusedOf (refusal .number) (refusal .place)) ⌝ }
@@ -54,6 +58,32 @@ pub fn of_run(verdict: RunVerdict) -> Answer
     match verdict {
         RunVerdict::Ran(run) => ran(run),
         RunVerdict::Refused(refusal) => refused(refusal),
+    }
+}
+
+fn foretold(preview: clight::PreviewAnswer) -> PreviewAnswer
+    ensures { λ r. ⌜ r ≡ previewAnswer (runNumbers (toldRun (Previewed preview))) (preview .differing) ⌝ }
+{
+    let ending = preview.ending;
+    PreviewAnswer {
+        cause: 0,
+        first: ending_number(ending) as usize,
+        second: preview.count as usize,
+        differing: preview.differing,
+    }
+}
+
+pub fn of_preview(verdict: PreviewVerdict) -> PreviewAnswer
+    ensures { λ r. ⌜ r ≡ previewAnswer (runNumbers (toldRun verdict)) (tallyOf verdict) ⌝ }
+{
+    match verdict {
+        PreviewVerdict::Previewed(preview) => foretold(preview),
+        PreviewVerdict::Refused(refusal) => PreviewAnswer {
+            cause: refusal.number,
+            first: refusal.place,
+            second: 0,
+            differing: 0,
+        },
     }
 }
 

@@ -5,7 +5,7 @@ mod entries;
 
 pub use entries::{Entries, KERNEL, SOURCE};
 
-use clight::{Cause, Refusal, Run, Tables};
+use clight::{Cause, Preview, Refusal, Run, Tables};
 use interpreter::cases::Case;
 use interpreter::check::check_sizes;
 use interpreter::machine::run_checked;
@@ -20,7 +20,7 @@ const BYTE: u8 = 0xA5;
 /// How often each cause was given; 0 is for none.
 #[derive(Default)]
 pub struct Tally {
-    seen: [u32; 15],
+    seen: [u32; 16],
 }
 
 impl Tally {
@@ -80,6 +80,7 @@ pub fn source_tables(
     let checked = checked(&SOURCE, header, rows, tally);
     for words in [store.len(), store.len() + 1, store.len().saturating_sub(1), 0] {
         store.resize(words, 3);
+        preview(header, rows, store, budget, tally);
         run(&SOURCE, header, rows, store, budget, tally);
     }
     writer(&SOURCE, header, rows, tally);
@@ -121,6 +122,27 @@ fn run(
     let ran = mine((entries.run)(header, rows, store, budget), tally).map(same_run);
     assert_eq!(ran, theirs(interpreter::run(entries.form, header, rows, &mut other, budget)));
     assert_eq!(*store, other);
+}
+
+/// Both previews, with a scratch of just the store's words, of one less, of more and of none; then
+/// the run that was previewed, on the same store.
+fn preview(header: &[i32], rows: &[i32], store: &[i32], budget: u32, tally: &mut Tally) {
+    let words = store.len();
+    for room in [words, words.saturating_sub(1), words + 1, words + 7, 0] {
+        let (mut scratch, mut other) = (vec![WORD; room], vec![WORD; room]);
+        let kept = store.to_vec();
+        let told = mine(clight::preview(header, rows, store, budget, &mut scratch), tally);
+        let expected = theirs(interpreter::preview(header, rows, store, budget, &mut other));
+        let as_run = |told: Preview| Run { ending: told.ending, count: told.count };
+        let plain = told.map(|told| (same_run(as_run(told)), told.differing));
+        assert_eq!(plain, expected.map(|told| (told.outcome, told.differing)));
+        assert_eq!((&scratch, store), (&other, &kept[..]));
+        let Ok(told) = told else { continue };
+        let mut after = store.to_vec();
+        assert_eq!(clight::run(header, rows, &mut after, budget), Ok(as_run(told)));
+        assert_eq!((&scratch[..words], told.differing == 0), (&after[..], after == store));
+        assert!(scratch[words..].iter().all(|&word| word == WORD));
+    }
 }
 
 /// The translation with room to spare, with just enough, with a word too few in either table, and with none.

@@ -159,6 +159,12 @@ fn call_run(entries: &Entries, program: &Program) {
     (entries.run)(&program.header, &program.rows, &mut store, 10_000).unwrap();
 }
 
+fn call_preview(_: &Entries, program: &Program) {
+    let store = vec![1; Source.store_words(&program.header)];
+    let mut scratch = store.clone();
+    clight::preview(&program.header, &program.rows, &store, 10_000, &mut scratch).unwrap();
+}
+
 fn call_translate(_: &Entries, program: &Program) {
     let mut header = vec![0; program.header.len() + 1];
     let mut rows = vec![0; 6 * clight::kernel_rows(program.row_count())];
@@ -182,10 +188,11 @@ pub fn print_all() {
     kernels.extend(sources.iter().map(crate::programs::translated));
     kernels.push(crate::programs::kernel_sized(40_980));
     sources.push(crate::programs::sized(2_048));
-    let calls: [(&str, Call, &'static Entries); 10] = [
+    let calls: [(&str, Call, &'static Entries); 11] = [
         ("nothing, for comparison", |_, _| {}, &SOURCE),
         ("check", call_check, &SOURCE),
         ("run", call_run, &SOURCE),
+        ("preview", call_preview, &SOURCE),
         ("translate", call_translate, &SOURCE),
         ("kernel check", call_check, &KERNEL),
         ("kernel run", call_run, &KERNEL),

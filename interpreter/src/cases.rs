@@ -6,6 +6,7 @@
 
 use crate::form::Form;
 use crate::machine::{run, Ending, Outcome};
+use crate::preview::preview;
 use crate::table::Refusal;
 use crate::text;
 use std::fmt::Write;
@@ -61,15 +62,42 @@ pub fn read_all(bytes: &[u8]) -> Result<Vec<Case>, String> {
     Ok(cases)
 }
 
+/// The words that the store starts from.
+fn start(form: Form, header: &[i32], case: &Case) -> Vec<i32> {
+    match case.words.is_empty() {
+        true => vec![0; form.store_words(header)],
+        false => case.words.clone(),
+    }
+}
+
 /// The outcome and the store, or the refusal.
 pub fn evaluate(form: Form, case: &Case) -> Result<(Outcome, Vec<i32>), Refusal> {
     let (header, rows) = text::read(form, &case.text)?;
-    let mut store = case.words.clone();
-    if store.is_empty() {
-        store = vec![0; form.store_words(&header)];
-    }
+    let mut store = start(form, &header, case);
     let outcome = run(form, &header, &rows, &mut store, case.budget)?;
     Ok((outcome, store))
+}
+
+/// The lines of a preview: ending, count and how many words would differ; then
+/// each of these, lowest place first: its place, what it holds, what it would hold.
+fn foretell(case: &Case) -> Result<String, Refusal> {
+    let (header, rows) = text::read(Form::Source, &case.text)?;
+    let store = start(Form::Source, &header, case);
+    let mut scratch = vec![0; Form::Source.store_words(&header)];
+    let told = preview(&header, &rows, &store, case.budget, &mut scratch)?;
+    let Outcome { ending, count } = told.outcome;
+    let mut lines = format!("{} {count} {}\n", ending.name(), told.differing);
+    for (place, (word, other)) in store.iter().zip(&scratch).enumerate() {
+        if word != other {
+            // Writing to a string does not fail.
+            let _ = writeln!(lines, "{place}: {word} {other}");
+        }
+    }
+    Ok(lines)
+}
+
+pub fn preview_lines(case: &Case) -> String {
+    foretell(case).unwrap_or_else(|refusal| format!("{refusal}\n"))
 }
 
 pub fn answer(form: Form, case: &Case) -> String {

@@ -15,7 +15,9 @@ Texts and case files are read from standard input.
   check                      ok, or refused NUMBER PLACE
   run BUDGET [WORD ...]      ENDING COUNT WORDS, or refused NUMBER PLACE;
                              the store starts from the words, else from zeros
-  kernel-check               the same for a text of the kernel form
+  preview BUDGET [WORD ...]  ENDING COUNT and how many words would differ; then
+                             PLACE: OLD NEW for each of them, lowest place first
+  kernel-check               check and run for a text of the kernel form
   kernel-run BUDGET [WORD ...]
   trial                      the trial program's line for the source form, or
                              its refusal. The kernel's line is not printed:
@@ -64,6 +66,9 @@ fn act(arguments: &[&str], tally: bool) -> Result<Vec<u8>, String> {
         [] | ["help"] | ["--help"] | ["-h"] => Ok(HELP.into()),
         ["check"] => Ok(check_text(Source, &input()?)),
         ["run", budget, words @ ..] => run_text(Source, budget, words),
+        ["preview", budget, words @ ..] => {
+            Ok(cases::preview_lines(&case(budget, words)?).into_bytes())
+        }
         ["kernel-check"] => Ok(check_text(Kernel, &input()?)),
         ["kernel-run", budget, words @ ..] => run_text(Kernel, budget, words),
         ["trial"] => Ok(line(trial::trial(&input()?))),
@@ -153,10 +158,15 @@ fn check_text(form: Form, bytes: &[u8]) -> Vec<u8> {
     }
 }
 
-fn run_text(form: Form, budget: &str, words: &[&str]) -> Result<Vec<u8>, String> {
+/// The text on standard input, with this budget and these words.
+fn case(budget: &str, words: &[&str]) -> Result<Case, String> {
     let budget = number(budget)?;
     let words = words.iter().map(|word| number(word)).collect::<Result<_, _>>()?;
-    Ok(line(cases::answer(form, &Case { budget, words, text: input()? })))
+    Ok(Case { budget, words, text: input()? })
+}
+
+fn run_text(form: Form, budget: &str, words: &[&str]) -> Result<Vec<u8>, String> {
+    Ok(line(cases::answer(form, &case(budget, words)?)))
 }
 
 fn number<T: std::str::FromStr>(argument: &str) -> Result<T, String> {

@@ -1,5 +1,12 @@
 // The command: reads the arguments, standard input and the store file, has `command_answer` put the bytes together, and writes them to
 // standard output. What is read and written is C's to say; all that this crate makes of it is in the contracts.
+pub mod buffers; // buffers.rt: the tables and buffers that a request is answered in
+
+use self::buffers::header_table;
+use self::buffers::output_buffer;
+use self::buffers::row_table;
+use self::buffers::store_buffer;
+use self::buffers::text_buffer;
 use command_answer::Input;
 use command_answer::answer::inputs_answer;
 use command_request::request::Request;
@@ -109,38 +116,6 @@ fn respond_in(
         store: store_input,
         bytes: bytes,
     }
-}
-
-// The limit of a text, and a byte more, so that a longer one is seen.
-fn text_buffer() -> [u8; 2097153]
-    ensures { λ r. ⌜ 2097153 ≡ length r ⌝ }
-{
-    [0; 2097153]
-}
-
-// The limit of a store file, and a byte more.
-fn store_buffer() -> [u8; 196609]
-    ensures { λ r. ⌜ 196609 ≡ length r ⌝ }
-{
-    [0; 196609]
-}
-
-fn header_table() -> [i32; 34]
-    ensures { λ r. ⌜ 34 ≡ length r ⌝ }
-{
-    [0; 34]
-}
-
-fn row_table() -> [i32; 245880]
-    ensures { λ r. ⌜ 245880 ≡ length r ⌝ }
-{
-    [0; 245880]
-}
-
-fn output_buffer() -> [u8; 2950968]
-    ensures { λ r. ⌜ 2950968 ≡ length r ⌝ }
-{
-    [0; 2950968]
 }
 
 // Answers a request: everything that was put at the start of `out` is printed.

@@ -1,0 +1,35 @@
+// The tables and buffers that a request is answered in.
+ghost use mathlib.Core.Path.{_≡_};
+ghost use lib.ListN.{length};
+
+// The limit of a text, and a byte more, so that a longer one is seen.
+pub fn text_buffer() -> [u8; 2097153]
+    ensures { λ r. ⌜ 2097153 ≡ length r ⌝ }
+{
+    [0; 2097153]
+}
+
+// The limit of a store file, and a byte more.
+pub fn store_buffer() -> [u8; 196609]
+    ensures { λ r. ⌜ 196609 ≡ length r ⌝ }
+{
+    [0; 196609]
+}
+
+pub fn header_table() -> [i32; 34]
+    ensures { λ r. ⌜ 34 ≡ length r ⌝ }
+{
+    [0; 34]
+}
+
+pub fn row_table() -> [i32; 245880]
+    ensures { λ r. ⌜ 245880 ≡ length r ⌝ }
+{
+    [0; 245880]
+}
+
+pub fn output_buffer() -> [u8; 2950968]
+    ensures { λ r. ⌜ 2950968 ≡ length r ⌝ }
+{
+    [0; 2950968]
+}

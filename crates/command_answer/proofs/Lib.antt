@@ -7,3 +7,5 @@ pub mod Joined
 pub mod Starts
 -- Kernels: what the translator wrote is a kernel program whose text has room.
 pub mod Kernels
+-- Changed: the lines of a preview, one place after the other.
+pub mod Changed

@@ -3,6 +3,8 @@
 -- ---- definitions
 -- Lines: the lines that the command prints.
 pub mod Lines
+-- Changes: the lines that a preview prints.
+pub mod Changes
 -- Output: what it prints for a request, a text and a store file.
 pub mod Output
 -- Inputs: what came of reading standard input and the store file, and what is printed for it.

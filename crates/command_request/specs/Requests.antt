@@ -10,10 +10,12 @@ use Rattle.words.specs.declared.Form.the-variants.{Source, Kernel}
 use Rattle.text_form.specs.Number.{natural}
 use Rattle.text_form.specs.Reader.{atMost}
 use Rattle.command_request.specs.Ascii.{ascii}
+use Rattle.command_request.specs.declared.request.Task.{Task}
+use Rattle.command_request.specs.declared.request.Task.the-variants.{Run, Preview}
 use Rattle.command_request.specs.declared.request.Verb.{Verb}
 use Rattle.command_request.specs.declared.request.Verb.the-variants as verb-cases
 use Rattle.command_request.specs.declared.request.Request.{Request}
-use Rattle.command_request.specs.declared.request.Request.the-variants.{Check, Run, Translate, WrongArguments, WrongBudget}
+use Rattle.command_request.specs.declared.request.Request.the-variants.{Check, Start, Translate, WrongArguments, WrongBudget}
 
 unfoldable pub sameBytes : List ℕ → List ℕ → Bool
 sameBytes [] [] = true
@@ -25,25 +27,26 @@ sameBytes (first ∷ firsts) (second ∷ seconds) = eqb first second && sameByte
 unfoldable pub verbOf : List ℕ → Verb
 verbOf name =
     pick (sameBytes name (ascii "check")) (verb-cases.Check Source)
-    (pick (sameBytes name (ascii "run")) (verb-cases.Run Source)
+    (pick (sameBytes name (ascii "run")) (verb-cases.Start (Run Source))
+    (pick (sameBytes name (ascii "preview")) (verb-cases.Start Preview)
     (pick (sameBytes name (ascii "translate")) verb-cases.Translate
     (pick (sameBytes name (ascii "kernel-check")) (verb-cases.Check Kernel)
-    (pick (sameBytes name (ascii "kernel-run")) (verb-cases.Run Kernel)
-    verb-cases.Unknown))))
+    (pick (sameBytes name (ascii "kernel-run")) (verb-cases.Start (Run Kernel))
+    verb-cases.Unknown)))))
 
 -- "The budget is any unsigned 32-bit number": decimal digits, no sign, no leading zero.
 unfoldable pub budgetOf : List ℕ → Option ℕ
 budgetOf bytes = atMost 4294967295 (natural bytes)
 
-unfoldable pub runRequest : Form → Option ℕ → (stored : Bool) → Request
-runRequest form none stored = WrongBudget
-runRequest form (some budget) stored = Run form budget stored
+unfoldable pub startRequest : Task → Option ℕ → (stored : Bool) → Request
+startRequest task none stored = WrongBudget
+startRequest task (some budget) stored = Start task budget stored
 
--- A run has a budget and, where it is not to start from zeros, a store file; the others have no further argument. `count` is the number of
--- arguments.
+-- A run or a preview has a budget and, where it is not to start from zeros, a store file; the others have no further argument. `count` is
+-- the number of arguments.
 unfoldable pub requestBy : Verb → (count : ℕ) → (second : List ℕ) → Request
 requestBy (verb-cases.Check form) count second = pick (eqb count 1) (Check form) WrongArguments
-requestBy (verb-cases.Run form) count second = pick (leb 2 count && leb count 3) (runRequest form (budgetOf second) (eqb count 3)) WrongArguments
+requestBy (verb-cases.Start task) count second = pick (leb 2 count && leb count 3) (startRequest task (budgetOf second) (eqb count 3)) WrongArguments
 requestBy verb-cases.Translate count second = pick (eqb count 1) Translate WrongArguments
 requestBy verb-cases.Unknown count second = WrongArguments
 
@@ -53,14 +56,14 @@ requestOf count first second = requestBy (verbOf first) count second
 -- Whether standard input is read, and whether a store file is. With wrong arguments nothing is read.
 abbrev pub readsText : Request → Bool
 readsText (Check form) = true
-readsText (Run form budget stored) = true
+readsText (Start task budget stored) = true
 readsText Translate = true
 readsText WrongArguments = false
 readsText WrongBudget = false
 
 abbrev pub readsStore : Request → Bool
 readsStore (Check form) = false
-readsStore (Run form budget stored) = stored
+readsStore (Start task budget stored) = stored
 readsStore Translate = false
 readsStore WrongArguments = false
 readsStore WrongBudget = false

@@ -6,22 +6,28 @@ ghost use mathlib.Core.Path.{_≡_};
 ghost use lib.Dec.{eqb};
 ghost use Rattle.words.specs.Word.{pick};
 ghost use Rattle.text_form.specs.Reader.{digitsValue};
-ghost use Rattle.command_request.specs.declared.request.Verb.the-variants.{Run as RunVerb};
+ghost use Rattle.command_request.specs.declared.request.Verb.the-variants.{Start as StartVerb};
 ghost use Rattle.command_request.specs.declared.request.Request.the-variants.{WrongArguments};
-ghost use Rattle.command_request.specs.Requests.{sameBytes, verbOf, runRequest, requestBy, requestOf, readsText, readsStore};
+ghost use Rattle.command_request.specs.Requests.{sameBytes, verbOf, startRequest, requestBy, requestOf, readsText, readsStore};
+
+// What starts from a store: the run of a program, or the preview of a source program's run.
+pub enum Task {
+    Run(Form),
+    Preview,
+}
 
 // What the first argument says.
 pub enum Verb {
     Check(Form),
-    Run(Form),
+    Start(Task),
     Translate,
     Unknown,
 }
 
-// What all arguments ask for; a run has its budget, and says whether a store file is named.
+// What all arguments ask for; what starts from a store has its budget, and says whether a store file is named.
 pub enum Request {
     Check(Form),
-    Run(Form, u32, bool),
+    Start(Task, u32, bool),
     Translate,
     WrongArguments,
     WrongBudget,
@@ -50,7 +56,10 @@ fn verb_of(name: &[u8]) -> Verb
         return Verb::Check(Form::Source);
     }
     if is_same(name, b"run") {
-        return Verb::Run(Form::Source);
+        return Verb::Start(Task::Run(Form::Source));
+    }
+    if is_same(name, b"preview") {
+        return Verb::Start(Task::Preview);
     }
     if is_same(name, b"translate") {
         return Verb::Translate;
@@ -59,16 +68,16 @@ fn verb_of(name: &[u8]) -> Verb
         return Verb::Check(Form::Kernel);
     }
     if is_same(name, b"kernel-run") {
-        return Verb::Run(Form::Kernel);
+        return Verb::Start(Task::Run(Form::Kernel));
     }
     Verb::Unknown
 }
 
-fn run_request(form: Form, budget: Digits, stored: bool) -> Request
-    ensures { λ r. ⌜ r ≡ runRequest form (digitsValue budget) stored ⌝ }
+fn start_request(task: Task, budget: Digits, stored: bool) -> Request
+    ensures { λ r. ⌜ r ≡ startRequest task (digitsValue budget) stored ⌝ }
 {
     match budget {
-        Digits::Value(steps) => Request::Run(form, steps, stored),
+        Digits::Value(steps) => Request::Start(task, steps, stored),
         Digits::Malformed => Request::WrongBudget,
     }
 }
@@ -84,8 +93,8 @@ fn alone(request: Request, count: usize) -> Request
 }
 
 // Two arguments or three, of which the second is the budget, any unsigned 32-bit number, and the third names a store file.
-fn run_arguments(form: Form, count: usize, second: &[u8]) -> Request
-    ensures { λ r. ⌜ r ≡ requestBy (RunVerb form) count (now (second .entry)) ⌝ }
+fn start_arguments(task: Task, count: usize, second: &[u8]) -> Request
+    ensures { λ r. ⌜ r ≡ requestBy (StartVerb task) count (now (second .entry)) ⌝ }
 {
     if count < 2 {
         return Request::WrongArguments;
@@ -93,7 +102,7 @@ fn run_arguments(form: Form, count: usize, second: &[u8]) -> Request
     if count > 3 {
         return Request::WrongArguments;
     }
-    run_request(form, natural(second, 4294967295), count == 3)
+    start_request(task, natural(second, 4294967295), count == 3)
 }
 
 fn request_by(verb: Verb, count: usize, second: &[u8]) -> Request
@@ -101,7 +110,7 @@ fn request_by(verb: Verb, count: usize, second: &[u8]) -> Request
 {
     match verb {
         Verb::Check(form) => alone(Request::Check(form), count),
-        Verb::Run(form) => run_arguments(form, count, second),
+        Verb::Start(task) => start_arguments(task, count, second),
         Verb::Translate => alone(Request::Translate, count),
         Verb::Unknown => Request::WrongArguments,
     }
@@ -120,7 +129,7 @@ pub fn reads_text(request: Request) -> bool
 {
     match request {
         Request::Check(_) => true,
-        Request::Run(_, _, _) => true,
+        Request::Start(_, _, _) => true,
         Request::Translate => true,
         Request::WrongArguments => false,
         Request::WrongBudget => false,
@@ -133,7 +142,7 @@ pub fn reads_store(request: Request) -> bool
 {
     match request {
         Request::Check(_) => false,
-        Request::Run(_, _, stored) => stored,
+        Request::Start(_, _, stored) => stored,
         Request::Translate => false,
         Request::WrongArguments => false,
         Request::WrongBudget => false,

@@ -13,8 +13,8 @@ alone-requires c κs = search needs
 enum-known-verb-2 : tie.Need-enum-known-verb-2
 enum-known-verb-2 c = search needs
 
-run-arguments-requires : tie.Need-run-arguments-requires
-run-arguments-requires c κs = search needs
+start-arguments-requires : tie.Need-start-arguments-requires
+start-arguments-requires c κs = search needs
 
 enum-told : tie.Need-enum-told
 enum-told c = search needs
@@ -30,7 +30,7 @@ unfolding requestBy
 returns c = rw (c .before .before .verb .given .1) (c .alone .ensures)
 
 returns-2 : tie.Need-returns-2
-returns-2 c = rw (c .before .before .verb2 .given .1) (c .run-arguments .ensures)
+returns-2 c = rw (c .before .before .verb2 .given .1) (c .start-arguments .ensures)
 
 returns-3 : tie.Need-returns-3
 unfolding requestBy
@@ -47,7 +47,7 @@ request-by-spec =
     enum-known-verb
     alone-requires
     enum-known-verb-2
-    run-arguments-requires
+    start-arguments-requires
     enum-told
     alone-requires-2
     enum-told-2

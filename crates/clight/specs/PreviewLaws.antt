@@ -7,7 +7,7 @@ use native.Mathlib.Omega.{arith}
 use native.Mathlib.Numerals.{add-one}
 use lib.Dec.{ltb, leb, eqb}
 use lib.IntN.{ℤ, pos}
-use lib.ListN.{length, getD, take, drop, drop-of-length-le}
+use lib.ListN.{length, getD, take, drop, drop-of-length-le, length-append}
 use lib.Seq.{ext-getD, take-at}
 use borrow.Author.Tests.{ltb-true, ltb-false, eqb-true, eq-eqb, ne-eqb, le-leb, lt-leb}
 use Rattle.words.specs.Word.{sameWord, pick}
@@ -164,6 +164,8 @@ sized header rows budget store Accepted run e = by (eqb (length store) (storeWor
 
 -- the answer, the words and the tally of a run that was previewed
 record Told (answer : RunVerdict) (words : ℕ) (left store : List ℤ) (preview : PreviewAnswer) (scratch : List ℤ) : Type 0 where
+  told-size : length store ≡ words
+  told-room : words ≤ length scratch
   told-answer : answer ≡ Ran (record { ending = preview .ending; count = preview .count })
   told-words : left ≡ take words scratch
   told-tally : NoneIfEqual store left (preview .differing)
@@ -174,6 +176,8 @@ unfolding over
 told-if true run words left store scratch preview s e =
     let same : preview .differing ≡ differences (length store) store left = sym (ap tallyOf e) ∙ ap (λ (n : ℕ). differences n store left) (sym (s .store-long)) in
     record {
+      told-size = s .store-long;
+      told-room = omega (arith, s .left-long, length-append left (drop (length left) scratch));
       told-answer = ap toldRun e;
       told-words = sym (take-at left (drop (length left) scratch) words (s .left-long));
       told-tally = subst (λ (n : ℕ). NoneIfEqual store left n) (sym same) (none-if-equal store left (s .store-long ∙ sym (s .left-long)));
@@ -192,7 +196,7 @@ unfolding previewResult runResult
 run-as-previewed header rows budget store scratch preview e =
     let run = runAfter (refusalOf Source header rows) Source header rows budget store in
     let t = told-after (run .answer) (storeWords Source header) (run .store) store scratch preview (sized header rows budget store (refusalOf Source header rows)) e in
-    record { same-answer = t .told-answer; same-words = t .told-words; tally-right = t .told-tally }
+    record { store-size = t .told-size; scratch-room = t .told-room; same-answer = t .told-answer; same-words = t .told-words; tally-right = t .told-tally }
 
 -- "0 gives spent with count 0": with that budget the scratch gets the store as it is, and no word differs.
 pub zero-previewed : (header rows store scratch : List ℤ) → refusalOf Source header rows ≡ Accepted → length store ≡ storeWords Source header → storeWords Source header ≤ length scratch

@@ -2,7 +2,7 @@
 use mathlib.Core.Path.{_≡_}
 use mathlib.Core.Bool.{Bool, true, false}
 use mathlib.Core.List.{List}
-use Prim.Native.Nat.{ℕ, zero, suc, _+_}
+use Prim.Native.Nat.{ℕ, zero, suc, _+_, _≤_}
 use lib.Dec.{leb}
 use lib.IntN.{ℤ, pos}
 use lib.ListN.{length, getD, take}
@@ -103,8 +103,11 @@ pub record NoneIfEqual (before after : List ℤ) (tally : ℕ) : Type 0 where
   pub none-equal : tally ≡ 0 → before ≡ after
   pub equal-none : before ≡ after → tally ≡ 0
 
--- A run gives what was previewed: the ending and the count, the words, and a store that is as it was where none would differ.
+-- A preview that is not refused: the store had its size and the scratch room for it; the run gives the ending, the count and the words
+-- that were told, and a store that is as it was where none would differ.
 pub record RunAsPreviewed (run : RunResult) (words : ℕ) (store : List ℤ) (preview : PreviewAnswer) (scratch : List ℤ) : Type 0 where
+  pub store-size : length store ≡ words
+  pub scratch-room : words ≤ length scratch
   pub same-answer : run .answer ≡ Ran (record { ending = preview .ending; count = preview .count })
   pub same-words : run .store ≡ take words scratch
   pub tally-right : NoneIfEqual store (run .store) (preview .differing)

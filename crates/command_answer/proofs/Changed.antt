@@ -1,4 +1,4 @@
--- The lines of a preview, one place after the other.
+-- The lines of a preview, one place after the other, and that they have room.
 use mathlib.Core.Path.{_≡_, refl, sym, ap, ap₂, _∙_}
 use mathlib.Core.Bool.{Bool, true, false}
 use mathlib.Core.List.{List, [], _++_}
@@ -15,7 +15,12 @@ use Rattle.words.specs.Laws.{back}
 use Rattle.words.specs.OverLaws.{part, back-in}
 use Rattle.text_form.specs.Writer.{Put}
 use Rattle.text_form.specs.PutLaws.{put-none, put-as, put-length, put-next, put-space, put-inside}
-use Rattle.command_answer.specs.Changes.{changeLine, changeAt, changeLines}
+use Rattle.clight.specs.Previews.{PreviewResult, answerAndWords, previewResult}
+use Rattle.clight.specs.PreviewLaws.{run-as-previewed}
+use Rattle.clight.specs.declared.PreviewVerdict.{PreviewVerdict}
+use Rattle.clight.specs.declared.PreviewVerdict.the-variants.{Previewed, Refused}
+use Rattle.command_answer.specs.Changes.{changeLine, changeAt, changeLines, Showable}
+use Rattle.command_answer.specs.Output.{outputRoom}
 
 pub unchanged : (place : ℕ) (v w : ℤ) → sameWord v w ≡ true → [] ≡ changeAt place v w
 unfolding changeAt
@@ -71,3 +76,13 @@ module _ {store left : List ℤ} {i at : ℕ} {buffer text : List ℕ} (b : Pass
       room = b .room;
       put = put-as (lines-next i store left) (put-next (b .put) (changeAt i (wordOf i store) (wordOf i left)) size lent (put-as (ap₂ (changeAt i) (back (wordOf i store) f) (back (wordOf i left) g)) p));
     }
+
+-- The lines of a preview have room: it is refused, or the store has no more words than the scratch, which has at most 8,192.
+pub showable : (verdict : PreviewVerdict) (header rows : List ℤ) (budget : ℕ) (store scratch left : List ℤ) → answerAndWords verdict store left ≡ previewResult header rows budget store scratch
+    → length left ≤ 8192 → {room : ℕ} → outputRoom ≤ room → Showable verdict store left room
+showable (Previewed preview) header rows budget store scratch left e h o =
+    let told = run-as-previewed header rows budget store scratch preview (sym (ap (λ (result : PreviewResult). result .answer) e)) in
+    let long : length left ≡ length (previewResult header rows budget store scratch .scratch) = ap (λ (result : PreviewResult). length (result .scratch)) e in
+    let inside : length store ≤ length left = omega (arith, told .store-size, told .scratch-room, long) in
+    (inside, omega (arith, inside, h, o))
+showable (Refused refusal) header rows budget store scratch left e h o = omega (arith, o)

@@ -3,9 +3,9 @@
 pub mod Readings
 -- Joined: how lines are put together.
 pub mod Joined
--- Starts: what a run starts from, and that its line has room.
+-- Starts: what a run or a preview starts from, and that its line has room.
 pub mod Starts
 -- Kernels: what the translator wrote is a kernel program whose text has room.
 pub mod Kernels
--- Changed: the lines of a preview, one place after the other.
+-- Changed: the lines of a preview, one place after the other, and that they have room.
 pub mod Changed

@@ -1,4 +1,4 @@
--- What a run starts from: zeros, or the words of a store file; and that its line has room.
+-- What a run or a preview starts from: zeros, or the words of a store file; and that its line has room.
 use mathlib.Core.Path.{_≡_, sym, ap, _∙_}
 use mathlib.Core.Bool.{true}
 use mathlib.Core.List.{List}
@@ -21,6 +21,10 @@ use Rattle.command_answer.specs.Output.{Roomy, outputRoom}
 pub words-most : (form : Form) (header : List ℤ) → headerFits form header ≡ true → storeWords form header ≤ 16384
 unfolding storeWords
 words-most form header h = let f = headerFits-facts form header h in omega (arith, f .small-store, f .few-temporaries)
+
+pub source-words-most : (header : List ℤ) → headerFits Source header ≡ true → storeWords Source header ≤ 8192
+unfolding storeWords
+source-words-most header h = omega (arith, headerFits-facts Source header h .small-store)
 
 -- the line of a run on the first part of a store
 pub part-room : (n : ℕ) (store : List ℤ) → n ≤ length store → length store ≤ 98304 → {room : ℕ} → outputRoom ≤ room → lineRoom (length (take (n - 0) store)) ≤ room

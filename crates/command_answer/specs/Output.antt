@@ -17,10 +17,14 @@ use Rattle.text_form.specs.Answers.{causeOf}
 use Rattle.report.specs.Lines.{refusedLine}
 use Rattle.fate.specs.KernelForms.{kernelHeaderOf, kernelRowsOf}
 use Rattle.clight.specs.Runs.{refusalOf, RunResult, runResult}
+use Rattle.clight.specs.Previews.{PreviewResult, previewResult}
 use Rattle.command_answer.specs.Lines.{verdictLine, runLine, usageLine, wrongBudgetLine, longTextLine, longStoreLine, malformedLine}
+use Rattle.command_answer.specs.Changes.{previewLines}
 use Rattle.command_request.specs.StoreFile.{storeIn}
+use Rattle.command_request.specs.declared.request.Task.{Task}
+use Rattle.command_request.specs.declared.request.Task.the-variants as task-cases
 use Rattle.command_request.specs.declared.request.Request.{Request}
-use Rattle.command_request.specs.declared.request.Request.the-variants.{Check, Run, Translate, WrongArguments, WrongBudget}
+use Rattle.command_request.specs.declared.request.Request.the-variants.{Check, Start, Translate, WrongArguments, WrongBudget}
 
 -- ---- limits
 
@@ -64,32 +68,43 @@ checkLine form header rows = verdictLine (refusalOf form header rows)
 unfoldable pub checkOutput : Form → List ℕ → List ℕ
 checkOutput form text = textOutput form text (checkLine form)
 
--- ---- run
+-- ---- run and preview
+
+-- A preview is of a source program.
+abbrev pub formOf : Task → Form
+formOf (task-cases.Run form) = form
+formOf task-cases.Preview = Source
 
 abbrev pub resultLine : RunResult → List ℕ
 resultLine result = runLine (result .answer) (result .store)
 
-abbrev pub storeLine : Form → ℕ → (store header rows : List ℤ) → List ℕ
-storeLine form budget store header rows = resultLine (runResult form header rows budget store)
+abbrev pub resultLines : PreviewResult → List ℕ
+resultLines result = previewLines (result .answer) (result .store) (result .scratch)
 
-unfoldable pub runOutput : Form → ℕ → List ℕ → List ℤ → List ℕ
-runOutput form budget text store = textOutput form text (storeLine form budget store)
+-- What is printed for a header and rows: the line of the run from this store, or the lines of its preview, in a scratch of as many words as
+-- the program's store has, so that 15 does not arise.
+abbrev pub taskLines : Task → ℕ → (store header rows : List ℤ) → List ℕ
+taskLines (task-cases.Run form) budget store header rows = resultLine (runResult form header rows budget store)
+taskLines task-cases.Preview budget store header rows = resultLines (previewResult header rows budget store (zeros (storeWords Source header)))
+
+unfoldable pub taskOutput : Task → ℕ → List ℕ → List ℤ → List ℕ
+taskOutput task budget text store = textOutput (formOf task) text (taskLines task budget store)
 
 -- "else zeros"
-abbrev pub zerosLine : Form → ℕ → (header rows : List ℤ) → List ℕ
-zerosLine form budget header rows = storeLine form budget (zeros (storeWords form header)) header rows
+abbrev pub zerosLines : Task → ℕ → (header rows : List ℤ) → List ℕ
+zerosLines task budget header rows = taskLines task budget (zeros (storeWords (formOf task) header)) header rows
 
-unfoldable pub zerosOutput : Form → ℕ → List ℕ → List ℕ
-zerosOutput form budget text = textOutput form text (zerosLine form budget)
+unfoldable pub zerosOutput : Task → ℕ → List ℕ → List ℕ
+zerosOutput task budget text = textOutput (formOf task) text (zerosLines task budget)
 
 -- A malformed word is told before the text is read; a wrong number of words is cause 11, in its place.
-unfoldable pub storedOutput : Form → ℕ → List ℕ → Parsed (List ℤ) → List ℕ
-storedOutput form budget text (malformed number) = malformedLine number
-storedOutput form budget text (parsed words) = runOutput form budget text words
+unfoldable pub storedOutput : Task → ℕ → List ℕ → Parsed (List ℤ) → List ℕ
+storedOutput task budget text (malformed number) = malformedLine number
+storedOutput task budget text (parsed words) = taskOutput task budget text words
 
 -- `given` says whether a store file was named.
-unfoldable pub startedOutput : Form → ℕ → (text : List ℕ) → (given : Bool) → (stored : List ℕ) → List ℕ
-startedOutput form budget text given stored = pick given (storedOutput form budget text (storeIn stored)) (zerosOutput form budget text)
+unfoldable pub startedOutput : Task → ℕ → (text : List ℕ) → (given : Bool) → (stored : List ℕ) → List ℕ
+startedOutput task budget text given stored = pick given (storedOutput task budget text (storeIn stored)) (zerosOutput task budget text)
 
 -- ---- translate
 
@@ -108,7 +123,7 @@ translateOutput text = textOutput Source text kernelText
 
 unfoldable pub requestOutput : Request → (text stored : List ℕ) → List ℕ
 requestOutput (Check form) text stored = checkOutput form text
-requestOutput (Run form budget given) text stored = startedOutput form budget text given stored
+requestOutput (Start task budget given) text stored = startedOutput task budget text given stored
 requestOutput Translate text stored = translateOutput text
 requestOutput WrongArguments text stored = usageLine
 requestOutput WrongBudget text stored = wrongBudgetLine

@@ -8,7 +8,7 @@ use super::line::unreadable_text_line;
 use super::line::usage_line;
 use super::line::wrong_budget_line;
 use super::verbs::check_answer;
-use super::verbs::run_answer;
+use super::verbs::start_answer;
 use command_request::request::Request;
 ghost use mathlib.Core.Path.{_≡_};
 ghost use Prim.Native.Nat.{_≤_};
@@ -34,8 +34,8 @@ fn request_answer(
 {
     match request {
         Request::Check(form) => check_answer(form, text, header, rows, out),
-        Request::Run(form, budget, given) => {
-            run_answer(form, budget, text, given, stored, header, rows, out)
+        Request::Start(task, budget, given) => {
+            start_answer(task, budget, text, given, stored, header, rows, out)
         }
         Request::Translate => translate_answer(text, header, rows, out),
         Request::WrongArguments => usage_line(out),

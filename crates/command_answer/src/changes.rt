@@ -1,17 +1,26 @@
-// The lines that a preview prints. A writer puts its bytes at the start of `text`, and answers how many they are.
+// What a preview prints. A writer puts its bytes at the start of `text`, and answers how many they are.
 use clight::PreviewAnswer;
 use clight::PreviewVerdict;
+use clight::previews::preview;
 use report::field::put_count;
 use report::field::put_ending_name;
 use report::field::put_word;
 use report::line::refused_line;
 use text_form::digits::put_digits;
 use words::Ending;
+use words::Form;
+use words::layout::store_words;
+ghost use mathlib.Core.Path.{_≡_};
+ghost use mathlib.Core.Bool.{true};
 ghost use Prim.Native.Nat.{_≤_, _*_};
 ghost use lib.ListN.{length};
+ghost use Rattle.words.specs.Layout.{headerFits, storeWords, zeros};
+ghost use Rattle.words.specs.declared.Form.the-variants.{Source};
 ghost use Rattle.text_form.specs.Writer.{Put};
+ghost use Rattle.clight.specs.Previews.{previewResult};
 ghost use Rattle.clight.specs.declared.PreviewVerdict.the-variants.{Previewed};
 ghost use Rattle.command_answer.specs.Changes.{toldLine, changeLine, changeAt, changeLines, previewLines, Showable};
+ghost use Rattle.command_answer.specs.Output.{outputRoom, resultLines};
 
 // The first line.
 fn told_line(ending: Ending, count: u32, differing: usize, text: &mut [u8]) -> usize
@@ -79,7 +88,7 @@ fn told_lines(preview: PreviewAnswer, store: &[i32], left: &[i32], text: &mut [u
 }
 
 // The lines of a preview, of which this store would become the words at the start of `left`.
-pub fn preview_lines(verdict: PreviewVerdict, store: &[i32], left: &[i32], text: &mut [u8]) -> usize
+fn preview_lines(verdict: PreviewVerdict, store: &[i32], left: &[i32], text: &mut [u8]) -> usize
     requires { ⌜ Showable verdict (now store) (now left) (length (now text)) ⌝ }
     ensures { λ r. ⌜ Put (previewLines verdict (now (store .entry)) (now (left .entry))) (now (text .entry)) r (now (text .exit)) ⌝ }
 {
@@ -87,4 +96,38 @@ pub fn preview_lines(verdict: PreviewVerdict, store: &[i32], left: &[i32], text:
         PreviewVerdict::Previewed(preview) => told_lines(preview, store, left, text),
         PreviewVerdict::Refused(refusal) => refused_line(refusal, text),
     }
+}
+
+// Previews a program in the lent scratch, and writes the lines.
+fn put_previewed(
+    header: &[i32],
+    rows: &[i32],
+    store: &[i32],
+    budget: u32,
+    scratch: &mut [i32],
+    text: &mut [u8],
+) -> usize
+    requires { ⌜ length (now scratch) ≤ 8192 ⌝ }
+    requires { ⌜ outputRoom ≤ length (now text) ⌝ }
+    ensures { λ r. ⌜ Put (resultLines (previewResult (now (header .entry)) (now (rows .entry)) budget (now (store .entry)) (now (scratch .entry)))) (now (text .entry)) r (now (text .exit)) ⌝ }
+{
+    let verdict = preview(header, rows, store, budget, scratch);
+    preview_lines(verdict, store, scratch, text)
+}
+
+// Previews a program in a scratch of as many words as its store has, and writes the lines.
+pub fn put_preview(
+    header: &[i32],
+    rows: &[i32],
+    store: &[i32],
+    budget: u32,
+    text: &mut [u8],
+) -> usize
+    requires { ⌜ headerFits Source (now header) ≡ true ⌝ }
+    requires { ⌜ outputRoom ≤ length (now text) ⌝ }
+    ensures { λ r. ⌜ Put (resultLines (previewResult (now (header .entry)) (now (rows .entry)) budget (now (store .entry)) (zeros (storeWords Source (now (header .entry)))))) (now (text .entry)) r (now (text .exit)) ⌝ }
+{
+    let words = store_words(Form::Source, header);
+    let mut scratch = [0i32; 8192];
+    put_previewed(header, rows, store, budget, &mut scratch[0..words], text)
 }

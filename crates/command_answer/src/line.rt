@@ -62,11 +62,11 @@ pub fn run_line(verdict: RunVerdict, store: &[i32], text: &mut [u8]) -> usize
 
 // Wrong arguments.
 pub fn usage_line(text: &mut [u8]) -> usize
-    requires { ⌜ lineRoom 5 ≤ length (now text) ⌝ }
+    requires { ⌜ lineRoom 7 ≤ length (now text) ⌝ }
     ensures { λ r. ⌜ Put usageLine (now (text .entry)) r (now (text .exit)) ⌝ }
 {
     put_bytes(
-        b"misuse: command check | run BUDGET [STORE] | translate | kernel-check | kernel-run BUDGET [STORE]\n",
+        b"misuse: command check | run BUDGET [STORE] | preview BUDGET [STORE] | translate | kernel-check | kernel-run BUDGET [STORE]\n",
         text,
     )
 }

@@ -1,9 +1,11 @@
 // What each verb prints. A writer puts its bytes at the start of `out`, and answers how many they are. The tables `header` and `rows` are
 // lent to read the text into; what stands in them after it is of no use to a caller.
+use super::changes::put_preview;
 use super::line::malformed_line;
 use super::line::run_line;
 use super::line::verdict_line;
 use clight::runs;
+use command_request::request::Task;
 use command_request::store_file::StoreRead;
 use command_request::store_file::read_words;
 use report::line::refused_line;
@@ -21,7 +23,7 @@ ghost use Rattle.text_form.specs.Writer.{Put};
 ghost use Rattle.report.specs.Lines.{lineRoom};
 ghost use Rattle.clight.specs.Runs.{refusalOf, runResult, answerAndStore};
 ghost use Rattle.command_request.specs.StoreFile.{storeIn};
-ghost use Rattle.command_answer.specs.Output.{Roomy, outputRoom, storeLimit, checkOutput, resultLine, runOutput, zerosOutput, storedOutput, startedOutput};
+ghost use Rattle.command_answer.specs.Output.{Roomy, outputRoom, storeLimit, checkOutput, formOf, resultLine, taskLines, taskOutput, zerosLines, zerosOutput, storedOutput, startedOutput};
 
 fn check_form(form: Form, header: &[i32], rows: &[i32]) -> Verdict
     ensures { λ r. ⌜ r ≡ refusalOf form (now (header .entry)) (now (rows .entry)) ⌝ }
@@ -79,9 +81,38 @@ fn put_run(
     run_line(verdict, store, out)
 }
 
-// A run from the words of a store file.
-fn run_text(
-    form: Form,
+fn form_of(task: Task) -> Form
+    ensures { λ r. ⌜ r ≡ formOf task ⌝ }
+{
+    match task {
+        Task::Run(form) => form,
+        Task::Preview => Form::Source,
+    }
+}
+
+// Runs a program on the store, or previews that, and writes what is printed for it.
+fn put_task(
+    task: Task,
+    header: &[i32],
+    rows: &[i32],
+    store: &mut [i32],
+    budget: u32,
+    out: &mut [u8],
+) -> usize
+    requires { ⌜ headerFits (formOf task) (now header) ≡ true ⌝ }
+    requires { ⌜ lineRoom (length (now store)) ≤ length (now out) ⌝ }
+    requires { ⌜ outputRoom ≤ length (now out) ⌝ }
+    ensures { λ r. ⌜ Put (taskLines task budget (now (store .entry)) (now (header .entry)) (now (rows .entry))) (now (out .entry)) r (now (out .exit)) ⌝ }
+{
+    match task {
+        Task::Run(form) => put_run(form, header, rows, store, budget, out),
+        Task::Preview => put_preview(header, rows, store, budget, out),
+    }
+}
+
+// A run or preview from the words of a store file.
+fn start_text(
+    task: Task,
     budget: u32,
     text: &[u8],
     store: &mut [i32],
@@ -89,15 +120,16 @@ fn run_text(
     rows: &mut [i32],
     out: &mut [u8],
 ) -> usize
-    requires { ⌜ Roomy form (now header) (now rows) ⌝ }
+    requires { ⌜ Roomy (formOf task) (now header) (now rows) ⌝ }
     requires { ⌜ lineRoom (length (now store)) ≤ length (now out) ⌝ }
-    ensures { λ r. ⌜ Put (runOutput form budget (now (text .entry)) (now (store .entry))) (now (out .entry)) r (now (out .exit)) ⌝ }
+    requires { ⌜ outputRoom ≤ length (now out) ⌝ }
+    ensures { λ r. ⌜ Put (taskOutput task budget (now (text .entry)) (now (store .entry))) (now (out .entry)) r (now (out .exit)) ⌝ }
 {
-    let answer = text_form::read(form, text, header, rows);
+    let answer = text_form::read(form_of(task), text, header, rows);
     match answer {
         ReadAnswer::Refused(refusal) => refused_line(refusal, out),
-        ReadAnswer::Read(numbers, words) => put_run(
-            form,
+        ReadAnswer::Read(numbers, words) => put_task(
+            task,
             &header[0..numbers],
             &rows[0..words],
             store,
@@ -107,42 +139,42 @@ fn run_text(
     }
 }
 
-// Runs a program from zeros, and writes the line.
-fn put_zeros_run(form: Form, header: &[i32], rows: &[i32], budget: u32, out: &mut [u8]) -> usize
-    requires { ⌜ headerFits form (now header) ≡ true ⌝ }
+// The same of a store of zeros.
+fn put_zeros_task(task: Task, header: &[i32], rows: &[i32], budget: u32, out: &mut [u8]) -> usize
+    requires { ⌜ headerFits (formOf task) (now header) ≡ true ⌝ }
     requires { ⌜ outputRoom ≤ length (now out) ⌝ }
-    ensures { λ r. ⌜ Put (resultLine (runResult form (now (header .entry)) (now (rows .entry)) budget (zeros (storeWords form (now (header .entry)))))) (now (out .entry)) r (now (out .exit)) ⌝ }
+    ensures { λ r. ⌜ Put (zerosLines task budget (now (header .entry)) (now (rows .entry))) (now (out .entry)) r (now (out .exit)) ⌝ }
 {
-    let count = store_words(form, header);
+    let count = store_words(form_of(task), header);
     let mut store = [0i32; 16384];
-    put_run(form, header, rows, &mut store[0..count], budget, out)
+    put_task(task, header, rows, &mut store[0..count], budget, out)
 }
 
-// A run from zeros.
-fn run_zeros(
-    form: Form,
+// A run or preview from zeros.
+fn start_zeros(
+    task: Task,
     budget: u32,
     text: &[u8],
     header: &mut [i32],
     rows: &mut [i32],
     out: &mut [u8],
 ) -> usize
-    requires { ⌜ Roomy form (now header) (now rows) ⌝ }
+    requires { ⌜ Roomy (formOf task) (now header) (now rows) ⌝ }
     requires { ⌜ outputRoom ≤ length (now out) ⌝ }
-    ensures { λ r. ⌜ Put (zerosOutput form budget (now (text .entry))) (now (out .entry)) r (now (out .exit)) ⌝ }
+    ensures { λ r. ⌜ Put (zerosOutput task budget (now (text .entry))) (now (out .entry)) r (now (out .exit)) ⌝ }
 {
-    let answer = text_form::read(form, text, header, rows);
+    let answer = text_form::read(form_of(task), text, header, rows);
     match answer {
         ReadAnswer::Refused(refusal) => refused_line(refusal, out),
         ReadAnswer::Read(numbers, words) => {
-            put_zeros_run(form, &header[0..numbers], &rows[0..words], budget, out)
+            put_zeros_task(task, &header[0..numbers], &rows[0..words], budget, out)
         }
     }
 }
 
-// A run from a store file, read before the text.
-fn run_stored(
-    form: Form,
+// A run or preview from a store file, read before the text.
+fn start_stored(
+    task: Task,
     budget: u32,
     text: &[u8],
     stored: &[u8],
@@ -150,17 +182,17 @@ fn run_stored(
     rows: &mut [i32],
     out: &mut [u8],
 ) -> usize
-    requires { ⌜ Roomy form (now header) (now rows) ⌝ }
+    requires { ⌜ Roomy (formOf task) (now header) (now rows) ⌝ }
     requires { ⌜ length (now stored) ≤ storeLimit ⌝ }
     requires { ⌜ outputRoom ≤ length (now out) ⌝ }
-    ensures { λ r. ⌜ Put (storedOutput form budget (now (text .entry)) (storeIn (now (stored .entry)))) (now (out .entry)) r (now (out .exit)) ⌝ }
+    ensures { λ r. ⌜ Put (storedOutput task budget (now (text .entry)) (storeIn (now (stored .entry)))) (now (out .entry)) r (now (out .exit)) ⌝ }
 {
     let mut store = [0i32; 98304];
     let read = read_words(stored, &mut store);
     match read {
         StoreRead::Malformed(number) => malformed_line(number, out),
-        StoreRead::Words(count) => run_text(
-            form,
+        StoreRead::Words(count) => start_text(
+            task,
             budget,
             text,
             &mut store[0..count],
@@ -171,9 +203,9 @@ fn run_stored(
     }
 }
 
-// `run` and `kernel-run`.
-pub fn run_answer(
-    form: Form,
+// `run`, `kernel-run` and `preview`.
+pub fn start_answer(
+    task: Task,
     budget: u32,
     text: &[u8],
     given: bool,
@@ -182,13 +214,13 @@ pub fn run_answer(
     rows: &mut [i32],
     out: &mut [u8],
 ) -> usize
-    requires { ⌜ Roomy form (now header) (now rows) ⌝ }
+    requires { ⌜ Roomy (formOf task) (now header) (now rows) ⌝ }
     requires { ⌜ length (now stored) ≤ storeLimit ⌝ }
     requires { ⌜ outputRoom ≤ length (now out) ⌝ }
-    ensures { λ r. ⌜ Put (startedOutput form budget (now (text .entry)) given (now (stored .entry))) (now (out .entry)) r (now (out .exit)) ⌝ }
+    ensures { λ r. ⌜ Put (startedOutput task budget (now (text .entry)) given (now (stored .entry))) (now (out .entry)) r (now (out .exit)) ⌝ }
 {
     if given {
-        return run_stored(form, budget, text, stored, header, rows, out);
+        return start_stored(task, budget, text, stored, header, rows, out);
     }
-    run_zeros(form, budget, text, header, rows, out)
+    start_zeros(task, budget, text, header, rows, out)
 }

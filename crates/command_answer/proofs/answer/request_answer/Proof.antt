@@ -15,8 +15,8 @@ check-answer-requires c κs = (roomy-any _ (c .before .before .before .before .b
 enum-known-request-2 : tie.Need-enum-known-request-2
 enum-known-request-2 c = search needs
 
-run-answer-requires : tie.Need-run-answer-requires
-run-answer-requires c κs = (roomy-any _ (c .before .before .before .before .before .before .before .before .before .pre .0), c .before .before .before .before .before .before .before .before .before .pre .1)
+start-answer-requires : tie.Need-start-answer-requires
+start-answer-requires c κs = (roomy-any _ (c .before .before .before .before .before .before .before .before .before .pre .0), c .before .before .before .before .before .before .before .before .before .pre .1)
 
 enum-told : tie.Need-enum-told
 enum-told c = search needs
@@ -60,7 +60,7 @@ same-length-6 c = search needs
 
 returns-2 : tie.Need-returns-2
 unfolding requestOutput
-returns-2 c = rw (c .before .before .before .before .before .before .before .before .before .request2 .given .1) (c .before .before .before .before .run-answer .ensures)
+returns-2 c = rw (c .before .before .before .before .before .before .before .before .before .request2 .given .1) (c .before .before .before .before .start-answer .ensures)
 
 same-length-7 : tie.Need-same-length-7
 same-length-7 c = search needs
@@ -96,7 +96,7 @@ request-answer-spec =
     enum-known-request
     check-answer-requires
     enum-known-request-2
-    run-answer-requires
+    start-answer-requires
     enum-told
     translate-answer-requires
     enum-told-2

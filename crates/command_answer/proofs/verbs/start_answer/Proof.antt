@@ -1,11 +1,11 @@
--- `run_answer`: from a store file, or from zeros.
+-- `start_answer`: from a store file, or from zeros.
 use Rattle.command_answer.specs.Output.{startedOutput}
 use borrow.Author.Needs.{needs}
-use Rattle.command_answer.proofs.verbs.run_answer.Statement.{statement}
-use Rattle.command_answer.proofs.verbs.run_answer.Tie as tie
+use Rattle.command_answer.proofs.verbs.start_answer.Statement.{statement}
+use Rattle.command_answer.proofs.verbs.start_answer.Tie as tie
 
-run-stored-requires : tie.Need-run-stored-requires
-run-stored-requires c κs = c .before .before .before .before .before .before .before .pre
+start-stored-requires : tie.Need-start-stored-requires
+start-stored-requires c κs = c .before .before .before .before .before .before .before .pre
 
 same-length : tie.Need-same-length
 same-length c = search needs
@@ -18,10 +18,10 @@ same-length-3 c = search needs
 
 returns : tie.Need-returns
 unfolding startedOutput
-returns c = rw (c .before .before .before .before .before .before .before .before .if1 .taken) (c .before .before .before .before .run-stored .ensures)
+returns c = rw (c .before .before .before .before .before .before .before .before .if1 .taken) (c .before .before .before .before .start-stored .ensures)
 
-run-zeros-requires : tie.Need-run-zeros-requires
-run-zeros-requires c κs = (c .before .before .before .before .before .before .before .pre .0, c .before .before .before .before .before .before .before .pre .1 .1)
+start-zeros-requires : tie.Need-start-zeros-requires
+start-zeros-requires c κs = (c .before .before .before .before .before .before .before .pre .0, c .before .before .before .before .before .before .before .pre .1 .1)
 
 same-length-4 : tie.Need-same-length-4
 same-length-4 c = search needs
@@ -34,18 +34,18 @@ same-length-6 c = search needs
 
 returns-2 : tie.Need-returns-2
 unfolding startedOutput
-returns-2 c = rw (c .before .before .before .before .before .before .before .before .if1 .left) (c .before .before .before .before .run-zeros .ensures)
+returns-2 c = rw (c .before .before .before .before .before .before .before .before .if1 .left) (c .before .before .before .before .start-zeros .ensures)
 
-pub run-answer-spec : {M : Type 1} → statement M
-run-answer-spec =
+pub start-answer-spec : {M : Type 1} → statement M
+start-answer-spec =
     tie.close
     (tie.spec
-    run-stored-requires
+    start-stored-requires
     same-length
     same-length-2
     same-length-3
     returns
-    run-zeros-requires
+    start-zeros-requires
     same-length-4
     same-length-5
     same-length-6

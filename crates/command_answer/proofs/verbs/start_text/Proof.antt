@@ -1,11 +1,14 @@
--- `run_text`: the refusal of the reader, or the run of what it read.
+-- `start_text`: the refusal of the reader, or the run or preview of what it read.
 use native.Mathlib.Omega.{arith}
 use Rattle.text_form.specs.PutLaws.{put-as}
-use Rattle.command_answer.specs.Output.{storeLine, runOutput}
+use Rattle.command_answer.specs.Output.{formOf, taskLines, taskOutput}
 use Rattle.command_answer.proofs.Readings.{refused-text, read-text}
 use borrow.Author.Needs.{needs}
-use Rattle.command_answer.proofs.verbs.run_text.Statement.{statement}
-use Rattle.command_answer.proofs.verbs.run_text.Tie as tie
+use Rattle.command_answer.proofs.verbs.start_text.Statement.{statement}
+use Rattle.command_answer.proofs.verbs.start_text.Tie as tie
+
+form-of-requires : tie.Need-form-of-requires
+form-of-requires c κs = search needs
 
 read-requires : tie.Need-read-requires
 read-requires c κs = search needs
@@ -14,31 +17,31 @@ enum-known-answer : tie.Need-enum-known-answer
 enum-known-answer c = search needs
 
 refused-line-requires : tie.Need-refused-line-requires
-refused-line-requires c κs = omega (arith, c .before .before .before .before .before .before .before .before .before .before .before .pre .1)
+refused-line-requires c κs = omega (arith, c .before .before .before .before .before .before .before .before .before .before .before .before .pre .1 .1)
 
 enum-known-answer-2 : tie.Need-enum-known-answer-2
 enum-known-answer-2 c = search needs
 
-sub-put-run : tie.Need-sub-put-run
-sub-put-run c = search needs
+sub-put-task : tie.Need-sub-put-task
+sub-put-task c = search needs
 
-part-put-run-start : tie.Need-part-put-run-start
-part-put-run-start c = search needs
+part-put-task-start : tie.Need-part-put-task-start
+part-put-task-start c = search needs
 
-part-put-run-end : tie.Need-part-put-run-end
-part-put-run-end c = read-text (c .before .before .before .before .before .before .before .before .before .before .before .args .form) (c .before .before .before .before .before .before .before .before .before .before .before .args .text .now) (c .before .before .before .before .before .before .before .before .before .before .before .pre .0) (rw (c .before .before .answer2 .given .1) at (c .before .before .before .before .before .before .read .ensures)) (c .before .before .before .before .before .before .read .kept .1 .1 .0) (c .before .before .before .before .before .before .read .kept .1 .1 .1 .0) .header-inside
+part-put-task-end : tie.Need-part-put-task-end
+part-put-task-end c = read-text (formOf (c .before .before .before .before .before .before .before .before .before .before .before .before .args .task)) (c .before .before .before .before .before .before .before .before .before .before .before .before .args .text .now) (c .before .before .before .before .before .before .before .before .before .before .before .before .pre .0) (rw (c .before .before .answer2 .given .1) at (rw (c .before .before .before .before .before .before .before .before .before .form-of .ensures) at (c .before .before .before .before .before .before .read .ensures))) (c .before .before .before .before .before .before .read .kept .1 .1 .0) (c .before .before .before .before .before .before .read .kept .1 .1 .1 .0) .header-inside
 
-sub-put-run-2 : tie.Need-sub-put-run-2
-sub-put-run-2 c = search needs
+sub-put-task-2 : tie.Need-sub-put-task-2
+sub-put-task-2 c = search needs
 
-part-put-run-start-2 : tie.Need-part-put-run-start-2
-part-put-run-start-2 c = search needs
+part-put-task-start-2 : tie.Need-part-put-task-start-2
+part-put-task-start-2 c = search needs
 
-part-put-run-end-2 : tie.Need-part-put-run-end-2
-part-put-run-end-2 c = read-text (c .before .before .before .before .before .before .before .before .before .before .before .before .before .args .form) (c .before .before .before .before .before .before .before .before .before .before .before .before .before .args .text .now) (c .before .before .before .before .before .before .before .before .before .before .before .before .before .pre .0) (rw (c .before .before .before .before .answer2 .given .1) at (c .before .before .before .before .before .before .before .before .read .ensures)) (c .before .before .before .before .before .before .before .before .read .kept .1 .1 .0) (c .before .before .before .before .before .before .before .before .read .kept .1 .1 .1 .0) .rows-inside
+part-put-task-end-2 : tie.Need-part-put-task-end-2
+part-put-task-end-2 c = read-text (formOf (c .before .before .before .before .before .before .before .before .before .before .before .before .before .before .args .task)) (c .before .before .before .before .before .before .before .before .before .before .before .before .before .before .args .text .now) (c .before .before .before .before .before .before .before .before .before .before .before .before .before .before .pre .0) (rw (c .before .before .before .before .answer2 .given .1) at (rw (c .before .before .before .before .before .before .before .before .before .before .before .form-of .ensures) at (c .before .before .before .before .before .before .before .before .read .ensures))) (c .before .before .before .before .before .before .before .before .read .kept .1 .1 .0) (c .before .before .before .before .before .before .before .before .read .kept .1 .1 .1 .0) .rows-inside
 
-put-run-requires : tie.Need-put-run-requires
-put-run-requires c κs = c .before .before .before .before .before .before .before .before .before .before .before .before .before .before .before .before .pre .1
+put-task-requires : tie.Need-put-task-requires
+put-task-requires c κs = (read-text (formOf (c .before .before .before .before .before .before .before .before .before .before .before .before .before .before .before .before .before .args .task)) (c .before .before .before .before .before .before .before .before .before .before .before .before .before .before .before .before .before .args .text .now) (c .before .before .before .before .before .before .before .before .before .before .before .before .before .before .before .before .before .pre .0) (rw (c .before .before .before .before .before .before .before .answer2 .given .1) at (rw (c .before .before .before .before .before .before .before .before .before .before .before .before .before .before .form-of .ensures) at (c .before .before .before .before .before .before .before .before .before .before .before .read .ensures))) (c .before .before .before .before .before .before .before .before .before .before .before .read .kept .1 .1 .0) (c .before .before .before .before .before .before .before .before .before .before .before .read .kept .1 .1 .1 .0) .fits, c .before .before .before .before .before .before .before .before .before .before .before .before .before .before .before .before .before .pre .1)
 
 same-length : tie.Need-same-length
 same-length c = search needs
@@ -50,8 +53,8 @@ same-length-3 : tie.Need-same-length-3
 same-length-3 c = search needs
 
 returns : tie.Need-returns
-unfolding runOutput
-returns c = put-as (refused-text (c .before .before .before .before .before .before .before .before .before .before .before .before .before .before .args .form) (c .before .before .before .before .before .before .before .before .before .before .before .before .before .before .args .text .now) (c .before .before .before .before .before .before .before .before .before .before .before .before .before .before .pre .0) _ _ _ (rw (c .before .before .before .before .before .answer .given .1) at (c .before .before .before .before .before .before .before .before .before .read .ensures)) (storeLine (c .before .before .before .before .before .before .before .before .before .before .before .before .before .before .args .form) (c .before .before .before .before .before .before .before .before .before .before .before .before .before .before .args .budget) (c .before .before .before .before .before .before .before .before .before .before .before .before .before .before .args .store .now))) (c .before .before .refused-line .ensures)
+unfolding taskOutput
+returns c = put-as (refused-text (formOf (c .before .before .before .before .before .before .before .before .before .before .before .before .before .before .before .args .task)) (c .before .before .before .before .before .before .before .before .before .before .before .before .before .before .before .args .text .now) (c .before .before .before .before .before .before .before .before .before .before .before .before .before .before .before .pre .0) _ _ _ (rw (c .before .before .before .before .before .answer .given .1) at (rw (c .before .before .before .before .before .before .before .before .before .before .before .before .form-of .ensures) at (c .before .before .before .before .before .before .before .before .before .read .ensures))) (taskLines (c .before .before .before .before .before .before .before .before .before .before .before .before .before .before .before .args .task) (c .before .before .before .before .before .before .before .before .before .before .before .before .before .before .before .args .budget) (c .before .before .before .before .before .before .before .before .before .before .before .before .before .before .before .args .store .now))) (c .before .before .refused-line .ensures)
 
 same-length-4 : tie.Need-same-length-4
 same-length-4 c = search needs
@@ -66,24 +69,25 @@ same-length-7 : tie.Need-same-length-7
 same-length-7 c = search needs
 
 returns-2 : tie.Need-returns-2
-unfolding runOutput
-returns-2 c = put-as (read-text (c .before .before .before .before .before .before .before .before .before .before .before .before .before .before .before .before .before .before .before .before .args .form) (c .before .before .before .before .before .before .before .before .before .before .before .before .before .before .before .before .before .before .before .before .args .text .now) (c .before .before .before .before .before .before .before .before .before .before .before .before .before .before .before .before .before .before .before .before .pre .0) (rw (c .before .before .before .before .before .before .before .before .before .before .before .answer2 .given .1) at (c .before .before .before .before .before .before .before .before .before .before .before .before .before .before .before .read .ensures)) (c .before .before .before .before .before .before .before .before .before .before .before .before .before .before .before .read .kept .1 .1 .0) (c .before .before .before .before .before .before .before .before .before .before .before .before .before .before .before .read .kept .1 .1 .1 .0) .is (storeLine (c .before .before .before .before .before .before .before .before .before .before .before .before .before .before .before .before .before .before .before .before .args .form) (c .before .before .before .before .before .before .before .before .before .before .before .before .before .before .before .before .before .before .before .before .args .budget) (c .before .before .before .before .before .before .before .before .before .before .before .before .before .before .before .before .before .before .before .before .args .store .now))) (c .before .before .before .put-run .ensures)
+unfolding taskOutput
+returns-2 c = put-as (read-text (formOf (c .before .before .before .before .before .before .before .before .before .before .before .before .before .before .before .before .before .before .before .before .before .args .task)) (c .before .before .before .before .before .before .before .before .before .before .before .before .before .before .before .before .before .before .before .before .before .args .text .now) (c .before .before .before .before .before .before .before .before .before .before .before .before .before .before .before .before .before .before .before .before .before .pre .0) (rw (c .before .before .before .before .before .before .before .before .before .before .before .answer2 .given .1) at (rw (c .before .before .before .before .before .before .before .before .before .before .before .before .before .before .before .before .before .before .form-of .ensures) at (c .before .before .before .before .before .before .before .before .before .before .before .before .before .before .before .read .ensures))) (c .before .before .before .before .before .before .before .before .before .before .before .before .before .before .before .read .kept .1 .1 .0) (c .before .before .before .before .before .before .before .before .before .before .before .before .before .before .before .read .kept .1 .1 .1 .0) .is (taskLines (c .before .before .before .before .before .before .before .before .before .before .before .before .before .before .before .before .before .before .before .before .before .args .task) (c .before .before .before .before .before .before .before .before .before .before .before .before .before .before .before .before .before .before .before .before .before .args .budget) (c .before .before .before .before .before .before .before .before .before .before .before .before .before .before .before .before .before .before .before .before .before .args .store .now))) (c .before .before .before .put-task .ensures)
 
-pub run-text-spec : {M : Type 1} → statement M
-run-text-spec =
+pub start-text-spec : {M : Type 1} → statement M
+start-text-spec =
     tie.close
     (tie.spec
+    form-of-requires
     read-requires
     enum-known-answer
     refused-line-requires
     enum-known-answer-2
-    sub-put-run
-    part-put-run-start
-    part-put-run-end
-    sub-put-run-2
-    part-put-run-start-2
-    part-put-run-end-2
-    put-run-requires
+    sub-put-task
+    part-put-task-start
+    part-put-task-end
+    sub-put-task-2
+    part-put-task-start-2
+    part-put-task-end-2
+    put-task-requires
     same-length
     same-length-2
     same-length-3

@@ -1,11 +1,14 @@
--- `run_zeros`: the refusal of the reader, or the run of what it read.
+-- `start_zeros`: the refusal of the reader, or the run or preview of what it read.
 use native.Mathlib.Omega.{arith}
 use Rattle.text_form.specs.PutLaws.{put-as}
-use Rattle.command_answer.specs.Output.{zerosLine, zerosOutput}
+use Rattle.command_answer.specs.Output.{formOf, zerosLines, zerosOutput}
 use Rattle.command_answer.proofs.Readings.{refused-text, read-text}
 use borrow.Author.Needs.{needs}
-use Rattle.command_answer.proofs.verbs.run_zeros.Statement.{statement}
-use Rattle.command_answer.proofs.verbs.run_zeros.Tie as tie
+use Rattle.command_answer.proofs.verbs.start_zeros.Statement.{statement}
+use Rattle.command_answer.proofs.verbs.start_zeros.Tie as tie
+
+form-of-requires : tie.Need-form-of-requires
+form-of-requires c κs = search needs
 
 read-requires : tie.Need-read-requires
 read-requires c κs = search needs
@@ -14,31 +17,31 @@ enum-known-answer : tie.Need-enum-known-answer
 enum-known-answer c = search needs
 
 refused-line-requires : tie.Need-refused-line-requires
-refused-line-requires c κs = omega (arith, c .before .before .before .before .before .before .before .before .before .before .before .pre .1)
+refused-line-requires c κs = omega (arith, c .before .before .before .before .before .before .before .before .before .before .before .before .pre .1)
 
 enum-known-answer-2 : tie.Need-enum-known-answer-2
 enum-known-answer-2 c = search needs
 
-sub-put-zeros-run : tie.Need-sub-put-zeros-run
-sub-put-zeros-run c = search needs
+sub-put-zeros-task : tie.Need-sub-put-zeros-task
+sub-put-zeros-task c = search needs
 
-part-put-zeros-run-start : tie.Need-part-put-zeros-run-start
-part-put-zeros-run-start c = search needs
+part-put-zeros-task-start : tie.Need-part-put-zeros-task-start
+part-put-zeros-task-start c = search needs
 
-part-put-zeros-run-end : tie.Need-part-put-zeros-run-end
-part-put-zeros-run-end c = read-text (c .before .before .before .before .before .before .before .before .before .before .before .args .form) (c .before .before .before .before .before .before .before .before .before .before .before .args .text .now) (c .before .before .before .before .before .before .before .before .before .before .before .pre .0) (rw (c .before .before .answer2 .given .1) at (c .before .before .before .before .before .before .read .ensures)) (c .before .before .before .before .before .before .read .kept .1 .1 .0) (c .before .before .before .before .before .before .read .kept .1 .1 .1 .0) .header-inside
+part-put-zeros-task-end : tie.Need-part-put-zeros-task-end
+part-put-zeros-task-end c = read-text (formOf (c .before .before .before .before .before .before .before .before .before .before .before .before .args .task)) (c .before .before .before .before .before .before .before .before .before .before .before .before .args .text .now) (c .before .before .before .before .before .before .before .before .before .before .before .before .pre .0) (rw (c .before .before .answer2 .given .1) at (rw (c .before .before .before .before .before .before .before .before .before .form-of .ensures) at (c .before .before .before .before .before .before .read .ensures))) (c .before .before .before .before .before .before .read .kept .1 .1 .0) (c .before .before .before .before .before .before .read .kept .1 .1 .1 .0) .header-inside
 
-sub-put-zeros-run-2 : tie.Need-sub-put-zeros-run-2
-sub-put-zeros-run-2 c = search needs
+sub-put-zeros-task-2 : tie.Need-sub-put-zeros-task-2
+sub-put-zeros-task-2 c = search needs
 
-part-put-zeros-run-start-2 : tie.Need-part-put-zeros-run-start-2
-part-put-zeros-run-start-2 c = search needs
+part-put-zeros-task-start-2 : tie.Need-part-put-zeros-task-start-2
+part-put-zeros-task-start-2 c = search needs
 
-part-put-zeros-run-end-2 : tie.Need-part-put-zeros-run-end-2
-part-put-zeros-run-end-2 c = read-text (c .before .before .before .before .before .before .before .before .before .before .before .before .before .args .form) (c .before .before .before .before .before .before .before .before .before .before .before .before .before .args .text .now) (c .before .before .before .before .before .before .before .before .before .before .before .before .before .pre .0) (rw (c .before .before .before .before .answer2 .given .1) at (c .before .before .before .before .before .before .before .before .read .ensures)) (c .before .before .before .before .before .before .before .before .read .kept .1 .1 .0) (c .before .before .before .before .before .before .before .before .read .kept .1 .1 .1 .0) .rows-inside
+part-put-zeros-task-end-2 : tie.Need-part-put-zeros-task-end-2
+part-put-zeros-task-end-2 c = read-text (formOf (c .before .before .before .before .before .before .before .before .before .before .before .before .before .before .args .task)) (c .before .before .before .before .before .before .before .before .before .before .before .before .before .before .args .text .now) (c .before .before .before .before .before .before .before .before .before .before .before .before .before .before .pre .0) (rw (c .before .before .before .before .answer2 .given .1) at (rw (c .before .before .before .before .before .before .before .before .before .before .before .form-of .ensures) at (c .before .before .before .before .before .before .before .before .read .ensures))) (c .before .before .before .before .before .before .before .before .read .kept .1 .1 .0) (c .before .before .before .before .before .before .before .before .read .kept .1 .1 .1 .0) .rows-inside
 
-put-zeros-run-requires : tie.Need-put-zeros-run-requires
-put-zeros-run-requires c κs = (read-text (c .before .before .before .before .before .before .before .before .before .before .before .before .before .before .before .args .form) (c .before .before .before .before .before .before .before .before .before .before .before .before .before .before .before .args .text .now) (c .before .before .before .before .before .before .before .before .before .before .before .before .before .before .before .pre .0) (rw (c .before .before .before .before .before .before .answer2 .given .1) at (c .before .before .before .before .before .before .before .before .before .before .read .ensures)) (c .before .before .before .before .before .before .before .before .before .before .read .kept .1 .1 .0) (c .before .before .before .before .before .before .before .before .before .before .read .kept .1 .1 .1 .0) .fits, c .before .before .before .before .before .before .before .before .before .before .before .before .before .before .before .pre .1)
+put-zeros-task-requires : tie.Need-put-zeros-task-requires
+put-zeros-task-requires c κs = (read-text (formOf (c .before .before .before .before .before .before .before .before .before .before .before .before .before .before .before .before .args .task)) (c .before .before .before .before .before .before .before .before .before .before .before .before .before .before .before .before .args .text .now) (c .before .before .before .before .before .before .before .before .before .before .before .before .before .before .before .before .pre .0) (rw (c .before .before .before .before .before .before .answer2 .given .1) at (rw (c .before .before .before .before .before .before .before .before .before .before .before .before .before .form-of .ensures) at (c .before .before .before .before .before .before .before .before .before .before .read .ensures))) (c .before .before .before .before .before .before .before .before .before .before .read .kept .1 .1 .0) (c .before .before .before .before .before .before .before .before .before .before .read .kept .1 .1 .1 .0) .fits, c .before .before .before .before .before .before .before .before .before .before .before .before .before .before .before .before .pre .1)
 
 same-length : tie.Need-same-length
 same-length c = search needs
@@ -51,7 +54,7 @@ same-length-3 c = search needs
 
 returns : tie.Need-returns
 unfolding zerosOutput
-returns c = put-as (refused-text (c .before .before .before .before .before .before .before .before .before .before .before .before .before .before .args .form) (c .before .before .before .before .before .before .before .before .before .before .before .before .before .before .args .text .now) (c .before .before .before .before .before .before .before .before .before .before .before .before .before .before .pre .0) _ _ _ (rw (c .before .before .before .before .before .answer .given .1) at (c .before .before .before .before .before .before .before .before .before .read .ensures)) (zerosLine (c .before .before .before .before .before .before .before .before .before .before .before .before .before .before .args .form) (c .before .before .before .before .before .before .before .before .before .before .before .before .before .before .args .budget))) (c .before .before .refused-line .ensures)
+returns c = put-as (refused-text (formOf (c .before .before .before .before .before .before .before .before .before .before .before .before .before .before .before .args .task)) (c .before .before .before .before .before .before .before .before .before .before .before .before .before .before .before .args .text .now) (c .before .before .before .before .before .before .before .before .before .before .before .before .before .before .before .pre .0) _ _ _ (rw (c .before .before .before .before .before .answer .given .1) at (rw (c .before .before .before .before .before .before .before .before .before .before .before .before .form-of .ensures) at (c .before .before .before .before .before .before .before .before .before .read .ensures))) (zerosLines (c .before .before .before .before .before .before .before .before .before .before .before .before .before .before .before .args .task) (c .before .before .before .before .before .before .before .before .before .before .before .before .before .before .before .args .budget))) (c .before .before .refused-line .ensures)
 
 same-length-4 : tie.Need-same-length-4
 same-length-4 c = search needs
@@ -64,23 +67,24 @@ same-length-6 c = search needs
 
 returns-2 : tie.Need-returns-2
 unfolding zerosOutput
-returns-2 c = put-as (read-text (c .before .before .before .before .before .before .before .before .before .before .before .before .before .before .before .before .before .before .args .form) (c .before .before .before .before .before .before .before .before .before .before .before .before .before .before .before .before .before .before .args .text .now) (c .before .before .before .before .before .before .before .before .before .before .before .before .before .before .before .before .before .before .pre .0) (rw (c .before .before .before .before .before .before .before .before .before .answer2 .given .1) at (c .before .before .before .before .before .before .before .before .before .before .before .before .before .read .ensures)) (c .before .before .before .before .before .before .before .before .before .before .before .before .before .read .kept .1 .1 .0) (c .before .before .before .before .before .before .before .before .before .before .before .before .before .read .kept .1 .1 .1 .0) .is (zerosLine (c .before .before .before .before .before .before .before .before .before .before .before .before .before .before .before .before .before .before .args .form) (c .before .before .before .before .before .before .before .before .before .before .before .before .before .before .before .before .before .before .args .budget))) (c .before .before .put-zeros-run .ensures)
+returns-2 c = put-as (read-text (formOf (c .before .before .before .before .before .before .before .before .before .before .before .before .before .before .before .before .before .before .before .args .task)) (c .before .before .before .before .before .before .before .before .before .before .before .before .before .before .before .before .before .before .before .args .text .now) (c .before .before .before .before .before .before .before .before .before .before .before .before .before .before .before .before .before .before .before .pre .0) (rw (c .before .before .before .before .before .before .before .before .before .answer2 .given .1) at (rw (c .before .before .before .before .before .before .before .before .before .before .before .before .before .before .before .before .form-of .ensures) at (c .before .before .before .before .before .before .before .before .before .before .before .before .before .read .ensures))) (c .before .before .before .before .before .before .before .before .before .before .before .before .before .read .kept .1 .1 .0) (c .before .before .before .before .before .before .before .before .before .before .before .before .before .read .kept .1 .1 .1 .0) .is (zerosLines (c .before .before .before .before .before .before .before .before .before .before .before .before .before .before .before .before .before .before .before .args .task) (c .before .before .before .before .before .before .before .before .before .before .before .before .before .before .before .before .before .before .before .args .budget))) (c .before .before .put-zeros-task .ensures)
 
-pub run-zeros-spec : {M : Type 1} → statement M
-run-zeros-spec =
+pub start-zeros-spec : {M : Type 1} → statement M
+start-zeros-spec =
     tie.close
     (tie.spec
+    form-of-requires
     read-requires
     enum-known-answer
     refused-line-requires
     enum-known-answer-2
-    sub-put-zeros-run
-    part-put-zeros-run-start
-    part-put-zeros-run-end
-    sub-put-zeros-run-2
-    part-put-zeros-run-start-2
-    part-put-zeros-run-end-2
-    put-zeros-run-requires
+    sub-put-zeros-task
+    part-put-zeros-task-start
+    part-put-zeros-task-end
+    sub-put-zeros-task-2
+    part-put-zeros-task-start-2
+    part-put-zeros-task-end-2
+    put-zeros-task-requires
     same-length
     same-length-2
     same-length-3

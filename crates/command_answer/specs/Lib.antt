@@ -9,3 +9,6 @@ pub mod Changes
 pub mod Output
 -- Inputs: what came of reading standard input and the store file, and what is printed for it.
 pub mod Inputs
+-- ---- laws
+-- ChangeLaws: a preview's lines tell the answer of the run that they are about.
+pub mod ChangeLaws

@@ -1,4 +1,4 @@
--- Laws of runs: counts, stores, writes; wider limits; budgets and rounds; loops unrolled. Each by induction on computations.
+-- Laws of runs: counts, stores, writes; wider limits; budgets and rounds; loops unrolled; when writes are made. Each by induction on computations.
 use mathlib.Core.Path.{_≡_, refl, sym, _∙_, ap}
 use mathlib.Core.Bool.{Bool, true, false}
 use mathlib.Core.List.{List, [], _∷_, _++_}
@@ -34,10 +34,31 @@ reaches-length here = refl
 reaches-length (counted p) = reaches-length p
 reaches-length (wrote {τ} i v p) = length-set (τ .store) i v ∙ reaches-length p
 
+-- Every write of the list was made when the count was from `least` to `most`.
+pub data Timed (least most : ℕ) : List Write → Type 0 where
+  timed-none : Timed least most []
+  timed-more : {w : Write} {ws : List Write} → least ≤ w .when → w .when ≤ most → Timed least most ws → Timed least most (w ∷ ws)
+
+-- The writes that a run added to those of σ, made within the given counts.
+pub record Added (least : ℕ) (σ τ : State) : Type 0 where
+  pub added : List Write
+  pub writes-are : τ .writes ≡ added ++ σ .writes
+  pub in-time : Timed least (τ .count) added
+
+pub timed-wider : {least less most more : ℕ} {ws : List Write} → less ≤ least → most ≤ more → Timed least most ws → Timed less more ws
+timed-wider g h timed-none = timed-none
+timed-wider g h (timed-more {w = w} p q m) = timed-more {w = w} (omega arith) (omega arith) (timed-wider g h m)
+
+reaches-added : {σ τ : State} → Reaches σ τ → Added (σ .count) σ τ
+reaches-added here = record { added = []; writes-are = refl; in-time = timed-none }
+reaches-added (counted p) = let r = reaches-added p in record { added = r .added; writes-are = r .writes-are; in-time = timed-wider (omega arith) (omega arith) (r .in-time) }
+reaches-added (wrote {τ} i v p) =
+    let r = reaches-added p in
+    let w : Write = record { place = i; value = v; when = τ .count } in
+    record { added = w ∷ r .added; writes-are = ap (λ l. w ∷ l) (r .writes-are); in-time = timed-more {w = w} (reaches-count p) (omega arith) (r .in-time) }
+
 pub reaches-writes : {σ τ : State} → Reaches σ τ → (ws : List Write) × (τ .writes ≡ ws ++ σ .writes)
-reaches-writes here = ([], refl)
-reaches-writes (counted p) = reaches-writes p
-reaches-writes (wrote {τ} i v p) = let w : Write = record { place = i; value = v; when = τ .count } in (w ∷ (reaches-writes p) .0, ap (λ l. w ∷ l) ((reaches-writes p) .1))
+reaches-writes p = let r = reaches-added p in (r .added, r .writes-are)
 
 reaches-step : (l : Limit) (σ : State) → Reaches σ (final (runStep l σ))
 reaches-step l σ = by (hasRoom l σ)
@@ -297,3 +318,20 @@ pub unroll : {A : Type 0} (b : ℕ) (m : Computation (Turn A)) (σ : State) → 
 unfolding run
 unroll {A} b m σ = round-same b (run (steps b) m) (run-reaches (steps b) m) σ _ _
     (elim [ again ↦ λ τ u. same-rounds b (run (steps b) m) (run-reaches (steps b) m) (b - σ .count) (suc (b - τ .count)) τ (omega arith) (omega arith) | leave a ↦ λ τ u. refl ])
+
+-- ---- when writes are made
+
+later-cut : {A : Type 0} (b : ℕ) (r w : Result A) → Within b r → CutShort r w → Added (suc b) (final r) (final w)
+later-cut b (ok a τ) w i c = rw c (record { added = []; writes-are = refl; in-time = timed-none })
+later-cut b (stopped (fault sort) τ) w i c = rw c (record { added = []; writes-are = refl; in-time = timed-none })
+later-cut b (stopped spent τ) w i there = record { added = []; writes-are = refl; in-time = timed-none }
+later-cut b (stopped spent τ) w i (past p) = let r = reaches-added p in record { added = r .added; writes-are = r .writes-are; in-time = timed-wider (omega arith) (omega arith) (r .in-time) }
+
+module _ {A : Type 0} (m : Computation A) (σ : State) where
+  -- The writes of a run were made by its end.
+  pub writes-in-time : (l : Limit) → Added (σ .count) σ (final (run l m σ))
+  writes-in-time l = reaches-added (run-reaches l m σ)
+
+  -- What a run under a wider limit writes beyond those of b steps, it writes after b steps.
+  pub writes-later : (b : ℕ) (w : Limit) → Narrower (steps b) w → σ .count ≤ b → Added (suc b) (final (run (steps b) m σ)) (final (run w m σ))
+  writes-later b w n h = later-cut b (run (steps b) m σ) (run w m σ) (within-budget b m σ h) (cut-run (steps b) w n m σ)

@@ -1,8 +1,8 @@
--- The theorem: every accepted program has a kernel form that is legal and shares its fate. From the theorems about trees
--- (`translation-preserves`, `translated-legal`), since decode reads both tables.
+-- The theorem: every accepted program has a kernel form that is legal, shares its fate and makes the same writes. From the theorems about
+-- trees (`translation-preserves`, `translation-writes`, `translated-legal`), since decode reads both tables.
 use mathlib.Core.Path.{_≡_, refl, ap, _∙_}
 use mathlib.Core.List.{List, _++_}
-use Prim.Native.Nat.{ℕ, _+_, _≤_}
+use Prim.Native.Nat.{ℕ, _+_, _*_, _≤_}
 use native.Mathlib.Omega.{arith}
 use lib.IntN.{ℤ}
 use lib.ListN.{length, take}
@@ -23,6 +23,7 @@ use Rattle.language.specs.Sizes.{statementRows, statementDepth}
 use Rattle.language.specs.WellFormed.{SourceTree}
 use Rattle.translation.specs.Translate.{translate, temporaries}
 use Rattle.translation.specs.TranslatePreserves.{SameWords, SharedFate as TreesShareFate, translation-preserves}
+use Rattle.translation.specs.SameWrites.{SameWrites as TreesWriteAlike, translation-writes}
 use Rattle.translation.specs.TranslateBounds.{rows-bound, temporaries-bound}
 use Rattle.translation.specs.Copies.{statementCopies, ownCopies, ownResults, total}
 use Rattle.translation.specs.CopyLaws.{copies-exactly}
@@ -34,6 +35,7 @@ use Rattle.source_check.specs.AcceptsLegal.{accepts-legal as source-accepts}
 use Rattle.kernel_check.specs.Accepts.{accepts-legal as kernel-accepts}
 use Rattle.accepted.specs.Source.{legal-block, legal-tree, legal-rows, legal-depth}
 use Rattle.fate.specs.Fate.{SourceEnds, KernelEnds, SharedFate}
+use Rattle.fate.specs.SameWrites.{SameWrites}
 use Rattle.fate.specs.KernelForms.{kernelHeaderOf, kernelRowsOf, KernelFormOf, HasKernelForm}
 
 -- ---- ended is settled
@@ -98,13 +100,21 @@ module _ (header rows : List ℤ) (legal : Legal header rows) where
     abbrev kernel : ℕ → Result Signal
     kernel d = run (steps d) (exec L (block (translate L program))) (start (store ++ temporaryWords))
 
+    source-under : (b : ℕ) → runUnder (steps b) Source header rows store ≡ source b
+    unfolding runUnder programOf
+    source-under b = rw (legal-block header rows legal)
+
+    kernel-under : (d : ℕ) → runUnder (steps d) Kernel (kernelHeaderOf header rows) (kernelRowsOf header rows) (store ++ temporaryWords) ≡ kernel d
+    unfolding runUnder programOf
+    kernel-under d = rw (kernel-layout, kernel-tree)
+
     source-run : (b : ℕ) → runProgram Source header rows b store ≡ finished (source b)
-    unfolding runProgram runUnder programOf
-    source-run b = rw (legal-block header rows legal)
+    unfolding runProgram
+    source-run b = rw (source-under b)
 
     kernel-run : (d : ℕ) → runProgram Kernel (kernelHeaderOf header rows) (kernelRowsOf header rows) d (store ++ temporaryWords) ≡ finished (kernel d)
-    unfolding runProgram runUnder programOf
-    kernel-run d = rw (kernel-layout, kernel-tree)
+    unfolding runProgram
+    kernel-run d = rw (kernel-under d)
 
     source-settled : (b : ℕ) → ((runProgram Source header rows b store) .ending ≡ Spent → ⊥) → Settled (source b)
     source-settled b e = ends-settled (source b) (rw (source-run b) at e)
@@ -136,6 +146,15 @@ module _ (header rows : List ℤ) (legal : Legal header rows) where
             → take (length store) ((runProgram Kernel (kernelHeaderOf header rows) (kernelRowsOf header rows) d (store ++ temporaryWords)) .store) ≡ (runProgram Source header rows b store) .store
         cells b d w = rw (source-run b, kernel-run d, w .same-words) (take-at ((final (source b)) .store) (w .left) (length store) (store-keeps-length (steps b) (exec L (block program)) (start store)))
 
+    tree-writes : TreesWriteAlike L program store temporaryWords
+    tree-writes = translation-writes L program store temporaryWords tree all-words (omega (arith, kernel-temporaries))
+
+    same-writes : SameWrites header rows (kernelHeaderOf header rows) (kernelRowsOf header rows) store temporaryWords
+    same-writes = record {
+      kernel-follows = λ N. rw (kernel-rows, source-under N, kernel-under (statementRows (block (translate L program)) * N)) (tree-writes .kernel-follows N);
+      source-follows = λ N. record { within = tree-writes .sourceSteps N; as-first = rw (kernel-under N, source-under (tree-writes .sourceSteps N)) (tree-writes .source-follows N) };
+    }
+
   copies-allowed : statementCopies (storeSize L) (decode (kernelRowsOf header rows)) ≡ total ownCopies program + total ownResults program
   unfolding statementCopies
   copies-allowed = ap (statementCopies (storeSize L)) kernel-tree ∙ copies-exactly L program tree
@@ -145,11 +164,12 @@ module _ (header rows : List ℤ) (legal : Legal header rows) where
   kernel-form-of = record {
     accepted = kernel-accepts (kernelHeaderOf header rows) (kernelRowsOf header rows) .1 (translated-legal header program (legal .header-fits) tree few shallow);
     share-fate = λ store temporaryWords s t. shared-fate store temporaryWords s t;
+    write-alike = λ store temporaryWords s t. same-writes store temporaryWords s t;
     few-rows = omega (arith, kernel-rows, rows-bound L program, source-rows);
     few-temporaries = omega (arith, kernel-temporaries, temporaries-bound program, source-rows);
     copies-allowed = copies-allowed;
   }
 
--- Demands 2 and 3, for every accepted program.
+-- Demands 2 and 3 and Change 14, for every accepted program.
 pub has-kernel-form : (header rows : List ℤ) → HasKernelForm header rows
 has-kernel-form header rows e = kernel-form-of header rows (source-accepts header rows .0 e)

@@ -1,8 +1,10 @@
--- Demands 2 and 3 about rows and words. A line of comment for each file.
+-- Demands 2 and 3, and Change 14, about rows and words. A line of comment for each file.
 
 -- ---- definitions
 -- Fate: what it is for two programs to share their fate.
 pub mod Fate
+-- Rules that never end: what it is for two programs to make the same writes.
+pub mod SameWrites
 -- Kernel forms: the kernel header and rows of a source program, and what holds of them.
 pub mod KernelForms
 -- ---- laws

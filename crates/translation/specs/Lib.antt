@@ -34,6 +34,8 @@ pub mod StatementPreserves
 pub mod TranslateRows
 -- The translation preserves runs: demand 3 on trees.
 pub mod TranslatePreserves
+-- Both runs make the same writes, also where they never end.
+pub mod SameWrites
 -- ---- laws: kernel form and bounds
 -- Every translation has kernel form: shapes and jumps.
 pub mod TranslateForm

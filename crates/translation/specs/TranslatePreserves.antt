@@ -24,7 +24,7 @@ use Rattle.translation.specs.Translate.{exits, translate, temporaries}
 use Rattle.translation.specs.TranslateRows.{translation-rows}
 use Rattle.translation.specs.Stack.{bottom}
 use Rattle.translation.specs.RunThen.{runThen, runThen-run}
-use Rattle.translation.specs.Related.{Frame, logs-none, Related, Alike, alike-ok, alike-spent, alike-fault, related-ran, related-step}
+use Rattle.translation.specs.Related.{Frame, Logs, logs-none, Related, Alike, alike-ok, alike-spent, alike-fault, related-ran, related-step}
 use Rattle.translation.specs.StatementRules.{leads-next}
 use Rattle.translation.specs.StatementPreserves.{items-run}
 
@@ -93,6 +93,18 @@ related-words n = record { left = n .spare; left-are = omega arith; same-words =
 data Ended (fr : Frame) : Signal → Signal → State → State → Type 0 where
   ended : {s t : Signal} {σ κ : State} → Related fr bottom 0 σ κ → Ended fr s t σ κ
 
+-- The logs of the two runs under one limit.
+pub record Logged (rows S : ℕ) (r q : Result Signal) : Type 0 where
+  pub frame-of : Frame
+  pub rate-is : frame-of .rate ≡ rows
+  pub words-are : frame-of .words ≡ S
+  pub logs : Logs frame-of ((final r) .writes) ((final q) .writes)
+
+alike-logs : {fr : Frame} {r q : Result Signal} → Alike fr (Ended fr) r q → Logs fr ((final r) .writes) ((final q) .writes)
+alike-logs (alike-ok (ended n)) = n .logs
+alike-logs (alike-spent l) = l
+alike-logs (alike-fault n) = n .logs
+
 same-end : {fr : Frame} {r q : Result Signal} → Alike fr (Ended fr) r q → SameEnd (fr .rate) (fr .temporaries) r q
 same-end (alike-ok (ended n)) = both-plain (related-words n)
 same-end (alike-spent l) = neither
@@ -114,16 +126,25 @@ module _ (L : Layout) (program : Items) (store temporaryWords : List ℤ) (tree 
     arrays-inside = array-in-store L;
   }
 
-  -- The relation under `rounds c`, for every c: runs that do not end are cut off together.
-  pub runs-alike : (c : ℕ) → SameEnd Rows (length temporaryWords) (sourceRun L program store (rounds c)) (kernelRun L program store temporaryWords (rounds c))
+  alike-rounds : (c : ℕ) → Alike (frame c) (Ended (frame c)) (sourceRun L program store (rounds c)) (kernelRun L program store temporaryWords (rounds c))
   unfolding runThen perform translate temporaries frame
-  runs-alike c =
+  alike-rounds c =
       let fr = frame c in
       let size = translation-rows L program in
       let at-start : Related fr bottom 0 (start store) (start (store ++ temporaryWords)) = record { spare = temporaryWords; stores = refl; source-words = all-words; kernel-words = omega arith; cost = omega arith; logs = logs-none } in
-      same-end {fr = fr} (rw (← runThen-run c (exec L (block program)) (start store), ← runThen-run c (exec L (block (translate L program))) (start (store ++ temporaryWords)))
+      rw (← runThen-run c (exec L (block program)) (start store), ← runThen-run c (exec L (block (translate L program))) (start (store ++ temporaryWords)))
       (items-run fr program (exits 0 0) 1 false false false (omega arith) (tree .named) (tree .placed) enough (omega arith) .runs next next leads-next 0 _ _ _ _
-      (related-ran _ (omega arith) (related-step {y = 1} (omega arith) at-start)) (λ t u τ ν w m. alike-ok (ended m))))
+      (related-ran _ (omega arith) (related-step {y = 1} (omega arith) at-start)) (λ t u τ ν w m. alike-ok (ended m)))
+
+  -- The relation under `rounds c`, for every c: runs that do not end are cut off together.
+  pub runs-alike : (c : ℕ) → SameEnd Rows (length temporaryWords) (sourceRun L program store (rounds c)) (kernelRun L program store temporaryWords (rounds c))
+  unfolding frame
+  runs-alike c = same-end {fr = frame c} (alike-rounds c)
+
+  -- Under `rounds c` both have made the same writes, cut off or not.
+  pub runs-logged : (c : ℕ) → Logged Rows (storeSize L) (sourceRun L program store (rounds c)) (kernelRun L program store temporaryWords (rounds c))
+  unfolding frame
+  runs-logged c = record { frame-of = frame c; rate-is = refl; words-are = refl; logs = alike-logs (alike-rounds c) }
 
   same-limits : (b d : ℕ) → Settled (sourceRun L program store (steps b)) → Settled (kernelRun L program store temporaryWords (steps d))
       → SameEnd Rows (length temporaryWords) (sourceRun L program store (steps b)) (kernelRun L program store temporaryWords (steps d))

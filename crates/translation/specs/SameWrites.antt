@@ -1,0 +1,104 @@
+-- Both runs make the same writes, also where they never end: the translation makes those of the source, in their order and in time, and no
+-- others. From the logs that the relation carries under `rounds c`, by the laws of limits.
+use mathlib.Core.Path.{_≡_, refl, sym, ap, _∙_}
+use mathlib.Core.List.{List, [], _∷_, _++_, append-nil}
+use Prim.Native.Nat.{ℕ, suc, _+_, _*_, _≤_}
+use native.Mathlib.Omega.{arith}
+use native.Mathlib.Nat.{le-refl, mul-le-mul-left}
+use lib.Dec.{ltb}
+use lib.IntN.{ℤ}
+use lib.ListN.{length}
+use borrow.Author.Tests.{le-ltb}
+use Rattle.words.specs.Word.{pick}
+use Rattle.words.specs.Layout.{Layout, storeSize}
+use Rattle.computation.specs.Run.{Write, State, start, steps, rounds, final}
+use Rattle.computation.specs.RunLaws.{Timed, timed-none, timed-more, timed-wider, Added, count-never-passes, writes-in-time, writes-later, writes-wider, enough-rounds, wider-rounds}
+use Rattle.computation.specs.WritesMade.{visible, made, FirstOf}
+use Rattle.computation.specs.WritesMadeLaws.{visible-append, first-trans}
+use Rattle.language.specs.Trees.{block, Items}
+use Rattle.language.specs.Meaning.{exec}
+use Rattle.language.specs.Sizes.{statementRows}
+use Rattle.language.specs.WellFormed.{SourceTree}
+use Rattle.translation.specs.Translate.{translate, temporaries}
+use Rattle.translation.specs.Related.{Logs, logs-none, logs-both, logs-kernel, Frame}
+use Rattle.translation.specs.TranslatePreserves.{sourceRun, kernelRun, runs-logged}
+
+-- ---- what is shown
+
+-- Change 14 on trees, for a program, a store and temporaries.
+pub record SameWrites (L : Layout) (program : Items) (store temporaryWords : List ℤ) : Type 0 where
+  pub kernel-follows : (N : ℕ) → FirstOf (made (storeSize L) (sourceRun L program store (steps N))) (made (storeSize L) (kernelRun L program store temporaryWords (steps (statementRows (block (translate L program)) * N))))
+  -- how many steps of the source are enough
+  pub sourceSteps : ℕ → ℕ
+  pub source-follows : (N : ℕ) → FirstOf (made (storeSize L) (kernelRun L program store temporaryWords (steps N))) (made (storeSize L) (sourceRun L program store (steps (sourceSteps N))))
+
+-- ---- logs
+
+logs-visible : {fr : Frame} {ws vs : List Write} → Logs fr ws vs → visible (fr .words) vs ≡ visible (fr .words) ws
+unfolding visible
+logs-visible logs-none = refl
+logs-visible {fr} (logs-both {i = i} {v = v} h b l) = ap (λ l. l ++ pick (ltb i (fr .words)) (record { place = i; value = v } ∷ []) []) (logs-visible l)
+logs-visible {fr} (logs-kernel {i = i} h l) = rw (le-ltb i (fr .words) h) (append-nil _ ∙ logs-visible l)
+
+-- The kernel's writes up to b, where those of the source up to n are made by then.
+first-made : {fr : Frame} (n b : ℕ) {most : ℕ} (ls ws lk vs : List Write) → fr .rate * n ≤ b → Logs fr (ls ++ ws) (lk ++ vs) → Timed (suc b) most lk → Timed 0 n ws → FirstOf (visible (fr .words) ws) (visible (fr .words) vs)
+unfolding visible
+first-made {fr} n b ls ws [] vs r g late early = record { later = visible (fr .words) ls; are = logs-visible g ∙ visible-append (fr .words) ls ws }
+first-made {fr} n b [] [] (k ∷ lk) vs r g late early = record { later = visible (fr .words) vs; are = refl }
+first-made {fr} n b [] (w ∷ ws) (k ∷ lk) vs r (logs-both h t g) (timed-more p q late) (timed-more e f early) = absurd (omega (arith, mul-le-mul-left (fr .rate) f))
+first-made n b [] (w ∷ ws) (k ∷ lk) vs r (logs-kernel h g) (timed-more p q late) early = first-made n b [] (w ∷ ws) lk vs r g late early
+first-made n b (l ∷ ls) ws (k ∷ lk) vs r (logs-both h t g) (timed-more p q late) early = first-made n b ls ws lk vs r g late early
+first-made n b (l ∷ ls) ws (k ∷ lk) vs r (logs-kernel h g) (timed-more p q late) early = first-made n b (l ∷ ls) ws lk vs r g late early
+
+-- Of one log told twice: ws are its writes up to n and ls later ones; those behind us were made after n. So ws are the first ones of us.
+within-log : (n : ℕ) {most : ℕ} (ls ws lk us : List Write) → lk ++ us ≡ ls ++ ws → Timed (suc n) most lk → Timed 0 n ws → (S : ℕ) → FirstOf (visible S ws) (visible S us)
+unfolding visible
+within-log n ls ws [] us e late early S = record { later = visible S ls; are = ap (visible S) e ∙ visible-append S ls ws }
+within-log n [] [] (k ∷ lk) us e late early S = record { later = visible S us; are = refl }
+within-log n [] (w ∷ ws) (k ∷ lk) us e (timed-more p q late) (timed-more a b early) S = let z : k ≡ w = cc in absurd (omega (arith, ap (λ (x : Write). x .when) z))
+within-log n (l ∷ ls) ws (k ∷ lk) us e (timed-more p q late) early S = let z : lk ++ us ≡ ls ++ ws = cc in within-log n ls ws lk us z late early S
+
+-- The writes of a run that starts with none.
+started : {n : ℕ} {store : List ℤ} {τ : State} → Added 0 (start store) τ → τ .count ≤ n → Timed 0 n (τ .writes)
+started r h = rw (r .writes-are, append-nil (r .added)) (timed-wider (omega arith) h (r .in-time))
+
+-- ---- both directions
+
+module _ (L : Layout) (program : Items) (store temporaryWords : List ℤ) (tree : SourceTree L program) (all-words : length store ≡ storeSize L) (enough : temporaries program ≤ length temporaryWords) where
+  abbrev Rows : ℕ
+  Rows = statementRows (block (translate L program))
+
+  abbrev S : ℕ
+  S = storeSize L
+
+  kernel-first : (N : ℕ) → FirstOf (made S (sourceRun L program store (steps N))) (made S (kernelRun L program store temporaryWords (steps (Rows * N))))
+  kernel-first N =
+      let c = suc (N + Rows * N) in
+      let g = runs-logged L program store temporaryWords tree all-words enough c in
+      let s = writes-later (exec L (block program)) (start store) N (rounds c) (enough-rounds N c (omega arith)) (omega arith) in
+      let k = writes-later (exec L (block (translate L program))) (start (store ++ temporaryWords)) (Rows * N) (rounds c) (enough-rounds (Rows * N) c (omega arith)) (omega arith) in
+      let early = started (writes-in-time (exec L (block program)) (start store) (steps N)) (count-never-passes N (exec L (block program)) (start store) (omega arith)) in
+      let logs : Logs (g .frame-of) (s .added ++ (final (sourceRun L program store (steps N))) .writes) (k .added ++ (final (kernelRun L program store temporaryWords (steps (Rows * N)))) .writes) = rw (← s .writes-are, ← k .writes-are) (g .logs) in
+      rw (← g .words-are) (first-made {fr = g .frame-of} N (Rows * N) (s .added) _ (k .added) _ (rw (g .rate-is) (omega arith)) logs (k .in-time) early)
+
+  -- As many steps as the source makes while each of its loops goes round at most N + 1 times.
+  abbrev enoughSteps : ℕ → ℕ
+  enoughSteps N = (final (sourceRun L program store (rounds (suc N)))) .count
+
+  source-first : (N : ℕ) → FirstOf (made S (kernelRun L program store temporaryWords (steps N))) (made S (sourceRun L program store (steps (enoughSteps N))))
+  source-first N =
+      let c = suc N in
+      let g = runs-logged L program store temporaryWords tree all-words enough c in
+      let k = writes-later (exec L (block (translate L program))) (start (store ++ temporaryWords)) N (rounds c) (enough-rounds N c (omega arith)) (omega arith) in
+      let M = enoughSteps N in
+      let d = suc (M + c) in
+      let w = writes-wider (exec L (block program)) (start store) (rounds c) (rounds d) (wider-rounds c d (omega arith)) in
+      let u = writes-later (exec L (block program)) (start store) M (rounds d) (enough-rounds M d (omega arith)) (omega arith) in
+      let early = started (writes-in-time (exec L (block program)) (start store) (rounds c)) (le-refl M) in
+      let same : visible S ((final (kernelRun L program store temporaryWords (rounds c))) .writes) ≡ visible S ((final (sourceRun L program store (rounds c))) .writes) = rw (← g .words-are) (logs-visible (g .logs)) in
+      let of-kernel : FirstOf (made S (kernelRun L program store temporaryWords (steps N))) (made S (sourceRun L program store (rounds c))) =
+      record { later = visible S (k .added); are = sym same ∙ ap (visible S) (k .writes-are) ∙ visible-append S (k .added) _ } in
+      first-trans of-kernel (within-log M (w .0) _ (u .added) _ (sym (u .writes-are) ∙ w .1) (u .in-time) early S)
+
+  pub translation-writes : SameWrites L program store temporaryWords
+  translation-writes = record { kernel-follows = kernel-first; sourceSteps = enoughSteps; source-follows = source-first }

@@ -1,9 +1,11 @@
--- Laws of the writes that a run makes: what a store adds to them; of a log in two parts; first ones of first ones.
+-- Laws of the writes that a run makes: what a store adds to them; of a log in two parts; what first ones are.
 use mathlib.Core.Path.{_≡_, refl, sym, ap, _∙_}
 use mathlib.Core.List.{List, [], _∷_, _++_, append-nil, append-assoc}
 use Prim.Native.Nat.{ℕ, _≤_, _<_}
 use lib.Dec.{ltb}
 use lib.IntN.{ℤ}
+use lib.ListN.{length, take}
+use lib.Seq.{take-at}
 use borrow.Author.Tests.{lt-ltb, le-ltb}
 use Rattle.words.specs.Word.{pick}
 use Rattle.computation.specs.Computation.{save}
@@ -25,6 +27,9 @@ pub visible-append : (S : ℕ) (late early : List Write) → visible S (late ++ 
 unfolding visible
 visible-append S [] early = sym (append-nil (visible S early))
 visible-append S (w ∷ late) early = ap (λ l. l ++ pick (ltb (w .place) S) (stored w ∷ []) []) (visible-append S late early) ∙ append-assoc (visible S early) (visible S late) _
+
+pub first-taken : {ws vs : List Stored} → FirstOf ws vs → take (length ws) vs ≡ ws
+first-taken {ws} f = rw (f .are) (take-at ws (f .later) (length ws) refl)
 
 pub first-trans : {us vs ws : List Stored} → FirstOf us vs → FirstOf vs ws → FirstOf us ws
 first-trans {us} f g = record { later = f .later ++ g .later; are = g .are ∙ ap (λ l. l ++ g .later) (f .are) ∙ append-assoc us (f .later) (g .later) }

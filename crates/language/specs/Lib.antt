@@ -32,6 +32,8 @@ pub mod Sound
 -- ---- laws
 -- The theorem: every rule of both tables holds.
 pub mod RulesHold
+-- The writes that some runs make.
+pub mod WriteExamples
 -- Laws of trees: one list of items behind another, the marks that a list has, the rows of a statement.
 pub mod TreeLaws
 -- Laws of write sets: the test is exact; an expression leaves the variables outside its set alone.

@@ -25,9 +25,13 @@ use Rattle.translation.specs.TranslatePreserves.{sourceRun, kernelRun, r
 
 -- ---- what is shown
 
+-- "kernel rows × N steps"
+abbrev pub kernelSteps : Layout → Items → ℕ → ℕ
+kernelSteps L program N = statementRows (block (translate L program)) * N
+
 -- Change 14 on trees, for a program, a store and temporaries.
 pub record SameWrites (L : Layout) (program : Items) (store temporaryWords : List ℤ) : Type 0 where
-  pub kernel-follows : (N : ℕ) → FirstOf (made (storeSize L) (sourceRun L program store (steps N))) (made (storeSize L) (kernelRun L program store temporaryWords (steps (statementRows (block (translate L program)) * N))))
+  pub kernel-follows : (N : ℕ) → FirstOf (made (storeSize L) (sourceRun L program store (steps N))) (made (storeSize L) (kernelRun L program store temporaryWords (steps (kernelSteps L program N))))
   -- how many steps of the source are enough
   pub sourceSteps : ℕ → ℕ
   pub source-follows : (N : ℕ) → FirstOf (made (storeSize L) (kernelRun L program store temporaryWords (steps N))) (made (storeSize L) (sourceRun L program store (steps (sourceSteps N))))
@@ -65,21 +69,18 @@ started r h = rw (r .writes-are, append-nil (r .added)) (timed-wider (omega arit
 -- ---- both directions
 
 module _ (L : Layout) (program : Items) (store temporaryWords : List ℤ) (tree : SourceTree L program) (all-words : length store ≡ storeSize L) (enough : temporaries program ≤ length temporaryWords) where
-  abbrev Rows : ℕ
-  Rows = statementRows (block (translate L program))
-
   abbrev S : ℕ
   S = storeSize L
 
-  kernel-first : (N : ℕ) → FirstOf (made S (sourceRun L program store (steps N))) (made S (kernelRun L program store temporaryWords (steps (Rows * N))))
+  kernel-first : (N : ℕ) → FirstOf (made S (sourceRun L program store (steps N))) (made S (kernelRun L program store temporaryWords (steps (kernelSteps L program N))))
   kernel-first N =
-      let c = suc (N + Rows * N) in
+      let c = suc (N + kernelSteps L program N) in
       let g = runs-logged L program store temporaryWords tree all-words enough c in
       let s = writes-later (exec L (block program)) (start store) N (rounds c) (enough-rounds N c (omega arith)) (omega arith) in
-      let k = writes-later (exec L (block (translate L program))) (start (store ++ temporaryWords)) (Rows * N) (rounds c) (enough-rounds (Rows * N) c (omega arith)) (omega arith) in
+      let k = writes-later (exec L (block (translate L program))) (start (store ++ temporaryWords)) (kernelSteps L program N) (rounds c) (enough-rounds (kernelSteps L program N) c (omega arith)) (omega arith) in
       let early = started (writes-in-time (exec L (block program)) (start store) (steps N)) (count-never-passes N (exec L (block program)) (start store) (omega arith)) in
-      let logs : Logs (g .frame-of) (s .added ++ (final (sourceRun L program store (steps N))) .writes) (k .added ++ (final (kernelRun L program store temporaryWords (steps (Rows * N)))) .writes) = rw (← s .writes-are, ← k .writes-are) (g .logs) in
-      rw (← g .words-are) (first-made {fr = g .frame-of} N (Rows * N) (s .added) _ (k .added) _ (rw (g .rate-is) (omega arith)) logs (k .in-time) early)
+      let logs : Logs (g .frame-of) (s .added ++ (final (sourceRun L program store (steps N))) .writes) (k .added ++ (final (kernelRun L program store temporaryWords (steps (kernelSteps L program N)))) .writes) = rw (← s .writes-are, ← k .writes-are) (g .logs) in
+      rw (← g .words-are) (first-made {fr = g .frame-of} N (kernelSteps L program N) (s .added) _ (k .added) _ (rw (g .rate-is) (omega arith)) logs (k .in-time) early)
 
   -- As many steps as the source makes while each of its loops goes round at most N + 1 times.
   abbrev enoughSteps : ℕ → ℕ

@@ -4,11 +4,12 @@
 //! words), then exactly that many bytes of program text. No start words mean a
 //! store of zeros.
 
-use crate::form::Form;
+use crate::form::Form::{self, Kernel, Source};
 use crate::machine::{run, Ending, Outcome};
 use crate::preview::preview;
 use crate::table::Refusal;
 use crate::text;
+use crate::writes::{compare, writes, Compared};
 use std::fmt::Write;
 
 #[derive(Clone, Debug, PartialEq, Eq)]
@@ -81,9 +82,9 @@ pub fn evaluate(form: Form, case: &Case) -> Result<(Outcome, Vec<i32>), Refusal>
 /// The lines of a preview: ending, count and how many words would differ; then
 /// each of these, lowest place first: its place, what it holds, what it would hold.
 fn foretell(case: &Case) -> Result<String, Refusal> {
-    let (header, rows) = text::read(Form::Source, &case.text)?;
-    let store = start(Form::Source, &header, case);
-    let mut scratch = vec![0; Form::Source.store_words(&header)];
+    let (header, rows) = text::read(Source, &case.text)?;
+    let store = start(Source, &header, case);
+    let mut scratch = vec![0; Source.store_words(&header)];
     let told = preview(&header, &rows, &store, case.budget, &mut scratch)?;
     let Outcome { ending, count } = told.outcome;
     let mut lines = format!("{} {count} {}\n", ending.name(), told.differing);
@@ -100,6 +101,31 @@ pub fn preview_lines(case: &Case) -> String {
     foretell(case).unwrap_or_else(|refusal| format!("{refusal}\n"))
 }
 
+/// The lines of a run's writes: place and value, one a line.
+fn watch(form: Form, case: &Case) -> Result<String, Refusal> {
+    let (header, rows) = text::read(form, &case.text)?;
+    let mut store = start(form, &header, case);
+    let (_, made) = writes(form, &header, &rows, &mut store, case.budget)?;
+    Ok(made.iter().map(|write| format!("{} {}\n", write.place, write.value)).collect())
+}
+
+pub fn write_lines(form: Form, case: &Case) -> String {
+    watch(form, case).unwrap_or_else(|refusal| format!("{refusal}\n"))
+}
+
+/// A case of the source form and its translation's text, held to both sentences
+/// of change 14; the temporaries start from values that are not 0.
+pub fn compare_writes(source: &Case, translation: &[u8]) -> Result<Compared, String> {
+    let refused = |refusal: Refusal| refusal.to_string();
+    let program = text::read(Source, &source.text).map_err(refused)?;
+    let kernel = text::read(Kernel, translation).map_err(refused)?;
+    let store = start(Source, &program.0, source);
+    let values = [7, -1, i32::MIN, 1, i32::MAX, -2];
+    let count = Kernel.temporaries(&kernel.0) as usize;
+    let temporaries: Vec<i32> = values.iter().copied().cycle().take(count).collect();
+    compare(&program, &kernel, &store, &temporaries)
+}
+
 pub fn answer(form: Form, case: &Case) -> String {
     match evaluate(form, case) {
         Ok((outcome, store)) => answer_line(outcome, &store),
@@ -112,7 +138,7 @@ pub fn answer(form: Form, case: &Case) -> String {
 /// translation here: whatever it is, given steps enough its run has the same
 /// ending and the same S words.
 pub fn answer_lines(case: &Case) -> String {
-    let (outcome, store) = match evaluate(Form::Source, case) {
+    let (outcome, store) = match evaluate(Source, case) {
         Ok(evaluated) => evaluated,
         Err(refusal) => return format!("{refusal}\n"),
     };

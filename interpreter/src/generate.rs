@@ -10,7 +10,7 @@ mod statements;
 use crate::cases::Case;
 use crate::check::check;
 use crate::form::Form::{self, Source};
-use crate::machine::{run_checked, Ending, Fault, Outcome};
+use crate::machine::{run_checked, run_watched, Ending, Fault, Outcome};
 use crate::random::Random;
 use crate::table::*;
 use crate::text;
@@ -60,6 +60,25 @@ pub fn case(seed: u64, number: u64, size: Size) -> Case {
         if found || tries == most_tries {
             let budget = budget(random, outcome);
             return Case { budget, words, text: text::write(&program.header, &rows) };
+        }
+    }
+}
+
+/// The case of this number, of a program that does not end and stores on and on.
+pub fn endless_case(seed: u64, number: u64) -> Case {
+    let random = &mut Random::new(seed, number);
+    loop {
+        let Program { header, tree } = legal(random, Size::Mixed, 40);
+        let order = any_order(random);
+        let rows = crate::tree::number(&tree, order, random);
+        let words = start_words(Source, random, &header);
+        let size = Source.store_words(&header);
+        let mut store = words.clone();
+        store.resize(size, 0);
+        let (outcome, writes) = run_watched(Source, &header, &rows, &mut store, LONG, size);
+        let late = writes.last().is_some_and(|write| write.step > LONG / 2);
+        if outcome.ending == Ending::Spent && late {
+            return Case { budget: LONG, words, text: text::write(&header, &rows) };
         }
     }
 }
@@ -140,10 +159,15 @@ pub fn end_value(random: &mut Random) -> i32 {
     ])
 }
 
-/// A legal program.
+/// A legal program, of whose loops few are endless.
 pub fn program(random: &mut Random, size: Size) -> Program {
+    legal(random, size, 3)
+}
+
+/// A legal program; so many of a hundred loops are endless, unless it is long.
+fn legal(random: &mut Random, size: Size, endless: usize) -> Program {
     loop {
-        let program = draft(random, size);
+        let program = draft(random, size, endless);
         let rows = number(&program.tree, Order::Pre, random);
         if check(Source, &program.header, &rows).is_ok() {
             return program;
@@ -151,7 +175,7 @@ pub fn program(random: &mut Random, size: Size) -> Program {
     }
 }
 
-fn draft(random: &mut Random, size: Size) -> Program {
+fn draft(random: &mut Random, size: Size, endless: usize) -> Program {
     let header = header(random);
     let rows = match size {
         Size::Large => random.pick(&[300, 600, 1_000, 1_500, 2_040, 2_048]),
@@ -173,7 +197,7 @@ fn draft(random: &mut Random, size: Size) -> Program {
         variables: header[0],
         lengths: header[1..].to_vec(),
         tame,
-        endless: if rows > 150 { 0 } else { 3 },
+        endless: if rows > 150 { 0 } else { endless },
         room: rows - 1,
         counters: Vec::new(),
         rounds: 1,

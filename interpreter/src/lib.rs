@@ -4,7 +4,7 @@
 //! A program is a header and rows of six words, in one of two forms: the source
 //! form, and the kernel form that translations have. There is no translation
 //! here. `check` gives the first cause of refusal, `run` checks and then runs,
-//! `preview` runs on a copy of the store.
+//! `preview` runs on a copy of the store, `writes` tells which words a run stores.
 
 pub mod cases;
 pub mod check;
@@ -21,9 +21,10 @@ pub mod tally;
 pub mod text;
 pub mod tree;
 pub mod trial;
+pub mod writes;
 
 pub use check::check;
 pub use form::Form;
-pub use machine::{run, Ending, Fault, Outcome};
+pub use machine::{run, Ending, Fault, Outcome, Write};
 pub use preview::{preview, Preview};
 pub use table::Refusal;

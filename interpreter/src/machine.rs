@@ -62,8 +62,22 @@ pub fn run_checked(
     store: &mut [i32],
     budget: u32,
 ) -> Outcome {
+    run_watched(form, header, rows, store, budget, 0).0
+}
+
+/// The same run, and its writes to so many words from the first on, in order.
+pub fn run_watched(
+    form: Form,
+    header: &[i32],
+    rows: &[i32],
+    store: &mut [i32],
+    budget: u32,
+    watched: usize,
+) -> (Outcome, Vec<Write>) {
     let arrays = Array::all(header[0], form.lengths(header));
-    let mut machine = Machine { rows: rows_of(rows), arrays: &arrays, store, budget, count: 0 };
+    let rows = rows_of(rows);
+    let mut machine =
+        Machine { rows, arrays: &arrays, store, budget, count: 0, watched, writes: Vec::new() };
     let result = match form {
         Form::Source => machine.statement(0).map(|_| ()),
         Form::Kernel => machine.kernel_statement(0).map(|_| ()),
@@ -73,7 +87,15 @@ pub fn run_checked(
         Err(Stop::Spent) => Ending::Spent,
         Err(Stop::Fault(fault)) => Ending::Fault(fault),
     };
-    Outcome { ending, count: machine.count }
+    (Outcome { ending, count: machine.count }, machine.writes)
+}
+
+/// A store to a word that is watched, and how many steps were made by then.
+#[derive(Clone, Copy, Debug, PartialEq, Eq)]
+pub struct Write {
+    pub place: usize,
+    pub value: i32,
+    pub step: u32,
 }
 
 /// Why a run stops before its end.
@@ -115,6 +137,8 @@ struct Machine<'a> {
     store: &'a mut [i32],
     budget: u32,
     count: u32,
+    watched: usize,
+    writes: Vec<Write>,
 }
 
 impl Machine<'_> {
@@ -125,6 +149,14 @@ impl Machine<'_> {
         }
         self.count += 1;
         Ok(())
+    }
+
+    /// A store of an equal value is a write, too.
+    fn save(&mut self, place: usize, value: i32) {
+        self.store[place] = value;
+        if place < self.watched {
+            self.writes.push(Write { place, value, step: self.count });
+        }
     }
 
     fn expression(&mut self, at: i32) -> Result<i32, Stop> {
@@ -159,14 +191,14 @@ impl Machine<'_> {
             ASSIGN => {
                 let value = self.expression(b)?;
                 let place = self.place(a)?;
-                self.store[place] = value;
+                self.save(place, value);
                 Ok(value)
             }
             ADD_ASSIGN..=REMAINDER_ASSIGN => {
                 let value = self.expression(b)?;
                 let place = self.place(a)?;
                 let result = operate(kind - ADD_ASSIGN + ADD, self.store[place], value)?;
-                self.store[place] = result;
+                self.save(place, result);
                 Ok(result)
             }
             _ => {
@@ -177,7 +209,7 @@ impl Machine<'_> {
                     _ => old.checked_sub(1),
                 };
                 let new = new.ok_or(OVERFLOW)?;
-                self.store[place] = new;
+                self.save(place, new);
                 Ok(if kind <= PRE_DECREMENT { new } else { old })
             }
         }

@@ -17,8 +17,11 @@ Texts and case files are read from standard input.
                              the store starts from the words, else from zeros
   preview BUDGET [WORD ...]  ENDING COUNT and how many words would differ; then
                              PLACE: OLD NEW for each of them, lowest place first
-  kernel-check               check and run for a text of the kernel form
+  writes N [WORD ...]        PLACE VALUE for each write to the first S words
+                             within N steps, in order, or refused NUMBER PLACE
+  kernel-check               check, run and writes for a text of the kernel form
   kernel-run BUDGET [WORD ...]
+  kernel-writes N [WORD ...]
   trial                      the trial program's line for the source form, or
                              its refusal. The kernel's line is not printed:
                              there is no translation here, and whether its run
@@ -26,6 +29,8 @@ Texts and case files are read from standard input.
   generate SEED COUNT        generated cases, numbers 0 to COUNT - 1
   generate SEED COUNT FIRST  the same, from number FIRST on
   generate SEED COUNT large  of 300 to 2,048 rows
+  generate SEED COUNT endless [FIRST]
+                             of programs that do not end, and store on and on
   damage SEED COUNT [FIRST]  damaged cases
   kernel-generate SEED COUNT [FIRST]
   kernel-damage SEED COUNT [FIRST]
@@ -37,6 +42,11 @@ Texts and case files are read from standard input.
                              kernel's, given steps enough
   different FILE             reads cases; the first that FILE, which another
                              program printed, answers otherwise
+  compare-writes             reads cases two by two, a program and then its
+                             translation's text; whether each makes the writes
+                             that the other has made as its first ones, at many
+                             numbers of steps: same PROGRAMS ENDLESS WRITES, or
+                             different NUMBER: and what is not made
   tally                      reads cases; counts of answers, kinds and sizes
 
 With --tally the counts are printed in place of cases. `answers`, `different`
@@ -69,6 +79,13 @@ fn act(arguments: &[&str], tally: bool) -> Result<Vec<u8>, String> {
         ["preview", budget, words @ ..] => {
             Ok(cases::preview_lines(&case(budget, words)?).into_bytes())
         }
+        ["writes", budget, words @ ..] => {
+            Ok(cases::write_lines(Source, &case(budget, words)?).into_bytes())
+        }
+        ["kernel-writes", budget, words @ ..] => {
+            Ok(cases::write_lines(Kernel, &case(budget, words)?).into_bytes())
+        }
+        ["compare-writes"] => Ok(line(compare_writes(&cases::read_all(&input()?)?))),
         ["kernel-check"] => Ok(check_text(Kernel, &input()?)),
         ["kernel-run", budget, words @ ..] => run_text(Kernel, budget, words),
         ["trial"] => Ok(line(trial::trial(&input()?))),
@@ -85,6 +102,9 @@ fn act(arguments: &[&str], tally: bool) -> Result<Vec<u8>, String> {
         ["tally"] => Ok(output(Source, cases::read_all(&input()?)?.into_iter(), true)),
         ["generate", seed, count, "large"] => {
             made(Source, |seed, i| generate::case(seed, i, Size::Large), seed, count, &[], tally)
+        }
+        ["generate", seed, count, "endless", first @ ..] => {
+            made(Source, generate::endless_case, seed, count, first, tally)
         }
         ["generate", seed, count, first @ ..] => {
             made(Source, |seed, i| generate::case(seed, i, Size::Mixed), seed, count, first, tally)
@@ -137,6 +157,24 @@ fn different(printed: &str) -> Result<Vec<u8>, String> {
         }
     }
     Ok(bytes)
+}
+
+/// How many programs, how many of them do not end, and the writes; or the number of the first pair
+/// that differs, from 0 on, and how.
+fn compare_writes(cases: &[Case]) -> String {
+    let (mut programs, mut endless, mut writes) = (0, 0, 0);
+    for pair in cases.chunks(2) {
+        let translation = pair.get(1).map_or(&[][..], |case| &case.text);
+        match cases::compare_writes(&pair[0], translation) {
+            Ok(compared) => {
+                programs += 1;
+                endless += usize::from(compared.endless);
+                writes += compared.writes;
+            }
+            Err(what) => return format!("different {programs}: {what}"),
+        }
+    }
+    format!("same {programs} {endless} {writes}")
 }
 
 /// The cases in their format, or the counts.

@@ -92,8 +92,8 @@ clight_preview_answer clight_preview(const int32_t *header, size_t header_words,
                                      size_t scratch_words);
 
 /* Writes the kernel form of a source program. Done: first is the words of the kernel header, second those of the kernel rows; words
- * of both tables beyond these keep their content. The words written are a legal kernel program that shares the source's fate. Causes
- * 1 to 9, then 10. */
+ * of both tables beyond these keep their content. The words written are a legal kernel program that shares the source's fate and
+ * makes its writes, in order, also where neither run ends. Causes 1 to 9, then 10. */
 clight_answer clight_translate(const int32_t *header, size_t header_words, const int32_t *rows, size_t row_words,
                                int32_t *kernel_header, size_t kernel_header_words, int32_t *kernel_rows, size_t kernel_row_words);
 

@@ -276,7 +276,8 @@ pub fn write_kernel(header: &[i32], rows: &[i32], text: &mut [u8]) -> Result<usi
 }
 
 /// Writes the kernel form of a source program, a legal kernel program that
-/// shares its fate; words of both tables beyond the result keep their content.
+/// shares its fate and makes its writes, in order, also where neither run ends;
+/// words of both tables beyond the result keep their content.
 /// `kernel_rows(n)` rows are enough for n source rows, and the kernel header
 /// has one word more than the source's.
 pub fn translate(

@@ -4,8 +4,9 @@ ghost use mathlib.Core.Path.{_≡_};
 ghost use Rattle.fate.specs.KernelForms.{HasKernelForm};
 ghost use Rattle.translator.specs.Translation.{answerAndTables, translateResult, WritesKernelForm};
 
-// Writes the kernel header and rows of a source program, and answers how many words each has. The second promise is demands 2 and 3,
-// for every accepted program, every store and every content of the temporaries; the third says them of the words that were written.
+// Writes the kernel header and rows of a source program, and answers how many words each has. The second promise is demands 2 and 3
+// and Change 14, for every accepted program, every store and every content of the temporaries; the third says them of the words that were
+// written.
 pub fn translate(
     header: &[i32],
     rows: &[i32],

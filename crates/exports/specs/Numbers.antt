@@ -37,6 +37,6 @@ outcomeAnswer outcome = answerOf (outcomeNumbers outcome)
 abbrev pub translateAnswer : TranslateAnswer → Answer
 translateAnswer answer = answerOf (translateNumbers answer)
 
--- Demands 2 and 3 about what stands in both tables after a translation whose answer has no cause.
+-- Demands 2 and 3 and Change 14 about what stands in both tables after a translation whose answer has no cause.
 abbrev pub WritesIfDone : (header rows : List ℤ) → Answer → (headerLeft rowsLeft : List ℤ) → Type 0
 WritesIfDone header rows answer headerLeft rowsLeft = answer .cause ≡ 0 → WroteKernelForm header rows (answer .first) (answer .second) headerLeft rowsLeft

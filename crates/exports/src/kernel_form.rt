@@ -6,8 +6,8 @@ ghost use Rattle.fate.specs.KernelForms.{HasKernelForm};
 ghost use Rattle.translator.specs.Translation.{translateResult};
 ghost use Rattle.exports.specs.Numbers.{answerOf, WritesIfDone};
 
-// Writes the kernel header and rows of a source program. The fourth promise is demands 2 and 3 about the kernel form, the last says them
-// of the words that are written.
+// Writes the kernel header and rows of a source program. The fourth promise is demands 2 and 3 and Change 14 about the kernel form, the
+// last says them of the words that are written.
 #[no_mangle]
 pub extern "C" fn clight_translate(
     header: &[i32],

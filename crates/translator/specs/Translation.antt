@@ -50,8 +50,8 @@ translateResult header rows outHeader outRows = translateAfter (sourceRefusal he
 
 -- ---- the words written
 
--- Demands 2 and 3 about what stands in both tables after a translation: the program is accepted, and the first words of the tables, as
--- many as the answer says, are a legal kernel program that shares its fate.
+-- Demands 2 and 3 and Change 14 about what stands in both tables after a translation: the program is accepted, and the first words of
+-- the tables, as many as the answer says, are a legal kernel program that shares its fate and makes its writes.
 pub record WroteKernelForm (header rows : List ℤ) (headerWords rowWords : ℕ) (headerLeft rowsLeft : List ℤ) : Type 0 where
   pub source-accepted : sourceRefusal header rows ≡ Accepted
   pub header-inside : headerWords ≤ length headerLeft

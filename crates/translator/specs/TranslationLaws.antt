@@ -1,5 +1,5 @@
 -- Laws of the translation's answer: which of three it is; a translation that was made stands at the start of both tables, so that the
--- words there are a legal kernel program that shares the source's fate.
+-- words there are a legal kernel program that shares the source's fate and makes its writes.
 use mathlib.Core.Path.{_≡_, refl, sym, ap, _∙_}
 use mathlib.Core.Bool.{Bool, true, false, _&&_, and-false}
 use mathlib.Core.List.{List}

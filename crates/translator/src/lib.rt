@@ -71,7 +71,7 @@ pub fn translate_accepted(
 }
 
 // Translates a source program. The first promise says what is answered and what stands in both tables after it, refusals too; the
-// second is demands 2 and 3 about the kernel form that it cites; the third says them of the words that stand in the tables.
+// second is demands 2 and 3 and Change 14 about the kernel form that it cites; the third says them of the words that stand in the tables.
 pub fn translate(
     header: &[i32],
     rows: &[i32],

@@ -6,6 +6,7 @@ use lib.Dec.{leb}
 use Rattle.words.specs.Word.{pick}
 use Rattle.language.specs.Trees.{Expression, constant, read, minus, not as notTrue, binary, and, or, comma, conditional, assign, compound, prefix, postfix, Place, variable, element, Part, absent, present, Statement, empty, express, block, ifThen, ifElse, while, doWhile, for, switch, break, continue, goto, Items, none, _then_, _here_}
 use Rattle.language.specs.Writes.{writes, indexWrites}
+use Rattle.translation.specs.Uses.{Use, dropped, wanted, stored, useFor, passedOn, direct}
 
 -- ---- in kernel code
 
@@ -74,6 +75,11 @@ module _ (S : ℕ) where
 
 -- ---- in the source
 
+-- 1 where the value of a place that was written stands in a variable, which can be written again (W); else 0.
+abbrev pub rewritten : Place → (ℕ → Bool) → ℕ
+rewritten (variable i) W = pick (W i) 1 0
+rewritten (element array e) W = 0
+
 -- 1 where the value of an expression is that of a variable, which can be written (W) before the value is used; else 0.
 unfoldable pub waiting : Expression → (ℕ → Bool) → ℕ
 waiting (constant v) W = 0
@@ -87,83 +93,96 @@ waiting (or a b) W = 0
 -- "the result is the right's"
 waiting (comma a b) W = waiting b W
 waiting (conditional c a b) W = 0
--- "The result is the value stored": the right side's, unless the assignment has copied it already
-waiting (assign p e) W = waiting e (λ i. W i && not (indexWrites p i))
-waiting (compound operator p e) W = 0
-waiting (prefix operator p) W = 0
+-- "The result is the value stored": the variable's own, where the value went straight there; else the right side's, unless the assignment has
+-- copied it already
+waiting (assign (variable i) e) W = pick (direct e) (pick (W i) 1 0) (waiting e W)
+waiting (assign (element array d) e) W = waiting e (λ i. W i && not (writes d i))
+waiting (compound operator p e) W = rewritten p W
+waiting (prefix operator p) W = rewritten p W
 waiting (postfix operator p) W = 0
 
 -- The copies that the sentence allows for an expression's own row. A value waits for its use in three places: the right operand, while the
 -- left one is worked out; the value of an assignment or compound, while the index of its place is. Every other value is used at once.
-abbrev pub ownCopies : Expression → ℕ
-ownCopies (constant v) = 0
-ownCopies (read p) = 0
-ownCopies (minus e) = 0
-ownCopies (notTrue e) = 0
-ownCopies (binary operator a b) = waiting b (writes a)
-ownCopies (and a b) = 0
-ownCopies (or a b) = 0
-ownCopies (comma a b) = 0
-ownCopies (conditional c a b) = 0
-ownCopies (assign p e) = waiting e (indexWrites p)
-ownCopies (compound operator p e) = waiting e (indexWrites p)
-ownCopies (prefix operator p) = 0
-ownCopies (postfix operator p) = 0
+abbrev pub ownCopies : Expression → Use → ℕ
+ownCopies (constant v) u = 0
+ownCopies (read p) u = 0
+ownCopies (minus e) u = 0
+ownCopies (notTrue e) u = 0
+ownCopies (binary operator a b) u = waiting b (writes a)
+ownCopies (and a b) u = 0
+ownCopies (or a b) u = 0
+ownCopies (comma a b) u = 0
+ownCopies (conditional c a b) u = 0
+ownCopies (assign p e) u = waiting e (indexWrites p)
+ownCopies (compound operator p e) u = waiting e (indexWrites p)
+ownCopies (prefix operator p) u = 0
+ownCopies (postfix operator p) u = 0
+
+-- 1 where the old value is used.
+abbrev pub oldUsed : Use → ℕ
+oldUsed dropped = 0
+oldUsed wanted = 1
+oldUsed (stored i) = 1
 
 -- A variable's value that is a result and no operand, and so goes into the result's temporary: that of a branch of a conditional, and the
--- old value that e++ and e−− give.
-abbrev pub ownResults : Expression → ℕ
-ownResults (constant v) = 0
-ownResults (read p) = 0
-ownResults (minus e) = 0
-ownResults (notTrue e) = 0
-ownResults (binary operator a b) = 0
-ownResults (and a b) = 0
-ownResults (or a b) = 0
-ownResults (comma a b) = 0
-ownResults (conditional c a b) = waiting a (λ i. true) + waiting b (λ i. true)
-ownResults (assign p e) = 0
-ownResults (compound operator p e) = 0
-ownResults (prefix operator p) = 0
-ownResults (postfix operator p) = isVariable p
+-- old value that e++ and e−− give, where it is used.
+abbrev pub ownResults : Expression → Use → ℕ
+ownResults (constant v) u = 0
+ownResults (read p) u = 0
+ownResults (minus e) u = 0
+ownResults (notTrue e) u = 0
+ownResults (binary operator a b) u = 0
+ownResults (and a b) u = 0
+ownResults (or a b) u = 0
+ownResults (comma a b) u = 0
+ownResults (conditional c a b) u = waiting a (λ i. true) + waiting b (λ i. true)
+ownResults (assign p e) u = 0
+ownResults (compound operator p e) u = 0
+ownResults (prefix operator p) u = 0
+ownResults (postfix operator p) u = isVariable p * oldUsed u
 
--- The sum of a number over all expressions of a tree.
-module _ (own : Expression → ℕ) where
+-- The sum of a number over all expressions of a tree, each with its use.
+module _ (own : Expression → Use → ℕ) where
   unfoldable mutual
-    pub expressionTotal : Expression → ℕ
-    expressionTotal (constant v) = own (constant v)
-    expressionTotal (read p) = own (read p) + indexTotal p
-    expressionTotal (minus e) = own (minus e) + expressionTotal e
-    expressionTotal (notTrue e) = own (notTrue e) + expressionTotal e
-    expressionTotal (binary operator a b) = own (binary operator a b) + expressionTotal a + expressionTotal b
-    expressionTotal (and a b) = own (and a b) + expressionTotal a + expressionTotal b
-    expressionTotal (or a b) = own (or a b) + expressionTotal a + expressionTotal b
-    expressionTotal (comma a b) = own (comma a b) + expressionTotal a + expressionTotal b
-    expressionTotal (conditional c a b) = own (conditional c a b) + expressionTotal c + expressionTotal a + expressionTotal b
-    expressionTotal (assign p e) = own (assign p e) + indexTotal p + expressionTotal e
-    expressionTotal (compound operator p e) = own (compound operator p e) + indexTotal p + expressionTotal e
-    expressionTotal (prefix operator p) = own (prefix operator p) + indexTotal p
-    expressionTotal (postfix operator p) = own (postfix operator p) + indexTotal p
+    pub expressionTotal : Expression → Use → ℕ
+    expressionTotal (constant v) u = own (constant v) u
+    expressionTotal (read p) u = own (read p) u + indexTotal p
+    expressionTotal (minus e) u = own (minus e) u + expressionTotal e wanted
+    expressionTotal (notTrue e) u = own (notTrue e) u + expressionTotal e wanted
+    expressionTotal (binary operator a b) u = own (binary operator a b) u + expressionTotal a wanted + expressionTotal b wanted
+    expressionTotal (and a b) u = own (and a b) u + expressionTotal a wanted + expressionTotal b wanted
+    expressionTotal (or a b) u = own (or a b) u + expressionTotal a wanted + expressionTotal b wanted
+    expressionTotal (comma a b) u = own (comma a b) u + expressionTotal a dropped + expressionTotal b (passedOn u)
+    expressionTotal (conditional c a b) u = own (conditional c a b) u + expressionTotal c wanted + expressionTotal a wanted + expressionTotal b wanted
+    expressionTotal (assign p e) u = own (assign p e) u + indexTotal p + expressionTotal e (useFor p)
+    expressionTotal (compound operator p e) u = own (compound operator p e) u + indexTotal p + expressionTotal e wanted
+    expressionTotal (prefix operator p) u = own (prefix operator p) u + indexTotal p
+    expressionTotal (postfix operator p) u = own (postfix operator p) u + indexTotal p
 
     pub indexTotal : Place → ℕ
     indexTotal (variable i) = 0
-    indexTotal (element array e) = expressionTotal e
+    indexTotal (element array e) = expressionTotal e wanted
 
+  -- A part of a for whose value is dropped, and a test.
   abbrev pub partTotal : Part → ℕ
   partTotal absent = 0
-  partTotal (present e) = expressionTotal e
+  partTotal (present e) = expressionTotal e dropped
+
+  abbrev pub testTotal : Part → ℕ
+  testTotal absent = 0
+  testTotal (present e) = expressionTotal e wanted
 
   unfoldable mutual
     pub statementTotal : Statement → ℕ
     statementTotal empty = 0
-    statementTotal (express e) = expressionTotal e
+    statementTotal (express e) = expressionTotal e dropped
     statementTotal (block is) = total is
-    statementTotal (ifThen e onTrue) = expressionTotal e + statementTotal onTrue
-    statementTotal (ifElse e onTrue onFalse) = expressionTotal e + statementTotal onTrue + statementTotal onFalse
-    statementTotal (while e body) = expressionTotal e + statementTotal body
-    statementTotal (doWhile body e) = expressionTotal e + statementTotal body
-    statementTotal (for first test action body) = partTotal first + partTotal test + partTotal action + statementTotal body
-    statementTotal (switch e is) = expressionTotal e + total is
+    statementTotal (ifThen e onTrue) = expressionTotal e wanted + statementTotal onTrue
+    statementTotal (ifElse e onTrue onFalse) = expressionTotal e wanted + statementTotal onTrue + statementTotal onFalse
+    statementTotal (while e body) = expressionTotal e wanted + statementTotal body
+    statementTotal (doWhile body e) = expressionTotal e wanted + statementTotal body
+    statementTotal (for first test action body) = partTotal first + testTotal test + partTotal action + statementTotal body
+    statementTotal (switch e is) = expressionTotal e wanted + total is
     statementTotal break = 0
     statementTotal continue = 0
     statementTotal (goto l) = 0

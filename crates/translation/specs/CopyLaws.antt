@@ -2,7 +2,7 @@
 -- adds up.
 use mathlib.Core.Path.{_≡_, refl, _∙_}
 use mathlib.Core.Bool.{Bool, true, false, not, _&&_, and-true, and-false}
-use Prim.Native.Nat.{ℕ, _+_, _-_, _≤_}
+use Prim.Native.Nat.{ℕ, _+_, _*_, _-_, _≤_}
 use native.Mathlib.Omega.{arith}
 use lib.Dec.{leb}
 use lib.IntN.{pos}
@@ -14,12 +14,13 @@ use Rattle.words.specs.declared.Operator.{Operator}
 use Rattle.language.specs.Trees.{Expression, constant, read, minus, not as notTrue, binary, and, or, comma, conditional, assign, compound, prefix, postfix, Place, variable, element, Part, absent, present, case, default, label, Statement, empty, express, block, ifThen, ifElse, while, doWhile, for, switch, break, continue, goto, Items, none, _then_, _here_, _⧺_}
 use Rattle.language.specs.WellFormed.{NamedExpression, NamedPlace, NamedStatement, SourceTree}
 use Rattle.language.specs.Writes.{writes, indexWrites}
-use Rattle.translation.specs.Translate.{Atom, number, word, top, held, atomOf, taken, placeTaken, atom, temporary, copyCode, moveCode, readCode, kernelPlace, updateCode, postfixCode, expressionCode, indexCode, partCode, orEmpty, testCode, caseTests, labels, Exits, exits, statementCode, itemsCode, translate}
-use Rattle.translation.specs.HeldCode.{holdCode}
+use Rattle.translation.specs.Uses.{Use, dropped, wanted, stored, useFor, passedOn, direct}
+use Rattle.translation.specs.Translate.{Atom, number, word, top, held, landed, updated, atomOf, taken, placeTaken, atom, temporary, copyCode, moveCode, readCode, storeCode, kernelPlace, updateCode, stepCode, postfixCode, expressionCode, indexCode, partCode, orEmpty, testCode, caseTests, labels, Exits, exits, statementCode, itemsCode, translate}
+use Rattle.translation.specs.HeldCode.{holdCode, held-variable}
 use Rattle.translation.specs.TranslateSize.{copied}
 use Rattle.translation.specs.ExpressionPreserves.{InRange, PlaceInRange}
 use Rattle.translation.specs.StatementPreserves.{PartInRange, StatementInRange, ItemsInRange}
-use Rattle.translation.specs.Copies.{isVariable, isTemporary, copies, waiting, ownCopies, ownResults, expressionTotal, indexTotal, partTotal, statementTotal, total}
+use Rattle.translation.specs.Copies.{isVariable, isTemporary, copies, rewritten, waiting, oldUsed, ownCopies, ownResults, expressionTotal, indexTotal, partTotal, testTotal, statementTotal, total}
 
 -- ---- which values wait
 
@@ -33,8 +34,16 @@ copied-held (word i) index W = by (index i)
     by false = rw and-true
 copied-held top index W = refl
 
+updated-copied : (p : Place) (W : ℕ → Bool) → copied (updated p) W ≡ rewritten p W
+updated-copied (variable i) W = by-cases (W i) (λ e. rw e) (λ e. rw e)
+updated-copied (element array e) W = refl
+
+landed-copied : (i : ℕ) (straight : Bool) (h : Atom) (W : ℕ → Bool) → copied (pick straight (word i) h) W ≡ pick straight (pick (W i) 1 0) (copied h W)
+landed-copied i true h W = by-cases (W i) (λ e. rw e) (λ e. rw e)
+landed-copied i false h W = refl
+
 waiting-copied : (e : Expression) (W : ℕ → Bool) → copied (atomOf e) W ≡ waiting e W
-unfolding atomOf waiting
+unfolding atomOf waiting writes
 waiting-copied (constant v) W = refl
 waiting-copied (read (variable i)) W = by-cases (W i) (λ e. rw e) (λ e. rw e)
 waiting-copied (read (element array e)) W = refl
@@ -45,10 +54,18 @@ waiting-copied (and a b) W = refl
 waiting-copied (or a b) W = refl
 waiting-copied (comma a b) W = waiting-copied b W
 waiting-copied (conditional c a b) W = refl
-waiting-copied (assign p e) W = copied-held (atomOf e) (indexWrites p) W ∙ waiting-copied e (λ i. W i && not (indexWrites p i))
-waiting-copied (compound operator p e) W = refl
-waiting-copied (prefix operator p) W = refl
+waiting-copied (assign (variable i) e) W =
+    rw (held-variable (pick (direct e) (word i) (atomOf e)) i, landed-copied i (direct e) (atomOf e) W, waiting-copied e W)
+waiting-copied (assign (element array d) e) W = copied-held (atomOf e) (writes d) W ∙ waiting-copied e (λ i. W i && not (writes d i))
+waiting-copied (compound operator p e) W = updated-copied p W
+waiting-copied (prefix operator p) W = updated-copied p W
 waiting-copied (postfix operator p) W = refl
+
+-- What the value of an assignment waits for: into a variable, nothing.
+landed-waiting : (p : Place) (e : Expression) → copied (landed p (direct e) (atomOf e)) (indexWrites p) ≡ waiting e (indexWrites p)
+unfolding writes
+landed-waiting (variable i) e = rw (held-variable (pick (direct e) (word i) (atomOf e)) i, ← (waiting-copied e (indexWrites (variable i))), held-variable (atomOf e) i) (omega arith)
+landed-waiting (element array d) e = waiting-copied e (writes d)
 
 -- ---- the code's copies
 
@@ -84,20 +101,32 @@ module _ (L : Layout) (S : ℕ) (inside : L .variables ≤ S) where
       by false = refl
   copies-hold t top W = refl
 
-  copies-read : (p : Place) (t : ℕ) → copies S (readCode S p t) ≡ 0
+  copies-read : (p : Place) (u : Use) (t : ℕ) → copies S (readCode S p u t) ≡ 0
   unfolding copies
-  copies-read (variable i) t = refl
-  copies-read (element array e) t = omega arith
+  copies-read (variable i) u t = refl
+  copies-read (element array e) u t = omega arith
+
+  copies-store : (p : Place) (i : ℕ) (straight : Bool) (x : Expression) → PlaceInRange L p → copies S (storeCode S (kernelPlace S p i) straight x) ≡ 0
+  unfolding copies kernelPlace NamedPlace
+  copies-store (variable j) i true x n = refl
+  copies-store (variable j) i false x n = rw (lt-leb S j (omega arith)) (omega arith)
+  copies-store (element array e) i straight x n = omega arith
 
   copies-update : (operator : Operator) (p : Place) (x : Expression) (t i u : ℕ) → PlaceInRange L p → copies S (updateCode S operator (kernelPlace S p i) x t u) ≡ 0
   unfolding copies kernelPlace NamedPlace
-  copies-update operator (variable j) x t i u n = rw (lt-leb S j (omega arith)) (omega arith)
+  copies-update operator (variable j) x t i u n = omega arith
   copies-update operator (element array e) x t i u n = omega arith
 
-  copies-postfix : (operator : Operator) (p : Place) (t i u : ℕ) → PlaceInRange L p → copies S (postfixCode S operator (kernelPlace S p i) t u) ≡ isVariable p
-  unfolding copies kernelPlace NamedPlace
-  copies-postfix operator (variable j) t i u n = rw (a-temporary t) (omega arith)
-  copies-postfix operator (element array e) t i u n = omega arith
+  copies-step : (operator : Operator) (i : ℕ) (u : Use) (t : ℕ) → copies S (stepCode S operator i u t) ≡ oldUsed u
+  unfolding copies
+  copies-step operator i dropped t = omega arith
+  copies-step operator i wanted t = rw (a-temporary t) (omega arith)
+  copies-step operator i (stored j) t = rw (a-temporary t) (omega arith)
+
+  copies-postfix : (operator : Operator) (p : Place) (u : Use) (t i n : ℕ) → copies S (postfixCode S operator (kernelPlace S p i) u t n) ≡ isVariable p * oldUsed u
+  unfolding copies kernelPlace
+  copies-postfix operator (variable j) u t i n = omega (arith, copies-step operator j u t)
+  copies-postfix operator (element array e) u t i n = omega arith
 
   copies-empty : (xs : Items) → copies S (orEmpty S xs) ≡ copies S xs
   unfolding copies
@@ -109,39 +138,39 @@ module _ (L : Layout) (S : ℕ) (inside : L .variables ≤ S) where
     unfolding expressionCode copies kernelPlace expressionTotal NamedExpression
 
     -- Every expression's code makes the copies that the sentence allows, and moves the results.
-    pub copies-expression : (e : Expression) (t : ℕ) → InRange L e → copies S (expressionCode S e t) ≡ expressionTotal ownCopies e + expressionTotal ownResults e
-    copies-expression (constant v) t n = refl
-    copies-expression (read p) t n = simp (copies-append, copies-read) (omega (arith, copies-index p t n))
-    copies-expression (minus e) t n = simp copies-append (omega (arith, copies-expression e t n))
-    copies-expression (notTrue e) t n = simp copies-append (omega (arith, copies-expression e t n))
-    copies-expression (binary operator a b) t n =
-        simp (copies-append, copies-hold, waiting-copied) (omega (arith, copies-expression b t (n .1), copies-expression a (t + taken (held (atomOf b) (writes a))) (n .0)))
-    copies-expression (and a b) t n = simp copies-append (omega (arith, copies-expression a t (n .0), copies-expression b t (n .1)))
-    copies-expression (or a b) t n = simp copies-append (omega (arith, copies-expression a t (n .0), copies-expression b t (n .1)))
-    copies-expression (comma a b) t n = simp copies-append (omega (arith, copies-expression a t (n .0), copies-expression b t (n .1)))
-    copies-expression (conditional c a b) t n =
-        simp (copies-append, copies-copy, waiting-copied) (omega (arith, copies-expression c t (n .0), copies-expression a t (n .1), copies-expression b t (n .2)))
-    copies-expression (assign p e) t n =
-        let above = t + taken (held (atomOf e) (indexWrites p)) in
-        simp (copies-append, copies-hold, waiting-copied, no-temporary p above (n .0)) (omega (arith, copies-expression e t (n .1), copies-index p above (n .0)))
-    copies-expression (compound operator p e) t n =
-        simp (copies-append, copies-hold, waiting-copied, copies-update operator p (atom S t (held (atomOf e) (indexWrites p))) t (t + 1) (t + 1 + placeTaken p) (n .0)) (omega (arith, copies-expression e t (n .1), copies-index p (t + 1) (n .0)))
-    copies-expression (prefix operator p) t n = simp (copies-append, copies-update operator p (constant (pos 1)) t (t + 1) (t + 1 + placeTaken p) n) (omega (arith, copies-index p (t + 1) n))
-    copies-expression (postfix operator p) t n = simp (copies-append, copies-postfix operator p t (t + 1) (t + 1 + placeTaken p) n) (omega (arith, copies-index p (t + 1) n))
+    pub copies-expression : (e : Expression) (u : Use) (t : ℕ) → InRange L e → copies S (expressionCode S e u t) ≡ expressionTotal ownCopies e u + expressionTotal ownResults e u
+    copies-expression (constant v) u t n = refl
+    copies-expression (read p) u t n = simp (copies-append, copies-read) (omega (arith, copies-index p t n))
+    copies-expression (minus e) u t n = simp copies-append (omega (arith, copies-expression e wanted t n))
+    copies-expression (notTrue e) u t n = simp copies-append (omega (arith, copies-expression e wanted t n))
+    copies-expression (binary operator a b) u t n =
+        simp (copies-append, copies-hold, waiting-copied) (omega (arith, copies-expression b wanted t (n .1), copies-expression a wanted (t + taken (held (atomOf b) (writes a))) (n .0)))
+    copies-expression (and a b) u t n = simp copies-append (omega (arith, copies-expression a wanted t (n .0), copies-expression b wanted t (n .1)))
+    copies-expression (or a b) u t n = simp copies-append (omega (arith, copies-expression a wanted t (n .0), copies-expression b wanted t (n .1)))
+    copies-expression (comma a b) u t n = simp copies-append (omega (arith, copies-expression a dropped t (n .0), copies-expression b (passedOn u) t (n .1)))
+    copies-expression (conditional c a b) u t n =
+        simp (copies-append, copies-copy, waiting-copied) (omega (arith, copies-expression c wanted t (n .0), copies-expression a wanted t (n .1), copies-expression b wanted t (n .2)))
+    copies-expression (assign p e) u t n =
+        let above = t + taken (held (landed p (direct e) (atomOf e)) (indexWrites p)) in
+        simp (copies-append, copies-hold, landed-waiting p e, copies-store p above (direct e) (atom S t (held (landed p (direct e) (atomOf e)) (indexWrites p))) (n .0)) (omega (arith, copies-expression e (useFor p) t (n .1), copies-index p above (n .0)))
+    copies-expression (compound operator p e) u t n =
+        simp (copies-append, copies-hold, waiting-copied, copies-update operator p (atom S t (held (atomOf e) (indexWrites p))) t (t + 1) (t + 1 + placeTaken p) (n .0)) (omega (arith, copies-expression e wanted t (n .1), copies-index p (t + 1) (n .0)))
+    copies-expression (prefix operator p) u t n = simp (copies-append, copies-update operator p (constant (pos 1)) t (t + 1) (t + 1 + placeTaken p) n) (omega (arith, copies-index p (t + 1) n))
+    copies-expression (postfix operator p) u t n = simp (copies-append, copies-postfix operator p u t (t + 1) (t + 1 + placeTaken p)) (omega (arith, copies-index p (t + 1) n))
 
     copies-index : (p : Place) (t : ℕ) → PlaceInRange L p → copies S (indexCode S p t) ≡ indexTotal ownCopies p + indexTotal ownResults p
     copies-index (variable i) t n = refl
-    copies-index (element array e) t n = copies-expression e t (n .1)
+    copies-index (element array e) t n = copies-expression e wanted t (n .1)
 
   copies-part : (p : Part) → PartInRange L p → copies S (partCode S p) ≡ partTotal ownCopies p + partTotal ownResults p
   unfolding copies
   copies-part absent n = refl
-  copies-part (present e) n = copies-expression e 0 n
+  copies-part (present e) n = copies-expression e dropped 0 n
 
-  copies-test : (p : Part) (l : ℕ) (xs : Items) → PartInRange L p → copies S (testCode S p l xs) ≡ partTotal ownCopies p + partTotal ownResults p + copies S xs
+  copies-test : (p : Part) (l : ℕ) (xs : Items) → PartInRange L p → copies S (testCode S p l xs) ≡ testTotal ownCopies p + testTotal ownResults p + copies S xs
   unfolding copies
   copies-test absent l xs n = omega arith
-  copies-test (present e) l xs n = simp copies-append (omega (arith, copies-expression e 0 n))
+  copies-test (present e) l xs n = simp copies-append (omega (arith, copies-expression e wanted 0 n))
 
   copies-cases : (x : Expression) (u : ℕ) (is : Items) (l : ℕ) → copies S (caseTests S x u is l) ≡ 0
   unfolding copies caseTests
@@ -156,18 +185,18 @@ module _ (L : Layout) (S : ℕ) (inside : L .variables ≤ S) where
 
     copies-statement : (s : Statement) (x : Exits) (l : ℕ) → StatementInRange L s → copies S (statementCode S s x l) ≡ statementTotal ownCopies s + statementTotal ownResults s
     copies-statement empty x l n = refl
-    copies-statement (express e) x l n = simp copies-empty (omega (arith, copies-expression e 0 n))
+    copies-statement (express e) x l n = simp copies-empty (omega (arith, copies-expression e dropped 0 n))
     copies-statement (block is) x l n = omega (arith, copies-items is x l n)
-    copies-statement (ifThen e onTrue) x l n = simp copies-append (omega (arith, copies-expression e 0 (n .0), copies-statement onTrue x l (n .1)))
+    copies-statement (ifThen e onTrue) x l n = simp copies-append (omega (arith, copies-expression e wanted 0 (n .0), copies-statement onTrue x l (n .1)))
     copies-statement (ifElse e onTrue onFalse) x l n =
-        simp copies-append (omega (arith, copies-expression e 0 (n .0), copies-statement onTrue x l (n .1), copies-statement onFalse x (l + labels onTrue) (n .2)))
-    copies-statement (while e body) x l n = simp copies-append (omega (arith, copies-expression e 0 (n .0), copies-statement body (exits l (l + 1)) (l + 2) (n .1)))
-    copies-statement (doWhile body e) x l n = simp copies-append (omega (arith, copies-expression e 0 (n .1), copies-statement body (exits l (l + 1)) (l + 2) (n .0)))
+        simp copies-append (omega (arith, copies-expression e wanted 0 (n .0), copies-statement onTrue x l (n .1), copies-statement onFalse x (l + labels onTrue) (n .2)))
+    copies-statement (while e body) x l n = simp copies-append (omega (arith, copies-expression e wanted 0 (n .0), copies-statement body (exits l (l + 1)) (l + 2) (n .1)))
+    copies-statement (doWhile body e) x l n = simp copies-append (omega (arith, copies-expression e wanted 0 (n .1), copies-statement body (exits l (l + 1)) (l + 2) (n .0)))
     copies-statement (for first test action body) x l n =
         let round = statementCode S body (exits l (l + 1)) (l + 2) ⧺ label (l + 1) here partCode S action in
         let behind = copies-append (statementCode S body (exits l (l + 1)) (l + 2)) (label (l + 1) here partCode S action) in
         simp copies-append (omega (arith, copies-part first (n .0), copies-test test l round (n .1), behind, copies-part action (n .2), copies-statement body (exits l (l + 1)) (l + 2) (n .3)))
-    copies-statement (switch e is) x l n = simp (copies-append, copies-cases) (omega (arith, copies-expression e 0 (n .0), copies-items is (exits l (x .onContinue)) (l + 1) (n .1)))
+    copies-statement (switch e is) x l n = simp (copies-append, copies-cases) (omega (arith, copies-expression e wanted 0 (n .0), copies-items is (exits l (x .onContinue)) (l + 1) (n .1)))
     copies-statement break x l n = refl
     copies-statement continue x l n = refl
     copies-statement (goto k) x l n = refl

@@ -14,17 +14,18 @@ use Rattle.words.specs.Laws.{by-cases}
 use Rattle.words.specs.declared.Operator.{Operator}
 use Rattle.words.specs.declared.Operator.the-variants.{Equal, NotEqual}
 use Rattle.computation.specs.Computation.{Computation, ret, _>>=_, load, save, settle, _>>_}
-use Rattle.computation.specs.Run.{State, Result, ok, rounds, run}
+use Rattle.computation.specs.Run.{State, written, Result, ok, rounds, run}
 use Rattle.language.specs.Trees.{constant, read, minus, binary, Place, variable, element, Items, none, _⧺_}
 use Rattle.language.specs.Meaning.{Signal, next, enter, ifTrue, update, oldValue, newValue, evaluate, perform, items}
 use Rattle.language.specs.Untouched.{Untouched, untouched-ok, Leaves, Any}
-use Rattle.translation.specs.Translate.{Atom, number, word, top, held, taken, temporary, atom, assigning, choosing, copyCode, moveCode, updateCode, postfixCode}
+use Rattle.translation.specs.Uses.{Use, dropped, wanted, stored, passedOn}
+use Rattle.translation.specs.Translate.{Atom, number, word, top, held, taken, temporary, atom, assigning, choosing, copyCode, moveCode, target, targetWord, stepCode}
 use Rattle.translation.specs.HeldCode.{holdCode}
 use Rattle.translation.specs.TranslateSize.{copyRows, holdRows}
 use Rattle.translation.specs.Stack.{Stack, _▹_, depth}
 use Rattle.translation.specs.RunThen.{runThen, then-run, runThen-run}
-use Rattle.translation.specs.Related.{Frame, Related, Alike, alike-ok, alike-then, alike-stop, alike-logged, logs-temporary, related-logged, by-outcome, related-step, related-ran, related-less, related-load, related-save, related-push, related-top, related-pop, related-skip, related-over}
-use Rattle.translation.specs.Held.{Holds, holds-number, holds-word, holds-top, Keeps, holds-later, holds-stored, after-step, holds-depth, source, kernel, kernel-append, see, release, Kept, kept-later, keep, Aims, aims-variable, aims-element, aims-inside, aims-release, see-place, aims-under}
+use Rattle.translation.specs.Related.{Frame, Related, Alike, alike-ok, alike-then, alike-stop, alike-logged, logs-temporary, related-logged, by-outcome, related-step, related-ran, related-less, related-load, related-save, related-push, related-top, related-pop, related-skip}
+use Rattle.translation.specs.Held.{Holds, holds-number, holds-word, holds-top, Keeps, holds-later, holds-stored, holds-saved, after-step, holds-depth, source, kernel, kernel-append, see, release, Kept, kept-later, keep, Aims, aims-variable, aims-element, aims-inside, aims-release, see-place, aims-under}
 
 -- == 0 and != 0 give the truth of a value.
 zero-equal : (v : ℤ) → apply Equal v (pos 0) ≡ value (logicalNot v)
@@ -39,6 +40,21 @@ zero-differs (pos zero) = refl
 zero-differs (pos (suc n)) = rw (eqb·suc-zero n)
 zero-differs (negsuc n) = refl
 
+-- What the source has yet to do where the kernel has stored a value straight in its variable; and what holds the value then.
+abbrev pub storing : Use → Bool → ℤ → Computation ℤ
+storing dropped straight v = ret v
+storing wanted straight v = ret v
+storing (stored i) false v = ret v
+storing (stored i) true v = do
+  position ← enter (ret i)
+  save position v
+  ret v
+
+abbrev pub storedAtom : Use → Bool → Atom → Atom
+storedAtom dropped straight h = h
+storedAtom wanted straight h = h
+storedAtom (stored i) straight h = pick straight (word i) h
+
 module _ (fr : Frame) {C D : Type 0} (R : C → D → State → State → Type 0) where
   -- Where the atom h, above the stack F, holds the value of an expression, what follows goes alike.
   abbrev pub ValueFollows : Stack ℤ → Atom → ℕ → (ℤ → State → Result C) → (Signal → State → Result D) → Type 0
@@ -49,6 +65,17 @@ module _ (fr : Frame) {C D : Type 0} (R : C → D → State → State → Type 0
   pub record Goes (own : ℕ) (F : Stack ℤ) (m : Computation ℤ) (xs : Items) (h : Atom) : Type 0 where
     pub goes : (x y : ℕ) (σ κ : State) (f : ℤ → State → Result C) (g : Signal → State → Result D) → Related fr F y σ κ → x + own ≤ y → ValueFollows F h x f g
         → Alike fr R (source fr m σ f) (kernel fr xs next κ g)
+
+  -- What follows an expression whose value has a use: nothing holds one that is dropped.
+  abbrev pub UseFollows : Use → Stack ℤ → Atom → ℕ → (ℤ → State → Result C) → (Signal → State → Result D) → Type 0
+  UseFollows dropped F h x f g = (v : ℤ) (τ ν : State) → Related fr F x τ ν → Alike fr R (f v τ) (g next ν)
+  UseFollows wanted F h x f g = ValueFollows F h x f g
+  UseFollows (stored i) F h x f g = ValueFollows F h x f g
+
+  -- The same promise for a use of the value. Where it is stored straight in its variable, the source's store belongs to it.
+  pub record GoesFor (u : Use) (straight : Bool) (own : ℕ) (F : Stack ℤ) (m : Computation ℤ) (xs : Items) (h : Atom) : Type 0 where
+    pub goes : (x y : ℕ) (σ κ : State) (f : ℤ → State → Result C) (g : Signal → State → Result D) → Related fr F y σ κ → x + own ≤ y → UseFollows u F (storedAtom u straight h) x f g
+        → Alike fr R (source fr (do v ← m; storing u straight v) σ f) (kernel fr xs next κ g)
 
   -- The same of a computation that writes no variable but those of W: what is held meanwhile stays held.
   pub record GoesWithin (W : ℕ → Bool) (F : Stack ℤ) (m : Computation ℤ) (xs : Items) (h : Atom) : Type 0 where
@@ -89,10 +116,25 @@ module _ (fr : Frame) {C D : Type 0} {R : C → D → State → State → Type 0
       kept i (untouched-ok e q) = e
 
 module _ (fr : Frame) {C D : Type 0} {R : C → D → State → State → Type 0} {F : Stack ℤ} where
-  -- The step of entering the row pays.
-  pub pay : {own : ℕ} {m : Computation ℤ} {xs : Items} {h : Atom} → own ≤ fr .rate → Goes fr R own F m xs h → Goes fr R 0 F (enter m) xs h
+  -- A rule for a wanted value, and for every use of one that is not stored straight.
+  pub goes-for : {own : ℕ} {m : Computation ℤ} {xs : Items} {h : Atom} (u : Use) → Goes fr R own F m xs h → GoesFor fr R u false own F m xs h
   unfolding runThen
-  pay {own} r p = record { goes = λ x y σ κ f g n le k. p .goes x (x + own) _ _ _ _ (related-step (omega arith) n) (omega arith) k }
+  goes-for dropped p = record { goes = λ x y σ κ f g n le k. p .goes x y σ κ f g n le (λ v F' τ ν holds m. k v τ ν (release fr holds m)) }
+  goes-for wanted p = record { goes = λ x y σ κ f g n le k. p .goes x y σ κ f g n le k }
+  goes-for (stored i) p = record { goes = λ x y σ κ f g n le k. p .goes x y σ κ f g n le k }
+
+  pub goes-wanted : {straight : Bool} {own : ℕ} {m : Computation ℤ} {xs : Items} {h : Atom} → GoesFor fr R wanted straight own F m xs h → Goes fr R own F m xs h
+  unfolding runThen
+  goes-wanted p = record { goes = λ x y σ κ f g n le k. p .goes x y σ κ f g n le k }
+
+  -- A rule may cost more.
+  pub goes-within : {own : ℕ} {m : Computation ℤ} {xs : Items} {h : Atom} (more : ℕ) → own ≤ more → Goes fr R own F m xs h → Goes fr R more F m xs h
+  goes-within more le p = record { goes = λ x y σ κ f g n l k. p .goes x y σ κ f g n (omega arith) k }
+
+  -- The step of entering the row pays.
+  pub pay : {u : Use} {straight : Bool} {own : ℕ} {m : Computation ℤ} {xs : Items} {h : Atom} → own ≤ fr .rate → GoesFor fr R u straight own F m xs h → GoesFor fr R u straight 0 F (enter m) xs h
+  unfolding runThen
+  pay {own = own} r p = record { goes = λ x y σ κ f g n le k. p .goes x (x + own) _ _ _ _ (related-step (omega arith) n) (omega arith) k }
 
   pub goes-constant : (v : ℤ) → Goes fr R 0 F (ret v) none (number v)
   unfolding runThen items
@@ -107,41 +149,57 @@ module _ (fr : Frame) {C D : Type 0} {R : C → D → State → State → Type 0
   unfolding runThen items
   points-variable i b = record { goes = λ x σ κ f g n k. k (value i) F σ κ (record { keeps = λ i b e. refl }) (aims-variable b) (omega arith) n }
 
+-- There is room for a result: its temporary is one of T, or its variable one of the source's.
+abbrev pub UseRoom : Frame → Use → ℕ → Type 0
+UseRoom fr dropped t = t < fr .temporaries
+UseRoom fr wanted t = t < fr .temporaries
+UseRoom fr (stored i) t = i < fr .layout .variables
+
 module _ (fr : Frame) {C D : Type 0} {R : C → D → State → State → Type 0} {F : Stack ℤ} {t : ℕ} (at : depth F ≡ t) where
+  -- The kernel has assigned a result.
+  lands : (u : Use) → UseRoom fr u t → (v : ℤ) (x : ℕ) {τ ν : State} (f : ℤ → State → Result C) (g : Signal → State → Result D) → Related fr F x τ ν → UseFollows fr R u F (storedAtom u true top) x f g
+      → Alike fr R (source fr (storing u true v) τ f) (g next (written (targetWord (fr .words) u t) v ν))
+  unfolding runThen
+  lands dropped room v x f g m k = k _ _ _ (related-pop (related-push v at room m))
+  lands wanted room v x f g m k = k _ _ _ _ holds-top (related-push v at room m)
+  lands (stored i) room v x f g m k =
+      let entered = related-step {y = x} (omega arith) m in
+      k _ _ _ _ (holds-saved fr room entered) (related-save i v (omega (arith, fr .variables-inside)) entered)
+
   pub points-element : {W : ℕ → Bool} {m : Computation ℤ} {xs : Items} {h : Atom} (array : ℕ) → arrayBase (fr .layout) array + arrayLength (fr .layout) array ≤ fr .words → GoesWithin fr R W F m xs h
       → Points fr R W F (do index ← m; settle (elementWord (arrayBase (fr .layout) array) (arrayLength (fr .layout) array) index)) xs (element array (atom (fr .words) t h)) 1 (taken h)
   unfolding runThen items
   points-element array s p = record { goes = λ x σ κ f g n k. p .goes x _ _ _ _ n λ v F' τ ν kept holds m. k _ F' τ ν kept (aims-element s at holds) (holds-depth fr refl holds) m }
 
-  pub goes-read : {W : ℕ → Bool} {m : Computation ℕ} {xs : Items} {q : Place} {n k : ℕ} → t < fr .temporaries → Points fr R W F m xs q n k
-      → Goes fr R (4 + n) F (do position ← m; load position) (xs ⧺ assigning (fr .words) (temporary (fr .words) t) (read q) none) top
+  pub goes-read : {W : ℕ → Bool} {m : Computation ℕ} {xs : Items} {q : Place} {n k : ℕ} (u : Use) → UseRoom fr u t → Points fr R W F m xs q n k
+      → GoesFor fr R u true (4 + n) F (do position ← m; load position) (xs ⧺ assigning (fr .words) (target (fr .words) u t) (read q) none) top
   unfolding runThen items perform evaluate
-  goes-read room p = record {
+  goes-read u room p = record {
     goes = λ x y σ κ f g n le k.
         rw kernel-append (p .goes y _ _ _ _ n λ o F' τ ν _ aims _ m.
         rw (see-place fr aims m, runThen) (by-outcome o
-        (λ i e. rw (e, runThen, related-load i (aims-inside fr aims i e) m) (k _ _ _ _ holds-top (related-push _ at room (aims-release fr aims (related-ran _ (omega arith) m)))))
+        (λ i e. rw (e, runThen, related-load i (aims-inside fr aims i e) m) (lands u room _ x f g (aims-release fr aims (related-ran _ (omega arith) m)) k))
         (λ _ e. rw (e, runThen) (alike-stop _ (omega arith) m))));
   }
 
-  pub goes-minus : {m : Computation ℤ} {xs : Items} {h : Atom} → t < fr .temporaries → Goes fr R 0 F m xs h
-      → Goes fr R 5 F (do v ← m; settle (minusWord v)) (xs ⧺ assigning (fr .words) (temporary (fr .words) t) (minus (atom (fr .words) t h)) none) top
+  pub goes-minus : {m : Computation ℤ} {xs : Items} {h : Atom} (u : Use) → UseRoom fr u t → Goes fr R 0 F m xs h
+      → GoesFor fr R u true 5 F (do v ← m; settle (minusWord v)) (xs ⧺ assigning (fr .words) (target (fr .words) u t) (minus (atom (fr .words) t h)) none) top
   unfolding runThen items perform evaluate
-  goes-minus room p = record {
+  goes-minus u room p = record {
     goes = λ x y σ κ f g n le k.
         rw kernel-append (p .goes y y _ _ _ _ n (omega arith) λ v F' τ ν holds m.
         rw (see fr at holds m, runThen) (by-outcome (minusWord v)
-        (λ v e. rw (e, runThen) (k _ _ _ _ holds-top (related-push v at room (release fr holds (related-ran _ (omega arith) m)))))
+        (λ v e. rw (e, runThen) (lands u room v x f g (release fr holds (related-ran _ (omega arith) m)) k))
         (λ _ e. rw (e, runThen) (alike-stop _ (omega arith) m))));
   }
 
-  pub goes-not : {m : Computation ℤ} {xs : Items} {h : Atom} → t < fr .temporaries → Goes fr R 0 F m xs h
-      → Goes fr R 6 F (do v ← m; ret (logicalNot v)) (xs ⧺ assigning (fr .words) (temporary (fr .words) t) (binary Equal (atom (fr .words) t h) (constant (pos 0))) none) top
+  pub goes-not : {m : Computation ℤ} {xs : Items} {h : Atom} (u : Use) → UseRoom fr u t → Goes fr R 0 F m xs h
+      → GoesFor fr R u true 6 F (do v ← m; ret (logicalNot v)) (xs ⧺ assigning (fr .words) (target (fr .words) u t) (binary Equal (atom (fr .words) t h) (constant (pos 0))) none) top
   unfolding runThen items perform evaluate
-  goes-not room p = record {
+  goes-not u room p = record {
     goes = λ x y σ κ f g n le k.
         rw kernel-append (p .goes y y _ _ _ _ n (omega arith) λ v F' τ ν holds m.
-        rw (see fr at holds m, runThen, zero-equal v, runThen) (k _ _ _ _ holds-top (related-push _ at room (release fr holds (related-ran _ (omega arith) m)))));
+        rw (see fr at holds m, runThen, zero-equal v, runThen) (lands u room _ x f g (release fr holds (related-ran _ (omega arith) m)) k));
   }
 
   -- A waiting value is copied where it is a variable that can be written meanwhile.
@@ -162,18 +220,18 @@ module _ (fr : Frame) {C D : Type 0} {R : C → D → State → State → Type 0
   hold (word i) W room holds x y ν r g m le k = hold-word (W i) room holds x y ν r g m le k
   hold top W room holds-top x y ν r g m le k = k _ _ holds-top (related-less (omega arith) m)
 
-  pub goes-binary : {a b : Computation ℤ} {xs ys : Items} {ha hb : Atom} {W : ℕ → Bool} (operator : Operator) → t < fr .temporaries → t + taken (held hb W) ≤ fr .temporaries → Goes fr R 0 F b ys hb
+  pub goes-binary : {a b : Computation ℤ} {xs ys : Items} {ha hb : Atom} {W : ℕ → Bool} (u : Use) (operator : Operator) → UseRoom fr u t → t + taken (held hb W) ≤ fr .temporaries → Goes fr R 0 F b ys hb
       → ((F' : Stack ℤ) → depth F' ≡ t + taken (held hb W) → GoesWithin fr R W F' a xs ha)
-      → Goes fr R (6 + holdRows hb W) F (do right ← b; left ← a; settle (apply operator left right))
-      (ys ⧺ holdCode (fr .words) t hb W ⧺ xs ⧺ assigning (fr .words) (temporary (fr .words) t) (binary operator (atom (fr .words) (t + taken (held hb W)) ha) (atom (fr .words) t (held hb W))) none) top
+      → GoesFor fr R u true (6 + holdRows hb W) F (do right ← b; left ← a; settle (apply operator left right))
+      (ys ⧺ holdCode (fr .words) t hb W ⧺ xs ⧺ assigning (fr .words) (target (fr .words) u t) (binary operator (atom (fr .words) (t + taken (held hb W)) ha) (atom (fr .words) t (held hb W))) none) top
   unfolding runThen items perform evaluate
-  goes-binary {hb = hb} {W = W} operator room above p q = record {
+  goes-binary {hb = hb} {W = W} u operator room above p q = record {
     goes = λ x y σ κ f g n le k.
         rw kernel-append (p .goes y y _ _ _ _ n (omega arith) λ right F' τ ν holds m.
         rw kernel-append (hold hb W above holds (x + 6) y ν _ _ m (omega arith) λ F' ν holds-right m.
         rw kernel-append (q F' (holds-depth fr at holds-right) .goes (x + 6) _ _ _ _ m λ left F'' τ ν kept holds-left m.
         rw (see fr at (holds-later fr hb W kept holds-right) (release fr holds-left m), see fr (holds-depth fr at holds-right) holds-left m, runThen) (by-outcome (apply operator left right)
-        (λ v e. rw (e, runThen) (k _ _ _ _ holds-top (related-push v at room (release fr holds-right (release fr holds-left (related-ran _ (omega arith) m))))))
+        (λ v e. rw (e, runThen) (lands u room v x f g (release fr holds-right (release fr holds-left (related-ran _ (omega arith) m))) k))
         (λ _ e. rw (e, runThen) (alike-stop _ (omega arith) m))))));
   }
 
@@ -205,12 +263,11 @@ module _ (fr : Frame) {C D : Type 0} {R : C → D → State → State → Type 0
         rw (see fr at holds m, runThen, zero-differs right, runThen) (k _ _ _ _ holds-top (related-push _ at room (release fr holds (related-ran _ (omega arith) m))))))));
   }
 
-  pub goes-comma : {a b : Computation ℤ} {xs ys : Items} {ha hb : Atom} → Goes fr R 0 F a xs ha → Goes fr R 0 F b ys hb → Goes fr R 0 F (do a; b) (xs ⧺ ys) hb
+  pub goes-comma : {a b : Computation ℤ} {xs ys : Items} {ha hb : Atom} {left right : Bool} (u : Use) → GoesFor fr R dropped left 0 F a xs ha → GoesFor fr R (passedOn u) right 0 F b ys hb → GoesFor fr R u false 0 F (do a; b) (xs ⧺ ys) hb
   unfolding runThen items
-  goes-comma p q = record {
-    goes = λ x y σ κ f g n le k.
-        rw kernel-append (p .goes y y _ _ _ _ n (omega arith) λ _ F' τ ν holds m. q .goes x y _ _ _ _ (release fr holds m) le k);
-  }
+  goes-comma dropped p q = record { goes = λ x y σ κ f g n le k. rw kernel-append (p .goes y y _ _ _ _ n (omega arith) λ _ τ ν m. q .goes x y _ _ _ _ m le k) }
+  goes-comma wanted p q = record { goes = λ x y σ κ f g n le k. rw kernel-append (p .goes y y _ _ _ _ n (omega arith) λ _ τ ν m. q .goes x y _ _ _ _ m le k) }
+  goes-comma (stored i) p q = record { goes = λ x y σ κ f g n le k. rw kernel-append (p .goes y y _ _ _ _ n (omega arith) λ _ τ ν m. q .goes x y _ _ _ _ m le k) }
 
   -- The value of a branch, in the temporary of its level.
   pub goes-copy : {m : Computation ℤ} {xs : Items} {h : Atom} → t < fr .temporaries → Goes fr R 0 F m xs h → Goes fr R (copyRows h) F m (xs ⧺ copyCode (fr .words) t h) top
@@ -248,19 +305,49 @@ module _ (fr : Frame) {C D : Type 0} {R : C → D → State → State → Type 0
         (λ _ e. rw (e, runThen) (alike-stop _ (omega arith) m))))));
   }
 
-  -- t is kept for the result, so the index stands above it, and above that an element's old value.
-  pub goes-compound : {a : Computation ℕ} {b : Computation ℤ} {xs ys : Items} {h : Atom} {W : ℕ → Bool} {q : Place} {n k : ℕ} (operator : Operator) → t + 1 + k + n ≤ fr .temporaries → t + taken (held h W) ≤ fr .temporaries → Goes fr R 0 F b ys h
+  -- A value that went straight into its variable is stored.
+  pub goes-straight : {b : Computation ℤ} {ys : Items} {h : Atom} (i : ℕ) → GoesFor fr R (stored i) true 0 F b ys h → Goes fr R 0 F (do v ← b; position ← enter (ret i); save position v; ret v) ys (word i)
+  unfolding runThen
+  goes-straight i p = record { goes = λ x y σ κ f g n le k. p .goes x y σ κ f g n le k }
+
+  -- A variable's new value goes straight there.
+  pub goes-replace : {b : Computation ℤ} {ys : Items} {h : Atom} (W : ℕ → Bool) (operator : Operator) (i : ℕ) → i < fr .layout .variables → t + taken (held h W) ≤ fr .temporaries → Goes fr R 0 F b ys h
+      → Goes fr R (6 + holdRows h W) F (do right ← b; position ← enter (ret i); update operator position right newValue)
+      (ys ⧺ holdCode (fr .words) t h W ⧺ assigning (fr .words) (variable i) (binary operator (read (variable i)) (atom (fr .words) t (held h W))) none) (word i)
+  unfolding runThen items perform evaluate
+  goes-replace {h = h} W operator i inside above p = record {
+    goes = λ x y σ κ f g n le k.
+        rw kernel-append (p .goes y y _ _ _ _ n (omega arith) λ right F' τ ν holds m.
+        rw kernel-append (hold h W above holds (x + 6) y ν _ _ m (omega arith) λ F' ν holds m.
+        let entered = related-step {y = x + 6} (omega arith) m in
+        rw (see fr at holds m, related-load i (omega (arith, fr .variables-inside)) m, runThen) (by-outcome (apply operator (getD (τ .store) i (pos 0)) right)
+        (λ v e. rw (e, runThen) (k _ _ _ _ (holds-saved fr inside entered) (related-save i v (omega (arith, fr .variables-inside)) (release fr holds (related-ran _ (omega arith) entered)))))
+        (λ _ e. rw (e, runThen) (alike-stop _ (omega arith) entered)))));
+  }
+
+  -- Where nobody uses the old value, e++ is ++e.
+  pub goes-step : (operator : Operator) (i : ℕ) → i < fr .layout .variables → t ≤ fr .temporaries
+      → GoesFor fr R dropped false 6 F (do position ← enter (ret i); update operator position (pos 1) oldValue) (stepCode (fr .words) operator i dropped t) top
+  unfolding runThen _⧺_
+  goes-step operator i inside room = record {
+    goes = λ x y σ κ f g n le k.
+        goes-replace {h = number (pos 1)} (λ _. false) operator i inside (omega arith) (goes-constant fr (pos 1)) .goes x y σ κ (λ _ τ. f (getD (σ .store) i (pos 0)) τ) g n (omega arith) (λ v F' τ ν holds m. k _ τ ν (release fr holds m));
+  }
+
+  -- An element: t is kept for the result, so the index stands above it, and above that the old value.
+  pub goes-compound : {a : Computation ℕ} {b : Computation ℤ} {xs ys : Items} {h : Atom} {W : ℕ → Bool} {q : Place} {n k : ℕ} (operator : Operator) → t + 1 + k < fr .temporaries → t + taken (held h W) ≤ fr .temporaries → Goes fr R 0 F b ys h
       → ((w : ℤ) → Points fr R W (F ▹ w) a xs q n k)
-      → Goes fr R (10 + 6 * n + holdRows h W) F (do right ← b; position ← enter a; update operator position right newValue)
-      (ys ⧺ holdCode (fr .words) t h W ⧺ xs ⧺ updateCode (fr .words) operator q (atom (fr .words) t (held h W)) t (t + 1 + k)) top
+      → Goes fr R (14 + 2 * n + holdRows h W) F (do right ← b; position ← enter a; update operator position right newValue)
+      (ys ⧺ holdCode (fr .words) t h W ⧺ xs ⧺ assigning (fr .words) (temporary (fr .words) (t + 1 + k)) (read q)
+      (assigning (fr .words) (temporary (fr .words) t) (binary operator (read (temporary (fr .words) (t + 1 + k))) (atom (fr .words) t (held h W))) (assigning (fr .words) q (read (temporary (fr .words) t)) none))) top
   unfolding runThen items perform evaluate
   goes-compound {h = h} {W = W} {n = rows} operator room above p q = record {
     goes = λ x y σ κ f g n le k.
         rw kernel-append (p .goes y y _ _ _ _ n (omega arith) λ right F' τ ν holds m.
-        rw kernel-append (hold h W above holds (x + (10 + 6 * rows)) y ν _ _ m (omega arith) λ F' ν holds m.
+        rw kernel-append (hold h W above holds (x + (14 + 2 * rows)) y ν _ _ m (omega arith) λ F' ν holds m.
         let s = keep fr (omega arith) holds m in
-        rw kernel-append (q (s .0) .goes (x + (10 + 6 * rows)) _ _ _ _ (related-step (omega arith) (s .2)) λ o G τ ν kept aims level m.
-        updated (kept-later fr h W (after-step fr kept) (s .1)) aims (omega arith) room x (x + (10 + 6 * rows)) ν f g m (omega arith) k)));
+        rw kernel-append (q (s .0) .goes (x + (14 + 2 * rows)) _ _ _ _ (related-step (omega arith) (s .2)) λ o G τ ν kept aims level m.
+        through (kept-later fr h W (after-step fr kept) (s .1)) aims (omega arith) room x (x + (14 + 2 * rows)) ν f g m (omega arith) k)));
   }
     where
       through : {q : Place} {n u : ℕ} {w right : ℤ} {o : Outcome ℕ} {G : Stack ℤ} {τ : State} → Kept fr F (held h W) right w τ → Aims fr (F ▹ w) q o G n τ → depth G ≡ u → u < fr .temporaries
@@ -278,28 +365,32 @@ module _ (fr : Frame) {C D : Type 0} {R : C → D → State → State → Type 0
           (λ _ d. rw (d, runThen) (alike-logged _ _ (omega arith) (logs-temporary u (m .logs)) m2))))
           (λ _ e. rw (e, runThen) (alike-stop _ (omega arith) m)))
 
-      updated : {q : Place} {n u : ℕ} {w right : ℤ} {o : Outcome ℕ} {G : Stack ℤ} {τ : State} → Kept fr F (held h W) right w τ → Aims fr (F ▹ w) q o G n τ → depth G ≡ u → u + n ≤ fr .temporaries
-          → (x y : ℕ) (ν : State) (f : ℤ → State → Result C) (g : Signal → State → Result D) → Related fr G y τ ν → x + (10 + 6 * n) ≤ y → ValueFollows fr R F top x f g
-          → Alike fr R (source fr (do position ← settle o; update operator position right newValue) τ f) (kernel fr (updateCode (fr .words) operator q (atom (fr .words) t (held h W)) t u) next ν g)
-      updated {right = right} {τ = τ} kept (aims-variable {i = i} inside) above room x y ν f g m le k =
-          rw (see fr at (kept .holds) (kept .pops m), related-load i inside m, runThen) (by-outcome (apply operator (getD (τ .store) i (pos 0)) right)
-          (λ v e. rw (e, runThen, related-top at (related-over v at m)) (k _ _ _ _ holds-top (related-save i v inside (related-logged _ _ (omega arith) (logs-temporary t (m .logs)) (related-over v at m)))))
-          (λ _ e. rw (e, runThen) (alike-stop _ (omega arith) m)))
-      updated kept (aims-element bounds level holds) above room x y ν f g m le k = through kept (aims-element bounds level holds) above (omega arith) x y ν f g m le k
+  -- A variable's old value goes into the temporary.
+  pub goes-old : (operator : Operator) (i : ℕ) → i < fr .words → t < fr .temporaries
+      → Goes fr R 10 F (do position ← enter (ret i); update operator position (pos 1) oldValue)
+      (assigning (fr .words) (temporary (fr .words) t) (read (variable i)) (assigning (fr .words) (variable i) (binary operator (read (temporary (fr .words) t)) (constant (pos 1))) none)) top
+  unfolding runThen items perform evaluate
+  goes-old operator i inside room = record { goes = λ x y σ κ f g n le k. after x y f g (related-step {y = y} (omega arith) n) le k }
+    where
+      after : (x y : ℕ) {τ ν : State} (f : ℤ → State → Result C) (g : Signal → State → Result D) → Related fr F y τ ν → x + 10 ≤ y → ValueFollows fr R F top x f g
+          → Alike fr R (source fr (update operator i (pos 1) oldValue) τ f)
+          (kernel fr (assigning (fr .words) (temporary (fr .words) t) (read (variable i)) (assigning (fr .words) (variable i) (binary operator (read (temporary (fr .words) t)) (constant (pos 1))) none)) next ν g)
+      after x y {τ = τ} f g m le k =
+          let old = getD (τ .store) i (pos 0) in
+          rw (related-load i inside m, related-top at (related-push old at room m), runThen) (by-outcome (apply operator old (pos 1))
+          (λ v e. rw (e, runThen) (k _ _ _ _ holds-top (related-save i v inside (related-logged _ _ (omega arith) (logs-temporary t (m .logs)) (related-push old at room m)))))
+          (λ _ e. rw (e, runThen) (alike-logged _ _ (omega arith) (logs-temporary t (m .logs)) (related-push old at room m))))
 
-  pub goes-prefix : {W : ℕ → Bool} {a : Computation ℕ} {xs : Items} {q : Place} {n k : ℕ} (operator : Operator) → t + 1 + k + n ≤ fr .temporaries → ((w : ℤ) → Points fr R W (F ▹ w) a xs q n k)
-      → Goes fr R (10 + 6 * n) F (do position ← enter a; update operator position (pos 1) newValue) (xs ⧺ updateCode (fr .words) operator q (constant (pos 1)) t (t + 1 + k)) top
-  unfolding runThen _⧺_
-  goes-prefix operator room q = record { goes = λ x y σ κ f g n le k. goes-compound operator room (omega arith) (goes-constant fr (pos 1)) q .goes x y σ κ f g n (omega arith) k }
-
-  pub goes-postfix : {W : ℕ → Bool} {a : Computation ℕ} {xs : Items} {q : Place} {n k : ℕ} (operator : Operator) → t + 1 + k + n ≤ fr .temporaries → ((w : ℤ) → Points fr R W (F ▹ w) a xs q n k)
-      → Goes fr R (10 + 6 * n) F (do position ← enter a; update operator position (pos 1) oldValue) (xs ⧺ postfixCode (fr .words) operator q t (t + 1 + k)) top
+  pub goes-postfix : {W : ℕ → Bool} {a : Computation ℕ} {xs : Items} {q : Place} {n k : ℕ} (operator : Operator) → t + 1 + k < fr .temporaries → ((w : ℤ) → Points fr R W (F ▹ w) a xs q n k)
+      → Goes fr R (14 + 2 * n) F (do position ← enter a; update operator position (pos 1) oldValue)
+      (xs ⧺ assigning (fr .words) (temporary (fr .words) t) (read q) (assigning (fr .words) (temporary (fr .words) (t + 1 + k)) (binary operator (read (temporary (fr .words) t)) (constant (pos 1)))
+      (assigning (fr .words) q (read (temporary (fr .words) (t + 1 + k))) none))) top
   unfolding runThen items perform evaluate
   goes-postfix operator room q = record {
     goes = λ x y σ κ f g n le k.
         let s = related-skip (omega arith) n in
         rw kernel-append (q (s .0) .goes y _ _ _ _ (related-step (omega arith) (s .1)) λ o G τ ν _ aims level m.
-        updated aims (omega arith) room x y ν f g m le k);
+        through aims (omega arith) room x y ν f g m le k);
   }
     where
       through : {q : Place} {n u : ℕ} {w : ℤ} {o : Outcome ℕ} {G : Stack ℤ} {τ : State} → Aims fr (F ▹ w) q o G n τ → depth G ≡ u → u < fr .temporaries
@@ -316,13 +407,3 @@ module _ (fr : Frame) {C D : Type 0} {R : C → D → State → State → Type 0
           (k _ _ _ _ holds-top (related-save i v (aims-inside fr aims i e) (aims-release fr (under .2) (related-pop (related-logged _ _ (omega arith) (logs-temporary u (logs-temporary t (m .logs))) m3))))))
           (λ _ d. rw (d, runThen) (alike-logged _ _ (omega arith) (logs-temporary t (m .logs)) (under .3)))))
           (λ _ e. rw (e, runThen) (alike-stop _ (omega arith) m)))
-
-      updated : {q : Place} {n u : ℕ} {w : ℤ} {o : Outcome ℕ} {G : Stack ℤ} {τ : State} → Aims fr (F ▹ w) q o G n τ → depth G ≡ u → u + n ≤ fr .temporaries
-          → (x y : ℕ) (ν : State) (f : ℤ → State → Result C) (g : Signal → State → Result D) → Related fr G y τ ν → x + (10 + 6 * n) ≤ y → ValueFollows fr R F top x f g
-          → Alike fr R (source fr (do position ← settle o; update operator position (pos 1) oldValue) τ f) (kernel fr (postfixCode (fr .words) operator q t u) next ν g)
-      updated {τ = τ} (aims-variable {i = i} inside) above room x y ν f g m le k =
-          let old = getD (τ .store) i (pos 0) in
-          rw (related-load i inside m, related-top at (related-over old at m), runThen) (by-outcome (apply operator old (pos 1))
-          (λ v e. rw (e, runThen) (k _ _ _ _ holds-top (related-save i v inside (related-logged _ _ (omega arith) (logs-temporary t (m .logs)) (related-over old at m)))))
-          (λ _ e. rw (e, runThen) (alike-logged _ _ (omega arith) (logs-temporary t (m .logs)) (related-over old at m))))
-      updated (aims-element bounds level holds) above room x y ν f g m le k = through (aims-element bounds level holds) above (omega arith) x y ν f g m le k

@@ -8,6 +8,7 @@ use native.Mathlib.Nat.{add-zero}
 use native.Mathlib.Numerals.{add-one}
 use lib.IntN.{ℤ, pos}
 use lib.ListN.{getD, set}
+use lib.Seq.{getD-set-same}
 use Rattle.words.specs.Word.{pick}
 use Rattle.words.specs.Layout.{arrayBase, arrayLength}
 use Rattle.words.specs.Arithmetic.{Outcome, value, element as elementWord}
@@ -63,6 +64,10 @@ module _ (fr : Frame) where
   holds-stored p holds-number = holds-number
   holds-stored {v = v} {σ = σ} p (holds-word {i = i} b e) = holds-word b (set-same (σ .store) p i v e)
   holds-stored p holds-top = holds-top
+
+  -- A variable holds what was stored in it.
+  pub holds-saved : {F G : Stack ℤ} {x i : ℕ} {v : ℤ} {σ κ : State} → i < fr .layout .variables → Related fr G x σ κ → Holds F (word i) v F (written i v σ)
+  holds-saved {i = i} {v = v} {σ = σ} b m = holds-word b (getD-set-same (σ .store) i v (pos 0) (omega (arith, m .source-words, fr .variables-inside)))
 
   -- The source's computation, and the kernel's items after one that ended with a signal, each with what follows.
   abbrev pub source : {A C : Type 0} → Computation A → State → (A → State → Result C) → Result C

@@ -6,8 +6,9 @@ use native.Mathlib.Omega.{arith}
 use lib.Dec.{eqb}
 use Rattle.words.specs.Word.{pick}
 use Rattle.words.specs.Laws.{by-cases}
-use Rattle.language.specs.Trees.{Items, none}
-use Rattle.translation.specs.Translate.{Atom, number, word, top, held, taken, temporary, atom, assigning, copyCode, moveCode}
+use Rattle.language.specs.Writes.{writes, indexWrites}
+use Rattle.language.specs.Trees.{Expression, Place, variable, element, Items, none}
+use Rattle.translation.specs.Translate.{Atom, number, word, top, held, taken, temporary, atom, assigning, copyCode, moveCode, storeCode}
 use Rattle.translation.specs.TranslateSize.{copied}
 
 -- What holds a waiting value is its own atom, or the temporary.
@@ -43,6 +44,19 @@ pub copied-most : (h : Atom) (W : ℕ → Bool) → copied h W ≤ 1
 copied-most (number v) W = omega arith
 copied-most (word i) W = by-cases (W i) (λ e. rw e (omega arith)) (λ e. rw e (omega arith))
 copied-most top W = omega arith
+
+-- What stores a value: an assignment, or nothing where the value is there already.
+pub store-either : (S : ℕ) (P : Items → Type 0) (q : Place) (straight : Bool) (x : Expression) → P (assigning S q x none) → P none → P (storeCode S q straight x)
+store-either S P (variable i) true x p q = q
+store-either S P (variable i) false x p q = p
+store-either S P (element array e) straight x p q = p
+
+-- A variable has no index: nothing is copied for it.
+pub held-variable : (h : Atom) (i : ℕ) → held h (indexWrites (variable i)) ≡ h
+unfolding writes
+held-variable (number v) i = refl
+held-variable (word j) i = refl
+held-variable top i = refl
 
 -- ---- by whether it is copied, as 1 or 0
 

@@ -1,6 +1,8 @@
 -- The translation, and what is proved of it. A line of comment for each file.
 
 -- ---- definitions
+-- Uses: what becomes of the value of an expression.
+pub mod Uses
 -- The translation: source trees to kernel trees, a clause a kind; temporaries.
 pub mod Translate
 -- Sizes: the kernel rows that come of a source tree.
@@ -52,6 +54,9 @@ pub mod TranslateKernel
 -- ---- laws: no needless copy
 -- A translation copies a variable exactly where that is allowed.
 pub mod CopyLaws
+-- ---- laws: values straight to their place
+-- No program gets more rows or temporaries by it.
+pub mod Savings
 -- ---- laws: examples
 -- Document 01's program and a switch, with their translations.
 pub mod WorkedExamples

@@ -11,8 +11,9 @@ use Rattle.computation.specs.Run.{State, Result}
 use Rattle.language.specs.Trees.{Expression, constant, read, minus, not, binary, and, or, comma, conditional, assign, compound, prefix, postfix, Place, variable, element, Part, absent, present, Mark, case, default, label, sameMark, has, Statement, empty, express, block, ifThen, ifElse, while, doWhile, for, switch, break, continue, goto, Items, none, _then_, _here_, _⧺_}
 use Rattle.language.specs.Meaning.{Signal, seeking, items}
 use Rattle.language.specs.Writes.{writes, indexWrites}
-use Rattle.translation.specs.Translate.{Atom, number, word, top, held, taken, copyCode, readCode, atomOf, kernelPlace, updateCode, postfixCode, expressionCode, indexCode, partCode, orEmpty, caseTests, labels, itemsLabels, labelOf, Exits, exits, statementCode, itemsCode}
-use Rattle.translation.specs.HeldCode.{holdCode, hold-either}
+use Rattle.translation.specs.Uses.{Use, dropped, wanted, stored, useFor, passedOn, direct}
+use Rattle.translation.specs.Translate.{Atom, number, word, top, held, landed, taken, copyCode, readCode, storeCode, atomOf, kernelPlace, updateCode, stepCode, postfixCode, expressionCode, indexCode, partCode, orEmpty, caseTests, labels, itemsLabels, labelOf, Exits, exits, statementCode, itemsCode}
+use Rattle.translation.specs.HeldCode.{holdCode, hold-either, store-either}
 use Rattle.translation.specs.RunThen.{runThen}
 use Rattle.translation.specs.Related.{Frame}
 use Rattle.translation.specs.Held.{kernel}
@@ -45,10 +46,14 @@ passes fr m (n here xs) κ g e = let apart = neither (sameMark m n) (has m xs) e
 -- ---- expressions
 
 module _ (S : ℕ) where
-  plain-read : (p : Place) (t : ℕ) (m : Mark) → has m (readCode S p t) ≡ false
+  plain-read : (p : Place) (u : Use) (t : ℕ) (m : Mark) → has m (readCode S p u t) ≡ false
   unfolding has
-  plain-read (variable i) t m = refl
-  plain-read (element array e) t m = refl
+  plain-read (variable i) u t m = refl
+  plain-read (element array e) u t m = refl
+
+  plain-store : (q : Place) (straight : Bool) (x : Expression) (m : Mark) → has m (storeCode S q straight x) ≡ false
+  unfolding has
+  plain-store q straight x m = store-either S (λ (xs : Items). has m xs ≡ false) q straight x refl refl
 
   plain-copy : (t : ℕ) (h : Atom) (m : Mark) → has m (copyCode S t h) ≡ false
   unfolding has
@@ -65,38 +70,46 @@ module _ (S : ℕ) where
   plain-update operator (variable j) x i t u m = refl
   plain-update operator (element array e) x i t u m = refl
 
-  plain-postfix : (operator : Operator) (p : Place) (i t u : ℕ) (m : Mark) → has m (postfixCode S operator (kernelPlace S p i) t u) ≡ false
+  plain-step : (operator : Operator) (i : ℕ) (u : Use) (t : ℕ) (m : Mark) → has m (stepCode S operator i u t) ≡ false
+  unfolding has
+  plain-step operator i dropped t m = refl
+  plain-step operator i wanted t m = refl
+  plain-step operator i (stored j) t m = refl
+
+  plain-postfix : (operator : Operator) (p : Place) (u : Use) (i t n : ℕ) (m : Mark) → has m (postfixCode S operator (kernelPlace S p i) u t n) ≡ false
   unfolding has kernelPlace
-  plain-postfix operator (variable j) i t u m = refl
-  plain-postfix operator (element array e) i t u m = refl
+  plain-postfix operator (variable j) u i t n m = plain-step operator j u t m
+  plain-postfix operator (element array e) u i t n m = refl
 
   mutual
     unfolding has expressionCode
 
     -- The code of an expression has no mark.
-    pub plain-expression : (e : Expression) (t : ℕ) (m : Mark) → has m (expressionCode S e t) ≡ false
-    plain-expression (constant v) t m = refl
-    plain-expression (read p) t m = simp (has-append, plain-index p t m, plain-read p t m)
-    plain-expression (minus e) t m = simp (has-append, plain-expression e t m)
-    plain-expression (not e) t m = simp (has-append, plain-expression e t m)
-    plain-expression (binary operator a b) t m = simp (has-append, plain-expression b t m, plain-hold t (atomOf b) (writes a) m, plain-expression a (t + taken (held (atomOf b) (writes a))) m)
-    plain-expression (and a b) t m = simp (has-append, plain-expression a t m)
-    plain-expression (or a b) t m = simp (has-append, plain-expression a t m)
-    plain-expression (comma a b) t m = simp (has-append, plain-expression a t m, plain-expression b t m)
-    plain-expression (conditional c a b) t m = simp (has-append, plain-expression c t m)
-    plain-expression (assign p e) t m = simp (has-append, plain-expression e t m, plain-hold t (atomOf e) (indexWrites p) m, plain-index p (t + taken (held (atomOf e) (indexWrites p))) m)
-    plain-expression (compound operator p e) t m = simp (has-append, plain-expression e t m, plain-hold t (atomOf e) (indexWrites p) m, plain-index p (t + 1) m, plain-update)
-    plain-expression (prefix operator p) t m = simp (has-append, plain-index p (t + 1) m, plain-update)
-    plain-expression (postfix operator p) t m = simp (has-append, plain-index p (t + 1) m, plain-postfix)
+    pub plain-expression : (e : Expression) (u : Use) (t : ℕ) (m : Mark) → has m (expressionCode S e u t) ≡ false
+    plain-expression (constant v) u t m = refl
+    plain-expression (read p) u t m = simp (has-append, plain-index p t m, plain-read p u t m)
+    plain-expression (minus e) u t m = simp (has-append, plain-expression e wanted t m)
+    plain-expression (not e) u t m = simp (has-append, plain-expression e wanted t m)
+    plain-expression (binary operator a b) u t m = simp (has-append, plain-expression b wanted t m, plain-hold t (atomOf b) (writes a) m, plain-expression a wanted (t + taken (held (atomOf b) (writes a))) m)
+    plain-expression (and a b) u t m = simp (has-append, plain-expression a wanted t m)
+    plain-expression (or a b) u t m = simp (has-append, plain-expression a wanted t m)
+    plain-expression (comma a b) u t m = simp (has-append, plain-expression a dropped t m, plain-expression b (passedOn u) t m)
+    plain-expression (conditional c a b) u t m = simp (has-append, plain-expression c wanted t m)
+    plain-expression (assign p e) u t m =
+        let own = landed p (direct e) (atomOf e) in
+        simp (has-append, plain-expression e (useFor p) t m, plain-hold t own (indexWrites p) m, plain-index p (t + taken (held own (indexWrites p))) m, plain-store)
+    plain-expression (compound operator p e) u t m = simp (has-append, plain-expression e wanted t m, plain-hold t (atomOf e) (indexWrites p) m, plain-index p (t + 1) m, plain-update)
+    plain-expression (prefix operator p) u t m = simp (has-append, plain-index p (t + 1) m, plain-update)
+    plain-expression (postfix operator p) u t m = simp (has-append, plain-index p (t + 1) m, plain-postfix)
 
     plain-index : (p : Place) (t : ℕ) (m : Mark) → has m (indexCode S p t) ≡ false
     plain-index (variable i) t m = refl
-    plain-index (element array e) t m = plain-expression e t m
+    plain-index (element array e) t m = plain-expression e wanted t m
 
   pub plain-part : (p : Part) (m : Mark) → has m (partCode S p) ≡ false
   unfolding has
   plain-part absent m = refl
-  plain-part (present e) m = plain-expression e 0 m
+  plain-part (present e) m = plain-expression e dropped 0 m
 
   has-empty : (m : Mark) (xs : Items) → has m (orEmpty S xs) ≡ has m xs
   unfolding has
@@ -131,14 +144,14 @@ module _ (S : ℕ) where
     -- The code of a statement has no label but its own.
     pub own-labels : (s : Statement) (x : Exits) (l j : ℕ) → Apart l (labels s) j → has (label j) (statementCode S s x l) ≡ false
     own-labels empty x l j h = refl
-    own-labels (express e) x l j h = simp (has-empty S, plain-expression S e 0)
+    own-labels (express e) x l j h = simp (has-empty S, plain-expression S e dropped 0)
     own-labels (block is) x l j h = refl
-    own-labels (ifThen e onTrue) x l j h = simp (has-append, plain-expression S e 0)
-    own-labels (ifElse e onTrue onFalse) x l j h = simp (has-append, plain-expression S e 0)
+    own-labels (ifThen e onTrue) x l j h = simp (has-append, plain-expression S e wanted 0)
+    own-labels (ifElse e onTrue onFalse) x l j h = simp (has-append, plain-expression S e wanted 0)
     own-labels (while e body) x l j h = has-other j l none (h l (omega arith) (omega arith)) refl
     own-labels (doWhile body e) x l j h = has-other j l none (h l (omega arith) (omega arith)) refl
     own-labels (for first test action body) x l j h = simp (has-append, plain-part S first) (has-other j l none (h l (omega arith) (omega arith)) refl)
-    own-labels (switch e is) x l j h = simp (has-append, plain-expression S e 0, plain-tests S, own-items is (exits l (x .onContinue)) (l + 1) j (λ i a b. h i (omega arith) (omega arith)))
+    own-labels (switch e is) x l j h = simp (has-append, plain-expression S e wanted 0, plain-tests S, own-items is (exits l (x .onContinue)) (l + 1) j (λ i a b. h i (omega arith) (omega arith)))
         (has-other j l none (h l (omega arith) (omega arith)) refl)
     own-labels break x l j h = refl
     own-labels continue x l j h = refl

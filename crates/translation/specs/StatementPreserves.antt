@@ -10,11 +10,12 @@ use Rattle.computation.specs.Run.{State}
 use Rattle.language.specs.Trees.{Expression, Part, absent, present, label, has, Statement, empty, express, block, ifThen, ifElse, while, doWhile, for, switch, break, continue, goto, Items, none, _then_, _here_, _⧺_}
 use Rattle.language.specs.Meaning.{Signal, enter, valueOf, rounds, perform}
 use Rattle.language.specs.WellFormed.{NamedPart, NamedStatement, NamedItems, Placed, PlacedItems}
+use Rattle.translation.specs.Uses.{wanted}
 use Rattle.translation.specs.Translate.{partCode, testCode, loopCode, labels, Exits, exits, statementCode, itemsCode, partLevels, expressionLevels, statementLevels, itemsLevels}
 use Rattle.translation.specs.TranslateSize.{expressionSize, partSize, cases, statementSize, itemsSize}
 use Rattle.translation.specs.Related.{Frame}
 use Rattle.translation.specs.PassedCode.{plain-expression, plain-part, apart-below, own-labels}
-use Rattle.translation.specs.ExpressionPreserves.{InRange, own-size, expression-goes, value-goes}
+use Rattle.translation.specs.ExpressionPreserves.{InRange, own-size, wanted-goes, value-goes, dropped-goes}
 use Rattle.translation.specs.StatementRules.{Below, Runs, RunsOn, Turns, Drops, drops-absent, drops-present, turns-action, turns-again, turns-test, turns-body, pay-statement, runs-empty, runs-express, runs-block, runs-ifThen, runs-ifElse, runs-break, runs-continue, runs-loop, runs-after, runs-none, runs-then, runs-here, runs-switch}
 
 -- The kernel steps that a statement's own row has to pay.
@@ -60,7 +61,7 @@ ItemsInRange L is = NamedItems (λ i. i < L .variables) (length (L .lengths)) is
 module _ (fr : Frame) {C D : Type 0} {R : C → D → State → State → Type 0} where
   part-drops : (p : Part) → PartInRange (fr .layout) p → partLevels p ≤ fr .temporaries → partSize p ≤ fr .rate → Drops fr R (valueOf (fr .layout) p) (partCode (fr .words) p)
   part-drops absent h n r = drops-absent fr
-  part-drops (present e) h n r = drops-present fr (value-goes fr e refl h (omega arith) r)
+  part-drops (present e) h n r = drops-present fr (dropped-goes fr e refl h (omega arith) r)
 
   -- The rounds of while and for, by the rules of the body; `l` is the label behind the loop.
   module _ (l : ℕ) (action : Part) (h : PartInRange (fr .layout) action) (n : partLevels action ≤ fr .temporaries) (r : partSize action ≤ fr .rate) where
@@ -71,9 +72,9 @@ module _ (fr : Frame) {C D : Type 0} {R : C → D → State → State → Type 0
         → Runs fr R 2 x (rounds (fr .layout) absent action b) (loopCode (fr .words) (testCode (fr .words) absent l (bs ⧺ label (l + 1) here partCode (fr .words) action)) l)
     rounds-free free own enough p = runs-loop fr (omega arith) (turns-body fr free p action-turns)
 
-    rounds-tested : {x : Exits} {b : Computation Signal} {bs : Items} → has (label l) bs ≡ false → (e : Expression) → InRange (fr .layout) e → expressionLevels e ≤ fr .temporaries → expressionSize e + 7 ≤ fr .rate → Runs fr R 0 (exits l (l + 1)) (enter b) bs
+    rounds-tested : {x : Exits} {b : Computation Signal} {bs : Items} → has (label l) bs ≡ false → (e : Expression) → InRange (fr .layout) e → expressionLevels e wanted ≤ fr .temporaries → expressionSize e wanted + 7 ≤ fr .rate → Runs fr R 0 (exits l (l + 1)) (enter b) bs
         → Runs fr R 2 x (rounds (fr .layout) (present e) action b) (loopCode (fr .words) (testCode (fr .words) (present e) l (bs ⧺ label (l + 1) here partCode (fr .words) action)) l)
-    rounds-tested free e he ne enough p = runs-loop fr (omega (arith, own-size e)) (turns-test fr (plain-expression (fr .words) e 0 (label l)) (expression-goes fr e refl he (omega arith) (omega arith)) (turns-body fr free p action-turns))
+    rounds-tested free e he ne enough p = runs-loop fr (omega (arith, own-size e wanted)) (turns-test fr (plain-expression (fr .words) e wanted 0 (label l)) (wanted-goes fr e refl he (omega arith) (omega arith)) (turns-body fr free p action-turns))
 
   mutual
     unfolding perform statementCode statementLevels statementSize NamedStatement Placed
@@ -81,7 +82,7 @@ module _ (fr : Frame) {C D : Type 0} {R : C → D → State → State → Type 0
     statement-runs : (s : Statement) (x : Exits) (l : ℕ) (mayBreak mayContinue : Bool) → Below x l → StatementInRange (fr .layout) s → Placed mayBreak mayContinue s → statementLevels s ≤ fr .temporaries → statementSize s ≤ fr .rate
         → Runs fr R (ownSteps s) x (perform (fr .layout) s) (statementCode (fr .words) s x l)
     statement-runs empty x l b c u h p n r = runs-empty fr
-    statement-runs (express e) x l b c u h p n r = runs-express fr (value-goes fr e refl h (omega arith) (omega arith))
+    statement-runs (express e) x l b c u h p n r = runs-express fr (drops-present fr (dropped-goes fr e refl h (omega arith) (omega arith)))
     statement-runs (block is) x l b c u h p n r = runs-block fr (items-run is x l false b c u h p n (omega arith))
     statement-runs (ifThen e onTrue) x l b c u h p n r = runs-ifThen fr (value-goes fr e refl (h .0) (omega arith) (omega arith))
         (pay-statement fr (omega (arith, own-statement onTrue)) (statement-runs onTrue x l b c u (h .1) p (omega arith) (omega arith)))
@@ -93,7 +94,7 @@ module _ (fr : Frame) {C D : Type 0} {R : C → D → State → State → Type 0
         (pay-statement fr (omega (arith, own-statement body)) (statement-runs body (exits l (l + 1)) (l + 2) true true (omega arith) (h .1) p (omega arith) (omega arith)))
     statement-runs (doWhile body e) x l b c u h p n r = runs-loop fr (omega (arith, own-statement body)) (turns-body fr (own-labels (fr .words) body (exits l (l + 1)) (l + 2) l (apart-below _ _ l (omega arith)))
         (statement-runs body (exits l (l + 1)) (l + 2) true true (omega arith) (h .0) p (omega arith) (omega arith))
-        (turns-test fr (plain-expression (fr .words) e 0 (label l)) (value-goes fr e refl (h .1) (omega arith) (omega arith)) (turns-again fr)))
+        (turns-test fr (plain-expression (fr .words) e wanted 0 (label l)) (value-goes fr e refl (h .1) (omega arith) (omega arith)) (turns-again fr)))
     statement-runs (for first absent action body) x l b c u h p n r = runs-after fr (part-drops first (h .0) (omega arith) (omega arith))
         (rounds-free l action (h .2) (omega arith) (omega arith) (own-labels (fr .words) body (exits l (l + 1)) (l + 2) l (apart-below _ _ l (omega arith)))
         (ownSteps body) (omega (arith, own-statement body)) (statement-runs body (exits l (l + 1)) (l + 2) true true (omega arith) (h .3) p (omega arith) (omega arith)))

@@ -1,7 +1,7 @@
 -- A statement and its code go alike: a rule a kind, over any computation and any code of its parts. Between statements no temporary is in
 -- use. A break or continue of the source is a jump of the kernel, which passes code that does not have its label.
 use mathlib.Core.Path.{_≡_, refl}
-use mathlib.Core.Bool.{true, false}
+use mathlib.Core.Bool.{Bool, true, false}
 use Prim.Native.Nat.{ℕ, suc, _+_, _*_, _≤_, _<_}
 use native.Mathlib.Omega.{arith}
 use lib.IntN.{ℤ, pos}
@@ -13,13 +13,14 @@ use Rattle.computation.specs.Computation.{Computation, Turn, again, leave, ret,
 use Rattle.computation.specs.Run.{State, Result}
 use Rattle.language.specs.Trees.{Mark, case, default, label, sameMark, has, Statement, empty, block, goto, Items, none, _then_, _here_, _⧺_}
 use Rattle.language.specs.Meaning.{Signal, next, breaking, continuing, seeking, enter, ifTrue, target, afterSwitch, afterBody, afterTest, evaluate, perform, items}
+use Rattle.translation.specs.Uses.{dropped}
 use Rattle.translation.specs.Translate.{Atom, taken, atom, choosing, orEmpty, labels, labelOf, Exits, exits, loopCode, caseTests}
 use Rattle.translation.specs.TranslateSize.{cases}
 use Rattle.translation.specs.Stack.{Stack, bottom, depth}
 use Rattle.translation.specs.RunThen.{runThen}
 use Rattle.translation.specs.Related.{Frame, Related, Alike, alike-loop, logs-temporary, related-logged, related-step, related-ran, related-less, related-push, related-top, related-pop}
 use Rattle.translation.specs.Held.{Holds, holds-depth, source, kernel, kernel-append, see, release}
-use Rattle.translation.specs.ExpressionRules.{Goes}
+use Rattle.translation.specs.ExpressionRules.{Goes, GoesFor}
 use Rattle.translation.specs.PassedCode.{has-neither, passes, plain-tests, Apart, apart-below, apart-above, label-least, label-absent}
 
 -- The signal with which a statement ends leads its code to a signal.
@@ -74,8 +75,9 @@ module _ (fr : Frame) {C D : Type 0} {R : C → D → State → State → Type 0
   unfolding runThen items
   drops-absent = record { drops = λ c σ κ f g n k. k _ _ _ n }
 
-  pub drops-present : {m : Computation ℤ} {xs : Items} {h : Atom} → Goes fr R 0 bottom m xs h → Drops fr R m xs
-  drops-present p = record { drops = λ c σ κ f g n k. p .goes c c _ _ _ _ n (omega arith) λ v F' τ ν holds m. k v τ ν (release fr holds m) }
+  pub drops-present : {m : Computation ℤ} {xs : Items} {h : Atom} {straight : Bool} → GoesFor fr R dropped straight 0 bottom m xs h → Drops fr R m xs
+  unfolding runThen
+  drops-present p = record { drops = λ c σ κ f g n k. p .goes c c σ κ f g n (omega arith) k }
 
   pub turns-action : {m : Computation ℤ} {xs : Items} {l : ℕ} → Drops fr R m xs → has (label l) xs ≡ false → Turns fr R 0 l (do m; ret again) xs
   unfolding runThen
@@ -126,15 +128,15 @@ module _ (fr : Frame) {C D : Type 0} {R : C → D → State → State → Type 0
   runs-empty = record { runs = λ c y σ κ f g n le k. k _ _ _ _ leads-next (related-ran _ (omega arith) n) }
 
   -- A value that nobody uses is still computed.
-  pub runs-express : {m : Computation ℤ} {xs : Items} {h : Atom} → Goes fr R 0 bottom m xs h → Runs fr R 1 x (do m; ret next) (orEmpty (fr .words) xs)
+  pub runs-express : {m : Computation ℤ} {xs : Items} → Drops fr R m xs → Runs fr R 1 x (do m; ret next) (orEmpty (fr .words) xs)
   unfolding runThen items perform
-  runs-express {m} {xs} {h} p = record { runs = λ c y σ κ f g n le k. by xs p c y σ κ f g n le k }
+  runs-express {m} {xs} p = record { runs = λ c y σ κ f g n le k. by xs p c y σ κ f g n le k }
     where
-      by : (xs : Items) → Goes fr R 0 bottom m xs h → (c y : ℕ) (σ κ : State) (f : Signal → State → Result C) (g : Signal → State → Result D) → Related fr bottom y σ κ → c + 1 ≤ y → SignalFollows fr R x c f g
+      by : (xs : Items) → Drops fr R m xs → (c y : ℕ) (σ κ : State) (f : Signal → State → Result C) (g : Signal → State → Result D) → Related fr bottom y σ κ → c + 1 ≤ y → SignalFollows fr R x c f g
           → Alike fr R (source fr (do m; ret next) σ f) (kernel fr (orEmpty (fr .words) xs) next κ g)
-      by none p c y σ κ f g n le k = p .goes (c + 1) y σ κ _ (λ s ν. kernel fr (empty then none) s ν g) n (omega arith) (λ v F' τ ν holds m. k _ _ _ _ leads-next (related-ran _ (omega arith) (release fr holds m)))
-      by (s then xs) p c y σ κ f g n le k = p .goes c y σ κ _ g n (omega arith) (λ v F' τ ν holds m. k _ _ _ _ leads-next (release fr holds m))
-      by (s here xs) p c y σ κ f g n le k = p .goes c y σ κ _ g n (omega arith) (λ v F' τ ν holds m. k _ _ _ _ leads-next (release fr holds m))
+      by none p c y σ κ f g n le k = p .drops (c + 1) σ κ _ (λ s ν. kernel fr (empty then none) s ν g) (related-less (omega arith) n) (λ v τ ν m. k _ _ _ _ leads-next (related-ran _ (omega arith) m))
+      by (s then xs) p c y σ κ f g n le k = p .drops c σ κ _ g (related-less (omega arith) n) (λ v τ ν m. k _ _ _ _ leads-next m)
+      by (s here xs) p c y σ κ f g n le k = p .drops c σ κ _ g (related-less (omega arith) n) (λ v τ ν m. k _ _ _ _ leads-next m)
 
   pub runs-block : {l : ℕ} {is xs : Items} → RunsOn fr R x l is xs → Runs fr R 1 x (items (fr .layout) is next) (block xs then none)
   unfolding runThen items perform

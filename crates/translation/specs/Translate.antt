@@ -10,6 +10,7 @@ use Rattle.words.specs.declared.Operator.{Operator}
 use Rattle.words.specs.declared.Operator.the-variants.{Equal, NotEqual}
 use Rattle.language.specs.Trees.{Expression, constant, read, minus, not, binary, and, or, comma, conditional, assign, compound, prefix, postfix, Place, variable, element, Part, absent, present, Mark, case, default, label, sameMark, Statement, empty, express, block, ifThen, ifElse, while, doWhile, for, switch, break, continue, goto, Items, none, _then_, _here_, _⧺_}
 use Rattle.language.specs.Writes.{writes, indexWrites}
+use Rattle.translation.specs.Uses.{Use, dropped, wanted, stored, useFor, passedOn, direct}
 
 -- ---- atoms and levels
 
@@ -27,6 +28,16 @@ held (number v) W = number v
 held (word i) W = pick (W i) top (word i)
 held top W = top
 
+-- What holds a value that is stored in a place: the variable, where it goes straight there; else its own atom.
+abbrev pub landed : Place → Bool → Atom → Atom
+landed (variable i) straight h = pick straight (word i) h
+landed (element array e) straight h = h
+
+-- What holds the new value of a place that was updated.
+abbrev pub updated : Place → Atom
+updated (variable i) = word i
+updated (element array e) = top
+
 unfoldable pub atomOf : Expression → Atom
 atomOf (constant v) = number v
 atomOf (read (variable i)) = word i
@@ -38,9 +49,9 @@ atomOf (and a b) = top
 atomOf (or a b) = top
 atomOf (comma a b) = atomOf b
 atomOf (conditional c a b) = top
-atomOf (assign p e) = held (atomOf e) (indexWrites p)
-atomOf (compound operator p e) = top
-atomOf (prefix operator p) = top
+atomOf (assign p e) = held (landed p (direct e) (atomOf e)) (indexWrites p)
+atomOf (compound operator p e) = updated p
+atomOf (prefix operator p) = updated p
 atomOf (postfix operator p) = top
 
 -- How many temporaries an atom takes, and the index of a place. What is worked out while it is held stands that much higher.
@@ -129,64 +140,83 @@ module _ (S : ℕ) where
   kernelPlace (variable i) t = variable i
   kernelPlace (element array e) t = element array (atom t (atomOf e))
 
-  -- An element's value into temporary t; a variable stands for its own.
-  abbrev pub readCode : Place → ℕ → Items
-  readCode (variable i) t = none
-  readCode (element array e) t = assigning (temporary t) (read (element array (atom t (atomOf e)))) none
+  -- Where an element's value or an operation's result goes: into temporary t, or straight into the variable that stores it.
+  abbrev pub targetWord : Use → ℕ → ℕ
+  targetWord dropped t = S + t
+  targetWord wanted t = S + t
+  targetWord (stored i) t = i
 
-  -- old op x into temporary t, and from there into the place; an element's old value goes through temporary u.
+  abbrev pub target : Use → ℕ → Place
+  target u t = variable (targetWord u t)
+
+  -- An element's value into its target; a variable stands for its own.
+  abbrev pub readCode : Place → Use → ℕ → Items
+  readCode (variable i) u t = none
+  readCode (element array e) u t = assigning (target u t) (read (element array (atom t (atomOf e)))) none
+
+  -- A value into a place; one that went straight into its variable is there already.
+  abbrev pub storeCode : Place → Bool → Expression → Items
+  storeCode (variable i) straight x = pick straight none (assigning (variable i) x none)
+  storeCode (element array index) straight x = assigning (element array index) x none
+
+  -- old op x into a variable; into an element by temporary t, and its old value through temporary u.
   abbrev pub updateCode : Operator → Place → Expression → ℕ → ℕ → Items
-  updateCode operator (variable i) x t u =
-      assigning (temporary t) (binary operator (read (variable i)) x) (assigning (variable i) (read (temporary t)) none)
+  updateCode operator (variable i) x t u = assigning (variable i) (binary operator (read (variable i)) x) none
   updateCode operator (element array index) x t u =
       assigning (temporary u) (read (element array index)) (assigning (temporary t) (binary operator (read (temporary u)) x) (assigning (element array index) (read (temporary t)) none))
 
-  -- The old value into temporary t, and old op 1 into the place; an element's new value goes through temporary u.
-  abbrev pub postfixCode : Operator → Place → ℕ → ℕ → Items
-  postfixCode operator (variable i) t u =
-      assigning (temporary t) (read (variable i)) (assigning (variable i) (binary operator (read (temporary t)) (constant (pos 1))) none)
-  postfixCode operator (element array index) t u =
-      assigning (temporary t) (read (element array index)) (assigning (temporary u) (binary operator (read (temporary t)) (constant (pos 1))) (assigning (element array index) (read (temporary u)) none))
+  -- A variable's old value into temporary t, and old op 1 into the variable; where nobody uses the old value, only the latter.
+  abbrev pub stepCode : Operator → ℕ → Use → ℕ → Items
+  stepCode operator i dropped t = assigning (variable i) (binary operator (read (variable i)) (constant (pos 1))) none
+  stepCode operator i wanted t = assigning (temporary t) (read (variable i)) (assigning (variable i) (binary operator (read (temporary t)) (constant (pos 1))) none)
+  stepCode operator i (stored j) t = assigning (temporary t) (read (variable i)) (assigning (variable i) (binary operator (read (temporary t)) (constant (pos 1))) none)
+
+  -- The old value into temporary t, and old op 1 into the place; an element's new value goes through temporary n.
+  abbrev pub postfixCode : Operator → Place → Use → ℕ → ℕ → Items
+  postfixCode operator (variable i) u t n = stepCode operator i u t
+  postfixCode operator (element array index) u t n =
+      assigning (temporary t) (read (element array index)) (assigning (temporary n) (binary operator (read (temporary t)) (constant (pos 1))) (assigning (element array index) (read (temporary n)) none))
 
   unfoldable mutual
-    -- An expression at level t: its code writes no temporary below t, and after it `atom t (atomOf e)` holds the value.
-    pub expressionCode : Expression → ℕ → Items
-    expressionCode (constant v) t = none
-    expressionCode (read p) t = indexCode p t ⧺ readCode p t
-    expressionCode (minus e) t = expressionCode e t ⧺ assigning (temporary t) (minus (atom t (atomOf e))) none
-    expressionCode (not e) t = expressionCode e t ⧺ assigning (temporary t) (binary Equal (atom t (atomOf e)) (constant (pos 0))) none
+    -- An expression at level t, for a use of its value: its code writes no temporary below t. After it, if the value is wanted, `atom t (atomOf e)`
+    -- holds it; so does, if it is stored, the variable or that atom (`landed`).
+    pub expressionCode : Expression → Use → ℕ → Items
+    expressionCode (constant v) u t = none
+    expressionCode (read p) u t = indexCode p t ⧺ readCode p u t
+    expressionCode (minus e) u t = expressionCode e wanted t ⧺ assigning (target u t) (minus (atom t (atomOf e))) none
+    expressionCode (not e) u t = expressionCode e wanted t ⧺ assigning (target u t) (binary Equal (atom t (atomOf e)) (constant (pos 0))) none
     -- the right operand first, held while the left one is worked out above it
-    expressionCode (binary operator a b) t =
+    expressionCode (binary operator a b) u t =
         let right = held (atomOf b) (writes a) in
-        expressionCode b t ⧺ moveCode t (atomOf b) right ⧺ expressionCode a (t + taken right) ⧺ assigning (temporary t) (binary operator (atom (t + taken right) (atomOf a)) (atom t right)) none
+        expressionCode b wanted t ⧺ moveCode t (atomOf b) right ⧺ expressionCode a wanted (t + taken right) ⧺ assigning (target u t) (binary operator (atom (t + taken right) (atomOf a)) (atom t right)) none
     -- the right operand inside the branch that needs it, and its truth by != 0
-    expressionCode (and a b) t =
-        expressionCode a t ⧺ choosing (atom t (atomOf a)) (expressionCode b t ⧺ assigning (temporary t) (binary NotEqual (atom t (atomOf b)) (constant (pos 0))) none) (assigning (temporary t) (constant (pos 0)) none) none
-    expressionCode (or a b) t =
-        expressionCode a t ⧺ choosing (atom t (atomOf a)) (assigning (temporary t) (constant (pos 1)) none) (expressionCode b t ⧺ assigning (temporary t) (binary NotEqual (atom t (atomOf b)) (constant (pos 0))) none) none
-    expressionCode (comma a b) t = expressionCode a t ⧺ expressionCode b t
-    expressionCode (conditional c a b) t =
-        expressionCode c t ⧺ choosing (atom t (atomOf c)) (expressionCode a t ⧺ copyCode t (atomOf a)) (expressionCode b t ⧺ copyCode t (atomOf b)) none
-    -- the value first, held while the index is worked out above it
-    expressionCode (assign p e) t =
+    expressionCode (and a b) u t =
+        expressionCode a wanted t ⧺ choosing (atom t (atomOf a)) (expressionCode b wanted t ⧺ assigning (temporary t) (binary NotEqual (atom t (atomOf b)) (constant (pos 0))) none) (assigning (temporary t) (constant (pos 0)) none) none
+    expressionCode (or a b) u t =
+        expressionCode a wanted t ⧺ choosing (atom t (atomOf a)) (assigning (temporary t) (constant (pos 1)) none) (expressionCode b wanted t ⧺ assigning (temporary t) (binary NotEqual (atom t (atomOf b)) (constant (pos 0))) none) none
+    expressionCode (comma a b) u t = expressionCode a dropped t ⧺ expressionCode b (passedOn u) t
+    expressionCode (conditional c a b) u t =
+        expressionCode c wanted t ⧺ choosing (atom t (atomOf c)) (expressionCode a wanted t ⧺ copyCode t (atomOf a)) (expressionCode b wanted t ⧺ copyCode t (atomOf b)) none
+    -- the value first; into an element, it is held while the index is worked out above it
+    expressionCode (assign p e) u t =
+        let value = held (landed p (direct e) (atomOf e)) (indexWrites p) in
+        expressionCode e (useFor p) t ⧺ moveCode t (landed p (direct e) (atomOf e)) value ⧺ indexCode p (t + taken value) ⧺ storeCode (kernelPlace p (t + taken value)) (direct e) (atom t value)
+    -- for an element, t is kept for the result, so the index stands above it
+    expressionCode (compound operator p e) u t =
         let value = held (atomOf e) (indexWrites p) in
-        expressionCode e t ⧺ moveCode t (atomOf e) value ⧺ indexCode p (t + taken value) ⧺ assigning (kernelPlace p (t + taken value)) (atom t value) none
-    -- t is kept for the result, so the index stands above it
-    expressionCode (compound operator p e) t =
-        let value = held (atomOf e) (indexWrites p) in
-        expressionCode e t ⧺ moveCode t (atomOf e) value ⧺ indexCode p (t + 1) ⧺ updateCode operator (kernelPlace p (t + 1)) (atom t value) t (t + 1 + placeTaken p)
-    expressionCode (prefix operator p) t = indexCode p (t + 1) ⧺ updateCode operator (kernelPlace p (t + 1)) (constant (pos 1)) t (t + 1 + placeTaken p)
-    expressionCode (postfix operator p) t = indexCode p (t + 1) ⧺ postfixCode operator (kernelPlace p (t + 1)) t (t + 1 + placeTaken p)
+        expressionCode e wanted t ⧺ moveCode t (atomOf e) value ⧺ indexCode p (t + 1) ⧺ updateCode operator (kernelPlace p (t + 1)) (atom t value) t (t + 1 + placeTaken p)
+    expressionCode (prefix operator p) u t = indexCode p (t + 1) ⧺ updateCode operator (kernelPlace p (t + 1)) (constant (pos 1)) t (t + 1 + placeTaken p)
+    expressionCode (postfix operator p) u t = indexCode p (t + 1) ⧺ postfixCode operator (kernelPlace p (t + 1)) u t (t + 1 + placeTaken p)
 
     -- The index of a place.
     pub indexCode : Place → ℕ → Items
     indexCode (variable i) t = none
-    indexCode (element array e) t = expressionCode e t
+    indexCode (element array e) t = expressionCode e wanted t
 
   -- A part of a for; its value is dropped.
   abbrev pub partCode : Part → Items
   partCode absent = none
-  partCode (present e) = expressionCode e 0
+  partCode (present e) = expressionCode e dropped 0
 
   -- Every statement has code: one that leaves nothing to do leaves an empty statement.
   abbrev pub orEmpty : Items → Items
@@ -197,7 +227,7 @@ module _ (S : ℕ) where
   -- A loop's test: where it is 0, leave the loop for the label l; else the rest.
   abbrev pub testCode : Part → ℕ → Items → Items
   testCode absent l rest = rest
-  testCode (present e) l rest = expressionCode e 0 ⧺ choosing (atom 0 (atomOf e)) none (goto l then none) rest
+  testCode (present e) l rest = expressionCode e wanted 0 ⧺ choosing (atom 0 (atomOf e)) none (goto l then none) rest
 
   -- A loop and the label l behind it.
   abbrev pub loopCode : Items → ℕ → Items
@@ -215,10 +245,10 @@ module _ (S : ℕ) where
     -- A statement whose labels begin at l.
     pub statementCode : Statement → Exits → ℕ → Items
     statementCode empty x l = empty then none
-    statementCode (express e) x l = orEmpty (expressionCode e 0)
+    statementCode (express e) x l = orEmpty (expressionCode e dropped 0)
     statementCode (block is) x l = block (itemsCode is x l) then none
-    statementCode (ifThen e onTrue) x l = expressionCode e 0 ⧺ choosing (atom 0 (atomOf e)) (statementCode onTrue x l) none none
-    statementCode (ifElse e onTrue onFalse) x l = expressionCode e 0 ⧺ choosing (atom 0 (atomOf e)) (statementCode onTrue x l) (statementCode onFalse x (l + labels onTrue)) none
+    statementCode (ifThen e onTrue) x l = expressionCode e wanted 0 ⧺ choosing (atom 0 (atomOf e)) (statementCode onTrue x l) none none
+    statementCode (ifElse e onTrue onFalse) x l = expressionCode e wanted 0 ⧺ choosing (atom 0 (atomOf e)) (statementCode onTrue x l) (statementCode onFalse x (l + labels onTrue)) none
     -- label l behind the loop, label l + 1 where continue goes: to the end of the round, the test or the step
     statementCode (while e body) x l = loopCode (testCode (present e) l (statementCode body (exits l (l + 1)) (l + 2) ⧺ label (l + 1) here none)) l
     statementCode (doWhile body e) x l = loopCode (statementCode body (exits l (l + 1)) (l + 2) ⧺ label (l + 1) here testCode (present e) l none) l
@@ -226,7 +256,7 @@ module _ (S : ℕ) where
         partCode first ⧺ loopCode (testCode test l (statementCode body (exits l (l + 1)) (l + 2) ⧺ label (l + 1) here partCode action)) l
     -- all tests first; then the items in their order, each mark a label
     statementCode (switch e is) x l =
-        expressionCode e 0 ⧺ caseTests (atom 0 (atomOf e)) (taken (atomOf e)) is (l + 1) ⧺ goto (labelOf default is (l + 1) l) then itemsCode is (exits l (x .onContinue)) (l + 1) ⧺ label l here none
+        expressionCode e wanted 0 ⧺ caseTests (atom 0 (atomOf e)) (taken (atomOf e)) is (l + 1) ⧺ goto (labelOf default is (l + 1) l) then itemsCode is (exits l (x .onContinue)) (l + 1) ⧺ label l here none
     statementCode break x l = goto (x .onBreak) then none
     statementCode continue x l = goto (x .onContinue) then none
     -- the source has no goto
@@ -246,47 +276,71 @@ translate L program = itemsCode (storeSize L) program (exits 0 0) 1
 
 -- ---- temporaries
 
+-- The level of an element's value or an operation's result: none where it goes straight into a variable.
+abbrev pub resultLevels : Use → ℕ
+resultLevels dropped = 1
+resultLevels wanted = 1
+resultLevels (stored i) = 0
+
+abbrev pub readLevels : Place → Use → ℕ
+readLevels (variable i) u = 0
+readLevels (element array e) u = resultLevels u
+
+-- The level of a variable's old value: none where nobody uses it.
+abbrev pub oldLevels : Use → ℕ
+oldLevels dropped = 0
+oldLevels wanted = 1
+oldLevels (stored i) = 1
+
 -- How many temporaries, from its level on, the code of an expression names.
 unfoldable mutual
-  pub expressionLevels : Expression → ℕ
-  expressionLevels (constant v) = 0
-  expressionLevels (read p) = max (taken (atomOf (read p))) (indexLevels p)
-  expressionLevels (minus e) = max 1 (expressionLevels e)
-  expressionLevels (not e) = max 1 (expressionLevels e)
-  expressionLevels (binary operator a b) = max 1 (max (expressionLevels b) (taken (held (atomOf b) (writes a)) + expressionLevels a))
-  expressionLevels (and a b) = max 1 (max (expressionLevels a) (expressionLevels b))
-  expressionLevels (or a b) = max 1 (max (expressionLevels a) (expressionLevels b))
-  expressionLevels (comma a b) = max (expressionLevels a) (expressionLevels b)
-  expressionLevels (conditional c a b) = max 1 (max (expressionLevels c) (max (expressionLevels a) (expressionLevels b)))
-  expressionLevels (assign p e) = max (expressionLevels e) (taken (held (atomOf e) (indexWrites p)) + indexLevels p)
-  expressionLevels (compound operator p e) = max (expressionLevels e) (1 + updateLevels p)
-  expressionLevels (prefix operator p) = 1 + updateLevels p
-  expressionLevels (postfix operator p) = 1 + updateLevels p
+  pub expressionLevels : Expression → Use → ℕ
+  expressionLevels (constant v) u = 0
+  expressionLevels (read p) u = max (readLevels p u) (indexLevels p)
+  expressionLevels (minus e) u = max (resultLevels u) (expressionLevels e wanted)
+  expressionLevels (not e) u = max (resultLevels u) (expressionLevels e wanted)
+  expressionLevels (binary operator a b) u = max (resultLevels u) (max (expressionLevels b wanted) (taken (held (atomOf b) (writes a)) + expressionLevels a wanted))
+  expressionLevels (and a b) u = max 1 (max (expressionLevels a wanted) (expressionLevels b wanted))
+  expressionLevels (or a b) u = max 1 (max (expressionLevels a wanted) (expressionLevels b wanted))
+  expressionLevels (comma a b) u = max (expressionLevels a dropped) (expressionLevels b (passedOn u))
+  expressionLevels (conditional c a b) u = max 1 (max (expressionLevels c wanted) (max (expressionLevels a wanted) (expressionLevels b wanted)))
+  expressionLevels (assign p e) u = max (expressionLevels e (useFor p)) (taken (held (landed p (direct e) (atomOf e)) (indexWrites p)) + indexLevels p)
+  expressionLevels (compound operator p e) u = max (expressionLevels e wanted) (updateLevels p)
+  expressionLevels (prefix operator p) u = updateLevels p
+  expressionLevels (postfix operator p) u = postfixLevels p u
 
   pub indexLevels : Place → ℕ
   indexLevels (variable i) = 0
-  indexLevels (element array e) = expressionLevels e
+  indexLevels (element array e) = expressionLevels e wanted
 
-  -- The index, and the temporary above it.
+  -- The result of an element's update, its index, and the temporary above it.
   pub updateLevels : Place → ℕ
   updateLevels (variable i) = 0
-  updateLevels (element array e) = max (expressionLevels e) (taken (atomOf e) + 1)
+  updateLevels (element array e) = 1 + max (expressionLevels e wanted) (taken (atomOf e) + 1)
+
+  pub postfixLevels : Place → Use → ℕ
+  postfixLevels (variable i) u = oldLevels u
+  postfixLevels (element array e) u = 1 + max (expressionLevels e wanted) (taken (atomOf e) + 1)
 
 abbrev pub partLevels : Part → ℕ
 partLevels absent = 0
-partLevels (present e) = expressionLevels e
+partLevels (present e) = expressionLevels e dropped
+
+abbrev pub testLevels : Part → ℕ
+testLevels absent = 0
+testLevels (present e) = expressionLevels e wanted
 
 unfoldable mutual
   pub statementLevels : Statement → ℕ
   statementLevels empty = 0
-  statementLevels (express e) = expressionLevels e
+  statementLevels (express e) = expressionLevels e dropped
   statementLevels (block is) = itemsLevels is
-  statementLevels (ifThen e onTrue) = max (expressionLevels e) (statementLevels onTrue)
-  statementLevels (ifElse e onTrue onFalse) = max (expressionLevels e) (max (statementLevels onTrue) (statementLevels onFalse))
-  statementLevels (while e body) = max (expressionLevels e) (statementLevels body)
-  statementLevels (doWhile body e) = max (expressionLevels e) (statementLevels body)
-  statementLevels (for first test action body) = max (max (partLevels first) (partLevels test)) (max (partLevels action) (statementLevels body))
-  statementLevels (switch e is) = max (taken (atomOf e) + 1) (max (expressionLevels e) (itemsLevels is))
+  statementLevels (ifThen e onTrue) = max (expressionLevels e wanted) (statementLevels onTrue)
+  statementLevels (ifElse e onTrue onFalse) = max (expressionLevels e wanted) (max (statementLevels onTrue) (statementLevels onFalse))
+  statementLevels (while e body) = max (expressionLevels e wanted) (statementLevels body)
+  statementLevels (doWhile body e) = max (expressionLevels e wanted) (statementLevels body)
+  statementLevels (for first test action body) = max (max (partLevels first) (testLevels test)) (max (partLevels action) (statementLevels body))
+  statementLevels (switch e is) = max (taken (atomOf e) + 1) (max (expressionLevels e wanted) (itemsLevels is))
   statementLevels break = 0
   statementLevels continue = 0
   statementLevels (goto l) = 0

@@ -1,6 +1,6 @@
 -- How large a translation is: "From n source rows come at most 20×n+20 kernel rows and at most 4×n temporaries." By induction on the
 -- tree, each row with its own share.
-use mathlib.Core.Bool.{Bool}
+use mathlib.Core.Bool.{Bool, true, false}
 use Prim.Native.Nat.{ℕ, _+_, _*_, _≤_}
 use native.Mathlib.Omega.{arith}
 use Rattle.words.specs.Layout.{Layout}
@@ -8,9 +8,10 @@ use Rattle.words.specs.Laws.{by-cases}
 use Rattle.language.specs.Trees.{Expression, constant, read, minus, not, binary, and, or, comma, conditional, assign, compound, prefix, postfix, Place, variable, element, Part, absent, present, case, default, label, Statement, empty, express, block, ifThen, ifElse, while, doWhile, for, switch, break, continue, goto, Items, none, _then_, _here_}
 use Rattle.language.specs.Writes.{writes, indexWrites}
 use Rattle.language.specs.Sizes.{expressionRows, placeRows, partRows, statementRows, itemsRows}
-use Rattle.translation.specs.Translate.{Atom, number, word, top, held, taken, atomOf, labels, itemsLabels, translate, expressionLevels, indexLevels, updateLevels, partLevels, statementLevels, itemsLevels, temporaries}
+use Rattle.translation.specs.Uses.{Use, dropped, wanted, stored, useFor, passedOn, direct}
+use Rattle.translation.specs.Translate.{Atom, number, word, top, held, landed, updated, taken, atomOf, labels, itemsLabels, translate, resultLevels, readLevels, oldLevels, expressionLevels, indexLevels, updateLevels, postfixLevels, partLevels, testLevels, statementLevels, itemsLevels, temporaries}
 use Rattle.translation.specs.TranslateRows.{translation-rows}
-use Rattle.translation.specs.TranslateSize.{indexRows, copyRows, holdRows, expressionSize, indexSize, partSize, testSize, cases, statementSize, itemsSize}
+use Rattle.translation.specs.TranslateSize.{indexRows, copyRows, holdRows, storeRows, updateRows, stepRows, postfixRows, expressionSize, indexSize, partSize, testSize, cases, statementSize, itemsSize}
 
 pub copy-most : (h : Atom) → copyRows h ≤ 4
 copy-most (number v) = omega arith
@@ -30,6 +31,24 @@ taken-most top = omega arith
 pub index-most : (p : Place) → indexRows p ≤ 1
 index-most (variable i) = omega arith
 index-most (element array e) = omega arith
+
+store-most : (p : Place) (straight : Bool) → storeRows p straight ≤ 5
+store-most (variable i) true = omega arith
+store-most (variable i) false = omega arith
+store-most (element array e) straight = omega arith
+
+update-most : (p : Place) → updateRows p ≤ 16
+update-most (variable i) = omega arith
+update-most (element array e) = omega arith
+
+step-most : (u : Use) → stepRows u ≤ 16
+step-most dropped = omega arith
+step-most wanted = omega arith
+step-most (stored i) = omega arith
+
+postfix-most : (p : Place) (u : Use) → postfixRows p u ≤ 16
+postfix-most (variable i) u = step-most u
+postfix-most (element array e) u = omega arith
 
 mutual
   unfolding expressionRows
@@ -58,47 +77,47 @@ mutual
 mutual
   unfolding expressionSize expressionRows
 
-  expression-most : (e : Expression) → expressionSize e ≤ 20 * expressionRows e
-  expression-most (constant v) = omega arith
-  expression-most (read p) = omega (arith, index-size-most p, index-most p)
-  expression-most (minus e) = omega (arith, expression-most e)
-  expression-most (not e) = omega (arith, expression-most e)
-  expression-most (binary operator a b) = omega (arith, expression-most a, expression-most b, hold-most (atomOf b) (writes a))
-  expression-most (and a b) = omega (arith, expression-most a, expression-most b)
-  expression-most (or a b) = omega (arith, expression-most a, expression-most b)
-  expression-most (comma a b) = omega (arith, expression-most a, expression-most b)
-  expression-most (conditional c a b) = omega (arith, expression-most c, expression-most a, expression-most b, copy-most (atomOf a), copy-most (atomOf b))
-  expression-most (assign p e) = omega (arith, index-size-most p, expression-most e, index-most p, hold-most (atomOf e) (indexWrites p))
-  expression-most (compound operator p e) = omega (arith, index-size-most p, expression-most e, index-most p, hold-most (atomOf e) (indexWrites p))
-  expression-most (prefix operator p) = omega (arith, index-size-most p, index-most p)
-  expression-most (postfix operator p) = omega (arith, index-size-most p, index-most p)
+  expression-most : (e : Expression) (u : Use) → expressionSize e u ≤ 20 * expressionRows e
+  expression-most (constant v) u = omega arith
+  expression-most (read p) u = omega (arith, index-size-most p, index-most p)
+  expression-most (minus e) u = omega (arith, expression-most e wanted)
+  expression-most (not e) u = omega (arith, expression-most e wanted)
+  expression-most (binary operator a b) u = omega (arith, expression-most a wanted, expression-most b wanted, hold-most (atomOf b) (writes a))
+  expression-most (and a b) u = omega (arith, expression-most a wanted, expression-most b wanted)
+  expression-most (or a b) u = omega (arith, expression-most a wanted, expression-most b wanted)
+  expression-most (comma a b) u = omega (arith, expression-most a dropped, expression-most b (passedOn u))
+  expression-most (conditional c a b) u = omega (arith, expression-most c wanted, expression-most a wanted, expression-most b wanted, copy-most (atomOf a), copy-most (atomOf b))
+  expression-most (assign p e) u = omega (arith, index-size-most p, expression-most e (useFor p), store-most p (direct e), hold-most (landed p (direct e) (atomOf e)) (indexWrites p))
+  expression-most (compound operator p e) u = omega (arith, index-size-most p, expression-most e wanted, update-most p, hold-most (atomOf e) (indexWrites p))
+  expression-most (prefix operator p) u = omega (arith, index-size-most p, update-most p)
+  expression-most (postfix operator p) u = omega (arith, index-size-most p, postfix-most p u)
 
   -- a place's own row has yet to be used
   index-size-most : (p : Place) → indexSize p + 20 ≤ 20 * placeRows p
   index-size-most (variable i) = omega arith
-  index-size-most (element array e) = omega (arith, expression-most e)
+  index-size-most (element array e) = omega (arith, expression-most e wanted)
 
 part-most : (p : Part) → partSize p ≤ 20 * partRows p
 part-most absent = omega arith
-part-most (present e) = expression-most e
+part-most (present e) = expression-most e dropped
 
 test-most : (p : Part) → testSize p ≤ 20 * partRows p + 5
 test-most absent = omega arith
-test-most (present e) = omega (arith, expression-most e)
+test-most (present e) = omega (arith, expression-most e wanted)
 
 mutual
   unfolding statementSize statementRows
 
   statement-most : (s : Statement) → statementSize s ≤ 20 * statementRows s
   statement-most empty = omega arith
-  statement-most (express e) = omega (arith, expression-most e)
+  statement-most (express e) = omega (arith, expression-most e dropped)
   statement-most (block is) = omega (arith, items-most is)
-  statement-most (ifThen e onTrue) = omega (arith, expression-most e, statement-most onTrue)
-  statement-most (ifElse e onTrue onFalse) = omega (arith, expression-most e, statement-most onTrue, statement-most onFalse)
-  statement-most (while e body) = omega (arith, expression-most e, statement-most body)
-  statement-most (doWhile body e) = omega (arith, expression-most e, statement-most body)
+  statement-most (ifThen e onTrue) = omega (arith, expression-most e wanted, statement-most onTrue)
+  statement-most (ifElse e onTrue onFalse) = omega (arith, expression-most e wanted, statement-most onTrue, statement-most onFalse)
+  statement-most (while e body) = omega (arith, expression-most e wanted, statement-most body)
+  statement-most (doWhile body e) = omega (arith, expression-most e wanted, statement-most body)
   statement-most (for first test action body) = omega (arith, part-most first, test-most test, part-most action, statement-most body)
-  statement-most (switch e is) = omega (arith, expression-most e, items-most is)
+  statement-most (switch e is) = omega (arith, expression-most e wanted, items-most is)
   statement-most break = omega arith
   statement-most continue = omega arith
   statement-most (goto l) = omega arith
@@ -118,49 +137,71 @@ rows-bound L program = omega (arith, translation-rows L program, items-most prog
 
 -- ---- temporaries
 
+result-most : (u : Use) → resultLevels u ≤ 1
+result-most dropped = omega arith
+result-most wanted = omega arith
+result-most (stored i) = omega arith
+
+read-most : (p : Place) (u : Use) → readLevels p u ≤ 1
+read-most (variable i) u = omega arith
+read-most (element array e) u = result-most u
+
+old-most : (u : Use) → oldLevels u ≤ 1
+old-most dropped = omega arith
+old-most wanted = omega arith
+old-most (stored i) = omega arith
+
 mutual
   unfolding expressionLevels expressionRows
 
-  levels-most : (e : Expression) → expressionLevels e ≤ expressionRows e
-  levels-most (constant v) = omega arith
-  levels-most (read p) = omega (arith, index-levels-most p, place-some p, taken-most (atomOf (read p)))
-  levels-most (minus e) = omega (arith, levels-most e)
-  levels-most (not e) = omega (arith, levels-most e)
-  levels-most (binary operator a b) = omega (arith, levels-most a, levels-most b, taken-most (held (atomOf b) (writes a)))
-  levels-most (and a b) = omega (arith, levels-most a, levels-most b)
-  levels-most (or a b) = omega (arith, levels-most a, levels-most b)
-  levels-most (comma a b) = omega (arith, levels-most a, levels-most b)
-  levels-most (conditional c a b) = omega (arith, levels-most c, levels-most a, levels-most b)
-  levels-most (assign p e) = omega (arith, index-levels-most p, levels-most e, taken-most (held (atomOf e) (indexWrites p)))
-  levels-most (compound operator p e) = omega (arith, update-levels-most p, levels-most e)
-  levels-most (prefix operator p) = omega (arith, update-levels-most p)
-  levels-most (postfix operator p) = omega (arith, update-levels-most p)
+  levels-most : (e : Expression) (u : Use) → expressionLevels e u ≤ expressionRows e
+  levels-most (constant v) u = omega arith
+  levels-most (read p) u = omega (arith, index-levels-most p, place-some p, read-most p u)
+  levels-most (minus e) u = omega (arith, levels-most e wanted, result-most u)
+  levels-most (not e) u = omega (arith, levels-most e wanted, result-most u)
+  levels-most (binary operator a b) u = omega (arith, levels-most a wanted, levels-most b wanted, taken-most (held (atomOf b) (writes a)), result-most u)
+  levels-most (and a b) u = omega (arith, levels-most a wanted, levels-most b wanted)
+  levels-most (or a b) u = omega (arith, levels-most a wanted, levels-most b wanted)
+  levels-most (comma a b) u = omega (arith, levels-most a dropped, levels-most b (passedOn u))
+  levels-most (conditional c a b) u = omega (arith, levels-most c wanted, levels-most a wanted, levels-most b wanted)
+  levels-most (assign p e) u = omega (arith, index-levels-most p, levels-most e (useFor p), taken-most (held (landed p (direct e) (atomOf e)) (indexWrites p)))
+  levels-most (compound operator p e) u = omega (arith, update-levels-most p, levels-most e wanted)
+  levels-most (prefix operator p) u = omega (arith, update-levels-most p)
+  levels-most (postfix operator p) u = omega (arith, postfix-levels-most p u)
 
   index-levels-most : (p : Place) → indexLevels p ≤ placeRows p
   index-levels-most (variable i) = omega arith
-  index-levels-most (element array e) = omega (arith, levels-most e)
+  index-levels-most (element array e) = omega (arith, levels-most e wanted)
 
-  update-levels-most : (p : Place) → updateLevels p ≤ placeRows p
+  update-levels-most : (p : Place) → updateLevels p ≤ 1 + placeRows p
   update-levels-most (variable i) = omega arith
-  update-levels-most (element array e) = omega (arith, levels-most e, taken-most (atomOf e), expression-some e)
+  update-levels-most (element array e) = omega (arith, levels-most e wanted, taken-most (atomOf e), expression-some e)
+
+  postfix-levels-most : (p : Place) (u : Use) → postfixLevels p u ≤ 1 + placeRows p
+  postfix-levels-most (variable i) u = omega (arith, old-most u)
+  postfix-levels-most (element array e) u = omega (arith, levels-most e wanted, taken-most (atomOf e), expression-some e)
 
 part-levels-most : (p : Part) → partLevels p ≤ partRows p
 part-levels-most absent = omega arith
-part-levels-most (present e) = levels-most e
+part-levels-most (present e) = levels-most e dropped
+
+test-levels-most : (p : Part) → testLevels p ≤ partRows p
+test-levels-most absent = omega arith
+test-levels-most (present e) = levels-most e wanted
 
 mutual
   unfolding statementLevels statementRows
 
   statement-levels-most : (s : Statement) → statementLevels s ≤ statementRows s
   statement-levels-most empty = omega arith
-  statement-levels-most (express e) = omega (arith, levels-most e)
+  statement-levels-most (express e) = omega (arith, levels-most e dropped)
   statement-levels-most (block is) = omega (arith, items-levels-most is)
-  statement-levels-most (ifThen e onTrue) = omega (arith, levels-most e, statement-levels-most onTrue)
-  statement-levels-most (ifElse e onTrue onFalse) = omega (arith, levels-most e, statement-levels-most onTrue, statement-levels-most onFalse)
-  statement-levels-most (while e body) = omega (arith, levels-most e, statement-levels-most body)
-  statement-levels-most (doWhile body e) = omega (arith, levels-most e, statement-levels-most body)
-  statement-levels-most (for first test action body) = omega (arith, part-levels-most first, part-levels-most test, part-levels-most action, statement-levels-most body)
-  statement-levels-most (switch e is) = omega (arith, levels-most e, items-levels-most is, taken-most (atomOf e), expression-some e)
+  statement-levels-most (ifThen e onTrue) = omega (arith, levels-most e wanted, statement-levels-most onTrue)
+  statement-levels-most (ifElse e onTrue onFalse) = omega (arith, levels-most e wanted, statement-levels-most onTrue, statement-levels-most onFalse)
+  statement-levels-most (while e body) = omega (arith, levels-most e wanted, statement-levels-most body)
+  statement-levels-most (doWhile body e) = omega (arith, levels-most e wanted, statement-levels-most body)
+  statement-levels-most (for first test action body) = omega (arith, part-levels-most first, test-levels-most test, part-levels-most action, statement-levels-most body)
+  statement-levels-most (switch e is) = omega (arith, levels-most e wanted, items-levels-most is, taken-most (atomOf e), expression-some e)
   statement-levels-most break = omega arith
   statement-levels-most continue = omega arith
   statement-levels-most (goto l) = omega arith
@@ -169,6 +210,39 @@ mutual
   items-levels-most none = omega arith
   items-levels-most (s then is) = omega (arith, statement-levels-most s, items-levels-most is)
   items-levels-most (m here is) = omega (arith, items-levels-most is)
+
+-- The level of an updated place's new value.
+updated-level : (p : Place) → taken (updated p) ≤ updateLevels p
+unfolding expressionLevels
+updated-level (variable i) = omega arith
+updated-level (element array e) = omega arith
+
+mutual
+  unfolding atomOf expressionLevels
+
+  -- An expression whose value is in a temporary has one.
+  pub taken-level : (e : Expression) → taken (atomOf e) ≤ expressionLevels e wanted
+  taken-level (constant v) = omega arith
+  taken-level (read p) = read-level p
+  taken-level (minus e) = omega arith
+  taken-level (not e) = omega arith
+  taken-level (binary operator a b) = omega arith
+  taken-level (and a b) = omega arith
+  taken-level (or a b) = omega arith
+  taken-level (comma a b) = omega (arith, taken-level b)
+  taken-level (conditional c a b) = omega arith
+  taken-level (assign p e) = omega arith
+  taken-level (compound operator p e) = omega (arith, updated-level p)
+  taken-level (prefix operator p) = updated-level p
+  taken-level (postfix operator p) = postfix-level p
+
+  read-level : (p : Place) → taken (atomOf (read p)) ≤ expressionLevels (read p) wanted
+  read-level (variable i) = omega arith
+  read-level (element array e) = omega arith
+
+  postfix-level : (p : Place) → 1 ≤ postfixLevels p wanted
+  postfix-level (variable i) = omega arith
+  postfix-level (element array e) = omega arith
 
 -- "At most 4×n temporaries": at most n.
 pub temporaries-bound : (program : Items) → temporaries program ≤ statementRows (block program)

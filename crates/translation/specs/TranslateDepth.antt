@@ -9,8 +9,9 @@ use Rattle.words.specs.declared.Operator.{Operator}
 use Rattle.language.specs.Trees.{Expression, constant, read, minus, not, binary, and, or, comma, conditional, assign, compound, prefix, postfix, Place, variable, element, Part, absent, present, Mark, case, default, label, Statement, empty, express, block, ifThen, ifElse, while, doWhile, for, switch, break, continue, goto, Items, none, _then_, _here_, _⧺_}
 use Rattle.language.specs.Writes.{writes, indexWrites}
 use Rattle.language.specs.Sizes.{expressionDepth, placeDepth, partDepth, statementDepth, itemsDepth}
-use Rattle.translation.specs.HeldCode.{holdCode, hold-either}
-use Rattle.translation.specs.Translate.{Atom, number, word, top, held, taken, placeTaken, atomOf, atom, copyCode, readCode, kernelPlace, updateCode, postfixCode, expressionCode, indexCode, partCode, orEmpty, testCode, loopCode, caseTests, labels, Exits, exits, statementCode, itemsCode, translate}
+use Rattle.translation.specs.HeldCode.{holdCode, hold-either, store-either}
+use Rattle.translation.specs.Uses.{Use, dropped, wanted, stored, useFor, passedOn, direct}
+use Rattle.translation.specs.Translate.{Atom, number, word, top, held, landed, taken, placeTaken, atomOf, atom, copyCode, readCode, storeCode, kernelPlace, updateCode, stepCode, postfixCode, expressionCode, indexCode, partCode, orEmpty, testCode, loopCode, caseTests, labels, Exits, exits, statementCode, itemsCode, translate}
 
 -- A bound on the depth of a list. (A record, so that the list is determined.)
 record Deep (d : ℕ) (xs : Items) : Type 0 where
@@ -92,58 +93,69 @@ module _ (S : ℕ) where
   deep-hold : {d : ℕ} (t : ℕ) (h : Atom) (W : ℕ → Bool) → 4 ≤ d → Deep d (holdCode S t h W)
   deep-hold {d} t h W le = hold-either S (λ (xs : Items). Deep d xs) t h W (deep-copy t h le) deep-none
 
-  deep-read : {d : ℕ} (p : Place) (t : ℕ) → 4 ≤ d → Deep d (readCode S p t)
+  deep-store : {d : ℕ} (p : Place) (i : ℕ) (straight : Bool) (h : Atom) (t : ℕ) → 4 ≤ d → Deep d (storeCode S (kernelPlace S p i) straight (atom S t h))
+  deep-store {d} p i straight h t le = store-either S (λ (xs : Items). Deep d xs) (kernelPlace S p i) straight (atom S t h) (deep-assign le (depth-place p i) (omega (arith, depth-atom t h)) deep-none) deep-none
+
+  deep-read : {d : ℕ} (p : Place) (u : Use) (t : ℕ) → 4 ≤ d → Deep d (readCode S p u t)
   unfolding expressionDepth
-  deep-read (variable i) t le = deep-none
-  deep-read (element array e) t le = deep-assign le (omega arith) (omega (arith, depth-atom t (atomOf e))) deep-none
+  deep-read (variable i) u t le = deep-none
+  deep-read (element array e) u t le = deep-assign le (omega arith) (omega (arith, depth-atom t (atomOf e))) deep-none
 
   deep-update : {d : ℕ} (operator : Operator) (p : Place) (h : Atom) (i t u : ℕ) → 4 ≤ d → Deep d (updateCode S operator (kernelPlace S p i) (atom S t h) t u)
   unfolding expressionDepth kernelPlace
-  deep-update operator (variable j) h i t u le = deep-assign le (omega arith) (omega (arith, depth-atom t h)) (deep-assign le (omega arith) (omega arith) deep-none)
+  deep-update operator (variable j) h i t u le = deep-assign le (omega arith) (omega (arith, depth-atom t h)) deep-none
   deep-update operator (element array e) h i t u le = deep-assign le (omega arith) (omega (arith, depth-atom i (atomOf e)))
       (deep-assign le (omega arith) (omega (arith, depth-atom t h)) (deep-assign le (omega (arith, depth-atom i (atomOf e))) (omega arith) deep-none))
 
-  deep-postfix : {d : ℕ} (operator : Operator) (p : Place) (i t u : ℕ) → 4 ≤ d → Deep d (postfixCode S operator (kernelPlace S p i) t u)
+  deep-step : {d : ℕ} (operator : Operator) (i : ℕ) (u : Use) (t : ℕ) → 4 ≤ d → Deep d (stepCode S operator i u t)
+  unfolding expressionDepth
+  deep-step operator i dropped t le = deep-assign le (omega arith) (omega arith) deep-none
+  deep-step operator i wanted t le = deep-assign le (omega arith) (omega arith) (deep-assign le (omega arith) (omega arith) deep-none)
+  deep-step operator i (stored j) t le = deep-assign le (omega arith) (omega arith) (deep-assign le (omega arith) (omega arith) deep-none)
+
+  deep-postfix : {d : ℕ} (operator : Operator) (p : Place) (u : Use) (i t n : ℕ) → 4 ≤ d → Deep d (postfixCode S operator (kernelPlace S p i) u t n)
   unfolding expressionDepth kernelPlace
-  deep-postfix operator (variable j) i t u le = deep-assign le (omega arith) (omega arith) (deep-assign le (omega arith) (omega arith) deep-none)
-  deep-postfix operator (element array e) i t u le = deep-assign le (omega arith) (omega (arith, depth-atom i (atomOf e)))
+  deep-postfix operator (variable j) u i t n le = deep-step operator j u t le
+  deep-postfix operator (element array e) u i t n le = deep-assign le (omega arith) (omega (arith, depth-atom i (atomOf e)))
       (deep-assign le (omega arith) (omega arith) (deep-assign le (omega (arith, depth-atom i (atomOf e))) (omega arith) deep-none))
 
   mutual
     unfolding expressionDepth expressionCode
 
-    deep-expression : (e : Expression) (t d : ℕ) → expressionDepth e * 2 + 2 ≤ d → Deep d (expressionCode S e t)
-    deep-expression (constant v) t d h = deep-none
-    deep-expression (read p) t d h = deep-append (deep-index p t d (omega arith)) (deep-read p t (omega (arith, place-depth-some p)))
-    deep-expression (minus e) t d h = deep-append (deep-expression e t d (omega arith)) (deep-assign (omega arith) (omega arith) (omega (arith, depth-atom t (atomOf e))) deep-none)
-    deep-expression (not e) t d h = deep-append (deep-expression e t d (omega arith)) (deep-assign (omega arith) (omega arith) (omega (arith, depth-atom t (atomOf e))) deep-none)
-    deep-expression (binary operator a b) t d h = let right = held (atomOf b) (writes a) in
-        deep-append (deep-expression b t d (omega arith)) (deep-append (deep-hold t (atomOf b) (writes a) (omega arith)) (deep-append (deep-expression a (t + taken right) d (omega arith))
+    deep-expression : (e : Expression) (u : Use) (t d : ℕ) → expressionDepth e * 2 + 2 ≤ d → Deep d (expressionCode S e u t)
+    deep-expression (constant v) u t d h = deep-none
+    deep-expression (read p) u t d h = deep-append (deep-index p t d (omega arith)) (deep-read p u t (omega (arith, place-depth-some p)))
+    deep-expression (minus e) u t d h = deep-append (deep-expression e wanted t d (omega arith)) (deep-assign (omega arith) (omega arith) (omega (arith, depth-atom t (atomOf e))) deep-none)
+    deep-expression (not e) u t d h = deep-append (deep-expression e wanted t d (omega arith)) (deep-assign (omega arith) (omega arith) (omega (arith, depth-atom t (atomOf e))) deep-none)
+    deep-expression (binary operator a b) u t d h = let right = held (atomOf b) (writes a) in
+        deep-append (deep-expression b wanted t d (omega arith)) (deep-append (deep-hold t (atomOf b) (writes a) (omega arith)) (deep-append (deep-expression a wanted (t + taken right) d (omega arith))
         (deep-assign (omega arith) (omega arith) (omega (arith, depth-atom (t + taken right) (atomOf a), depth-atom t right)) deep-none)))
-    deep-expression (and a b) t d h = deep-append (deep-expression a t d (omega arith)) (deep-if (expressionDepth b * 2 + 2) (depth-atom t (atomOf a)) (omega arith)
-        (deep-append (deep-expression b t _ (omega arith)) (deep-assign (omega (arith, depth-some b)) (omega arith) (omega (arith, depth-atom t (atomOf b))) deep-none)) (deep-assign (omega (arith, depth-some b)) (omega arith) (omega arith) deep-none) deep-none)
-    deep-expression (or a b) t d h = deep-append (deep-expression a t d (omega arith)) (deep-if (expressionDepth b * 2 + 2) (depth-atom t (atomOf a)) (omega arith) (deep-assign (omega (arith, depth-some b)) (omega arith) (omega arith) deep-none)
-        (deep-append (deep-expression b t _ (omega arith)) (deep-assign (omega (arith, depth-some b)) (omega arith) (omega (arith, depth-atom t (atomOf b))) deep-none)) deep-none)
-    deep-expression (comma a b) t d h = deep-append (deep-expression a t d (omega arith)) (deep-expression b t d (omega arith))
-    deep-expression (conditional c a b) t d h = deep-append (deep-expression c t d (omega arith)) (deep-if (max (expressionDepth a) (expressionDepth b) * 2 + 2) (depth-atom t (atomOf c)) (omega arith)
-        (deep-append (deep-expression a t _ (omega arith)) (deep-copy t (atomOf a) (omega (arith, depth-some a))))
-        (deep-append (deep-expression b t _ (omega arith)) (deep-copy t (atomOf b) (omega (arith, depth-some a)))) deep-none)
-    deep-expression (assign p e) t d h = let value = held (atomOf e) (indexWrites p) in
-        deep-append (deep-expression e t d (omega arith)) (deep-append (deep-hold t (atomOf e) (indexWrites p) (omega arith)) (deep-append (deep-index p (t + taken value) d (omega arith))
-        (deep-assign (omega arith) (depth-place p (t + taken value)) (omega (arith, depth-atom t value)) deep-none)))
-    deep-expression (compound operator p e) t d h = deep-append (deep-expression e t d (omega arith)) (deep-append (deep-hold t (atomOf e) (indexWrites p) (omega arith))
+    deep-expression (and a b) u t d h = deep-append (deep-expression a wanted t d (omega arith)) (deep-if (expressionDepth b * 2 + 2) (depth-atom t (atomOf a)) (omega arith)
+        (deep-append (deep-expression b wanted t _ (omega arith)) (deep-assign (omega (arith, depth-some b)) (omega arith) (omega (arith, depth-atom t (atomOf b))) deep-none)) (deep-assign (omega (arith, depth-some b)) (omega arith) (omega arith) deep-none) deep-none)
+    deep-expression (or a b) u t d h = deep-append (deep-expression a wanted t d (omega arith)) (deep-if (expressionDepth b * 2 + 2) (depth-atom t (atomOf a)) (omega arith) (deep-assign (omega (arith, depth-some b)) (omega arith) (omega arith) deep-none)
+        (deep-append (deep-expression b wanted t _ (omega arith)) (deep-assign (omega (arith, depth-some b)) (omega arith) (omega (arith, depth-atom t (atomOf b))) deep-none)) deep-none)
+    deep-expression (comma a b) u t d h = deep-append (deep-expression a dropped t d (omega arith)) (deep-expression b (passedOn u) t d (omega arith))
+    deep-expression (conditional c a b) u t d h = deep-append (deep-expression c wanted t d (omega arith)) (deep-if (max (expressionDepth a) (expressionDepth b) * 2 + 2) (depth-atom t (atomOf c)) (omega arith)
+        (deep-append (deep-expression a wanted t _ (omega arith)) (deep-copy t (atomOf a) (omega (arith, depth-some a))))
+        (deep-append (deep-expression b wanted t _ (omega arith)) (deep-copy t (atomOf b) (omega (arith, depth-some a)))) deep-none)
+    deep-expression (assign p e) u t d h =
+        let own = landed p (direct e) (atomOf e) in
+        let value = held own (indexWrites p) in
+        deep-append (deep-expression e (useFor p) t d (omega arith)) (deep-append (deep-hold t own (indexWrites p) (omega arith)) (deep-append (deep-index p (t + taken value) d (omega arith))
+        (deep-store p (t + taken value) (direct e) value t (omega arith))))
+    deep-expression (compound operator p e) u t d h = deep-append (deep-expression e wanted t d (omega arith)) (deep-append (deep-hold t (atomOf e) (indexWrites p) (omega arith))
         (deep-append (deep-index p (t + 1) d (omega arith)) (deep-update operator p (held (atomOf e) (indexWrites p)) (t + 1) t (t + 1 + placeTaken p) (omega arith))))
-    deep-expression (prefix operator p) t d h = deep-append (deep-index p (t + 1) d (omega arith)) (deep-update operator p (number (pos 1)) (t + 1) t (t + 1 + placeTaken p) (omega arith))
-    deep-expression (postfix operator p) t d h = deep-append (deep-index p (t + 1) d (omega arith)) (deep-postfix operator p (t + 1) t (t + 1 + placeTaken p) (omega arith))
+    deep-expression (prefix operator p) u t d h = deep-append (deep-index p (t + 1) d (omega arith)) (deep-update operator p (number (pos 1)) (t + 1) t (t + 1 + placeTaken p) (omega arith))
+    deep-expression (postfix operator p) u t d h = deep-append (deep-index p (t + 1) d (omega arith)) (deep-postfix operator p u (t + 1) t (t + 1 + placeTaken p) (omega arith))
 
     -- the index of an element lies deeper
     deep-index : (p : Place) (t d : ℕ) → placeDepth p * 2 ≤ d → Deep d (indexCode S p t)
     deep-index (variable i) t d h = deep-none
-    deep-index (element array e) t d h = deep-expression e t d (omega arith)
+    deep-index (element array e) t d h = deep-expression e wanted t d (omega arith)
 
   deep-part : (p : Part) (d : ℕ) → partDepth p * 2 + 2 ≤ d → Deep d (partCode S p)
   deep-part absent d h = deep-none
-  deep-part (present e) d h = deep-expression e 0 d h
+  deep-part (present e) d h = deep-expression e dropped 0 d h
 
   deep-empty : {d : ℕ} (xs : Items) → 1 ≤ d → Deep d xs → Deep d (orEmpty S xs)
   unfolding itemsDepth
@@ -153,7 +165,7 @@ module _ (S : ℕ) where
 
   deep-test : (p : Part) (l : ℕ) {xs : Items} {d : ℕ} → partDepth p * 2 + 2 ≤ d → Deep d xs → Deep d (testCode S p l xs)
   deep-test absent l h k = k
-  deep-test (present e) l h k = deep-append (deep-expression e 0 _ h) (deep-if 1 (depth-atom 0 (atomOf e)) (omega (arith, depth-some e)) deep-none (deep-goto (omega arith) deep-none) k)
+  deep-test (present e) l h k = deep-append (deep-expression e wanted 0 _ h) (deep-if 1 (depth-atom 0 (atomOf e)) (omega (arith, depth-some e)) deep-none (deep-goto (omega arith) deep-none) k)
 
   deep-cases : {d : ℕ} (h : Atom) (u : ℕ) (is : Items) (l : ℕ) → 4 ≤ d → Deep d (caseTests S (atom S 0 h) u is l)
   unfolding expressionDepth caseTests
@@ -172,10 +184,10 @@ module _ (S : ℕ) where
 
     deep-statement : (s : Statement) (x : Exits) (l d : ℕ) → statementDepth s * 2 + 2 ≤ d → Deep d (statementCode S s x l)
     deep-statement empty x l d h = record { most = omega arith }
-    deep-statement (express e) x l d h = deep-empty (expressionCode S e 0) (omega arith) (deep-expression e 0 d (omega arith))
+    deep-statement (express e) x l d h = deep-empty (expressionCode S e dropped 0) (omega arith) (deep-expression e dropped 0 d (omega arith))
     deep-statement (block is) x l d h = deep-block (itemsDepth is * 2 + 2) (omega arith) (deep-items is x l _ (omega arith))
-    deep-statement (ifThen e onTrue) x l d h = deep-append (deep-expression e 0 d (omega arith)) (deep-if (statementDepth onTrue * 2 + 2) (depth-atom 0 (atomOf e)) (omega arith) (deep-statement onTrue x l _ (omega arith)) deep-none deep-none)
-    deep-statement (ifElse e onTrue onFalse) x l d h = deep-append (deep-expression e 0 d (omega arith)) (deep-if (max (statementDepth onTrue) (statementDepth onFalse) * 2 + 2) (depth-atom 0 (atomOf e)) (omega arith)
+    deep-statement (ifThen e onTrue) x l d h = deep-append (deep-expression e wanted 0 d (omega arith)) (deep-if (statementDepth onTrue * 2 + 2) (depth-atom 0 (atomOf e)) (omega arith) (deep-statement onTrue x l _ (omega arith)) deep-none deep-none)
+    deep-statement (ifElse e onTrue onFalse) x l d h = deep-append (deep-expression e wanted 0 d (omega arith)) (deep-if (max (statementDepth onTrue) (statementDepth onFalse) * 2 + 2) (depth-atom 0 (atomOf e)) (omega arith)
         (deep-statement onTrue x l _ (omega arith)) (deep-statement onFalse x (l + labels onTrue) _ (omega arith)) deep-none)
     deep-statement (while e body) x l d h = deep-loop (max (expressionDepth e) (statementDepth body) * 2 + 2) l (omega arith) (deep-test (present e) l (omega arith)
         (deep-append (deep-statement body (exits l (l + 1)) (l + 2) _ (omega arith)) (deep-label (omega arith) deep-none)))
@@ -183,7 +195,7 @@ module _ (S : ℕ) where
         (deep-append (deep-statement body (exits l (l + 1)) (l + 2) _ (omega arith)) (deep-label (omega arith) (deep-test (present e) l (omega arith) deep-none)))
     deep-statement (for first test action body) x l d h = deep-append (deep-part first d (omega arith)) (deep-loop (max (partDepth test) (max (partDepth action) (statementDepth body)) * 2 + 2) l (omega arith) (deep-test test l (omega arith)
         (deep-append (deep-statement body (exits l (l + 1)) (l + 2) _ (omega arith)) (deep-label (omega arith) (deep-part action _ (omega arith))))))
-    deep-statement (switch e is) x l d h = deep-append (deep-expression e 0 d (omega arith)) (deep-append (deep-cases (atomOf e) (taken (atomOf e)) is (l + 1) (omega arith))
+    deep-statement (switch e is) x l d h = deep-append (deep-expression e wanted 0 d (omega arith)) (deep-append (deep-cases (atomOf e) (taken (atomOf e)) is (l + 1) (omega arith))
         (deep-goto (omega arith) (deep-append (deep-items is (exits l (x .onContinue)) (l + 1) d (omega arith)) (deep-label (omega arith) deep-none))))
     deep-statement break x l d h = deep-goto (omega arith) deep-none
     deep-statement continue x l d h = deep-goto (omega arith) deep-none

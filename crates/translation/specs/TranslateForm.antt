@@ -11,8 +11,9 @@ use Rattle.language.specs.Trees.{Expression, constant, read, minus, not, binary
 use Rattle.language.specs.WellFormed.{Placed, PlacedItems}
 use Rattle.language.specs.TreeLaws.{append-append, has-next, has-left, has-right}
 use Rattle.language.specs.Writes.{writes, indexWrites}
-use Rattle.translation.specs.HeldCode.{holdCode, hold-either}
-use Rattle.translation.specs.Translate.{Atom, number, word, top, held, taken, placeTaken, atomOf, atom, copyCode, readCode, kernelPlace, updateCode, postfixCode, expressionCode, indexCode, partCode, orEmpty, testCode, loopCode, caseTests, labels, itemsLabels, labelOf, Exits, exits, statementCode, itemsCode}
+use Rattle.translation.specs.HeldCode.{holdCode, hold-either, store-either}
+use Rattle.translation.specs.Uses.{Use, dropped, wanted, stored, useFor, passedOn, direct}
+use Rattle.translation.specs.Translate.{Atom, number, word, top, held, landed, taken, placeTaken, atomOf, atom, copyCode, readCode, storeCode, kernelPlace, updateCode, stepCode, postfixCode, expressionCode, indexCode, partCode, orEmpty, testCode, loopCode, caseTests, labels, itemsLabels, labelOf, Exits, exits, statementCode, itemsCode}
 use Rattle.translation.specs.KernelForm.{IsAtom, constant-atom, variable-atom, Assigns, assigns-atom, assigns-minus, assigns-operation, assigns-element, assigns-to-element, isLabelNumber, KernelStatement, kernel-empty, kernel-assign, kernel-block, kernel-if, kernel-while, kernel-goto, KernelItems, kernel-none, kernel-then, kernel-label}
 use Rattle.translation.specs.PassedCode.{label-absent}
 use Rattle.translation.specs.StatementRules.{Below}
@@ -40,14 +41,17 @@ module _ (S : ℕ) where
   form-atom t (word i) = variable-atom
   form-atom t top = variable-atom
 
-  form-read : (p : Place) (t : ℕ) (r : Items) → KernelItems r (readCode S p t)
-  form-read (variable j) t r = kernel-none
-  form-read (element array e) t r = assignment (assigns-element (form-atom t (atomOf e)))
+  form-read : (p : Place) (u : Use) (t : ℕ) (r : Items) → KernelItems r (readCode S p u t)
+  form-read (variable j) u t r = kernel-none
+  form-read (element array e) u t r = assignment (assigns-element (form-atom t (atomOf e)))
 
   form-write : (p : Place) (t : ℕ) {e : Expression} → IsAtom e → Assigns (assign (kernelPlace S p t) e)
   unfolding kernelPlace
   form-write (variable j) t h = assigns-atom h
   form-write (element array e) t h = assigns-to-element (form-atom t (atomOf e)) h
+
+  form-store : (p : Place) (i : ℕ) (straight : Bool) (r : Items) {x : Expression} → IsAtom x → KernelItems r (storeCode S (kernelPlace S p i) straight x)
+  form-store p i straight r {x} h = store-either S (λ (xs : Items). KernelItems r xs) (kernelPlace S p i) straight x (assignment (form-write p i h)) kernel-none
 
   form-copy : (t : ℕ) (h : Atom) (r : Items) → KernelItems r (copyCode S t h)
   form-copy t (number v) r = assignment (assigns-atom constant-atom)
@@ -59,47 +63,54 @@ module _ (S : ℕ) where
 
   form-update : (operator : Operator) (p : Place) (i t u : ℕ) (r : Items) {x : Expression} → IsAtom x → KernelItems r (updateCode S operator (kernelPlace S p i) x t u)
   unfolding kernelPlace
-  form-update operator (variable j) i t u r h = kernel-then (kernel-assign (assigns-operation variable-atom h)) (assignment (assigns-atom variable-atom))
+  form-update operator (variable j) i t u r h = assignment (assigns-operation variable-atom h)
   form-update operator (element array e) i t u r h = kernel-then (kernel-assign (assigns-element (form-atom i (atomOf e)))) (kernel-then (kernel-assign (assigns-operation variable-atom h)) (assignment (assigns-to-element (form-atom i (atomOf e)) variable-atom)))
 
-  form-postfix : (operator : Operator) (p : Place) (i t u : ℕ) (r : Items) → KernelItems r (postfixCode S operator (kernelPlace S p i) t u)
+  form-step : (operator : Operator) (i : ℕ) (u : Use) (t : ℕ) (r : Items) → KernelItems r (stepCode S operator i u t)
+  form-step operator i dropped t r = assignment (assigns-operation variable-atom constant-atom)
+  form-step operator i wanted t r = kernel-then (kernel-assign (assigns-atom variable-atom)) (assignment (assigns-operation variable-atom constant-atom))
+  form-step operator i (stored j) t r = kernel-then (kernel-assign (assigns-atom variable-atom)) (assignment (assigns-operation variable-atom constant-atom))
+
+  form-postfix : (operator : Operator) (p : Place) (u : Use) (i t n : ℕ) (r : Items) → KernelItems r (postfixCode S operator (kernelPlace S p i) u t n)
   unfolding kernelPlace
-  form-postfix operator (variable j) i t u r = kernel-then (kernel-assign (assigns-atom variable-atom)) (assignment (assigns-operation variable-atom constant-atom))
-  form-postfix operator (element array e) i t u r = kernel-then (kernel-assign (assigns-element (form-atom i (atomOf e)))) (kernel-then (kernel-assign (assigns-operation variable-atom constant-atom)) (assignment (assigns-to-element (form-atom i (atomOf e)) variable-atom)))
+  form-postfix operator (variable j) u i t n r = form-step operator j u t r
+  form-postfix operator (element array e) u i t n r = kernel-then (kernel-assign (assigns-element (form-atom i (atomOf e)))) (kernel-then (kernel-assign (assigns-operation variable-atom constant-atom)) (assignment (assigns-to-element (form-atom i (atomOf e)) variable-atom)))
 
   mutual
     unfolding expressionCode
 
-    form-expression : (e : Expression) (t : ℕ) (r : Items) → KernelItems r (expressionCode S e t)
-    form-expression (constant v) t r = kernel-none
-    form-expression (read p) t r = append r (indexCode S p t) _ (form-index p t _) (form-read p t r)
-    form-expression (minus e) t r = append r (expressionCode S e t) _ (form-expression e t _) (assignment (assigns-minus (form-atom t (atomOf e))))
-    form-expression (not e) t r = append r (expressionCode S e t) _ (form-expression e t _) (assignment (assigns-operation (form-atom t (atomOf e)) constant-atom))
-    form-expression (binary operator a b) t r = let right = held (atomOf b) (writes a) in
-        append r (expressionCode S b t) _ (form-expression b t _) (append r (holdCode S t (atomOf b) (writes a)) _ (form-hold t (atomOf b) (writes a) _)
-        (append r (expressionCode S a (t + taken right)) _ (form-expression a (t + taken right) _) (assignment (assigns-operation (form-atom (t + taken right) (atomOf a)) (form-atom t right)))))
-    form-expression (and a b) t r = append r (expressionCode S a t) _ (form-expression a t _) (kernel-then (kernel-if (form-atom t (atomOf a))
-        (append _ (expressionCode S b t) _ (form-expression b t _) (assignment (assigns-operation (form-atom t (atomOf b)) constant-atom))) (assignment (assigns-atom constant-atom))) kernel-none)
-    form-expression (or a b) t r = append r (expressionCode S a t) _ (form-expression a t _) (kernel-then (kernel-if (form-atom t (atomOf a)) (assignment (assigns-atom constant-atom))
-        (append _ (expressionCode S b t) _ (form-expression b t _) (assignment (assigns-operation (form-atom t (atomOf b)) constant-atom)))) kernel-none)
-    form-expression (comma a b) t r = append r (expressionCode S a t) _ (form-expression a t _) (form-expression b t r)
-    form-expression (conditional c a b) t r = append r (expressionCode S c t) _ (form-expression c t _) (kernel-then (kernel-if (form-atom t (atomOf c))
-        (append _ (expressionCode S a t) _ (form-expression a t _) (form-copy t (atomOf a) _)) (append _ (expressionCode S b t) _ (form-expression b t _) (form-copy t (atomOf b) _))) kernel-none)
-    form-expression (assign p e) t r = let value = held (atomOf e) (indexWrites p) in
-        append r (expressionCode S e t) _ (form-expression e t _) (append r (holdCode S t (atomOf e) (indexWrites p)) _ (form-hold t (atomOf e) (indexWrites p) _)
-        (append r (indexCode S p (t + taken value)) _ (form-index p (t + taken value) _) (assignment (form-write p (t + taken value) (form-atom t value)))))
-    form-expression (compound operator p e) t r = append r (expressionCode S e t) _ (form-expression e t _) (append r (holdCode S t (atomOf e) (indexWrites p)) _ (form-hold t (atomOf e) (indexWrites p) _)
+    form-expression : (e : Expression) (u : Use) (t : ℕ) (r : Items) → KernelItems r (expressionCode S e u t)
+    form-expression (constant v) u t r = kernel-none
+    form-expression (read p) u t r = append r (indexCode S p t) _ (form-index p t _) (form-read p u t r)
+    form-expression (minus e) u t r = append r (expressionCode S e wanted t) _ (form-expression e wanted t _) (assignment (assigns-minus (form-atom t (atomOf e))))
+    form-expression (not e) u t r = append r (expressionCode S e wanted t) _ (form-expression e wanted t _) (assignment (assigns-operation (form-atom t (atomOf e)) constant-atom))
+    form-expression (binary operator a b) u t r = let right = held (atomOf b) (writes a) in
+        append r (expressionCode S b wanted t) _ (form-expression b wanted t _) (append r (holdCode S t (atomOf b) (writes a)) _ (form-hold t (atomOf b) (writes a) _)
+        (append r (expressionCode S a wanted (t + taken right)) _ (form-expression a wanted (t + taken right) _) (assignment (assigns-operation (form-atom (t + taken right) (atomOf a)) (form-atom t right)))))
+    form-expression (and a b) u t r = append r (expressionCode S a wanted t) _ (form-expression a wanted t _) (kernel-then (kernel-if (form-atom t (atomOf a))
+        (append _ (expressionCode S b wanted t) _ (form-expression b wanted t _) (assignment (assigns-operation (form-atom t (atomOf b)) constant-atom))) (assignment (assigns-atom constant-atom))) kernel-none)
+    form-expression (or a b) u t r = append r (expressionCode S a wanted t) _ (form-expression a wanted t _) (kernel-then (kernel-if (form-atom t (atomOf a)) (assignment (assigns-atom constant-atom))
+        (append _ (expressionCode S b wanted t) _ (form-expression b wanted t _) (assignment (assigns-operation (form-atom t (atomOf b)) constant-atom)))) kernel-none)
+    form-expression (comma a b) u t r = append r (expressionCode S a dropped t) _ (form-expression a dropped t _) (form-expression b (passedOn u) t r)
+    form-expression (conditional c a b) u t r = append r (expressionCode S c wanted t) _ (form-expression c wanted t _) (kernel-then (kernel-if (form-atom t (atomOf c))
+        (append _ (expressionCode S a wanted t) _ (form-expression a wanted t _) (form-copy t (atomOf a) _)) (append _ (expressionCode S b wanted t) _ (form-expression b wanted t _) (form-copy t (atomOf b) _))) kernel-none)
+    form-expression (assign p e) u t r =
+        let own = landed p (direct e) (atomOf e) in
+        let value = held own (indexWrites p) in
+        append r (expressionCode S e (useFor p) t) _ (form-expression e (useFor p) t _) (append r (holdCode S t own (indexWrites p)) _ (form-hold t own (indexWrites p) _)
+        (append r (indexCode S p (t + taken value)) _ (form-index p (t + taken value) _) (form-store p (t + taken value) (direct e) r (form-atom t value))))
+    form-expression (compound operator p e) u t r = append r (expressionCode S e wanted t) _ (form-expression e wanted t _) (append r (holdCode S t (atomOf e) (indexWrites p)) _ (form-hold t (atomOf e) (indexWrites p) _)
         (append r (indexCode S p (t + 1)) _ (form-index p (t + 1) _) (form-update operator p (t + 1) t (t + 1 + placeTaken p) r (form-atom t (held (atomOf e) (indexWrites p))))))
-    form-expression (prefix operator p) t r = append r (indexCode S p (t + 1)) _ (form-index p (t + 1) _) (form-update operator p (t + 1) t (t + 1 + placeTaken p) r constant-atom)
-    form-expression (postfix operator p) t r = append r (indexCode S p (t + 1)) _ (form-index p (t + 1) _) (form-postfix operator p (t + 1) t (t + 1 + placeTaken p) r)
+    form-expression (prefix operator p) u t r = append r (indexCode S p (t + 1)) _ (form-index p (t + 1) _) (form-update operator p (t + 1) t (t + 1 + placeTaken p) r constant-atom)
+    form-expression (postfix operator p) u t r = append r (indexCode S p (t + 1)) _ (form-index p (t + 1) _) (form-postfix operator p u (t + 1) t (t + 1 + placeTaken p) r)
 
     form-index : (p : Place) (t : ℕ) (r : Items) → KernelItems r (indexCode S p t)
     form-index (variable i) t r = kernel-none
-    form-index (element array e) t r = form-expression e t r
+    form-index (element array e) t r = form-expression e wanted t r
 
   form-part : (p : Part) (r : Items) → KernelItems r (partCode S p)
   form-part absent r = kernel-none
-  form-part (present e) r = form-expression e 0 r
+  form-part (present e) r = form-expression e dropped 0 r
 
   form-empty : (xs r : Items) → KernelItems r xs → KernelItems r (orEmpty S xs)
   form-empty none r h = kernel-then kernel-empty kernel-none
@@ -116,7 +127,7 @@ module _ (S : ℕ) where
   form-test : (p : Part) (l : ℕ) (xs r : Items) → isLabelNumber l → has (label l) (xs ⧺ r) ≡ true → KernelItems r xs → KernelItems r (testCode S p l xs)
   unfolding _⧺_
   form-test absent l xs r b h k = k
-  form-test (present e) l xs r b h k = append r (expressionCode S e 0) _ (form-expression e 0 _) (kernel-then (kernel-if (form-atom 0 (atomOf e)) kernel-none (kernel-then (kernel-goto b h) kernel-none)) k)
+  form-test (present e) l xs r b h k = append r (expressionCode S e wanted 0) _ (form-expression e wanted 0 _) (kernel-then (kernel-if (form-atom 0 (atomOf e)) kernel-none (kernel-then (kernel-goto b h) kernel-none)) k)
 
   -- The label behind a loop stands ahead of its body.
   has-behind : (action : Part) (l : ℕ) (r : Items) → has (label l) (label (l + 1) here partCode S action ⧺ label l here r) ≡ true
@@ -171,7 +182,7 @@ module _ (S : ℕ) where
   unfolding _⧺_ statementCode has
   form-switch e is x l r b h =
       let y = exits l (x .onContinue) in
-      append r (expressionCode S e 0) _ (form-expression e 0 _)
+      append r (expressionCode S e wanted 0) _ (form-expression e wanted 0 _)
       (append r (caseTests S (atom S 0 (atomOf e)) (taken (atomOf e)) is (l + 1)) (goto (labelOf default is (l + 1) l) then itemsCode S is y (l + 1) ⧺ label l here none)
       (form-tests (atomOf e) (taken (atomOf e)) y is (l + 1) (goto (labelOf default is (l + 1) l) then (itemsCode S is y (l + 1) ⧺ label l here none) ⧺ r) b
       (λ m q. has-left m (itemsCode S is y (l + 1) ⧺ label l here none) r (has-left m (itemsCode S is y (l + 1)) _ q)))
@@ -185,10 +196,10 @@ module _ (S : ℕ) where
     form-statement : (s : Statement) (x : Exits) (l : ℕ) (r : Items) (b c : Bool) → Placed b c s → Below x l → l + labels s ≤ 40980
         → (b ≡ true → has (label (x .onBreak)) r ≡ true) → (c ≡ true → has (label (x .onContinue)) r ≡ true) → KernelItems r (statementCode S s x l)
     form-statement empty x l r b c h u n o k = kernel-then kernel-empty kernel-none
-    form-statement (express e) x l r b c h u n o k = form-empty (expressionCode S e 0) r (form-expression e 0 r)
+    form-statement (express e) x l r b c h u n o k = form-empty (expressionCode S e dropped 0) r (form-expression e dropped 0 r)
     form-statement (block is) x l r b c h u n o k = kernel-then (kernel-block (form-items is x l r false b c h u n o k)) kernel-none
-    form-statement (ifThen e onTrue) x l r b c h u n o k = append r (expressionCode S e 0) _ (form-expression e 0 _) (kernel-then (kernel-if (form-atom 0 (atomOf e)) (form-statement onTrue x l r b c h u n o k) kernel-none) kernel-none)
-    form-statement (ifElse e onTrue onFalse) x l r b c h u n o k = append r (expressionCode S e 0) _ (form-expression e 0 _) (kernel-then (kernel-if (form-atom 0 (atomOf e))
+    form-statement (ifThen e onTrue) x l r b c h u n o k = append r (expressionCode S e wanted 0) _ (form-expression e wanted 0 _) (kernel-then (kernel-if (form-atom 0 (atomOf e)) (form-statement onTrue x l r b c h u n o k) kernel-none) kernel-none)
+    form-statement (ifElse e onTrue onFalse) x l r b c h u n o k = append r (expressionCode S e wanted 0) _ (form-expression e wanted 0 _) (kernel-then (kernel-if (form-atom 0 (atomOf e))
         (form-statement onTrue x l r b c (h .0) u (omega arith) o k) (form-statement onFalse x (l + labels onTrue) r b c (h .1) (omega arith) (omega arith) o k)) kernel-none)
     form-statement (while e body) x l r b c h u n o k = form-rounds (present e) absent (statementCode S body (exits l (l + 1)) (l + 2)) l r (omega arith)
         (form-statement body (exits l (l + 1)) (l + 2) _ true true h (omega arith) (omega arith) (λ _. has-behind absent l r) (λ _. has-here (l + 1) _))

@@ -12,8 +12,9 @@ use Rattle.words.specs.Laws.{by-cases}
 use Rattle.words.specs.declared.Operator.{Operator}
 use Rattle.language.specs.Trees.{Expression, constant, read, minus, not, binary, and, or, comma, conditional, assign, compound, prefix, postfix, Place, variable, element, Part, absent, present, case, default, label, Statement, empty, express, block, ifThen, ifElse, while, doWhile, for, switch, break, continue, goto, Items, none, _then_, _here_, _⧺_}
 use Rattle.language.specs.Writes.{writes, indexWrites}
-use Rattle.translation.specs.Translate.{Atom, number, word, top, held, taken, placeTaken, atomOf, atom, copyCode, readCode, kernelPlace, updateCode, postfixCode, expressionCode, indexCode, partCode, orEmpty, testCode, caseTests, labels, itemsLabels, Exits, exits, statementCode, itemsCode}
-use Rattle.translation.specs.HeldCode.{holdCode, hold-either}
+use Rattle.translation.specs.Uses.{Use, dropped, wanted, stored, useFor, passedOn, direct}
+use Rattle.translation.specs.Translate.{Atom, number, word, top, held, landed, taken, placeTaken, atomOf, atom, copyCode, readCode, storeCode, kernelPlace, updateCode, stepCode, postfixCode, expressionCode, indexCode, partCode, orEmpty, testCode, caseTests, labels, itemsLabels, Exits, exits, statementCode, itemsCode}
+use Rattle.translation.specs.HeldCode.{holdCode, hold-either, store-either}
 use Rattle.translation.specs.KernelForm.{markTimes, itemsTimes}
 
 -- 1 where j is below c.
@@ -53,20 +54,30 @@ module _ (S j : ℕ) where
   unfolding itemsTimes
   times-hold t h W = hold-either S (λ (xs : Items). itemsTimes j xs ≡ 0) t h W (times-copy t h) refl
 
-  times-read : (p : Place) (t : ℕ) → itemsTimes j (readCode S p t) ≡ 0
+  times-read : (p : Place) (u : Use) (t : ℕ) → itemsTimes j (readCode S p u t) ≡ 0
   unfolding itemsTimes
-  times-read (variable i) t = refl
-  times-read (element array e) t = refl
+  times-read (variable i) u t = refl
+  times-read (element array e) u t = refl
+
+  times-store : (q : Place) (straight : Bool) (x : Expression) → itemsTimes j (storeCode S q straight x) ≡ 0
+  unfolding itemsTimes
+  times-store q straight x = store-either S (λ (xs : Items). itemsTimes j xs ≡ 0) q straight x refl refl
 
   times-update : (operator : Operator) (p : Place) (x : Expression) (i t u : ℕ) → itemsTimes j (updateCode S operator (kernelPlace S p i) x t u) ≡ 0
   unfolding itemsTimes kernelPlace
   times-update operator (variable k) x i t u = refl
   times-update operator (element array e) x i t u = refl
 
-  times-postfix : (operator : Operator) (p : Place) (i t u : ℕ) → itemsTimes j (postfixCode S operator (kernelPlace S p i) t u) ≡ 0
+  times-step : (operator : Operator) (i : ℕ) (u : Use) (t : ℕ) → itemsTimes j (stepCode S operator i u t) ≡ 0
+  unfolding itemsTimes
+  times-step operator i dropped t = refl
+  times-step operator i wanted t = refl
+  times-step operator i (stored k) t = refl
+
+  times-postfix : (operator : Operator) (p : Place) (u : Use) (i t n : ℕ) → itemsTimes j (postfixCode S operator (kernelPlace S p i) u t n) ≡ 0
   unfolding itemsTimes kernelPlace
-  times-postfix operator (variable k) i t u = refl
-  times-postfix operator (element array e) i t u = refl
+  times-postfix operator (variable k) u i t n = times-step operator k u t
+  times-postfix operator (element array e) u i t n = refl
 
   times-empty : (xs : Items) → itemsTimes j (orEmpty S xs) ≡ itemsTimes j xs
   unfolding itemsTimes
@@ -77,34 +88,34 @@ module _ (S j : ℕ) where
   mutual
     unfolding itemsTimes expressionCode
 
-    times-expression : (e : Expression) (t : ℕ) → itemsTimes j (expressionCode S e t) ≡ 0
-    times-expression (constant v) t = refl
-    times-expression (read p) t = simp (times-append, times-read) (omega (arith, times-index p t))
-    times-expression (minus e) t = simp times-append (omega (arith, times-expression e t))
-    times-expression (not e) t = simp times-append (omega (arith, times-expression e t))
-    times-expression (binary operator a b) t = simp (times-append, times-hold) (omega (arith, times-expression b t, times-expression a (t + taken (held (atomOf b) (writes a)))))
-    times-expression (and a b) t = simp times-append (omega (arith, times-expression a t, times-expression b t))
-    times-expression (or a b) t = simp times-append (omega (arith, times-expression a t, times-expression b t))
-    times-expression (comma a b) t = simp times-append (omega (arith, times-expression a t, times-expression b t))
-    times-expression (conditional c a b) t = simp (times-append, times-copy) (omega (arith, times-expression c t, times-expression a t, times-expression b t))
-    times-expression (assign p e) t = simp (times-append, times-hold) (omega (arith, times-expression e t, times-index p (t + taken (held (atomOf e) (indexWrites p)))))
-    times-expression (compound operator p e) t = simp (times-append, times-hold) (omega (arith, times-expression e t, times-index p (t + 1), times-update operator p (atom S t (held (atomOf e) (indexWrites p))) (t + 1) t (t + 1 + placeTaken p)))
-    times-expression (prefix operator p) t = simp times-append (omega (arith, times-index p (t + 1), times-update operator p (constant (pos 1)) (t + 1) t (t + 1 + placeTaken p)))
-    times-expression (postfix operator p) t = simp times-append (omega (arith, times-index p (t + 1), times-postfix operator p (t + 1) t (t + 1 + placeTaken p)))
+    times-expression : (e : Expression) (u : Use) (t : ℕ) → itemsTimes j (expressionCode S e u t) ≡ 0
+    times-expression (constant v) u t = refl
+    times-expression (read p) u t = simp (times-append, times-read) (omega (arith, times-index p t))
+    times-expression (minus e) u t = simp times-append (omega (arith, times-expression e wanted t))
+    times-expression (not e) u t = simp times-append (omega (arith, times-expression e wanted t))
+    times-expression (binary operator a b) u t = simp (times-append, times-hold) (omega (arith, times-expression b wanted t, times-expression a wanted (t + taken (held (atomOf b) (writes a)))))
+    times-expression (and a b) u t = simp times-append (omega (arith, times-expression a wanted t, times-expression b wanted t))
+    times-expression (or a b) u t = simp times-append (omega (arith, times-expression a wanted t, times-expression b wanted t))
+    times-expression (comma a b) u t = simp times-append (omega (arith, times-expression a dropped t, times-expression b (passedOn u) t))
+    times-expression (conditional c a b) u t = simp (times-append, times-copy) (omega (arith, times-expression c wanted t, times-expression a wanted t, times-expression b wanted t))
+    times-expression (assign p e) u t = simp (times-append, times-hold, times-store) (omega (arith, times-expression e (useFor p) t, times-index p (t + taken (held (landed p (direct e) (atomOf e)) (indexWrites p)))))
+    times-expression (compound operator p e) u t = simp (times-append, times-hold) (omega (arith, times-expression e wanted t, times-index p (t + 1), times-update operator p (atom S t (held (atomOf e) (indexWrites p))) (t + 1) t (t + 1 + placeTaken p)))
+    times-expression (prefix operator p) u t = simp times-append (omega (arith, times-index p (t + 1), times-update operator p (constant (pos 1)) (t + 1) t (t + 1 + placeTaken p)))
+    times-expression (postfix operator p) u t = simp times-append (omega (arith, times-index p (t + 1), times-postfix operator p u (t + 1) t (t + 1 + placeTaken p)))
 
     times-index : (p : Place) (t : ℕ) → itemsTimes j (indexCode S p t) ≡ 0
     times-index (variable i) t = refl
-    times-index (element array e) t = times-expression e t
+    times-index (element array e) t = times-expression e wanted t
 
   times-part : (p : Part) → itemsTimes j (partCode S p) ≡ 0
   unfolding itemsTimes
   times-part absent = refl
-  times-part (present e) = times-expression e 0
+  times-part (present e) = times-expression e dropped 0
 
   times-test : (p : Part) (l : ℕ) (xs : Items) → itemsTimes j (testCode S p l xs) ≡ itemsTimes j xs
   unfolding itemsTimes
   times-test absent l xs = refl
-  times-test (present e) l xs = simp times-append (omega (arith, times-expression e 0))
+  times-test (present e) l xs = simp times-append (omega (arith, times-expression e wanted 0))
 
   times-cases : (x : Expression) (u : ℕ) (is : Items) (l : ℕ) → itemsTimes j (caseTests S x u is l) ≡ 0
   unfolding itemsTimes caseTests
@@ -120,14 +131,14 @@ module _ (S j : ℕ) where
     -- The labels of a statement's code are those from l to e, each once.
     once : (s : Statement) (x : Exits) (l e : ℕ) → l + labels s ≡ e → itemsTimes j (statementCode S s x l) + under j l ≡ under j e
     once empty x l e q = let z : l ≡ e = omega arith in rw z (omega arith)
-    once (express d) x l e q = let z : l ≡ e = omega arith in rw z (simp times-empty (omega (arith, times-expression d 0)))
+    once (express d) x l e q = let z : l ≡ e = omega arith in rw z (simp times-empty (omega (arith, times-expression d dropped 0)))
     once (block is) x l e q = omega (arith, once-items is x l e q)
-    once (ifThen d onTrue) x l e q = simp times-append (omega (arith, times-expression d 0, once onTrue x l e q))
-    once (ifElse d onTrue onFalse) x l e q = simp times-append (omega (arith, times-expression d 0, once onTrue x l (l + labels onTrue) refl, once onFalse x (l + labels onTrue) e (omega arith)))
-    once (while d body) x l e q = simp times-append (omega (arith, times-expression d 0, under-two j l, once body (exits l (l + 1)) (l + 2) e (omega arith)))
-    once (doWhile body d) x l e q = simp times-append (omega (arith, times-expression d 0, under-two j l, once body (exits l (l + 1)) (l + 2) e (omega arith)))
+    once (ifThen d onTrue) x l e q = simp times-append (omega (arith, times-expression d wanted 0, once onTrue x l e q))
+    once (ifElse d onTrue onFalse) x l e q = simp times-append (omega (arith, times-expression d wanted 0, once onTrue x l (l + labels onTrue) refl, once onFalse x (l + labels onTrue) e (omega arith)))
+    once (while d body) x l e q = simp times-append (omega (arith, times-expression d wanted 0, under-two j l, once body (exits l (l + 1)) (l + 2) e (omega arith)))
+    once (doWhile body d) x l e q = simp times-append (omega (arith, times-expression d wanted 0, under-two j l, once body (exits l (l + 1)) (l + 2) e (omega arith)))
     once (for first test action body) x l e q = simp (times-append, times-test, times-part) (omega (arith, under-two j l, once body (exits l (l + 1)) (l + 2) e (omega arith)))
-    once (switch d is) x l e q = simp (times-append, times-cases) (omega (arith, times-expression d 0, under-next j l, once-items is (exits l (x .onContinue)) (l + 1) e (omega arith)))
+    once (switch d is) x l e q = simp (times-append, times-cases) (omega (arith, times-expression d wanted 0, under-next j l, once-items is (exits l (x .onContinue)) (l + 1) e (omega arith)))
     once break x l e q = let z : l ≡ e = omega arith in rw z (omega arith)
     once continue x l e q = let z : l ≡ e = omega arith in rw z (omega arith)
     once (goto k) x l e q = let z : l ≡ e = omega arith in rw z (omega arith)

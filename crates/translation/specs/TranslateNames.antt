@@ -5,29 +5,20 @@ use Prim.Native.Nat.{ℕ, _+_, _≤_, _<_}
 use native.Mathlib.Omega.{arith}
 use Rattle.words.specs.Word.{pick}
 use Rattle.words.specs.declared.Operator.{Operator}
+use Rattle.words.specs.declared.Operator.the-variants.{Add}
 use Rattle.language.specs.Trees.{Expression, constant, read, minus, not, binary, and, or, comma, conditional, assign, compound, prefix, postfix, Place, variable, element, Part, absent, present, case, default, label, Statement, empty, express, block, ifThen, ifElse, while, doWhile, for, switch, break, continue, goto, Items, none, _then_, _here_, _⧺_}
 use Rattle.language.specs.WellFormed.{NamedExpression, NamedPlace, NamedPart, NamedStatement, NamedItems}
 use Rattle.language.specs.Writes.{writes, indexWrites}
-use Rattle.translation.specs.HeldCode.{holdCode, held-either}
-use Rattle.translation.specs.TranslateBounds.{taken-most}
-use Rattle.translation.specs.Translate.{Atom, number, word, top, held, taken, placeTaken, atomOf, atom, copyCode, moveCode, readCode, kernelPlace, updateCode, postfixCode, expressionCode, indexCode, partCode, orEmpty, testCode, loopCode, caseTests, labels, Exits, exits, statementCode, itemsCode, expressionLevels, indexLevels, updateLevels, partLevels, statementLevels, itemsLevels}
+use Rattle.translation.specs.HeldCode.{holdCode, held-either, held-variable, store-either}
+use Rattle.translation.specs.TranslateBounds.{taken-most, taken-level}
+use Rattle.translation.specs.Uses.{Use, dropped, wanted, stored, useFor, passedOn, direct}
+use Rattle.translation.specs.Translate.{Atom, number, word, top, held, landed, updated, taken, placeTaken, atomOf, atom, target, copyCode, moveCode, readCode, storeCode, kernelPlace, updateCode, stepCode, postfixCode, expressionCode, indexCode, partCode, orEmpty, testCode, loopCode, caseTests, labels, Exits, exits, statementCode, itemsCode, resultLevels, oldLevels, expressionLevels, indexLevels, updateLevels, postfixLevels, partLevels, testLevels, statementLevels, itemsLevels}
 
--- An expression whose value is in a temporary has one.
-taken-level : (e : Expression) → taken (atomOf e) ≤ expressionLevels e
-unfolding atomOf expressionLevels
-taken-level (constant v) = omega arith
-taken-level (read p) = omega arith
-taken-level (minus e) = omega arith
-taken-level (not e) = omega arith
-taken-level (binary operator a b) = omega arith
-taken-level (and a b) = omega arith
-taken-level (or a b) = omega arith
-taken-level (comma a b) = omega (arith, taken-level b)
-taken-level (conditional c a b) = omega arith
-taken-level (assign p e) = omega arith
-taken-level (compound operator p e) = omega arith
-taken-level (prefix operator p) = omega arith
-taken-level (postfix operator p) = omega arith
+-- The level of the value of a compound: its own, or one that the result needs too.
+compound-level : (p : Place) (e : Expression) → taken (held (atomOf e) (indexWrites p)) ≤ expressionLevels (compound Add p e) wanted
+unfolding expressionLevels
+compound-level (variable i) e = rw (held-variable (atomOf e) i) (omega (arith, taken-level e))
+compound-level (element array d) e = omega (arith, taken-most (held (atomOf e) (indexWrites (element array d))))
 
 module _ (Names : ℕ → Type 0) (arrays : ℕ) where
   named-append : (xs ys : Items) → NamedItems Names arrays xs → NamedItems Names arrays ys → NamedItems Names arrays (xs ⧺ ys)
@@ -43,6 +34,33 @@ module _ (Names : ℕ → Type 0) (arrays : ℕ) where
     NamedAtom (word i) = Names i
     NamedAtom top = Unit {0}
 
+    -- and the one that a use stores in
+    abbrev NamedUse : Use → Type 0
+    NamedUse dropped = Unit {0}
+    NamedUse wanted = Unit {0}
+    NamedUse (stored i) = Names i
+
+    use-named : (p : Place) → NamedPlace Names arrays p → NamedUse (useFor p)
+    unfolding NamedExpression
+    use-named (variable i) h = h
+    use-named (element array e) h = tt
+
+    passed-named : (u : Use) → NamedUse (passedOn u)
+    passed-named dropped = tt
+    passed-named wanted = tt
+    passed-named (stored i) = tt
+
+    landed-named : (p : Place) (straight : Bool) (h : Atom) → NamedPlace Names arrays p → NamedAtom h → NamedAtom (landed p straight h)
+    unfolding NamedExpression
+    landed-named (variable i) true h k l = k
+    landed-named (variable i) false h k l = l
+    landed-named (element array e) straight h k l = l
+
+    updated-named : (p : Place) → NamedPlace Names arrays p → NamedAtom (updated p)
+    unfolding NamedExpression
+    updated-named (variable i) h = h
+    updated-named (element array e) h = tt
+
     mutual
       unfolding NamedExpression atomOf
 
@@ -56,9 +74,9 @@ module _ (Names : ℕ → Type 0) (arrays : ℕ) where
       atom-named (or a b) h = tt
       atom-named (comma a b) h = atom-named b (h .1)
       atom-named (conditional c a b) h = tt
-      atom-named (assign p e) h = held-either NamedAtom (atomOf e) (indexWrites p) (atom-named e (h .1)) tt
-      atom-named (compound operator p e) h = tt
-      atom-named (prefix operator p) h = tt
+      atom-named (assign p e) h = held-either NamedAtom (landed p (direct e) (atomOf e)) (indexWrites p) (landed-named p (direct e) (atomOf e) (h .0) (atom-named e (h .1))) tt
+      atom-named (compound operator p e) h = updated-named p (h .0)
+      atom-named (prefix operator p) h = updated-named p h
       atom-named (postfix operator p) h = tt
 
       read-named : (p : Place) → NamedPlace Names arrays p → NamedAtom (atomOf (read p))
@@ -92,98 +110,123 @@ module _ (Names : ℕ → Type 0) (arrays : ℕ) where
         by false n = tt
     named-hold t top W k h = tt
 
-    named-read : (p : Place) (t : ℕ) → NamedPlace Names arrays p → t + expressionLevels (read p) ≤ T → NamedItems Names arrays (readCode S p t)
+    -- the variable or temporary that an element's value or an operation's result goes into
+    named-target : (u : Use) (t : ℕ) → NamedUse u → t + resultLevels u ≤ T → NamedPlace Names arrays (target S u t)
+    unfolding NamedExpression
+    named-target dropped t k h = temporary-named t (omega arith)
+    named-target wanted t k h = temporary-named t (omega arith)
+    named-target (stored i) t k h = k
+
+    named-read : (p : Place) (u : Use) (t : ℕ) → NamedPlace Names arrays p → NamedUse u → t + expressionLevels (read p) u ≤ T → NamedItems Names arrays (readCode S p u t)
     unfolding NamedExpression NamedItems expressionLevels atomOf
-    named-read (variable i) t h n = tt
-    named-read (element array e) t h n = ((temporary-named t (omega arith), (h .0, named-atom t (atomOf e) (atom-named e (h .1)) (omega (arith, taken-level e)))), tt)
+    named-read (variable i) u t h k n = tt
+    named-read (element array e) u t h k n = ((named-target u t k (omega arith), (h .0, named-atom t (atomOf e) (atom-named e (h .1)) (omega (arith, taken-level e)))), tt)
 
     named-place : (p : Place) (t : ℕ) → NamedPlace Names arrays p → t + indexLevels p ≤ T → NamedPlace Names arrays (kernelPlace S p t)
     unfolding NamedExpression kernelPlace expressionLevels
     named-place (variable i) t h n = h
     named-place (element array e) t h n = (h .0, named-atom t (atomOf e) (atom-named e (h .1)) (omega (arith, taken-level e)))
 
-    named-update : (operator : Operator) (p : Place) (x : Expression) (t : ℕ) → NamedPlace Names arrays p → NamedExpression Names arrays x → t + (1 + updateLevels p) ≤ T
+    named-store : (p : Place) (i : ℕ) (straight : Bool) (x : Expression) → NamedPlace Names arrays (kernelPlace S p i) → NamedExpression Names arrays x → NamedItems Names arrays (storeCode S (kernelPlace S p i) straight x)
+    unfolding NamedExpression NamedItems
+    named-store p i straight x h k = store-either S (λ (xs : Items). NamedItems Names arrays xs) (kernelPlace S p i) straight x ((h, k), tt) tt
+
+    named-update : (operator : Operator) (p : Place) (x : Expression) (t : ℕ) → NamedPlace Names arrays p → NamedExpression Names arrays x → t + updateLevels p ≤ T
         → NamedItems Names arrays (updateCode S operator (kernelPlace S p (t + 1)) x t (t + 1 + placeTaken p))
     unfolding NamedExpression NamedItems kernelPlace placeTaken expressionLevels
-    named-update operator (variable i) x t h k n = ((temporary-named t (omega arith), (h, k)), ((h, temporary-named t (omega arith)), tt))
+    named-update operator (variable i) x t h k n = ((h, (h, k)), tt)
     named-update operator (element array e) x t h k n =
         let index : NamedPlace Names arrays (element array (atom S (t + 1) (atomOf e))) = (h .0, named-atom (t + 1) (atomOf e) (atom-named e (h .1)) (omega arith)) in
         let above : Names (S + (t + 1 + taken (atomOf e))) = temporary-named (t + 1 + taken (atomOf e)) (omega arith) in
         ((above, index), ((temporary-named t (omega arith), (above, k)), ((index, temporary-named t (omega arith)), tt)))
 
-    named-postfix : (operator : Operator) (p : Place) (t : ℕ) → NamedPlace Names arrays p → t + (1 + updateLevels p) ≤ T
-        → NamedItems Names arrays (postfixCode S operator (kernelPlace S p (t + 1)) t (t + 1 + placeTaken p))
+    named-step : (operator : Operator) (i : ℕ) (u : Use) (t : ℕ) → Names i → t + oldLevels u ≤ T → NamedItems Names arrays (stepCode S operator i u t)
+    unfolding NamedExpression NamedItems
+    named-step operator i dropped t h n = ((h, (h, tt)), tt)
+    named-step operator i wanted t h n = ((temporary-named t (omega arith), h), ((h, (temporary-named t (omega arith), tt)), tt))
+    named-step operator i (stored j) t h n = ((temporary-named t (omega arith), h), ((h, (temporary-named t (omega arith), tt)), tt))
+
+    named-postfix : (operator : Operator) (p : Place) (u : Use) (t : ℕ) → NamedPlace Names arrays p → t + postfixLevels p u ≤ T
+        → NamedItems Names arrays (postfixCode S operator (kernelPlace S p (t + 1)) u t (t + 1 + placeTaken p))
     unfolding NamedExpression NamedItems kernelPlace placeTaken expressionLevels
-    named-postfix operator (variable i) t h n = ((temporary-named t (omega arith), h), ((h, (temporary-named t (omega arith), tt)), tt))
-    named-postfix operator (element array e) t h n =
+    named-postfix operator (variable i) u t h n = named-step operator i u t h n
+    named-postfix operator (element array e) u t h n =
         let index : NamedPlace Names arrays (element array (atom S (t + 1) (atomOf e))) = (h .0, named-atom (t + 1) (atomOf e) (atom-named e (h .1)) (omega arith)) in
         let above : Names (S + (t + 1 + taken (atomOf e))) = temporary-named (t + 1 + taken (atomOf e)) (omega arith) in
         ((temporary-named t (omega arith), index), ((above, (temporary-named t (omega arith), tt)), ((index, above), tt)))
 
-    index-most : (p : Place) (t : ℕ) → t + (1 + updateLevels p) ≤ T → t + 1 + indexLevels p ≤ T
-    unfolding expressionLevels
-    index-most (variable i) t n = omega arith
-    index-most (element array e) t n = omega arith
-
     mutual
       unfolding NamedExpression NamedItems expressionLevels expressionCode
 
-      named-expression : (e : Expression) (t : ℕ) → NamedExpression Names arrays e → t + expressionLevels e ≤ T → NamedItems Names arrays (expressionCode S e t)
-      named-expression (constant v) t h n = tt
-      named-expression (read p) t h n = named-append (indexCode S p t) _ (named-index p t h (omega arith)) (named-read p t h n)
-      named-expression (minus e) t h n = named-append (expressionCode S e t) _ (named-expression e t h (omega arith)) ((temporary-named t (omega arith), named-atom t (atomOf e) (atom-named e h) (omega (arith, taken-level e))), tt)
-      named-expression (not e) t h n = named-append (expressionCode S e t) _ (named-expression e t h (omega arith)) ((temporary-named t (omega arith), (named-atom t (atomOf e) (atom-named e h) (omega (arith, taken-level e)), tt)), tt)
-      named-expression (binary operator a b) t h n =
+      named-expression : (e : Expression) (u : Use) (t : ℕ) → NamedExpression Names arrays e → NamedUse u → t + expressionLevels e u ≤ T → NamedItems Names arrays (expressionCode S e u t)
+      named-expression (constant v) u t h k n = tt
+      named-expression (read p) u t h k n = named-append (indexCode S p t) _ (named-index p t h (omega arith)) (named-read p u t h k n)
+      named-expression (minus e) u t h k n =
+          named-append (expressionCode S e wanted t) _ (named-expression e wanted t h tt (omega arith)) ((named-target u t k (omega arith), named-atom t (atomOf e) (atom-named e h) (omega (arith, taken-level e))), tt)
+      named-expression (not e) u t h k n =
+          named-append (expressionCode S e wanted t) _ (named-expression e wanted t h tt (omega arith)) ((named-target u t k (omega arith), (named-atom t (atomOf e) (atom-named e h) (omega (arith, taken-level e)), tt)), tt)
+      named-expression (binary operator a b) u t h k n =
           let right = held (atomOf b) (writes a) in
-          named-append (expressionCode S b t) _ (named-expression b t (h .1) (omega arith)) (named-append (holdCode S t (atomOf b) (writes a)) _ (named-hold t (atomOf b) (writes a) (atom-named b (h .1)) (omega arith))
-          (named-append (expressionCode S a (t + taken right)) _ (named-expression a (t + taken right) (h .0) (omega arith))
-          ((temporary-named t (omega arith), (named-atom (t + taken right) (atomOf a) (atom-named a (h .0)) (omega (arith, taken-level a)), named-atom t right (held-named b (writes a) (h .1)) (omega arith))), tt)))
-      named-expression (and a b) t h n = named-append (expressionCode S a t) _ (named-expression a t (h .0) (omega arith)) (
+          named-append (expressionCode S b wanted t) _ (named-expression b wanted t (h .1) tt (omega arith)) (named-append (holdCode S t (atomOf b) (writes a)) _ (named-hold t (atomOf b) (writes a) (atom-named b (h .1)) (omega arith))
+          (named-append (expressionCode S a wanted (t + taken right)) _ (named-expression a wanted (t + taken right) (h .0) tt (omega arith))
+          ((named-target u t k (omega arith), (named-atom (t + taken right) (atomOf a) (atom-named a (h .0)) (omega (arith, taken-level a)), named-atom t right (held-named b (writes a) (h .1)) (omega arith))), tt)))
+      named-expression (and a b) u t h k n = named-append (expressionCode S a wanted t) _ (named-expression a wanted t (h .0) tt (omega arith)) (
         (
           named-atom t (atomOf a) (atom-named a (h .0)) (omega (arith, taken-level a)),
-          named-append (expressionCode S b t) _ (named-expression b t (h .1) (omega arith)) ((temporary-named t (omega arith), (named-atom t (atomOf b) (atom-named b (h .1)) (omega (arith, taken-level b)), tt)), tt),
+          named-append (expressionCode S b wanted t) _ (named-expression b wanted t (h .1) tt (omega arith)) ((temporary-named t (omega arith), (named-atom t (atomOf b) (atom-named b (h .1)) (omega (arith, taken-level b)), tt)), tt),
           ((temporary-named t (omega arith), tt), tt),
         ),
         tt,
       )
-      named-expression (or a b) t h n = named-append (expressionCode S a t) _ (named-expression a t (h .0) (omega arith)) (
+      named-expression (or a b) u t h k n = named-append (expressionCode S a wanted t) _ (named-expression a wanted t (h .0) tt (omega arith)) (
         (
           named-atom t (atomOf a) (atom-named a (h .0)) (omega (arith, taken-level a)),
           ((temporary-named t (omega arith), tt), tt),
-          named-append (expressionCode S b t) _ (named-expression b t (h .1) (omega arith)) ((temporary-named t (omega arith), (named-atom t (atomOf b) (atom-named b (h .1)) (omega (arith, taken-level b)), tt)), tt),
+          named-append (expressionCode S b wanted t) _ (named-expression b wanted t (h .1) tt (omega arith)) ((temporary-named t (omega arith), (named-atom t (atomOf b) (atom-named b (h .1)) (omega (arith, taken-level b)), tt)), tt),
         ),
         tt,
       )
-      named-expression (comma a b) t h n = named-append (expressionCode S a t) _ (named-expression a t (h .0) (omega arith)) (named-expression b t (h .1) (omega arith))
-      named-expression (conditional c a b) t h n = named-append (expressionCode S c t) _ (named-expression c t (h .0) (omega arith)) (
+      named-expression (comma a b) u t h k n = named-append (expressionCode S a dropped t) _ (named-expression a dropped t (h .0) tt (omega arith)) (named-expression b (passedOn u) t (h .1) (passed-named u) (omega arith))
+      named-expression (conditional c a b) u t h k n = named-append (expressionCode S c wanted t) _ (named-expression c wanted t (h .0) tt (omega arith)) (
         (
           named-atom t (atomOf c) (atom-named c (h .0)) (omega (arith, taken-level c)),
-          named-append (expressionCode S a t) _ (named-expression a t (h .1) (omega arith)) (named-copy t (atomOf a) (atom-named a (h .1)) (omega arith)),
-          named-append (expressionCode S b t) _ (named-expression b t (h .2) (omega arith)) (named-copy t (atomOf b) (atom-named b (h .2)) (omega arith)),
+          named-append (expressionCode S a wanted t) _ (named-expression a wanted t (h .1) tt (omega arith)) (named-copy t (atomOf a) (atom-named a (h .1)) (omega arith)),
+          named-append (expressionCode S b wanted t) _ (named-expression b wanted t (h .2) tt (omega arith)) (named-copy t (atomOf b) (atom-named b (h .2)) (omega arith)),
         ),
         tt,
       )
-      named-expression (assign p e) t h n =
-          let value = held (atomOf e) (indexWrites p) in
-          named-append (expressionCode S e t) _ (named-expression e t (h .1) (omega arith)) (named-append (holdCode S t (atomOf e) (indexWrites p)) _ (named-hold t (atomOf e) (indexWrites p) (atom-named e (h .1)) (omega arith))
+      named-expression (assign p e) u t h k n =
+          let own = landed p (direct e) (atomOf e) in
+          let value = held own (indexWrites p) in
+          let own-named = landed-named p (direct e) (atomOf e) (h .0) (atom-named e (h .1)) in
+          named-append (expressionCode S e (useFor p) t) _ (named-expression e (useFor p) t (h .1) (use-named p (h .0)) (omega arith)) (named-append (holdCode S t own (indexWrites p)) _ (named-hold t own (indexWrites p) own-named (omega arith))
           (named-append (indexCode S p (t + taken value)) _ (named-index p (t + taken value) (h .0) (omega arith))
-          ((named-place p (t + taken value) (h .0) (omega arith), named-atom t value (held-named e (indexWrites p) (h .1)) (omega arith)), tt)))
-      named-expression (compound operator p e) t h n =
+          (named-store p (t + taken value) (direct e) (atom S t value) (named-place p (t + taken value) (h .0) (omega arith)) (named-atom t value (held-either NamedAtom own (indexWrites p) own-named tt) (omega arith)))))
+      named-expression (compound operator p e) u t h k n =
           let value = held (atomOf e) (indexWrites p) in
-          named-append (expressionCode S e t) _ (named-expression e t (h .1) (omega arith)) (named-append (holdCode S t (atomOf e) (indexWrites p)) _ (named-hold t (atomOf e) (indexWrites p) (atom-named e (h .1)) (omega (arith, taken-most value)))
-          (named-append (indexCode S p (t + 1)) _ (named-index p (t + 1) (h .0) (index-most p t (omega arith)))
-          (named-update operator p (atom S t value) t (h .0) (named-atom t value (held-named e (indexWrites p) (h .1)) (omega (arith, taken-most value))) (omega arith))))
-      named-expression (prefix operator p) t h n = named-append (indexCode S p (t + 1)) _ (named-index p (t + 1) h (index-most p t n)) (named-update operator p _ t h tt n)
-      named-expression (postfix operator p) t h n = named-append (indexCode S p (t + 1)) _ (named-index p (t + 1) h (index-most p t n)) (named-postfix operator p t h n)
+          named-append (expressionCode S e wanted t) _ (named-expression e wanted t (h .1) tt (omega arith)) (named-append (holdCode S t (atomOf e) (indexWrites p)) _ (named-hold t (atomOf e) (indexWrites p) (atom-named e (h .1)) (omega (arith, compound-level p e)))
+          (named-append (indexCode S p (t + 1)) _ (named-above p t (h .0) (omega arith))
+          (named-update operator p (atom S t value) t (h .0) (named-atom t value (held-named e (indexWrites p) (h .1)) (omega (arith, compound-level p e))) (omega arith))))
+      named-expression (prefix operator p) u t h k n = named-append (indexCode S p (t + 1)) _ (named-above p t h n) (named-update operator p _ t h tt n)
+      named-expression (postfix operator p) u t h k n = named-append (indexCode S p (t + 1)) _ (named-stepped p u t h n) (named-postfix operator p u t h n)
 
       named-index : (p : Place) (t : ℕ) → NamedPlace Names arrays p → t + indexLevels p ≤ T → NamedItems Names arrays (indexCode S p t)
       named-index (variable i) t h n = tt
-      named-index (element array e) t h n = named-expression e t (h .1) n
+      named-index (element array e) t h n = named-expression e wanted t (h .1) tt n
+
+      -- the index of an updated place
+      named-above : (p : Place) (t : ℕ) → NamedPlace Names arrays p → t + updateLevels p ≤ T → NamedItems Names arrays (indexCode S p (t + 1))
+      named-above (variable i) t h n = tt
+      named-above (element array e) t h n = named-expression e wanted (t + 1) (h .1) tt (omega arith)
+
+      named-stepped : (p : Place) (u : Use) (t : ℕ) → NamedPlace Names arrays p → t + postfixLevels p u ≤ T → NamedItems Names arrays (indexCode S p (t + 1))
+      named-stepped (variable i) u t h n = tt
+      named-stepped (element array e) u t h n = named-expression e wanted (t + 1) (h .1) tt (omega arith)
 
     named-part : (p : Part) → NamedPart Names arrays p → partLevels p ≤ T → NamedItems Names arrays (partCode S p)
     unfolding NamedItems
     named-part absent h n = tt
-    named-part (present e) h n = named-expression e 0 h (omega arith)
+    named-part (present e) h n = named-expression e dropped 0 h tt (omega arith)
 
     named-empty : (xs : Items) → NamedItems Names arrays xs → NamedItems Names arrays (orEmpty S xs)
     unfolding NamedItems
@@ -191,10 +234,10 @@ module _ (Names : ℕ → Type 0) (arrays : ℕ) where
     named-empty (s then xs) h = h
     named-empty (m here xs) h = h
 
-    named-test : (p : Part) (l : ℕ) (xs : Items) → NamedPart Names arrays p → partLevels p ≤ T → NamedItems Names arrays xs → NamedItems Names arrays (testCode S p l xs)
+    named-test : (p : Part) (l : ℕ) (xs : Items) → NamedPart Names arrays p → testLevels p ≤ T → NamedItems Names arrays xs → NamedItems Names arrays (testCode S p l xs)
     unfolding NamedItems
     named-test absent l xs h n k = k
-    named-test (present e) l xs h n k = named-append (expressionCode S e 0) _ (named-expression e 0 h (omega arith)) ((named-atom 0 (atomOf e) (atom-named e h) (omega (arith, taken-level e)), tt, (tt, tt)), k)
+    named-test (present e) l xs h n k = named-append (expressionCode S e wanted 0) _ (named-expression e wanted 0 h tt (omega arith)) ((named-atom 0 (atomOf e) (atom-named e h) (omega (arith, taken-level e)), tt, (tt, tt)), k)
 
     named-cases : (h : Atom) (is : Items) (l : ℕ) → NamedAtom h → taken h < T → NamedItems Names arrays (caseTests S (atom S 0 h) (taken h) is l)
     unfolding NamedExpression NamedItems caseTests
@@ -205,12 +248,12 @@ module _ (Names : ℕ → Type 0) (arrays : ℕ) where
     named-cases h (label j here is) l k n = named-cases h is (l + 1) k n
 
     -- the rounds of while and for, and those of do, around the code of the body
-    named-rounds : (test action : Part) (l : ℕ) (body : Items) → NamedPart Names arrays test → partLevels test ≤ T → NamedPart Names arrays action → partLevels action ≤ T → NamedItems Names arrays body
+    named-rounds : (test action : Part) (l : ℕ) (body : Items) → NamedPart Names arrays test → testLevels test ≤ T → NamedPart Names arrays action → partLevels action ≤ T → NamedItems Names arrays body
         → NamedItems Names arrays (loopCode S (testCode S test l (body ⧺ label (l + 1) here partCode S action)) l)
     unfolding NamedExpression NamedItems
     named-rounds test action l body h n k m b = ((tt, named-test test l (body ⧺ label (l + 1) here partCode S action) h n (named-append body (label (l + 1) here partCode S action) b (named-part action k m))), tt)
 
-    named-do : (e : Expression) (l : ℕ) (body : Items) → NamedExpression Names arrays e → expressionLevels e ≤ T → NamedItems Names arrays body
+    named-do : (e : Expression) (l : ℕ) (body : Items) → NamedExpression Names arrays e → expressionLevels e wanted ≤ T → NamedItems Names arrays body
         → NamedItems Names arrays (loopCode S (body ⧺ label (l + 1) here testCode S (present e) l none) l)
     unfolding NamedExpression NamedItems
     named-do e l body h n b = ((tt, named-append body (label (l + 1) here testCode S (present e) l none) b (named-test (present e) l none h n tt)), tt)
@@ -220,16 +263,16 @@ module _ (Names : ℕ → Type 0) (arrays : ℕ) where
 
       named-statement : (s : Statement) (x : Exits) (l : ℕ) → NamedStatement Names arrays s → statementLevels s ≤ T → NamedItems Names arrays (statementCode S s x l)
       named-statement empty x l h n = (tt, tt)
-      named-statement (express e) x l h n = named-empty (expressionCode S e 0) (named-expression e 0 h (omega arith))
+      named-statement (express e) x l h n = named-empty (expressionCode S e dropped 0) (named-expression e dropped 0 h tt (omega arith))
       named-statement (block is) x l h n = (named-items is x l h n, tt)
-      named-statement (ifThen e onTrue) x l h n = named-append (expressionCode S e 0) _ (named-expression e 0 (h .0) (omega arith)) ((named-atom 0 (atomOf e) (atom-named e (h .0)) (omega (arith, taken-level e)), named-statement onTrue x l (h .1) (omega arith), tt), tt)
-      named-statement (ifElse e onTrue onFalse) x l h n = named-append (expressionCode S e 0) _ (named-expression e 0 (h .0) (omega arith))
+      named-statement (ifThen e onTrue) x l h n = named-append (expressionCode S e wanted 0) _ (named-expression e wanted 0 (h .0) tt (omega arith)) ((named-atom 0 (atomOf e) (atom-named e (h .0)) (omega (arith, taken-level e)), named-statement onTrue x l (h .1) (omega arith), tt), tt)
+      named-statement (ifElse e onTrue onFalse) x l h n = named-append (expressionCode S e wanted 0) _ (named-expression e wanted 0 (h .0) tt (omega arith))
           ((named-atom 0 (atomOf e) (atom-named e (h .0)) (omega (arith, taken-level e)), named-statement onTrue x l (h .1) (omega arith), named-statement onFalse x (l + labels onTrue) (h .2) (omega arith)), tt)
       named-statement (while e body) x l h n = named-rounds (present e) absent l (statementCode S body (exits l (l + 1)) (l + 2)) (h .0) (omega arith) tt (omega arith) (named-statement body _ _ (h .1) (omega arith))
       named-statement (doWhile body e) x l h n = named-do e l (statementCode S body (exits l (l + 1)) (l + 2)) (h .1) (omega arith) (named-statement body _ _ (h .0) (omega arith))
       named-statement (for first test action body) x l h n = named-append (partCode S first) _ (named-part first (h .0) (omega arith))
           (named-rounds test action l (statementCode S body (exits l (l + 1)) (l + 2)) (h .1) (omega arith) (h .2) (omega arith) (named-statement body _ _ (h .3) (omega arith)))
-      named-statement (switch e is) x l h n = named-append (expressionCode S e 0) _ (named-expression e 0 (h .0) (omega arith))
+      named-statement (switch e is) x l h n = named-append (expressionCode S e wanted 0) _ (named-expression e wanted 0 (h .0) tt (omega arith))
           (named-append (caseTests S (atom S 0 (atomOf e)) (taken (atomOf e)) is (l + 1)) _ (named-cases (atomOf e) is (l + 1) (atom-named e (h .0)) (omega arith))
           (tt, named-append (itemsCode S is (exits l (x .onContinue)) (l + 1)) _ (named-items is _ _ (h .1) (omega arith)) tt))
       named-statement break x l h n = (tt, tt)

@@ -9,12 +9,13 @@ use Rattle.words.specs.Word.{pick}
 use Rattle.words.specs.Layout.{Layout, storeSize}
 use Rattle.words.specs.declared.Operator.{Operator}
 use Rattle.language.specs.Trees.{Expression, constant, read, minus, not, binary, and, or, comma, conditional, assign, compound, prefix, postfix, Place, variable, element, Part, absent, present, case, default, label, Statement, empty, express, block, ifThen, ifElse, while, doWhile, for, switch, break, continue, goto, Items, none, _then_, _here_, _⧺_}
-use Rattle.language.specs.Sizes.{expressionRows, placeRows, statementRows, itemsRows}
+use Rattle.language.specs.Sizes.{expressionRows, statementRows, itemsRows}
 use Rattle.language.specs.TreeLaws.{statement-some}
 use Rattle.language.specs.Writes.{writes, indexWrites}
-use Rattle.translation.specs.Translate.{Atom, number, word, top, held, atomOf, taken, placeTaken, atom, copyCode, moveCode, readCode, kernelPlace, updateCode, postfixCode, expressionCode, indexCode, partCode, orEmpty, testCode, caseTests, labels, Exits, exits, statementCode, itemsCode, translate}
+use Rattle.translation.specs.Uses.{Use, dropped, wanted, stored, useFor, passedOn, direct}
+use Rattle.translation.specs.Translate.{Atom, number, word, top, held, landed, atomOf, taken, placeTaken, atom, copyCode, moveCode, readCode, storeCode, kernelPlace, updateCode, stepCode, postfixCode, expressionCode, indexCode, partCode, orEmpty, testCode, caseTests, labels, Exits, exits, statementCode, itemsCode, translate}
 use Rattle.translation.specs.HeldCode.{holdCode}
-use Rattle.translation.specs.TranslateSize.{indexRows, copyRows, holdRows, expressionSize, indexSize, partSize, testSize, cases, statementSize, itemsSize}
+use Rattle.translation.specs.TranslateSize.{indexRows, copyRows, holdRows, storeRows, updateRows, stepRows, postfixRows, expressionSize, indexSize, partSize, testSize, cases, statementSize, itemsSize}
 
 pub rows-append : (xs ys : Items) → itemsRows (xs ⧺ ys) ≡ itemsRows xs + itemsRows ys
 unfolding itemsRows _⧺_
@@ -35,10 +36,10 @@ module _ (S : ℕ) where
   rows-copy t (word i) = refl
   rows-copy t top = refl
 
-  rows-read : (p : Place) (t : ℕ) → itemsRows (readCode S p t) ≡ 5 * indexRows p
+  rows-read : (p : Place) (u : Use) (t : ℕ) → itemsRows (readCode S p u t) ≡ 5 * indexRows p
   unfolding expressionRows itemsRows
-  rows-read (variable i) t = refl
-  rows-read (element array e) t = simp rows-atom
+  rows-read (variable i) u t = refl
+  rows-read (element array e) u t = simp rows-atom
 
   rows-hold : (t : ℕ) (h : Atom) (W : ℕ → Bool) → itemsRows (holdCode S t h W) ≡ holdRows h W
   unfolding expressionRows itemsRows
@@ -50,20 +51,27 @@ module _ (S : ℕ) where
       by false = refl
   rows-hold t top W = refl
 
-  rows-place : (p : Place) (t : ℕ) → placeRows (kernelPlace S p t) ≡ 1 + indexRows p
-  unfolding expressionRows kernelPlace
-  rows-place (variable i) t = refl
-  rows-place (element array e) t = ap (λ n. 1 + n) (rows-atom t (atomOf e))
+  rows-store : (p : Place) (straight : Bool) (h : Atom) (t i : ℕ) → itemsRows (storeCode S (kernelPlace S p i) straight (atom S t h)) ≡ storeRows p straight
+  unfolding expressionRows itemsRows kernelPlace
+  rows-store (variable j) true h t i = refl
+  rows-store (variable j) false h t i = simp rows-atom
+  rows-store (element array e) straight h t i = simp rows-atom
 
-  rows-update : (operator : Operator) (p : Place) (h : Atom) (t i u : ℕ) → itemsRows (updateCode S operator (kernelPlace S p i) (atom S t h) t u) ≡ 10 + 6 * indexRows p
+  rows-update : (operator : Operator) (p : Place) (h : Atom) (t i u : ℕ) → itemsRows (updateCode S operator (kernelPlace S p i) (atom S t h) t u) ≡ updateRows p
   unfolding expressionRows itemsRows kernelPlace
   rows-update operator (variable j) h t i u = simp rows-atom
   rows-update operator (element array e) h t i u = simp rows-atom
 
-  rows-postfix : (operator : Operator) (p : Place) (t i u : ℕ) → itemsRows (postfixCode S operator (kernelPlace S p i) t u) ≡ 10 + 6 * indexRows p
+  rows-step : (operator : Operator) (i : ℕ) (u : Use) (t : ℕ) → itemsRows (stepCode S operator i u t) ≡ stepRows u
+  unfolding expressionRows itemsRows
+  rows-step operator i dropped t = refl
+  rows-step operator i wanted t = refl
+  rows-step operator i (stored j) t = refl
+
+  rows-postfix : (operator : Operator) (p : Place) (u : Use) (t i n : ℕ) → itemsRows (postfixCode S operator (kernelPlace S p i) u t n) ≡ postfixRows p u
   unfolding expressionRows itemsRows kernelPlace
-  rows-postfix operator (variable j) t i u = refl
-  rows-postfix operator (element array e) t i u = simp rows-atom
+  rows-postfix operator (variable j) u t i n = rows-step operator j u t
+  rows-postfix operator (element array e) u t i n = simp rows-atom
 
   rows-empty : (xs : Items) → itemsRows (orEmpty S xs) ≡ max 1 (itemsRows xs)
   unfolding itemsRows
@@ -74,34 +82,34 @@ module _ (S : ℕ) where
   mutual
     unfolding expressionSize expressionCode expressionRows itemsRows kernelPlace
 
-    pub rows-expression : (e : Expression) (t : ℕ) → itemsRows (expressionCode S e t) ≡ expressionSize e
-    rows-expression (constant v) t = refl
-    rows-expression (read p) t = simp (rows-append, rows-read) (omega (arith, rows-index p t))
-    rows-expression (minus e) t = simp (rows-append, rows-atom) (omega (arith, rows-expression e t))
-    rows-expression (not e) t = simp (rows-append, rows-atom) (omega (arith, rows-expression e t))
-    rows-expression (binary operator a b) t = simp (rows-append, rows-atom, rows-hold) (omega (arith, rows-expression b t, rows-expression a (t + taken (held (atomOf b) (writes a)))))
-    rows-expression (and a b) t = simp (rows-append, rows-atom) (omega (arith, rows-expression a t, rows-expression b t))
-    rows-expression (or a b) t = simp (rows-append, rows-atom) (omega (arith, rows-expression a t, rows-expression b t))
-    rows-expression (comma a b) t = simp rows-append (omega (arith, rows-expression a t, rows-expression b t))
-    rows-expression (conditional c a b) t = simp (rows-append, rows-atom, rows-copy) (omega (arith, rows-expression c t, rows-expression a t, rows-expression b t))
-    rows-expression (assign p e) t = simp (rows-append, rows-atom, rows-place, rows-hold) (omega (arith, rows-expression e t, rows-index p (t + taken (held (atomOf e) (indexWrites p)))))
-    rows-expression (compound operator p e) t = simp (rows-append, rows-hold) (omega (arith, rows-expression e t, rows-index p (t + 1), rows-update operator p (held (atomOf e) (indexWrites p)) t (t + 1) (t + 1 + placeTaken p)))
-    rows-expression (prefix operator p) t = simp rows-append (omega (arith, rows-index p (t + 1), rows-update operator p (number (pos 1)) t (t + 1) (t + 1 + placeTaken p)))
-    rows-expression (postfix operator p) t = simp rows-append (omega (arith, rows-index p (t + 1), rows-postfix operator p t (t + 1) (t + 1 + placeTaken p)))
+    pub rows-expression : (e : Expression) (u : Use) (t : ℕ) → itemsRows (expressionCode S e u t) ≡ expressionSize e u
+    rows-expression (constant v) u t = refl
+    rows-expression (read p) u t = simp (rows-append, rows-read) (omega (arith, rows-index p t))
+    rows-expression (minus e) u t = simp (rows-append, rows-atom) (omega (arith, rows-expression e wanted t))
+    rows-expression (not e) u t = simp (rows-append, rows-atom) (omega (arith, rows-expression e wanted t))
+    rows-expression (binary operator a b) u t = simp (rows-append, rows-atom, rows-hold) (omega (arith, rows-expression b wanted t, rows-expression a wanted (t + taken (held (atomOf b) (writes a)))))
+    rows-expression (and a b) u t = simp (rows-append, rows-atom) (omega (arith, rows-expression a wanted t, rows-expression b wanted t))
+    rows-expression (or a b) u t = simp (rows-append, rows-atom) (omega (arith, rows-expression a wanted t, rows-expression b wanted t))
+    rows-expression (comma a b) u t = simp rows-append (omega (arith, rows-expression a dropped t, rows-expression b (passedOn u) t))
+    rows-expression (conditional c a b) u t = simp (rows-append, rows-atom, rows-copy) (omega (arith, rows-expression c wanted t, rows-expression a wanted t, rows-expression b wanted t))
+    rows-expression (assign p e) u t = simp (rows-append, rows-hold, rows-store) (omega (arith, rows-expression e (useFor p) t, rows-index p (t + taken (held (landed p (direct e) (atomOf e)) (indexWrites p)))))
+    rows-expression (compound operator p e) u t = simp (rows-append, rows-hold) (omega (arith, rows-expression e wanted t, rows-index p (t + 1), rows-update operator p (held (atomOf e) (indexWrites p)) t (t + 1) (t + 1 + placeTaken p)))
+    rows-expression (prefix operator p) u t = simp rows-append (omega (arith, rows-index p (t + 1), rows-update operator p (number (pos 1)) t (t + 1) (t + 1 + placeTaken p)))
+    rows-expression (postfix operator p) u t = simp rows-append (omega (arith, rows-index p (t + 1), rows-postfix operator p u t (t + 1) (t + 1 + placeTaken p)))
 
     rows-index : (p : Place) (t : ℕ) → itemsRows (indexCode S p t) ≡ indexSize p
     rows-index (variable i) t = refl
-    rows-index (element array e) t = rows-expression e t
+    rows-index (element array e) t = rows-expression e wanted t
 
   pub rows-part : (p : Part) → itemsRows (partCode S p) ≡ partSize p
   unfolding itemsRows
   rows-part absent = refl
-  rows-part (present e) = rows-expression e 0
+  rows-part (present e) = rows-expression e dropped 0
 
   pub rows-test : (p : Part) (l : ℕ) (xs : Items) → itemsRows (testCode S p l xs) ≡ testSize p + itemsRows xs
   unfolding expressionRows itemsRows
   rows-test absent l xs = omega arith
-  rows-test (present e) l xs = simp (rows-append, rows-atom) (omega (arith, rows-expression e 0))
+  rows-test (present e) l xs = simp (rows-append, rows-atom) (omega (arith, rows-expression e wanted 0))
 
   pub rows-cases : (t u : ℕ) (h : Atom) (is : Items) (l : ℕ) → itemsRows (caseTests S (atom S t h) u is l) ≡ 11 * cases is
   unfolding expressionRows itemsRows caseTests
@@ -116,14 +124,14 @@ module _ (S : ℕ) where
 
     pub rows-statement : (s : Statement) (x : Exits) (l : ℕ) → itemsRows (statementCode S s x l) ≡ statementSize s
     rows-statement empty x l = refl
-    rows-statement (express e) x l = simp rows-empty (omega (arith, rows-expression e 0))
+    rows-statement (express e) x l = simp rows-empty (omega (arith, rows-expression e dropped 0))
     rows-statement (block is) x l = omega (arith, rows-items is x l)
-    rows-statement (ifThen e onTrue) x l = simp (rows-append, rows-atom) (omega (arith, rows-expression e 0, rows-statement onTrue x l))
-    rows-statement (ifElse e onTrue onFalse) x l = simp (rows-append, rows-atom) (omega (arith, rows-expression e 0, rows-statement onTrue x l, rows-statement onFalse x (l + labels onTrue)))
-    rows-statement (while e body) x l = simp (rows-append, rows-atom) (omega (arith, rows-expression e 0, rows-statement body (exits l (l + 1)) (l + 2)))
-    rows-statement (doWhile body e) x l = simp (rows-append, rows-atom) (omega (arith, rows-expression e 0, rows-statement body (exits l (l + 1)) (l + 2)))
+    rows-statement (ifThen e onTrue) x l = simp (rows-append, rows-atom) (omega (arith, rows-expression e wanted 0, rows-statement onTrue x l))
+    rows-statement (ifElse e onTrue onFalse) x l = simp (rows-append, rows-atom) (omega (arith, rows-expression e wanted 0, rows-statement onTrue x l, rows-statement onFalse x (l + labels onTrue)))
+    rows-statement (while e body) x l = simp (rows-append, rows-atom) (omega (arith, rows-expression e wanted 0, rows-statement body (exits l (l + 1)) (l + 2)))
+    rows-statement (doWhile body e) x l = simp (rows-append, rows-atom) (omega (arith, rows-expression e wanted 0, rows-statement body (exits l (l + 1)) (l + 2)))
     rows-statement (for first test action body) x l = simp (rows-append, rows-test, rows-part) (omega (arith, rows-statement body (exits l (l + 1)) (l + 2)))
-    rows-statement (switch e is) x l = simp (rows-append, rows-cases) (omega (arith, rows-expression e 0, rows-items is (exits l (x .onContinue)) (l + 1)))
+    rows-statement (switch e is) x l = simp (rows-append, rows-cases) (omega (arith, rows-expression e wanted 0, rows-items is (exits l (x .onContinue)) (l + 1)))
     rows-statement break x l = refl
     rows-statement continue x l = refl
     rows-statement (goto k) x l = refl

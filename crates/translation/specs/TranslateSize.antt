@@ -1,9 +1,11 @@
 -- Sizes: the kernel rows that come of a source tree, a clause a kind.
 use mathlib.Core.Bool.{Bool}
 use Prim.Native.Nat.{ℕ, _+_, _*_, _-_, max}
+use Rattle.words.specs.Word.{pick}
 use Rattle.language.specs.Trees.{Expression, constant, read, minus, not, binary, and, or, comma, conditional, assign, compound, prefix, postfix, Place, variable, element, Part, absent, present, case, default, label, Statement, empty, express, block, ifThen, ifElse, while, doWhile, for, switch, break, continue, goto, Items, none, _then_, _here_}
 use Rattle.language.specs.Writes.{writes, indexWrites}
-use Rattle.translation.specs.Translate.{Atom, number, word, top, held, atomOf, taken}
+use Rattle.translation.specs.Uses.{Use, dropped, wanted, stored, useFor, passedOn, direct}
+use Rattle.translation.specs.Translate.{Atom, number, word, top, held, landed, atomOf, taken}
 
 -- The rows below a kernel place's own: its index.
 abbrev pub indexRows : Place → ℕ
@@ -23,50 +25,69 @@ copied h W = taken (held h W) - taken h
 abbrev pub holdRows : Atom → (ℕ → Bool) → ℕ
 holdRows h W = 4 * copied h W
 
+-- The rows that store a value: none where it went straight into its variable.
+abbrev pub storeRows : Place → Bool → ℕ
+storeRows (variable i) straight = pick straight 0 4
+storeRows (element array e) straight = 5
+
+abbrev pub updateRows : Place → ℕ
+updateRows (variable i) = 6
+updateRows (element array e) = 16
+
+-- e++ and e−−: on a variable one assignment where the old value is not used, else two.
+abbrev pub stepRows : Use → ℕ
+stepRows dropped = 6
+stepRows wanted = 10
+stepRows (stored i) = 10
+
+abbrev pub postfixRows : Place → Use → ℕ
+postfixRows (variable i) u = stepRows u
+postfixRows (element array e) u = 16
+
 -- The kernel rows that an expression's own row brings, beyond those of its parts.
-abbrev pub ownRows : Expression → ℕ
-ownRows (constant v) = 0
-ownRows (read p) = 5 * indexRows p
-ownRows (minus e) = 5
-ownRows (not e) = 6
-ownRows (binary operator a b) = 6 + holdRows (atomOf b) (writes a)
-ownRows (and a b) = 14
-ownRows (or a b) = 14
-ownRows (comma a b) = 0
-ownRows (conditional c a b) = 4 + copyRows (atomOf a) + copyRows (atomOf b)
-ownRows (assign p e) = 4 + indexRows p + holdRows (atomOf e) (indexWrites p)
-ownRows (compound operator p e) = 10 + 6 * indexRows p + holdRows (atomOf e) (indexWrites p)
-ownRows (prefix operator p) = 10 + 6 * indexRows p
-ownRows (postfix operator p) = 10 + 6 * indexRows p
+abbrev pub ownRows : Expression → Use → ℕ
+ownRows (constant v) u = 0
+ownRows (read p) u = 5 * indexRows p
+ownRows (minus e) u = 5
+ownRows (not e) u = 6
+ownRows (binary operator a b) u = 6 + holdRows (atomOf b) (writes a)
+ownRows (and a b) u = 14
+ownRows (or a b) u = 14
+ownRows (comma a b) u = 0
+ownRows (conditional c a b) u = 4 + copyRows (atomOf a) + copyRows (atomOf b)
+ownRows (assign p e) u = storeRows p (direct e) + holdRows (landed p (direct e) (atomOf e)) (indexWrites p)
+ownRows (compound operator p e) u = updateRows p + holdRows (atomOf e) (indexWrites p)
+ownRows (prefix operator p) u = updateRows p
+ownRows (postfix operator p) u = postfixRows p u
 
 unfoldable mutual
-  pub expressionSize : Expression → ℕ
-  expressionSize (constant v) = 0
-  expressionSize (read p) = ownRows (read p) + indexSize p
-  expressionSize (minus e) = ownRows (minus e) + expressionSize e
-  expressionSize (not e) = ownRows (not e) + expressionSize e
-  expressionSize (binary operator a b) = ownRows (binary operator a b) + expressionSize a + expressionSize b
-  expressionSize (and a b) = ownRows (and a b) + expressionSize a + expressionSize b
-  expressionSize (or a b) = ownRows (or a b) + expressionSize a + expressionSize b
-  expressionSize (comma a b) = expressionSize a + expressionSize b
-  expressionSize (conditional c a b) = ownRows (conditional c a b) + expressionSize c + expressionSize a + expressionSize b
-  expressionSize (assign p e) = ownRows (assign p e) + indexSize p + expressionSize e
-  expressionSize (compound operator p e) = ownRows (compound operator p e) + indexSize p + expressionSize e
-  expressionSize (prefix operator p) = ownRows (prefix operator p) + indexSize p
-  expressionSize (postfix operator p) = ownRows (postfix operator p) + indexSize p
+  pub expressionSize : Expression → Use → ℕ
+  expressionSize (constant v) u = 0
+  expressionSize (read p) u = ownRows (read p) u + indexSize p
+  expressionSize (minus e) u = ownRows (minus e) u + expressionSize e wanted
+  expressionSize (not e) u = ownRows (not e) u + expressionSize e wanted
+  expressionSize (binary operator a b) u = ownRows (binary operator a b) u + expressionSize a wanted + expressionSize b wanted
+  expressionSize (and a b) u = ownRows (and a b) u + expressionSize a wanted + expressionSize b wanted
+  expressionSize (or a b) u = ownRows (or a b) u + expressionSize a wanted + expressionSize b wanted
+  expressionSize (comma a b) u = expressionSize a dropped + expressionSize b (passedOn u)
+  expressionSize (conditional c a b) u = ownRows (conditional c a b) u + expressionSize c wanted + expressionSize a wanted + expressionSize b wanted
+  expressionSize (assign p e) u = ownRows (assign p e) u + indexSize p + expressionSize e (useFor p)
+  expressionSize (compound operator p e) u = ownRows (compound operator p e) u + indexSize p + expressionSize e wanted
+  expressionSize (prefix operator p) u = ownRows (prefix operator p) u + indexSize p
+  expressionSize (postfix operator p) u = ownRows (postfix operator p) u + indexSize p
 
   pub indexSize : Place → ℕ
   indexSize (variable i) = 0
-  indexSize (element array e) = expressionSize e
+  indexSize (element array e) = expressionSize e wanted
 
 abbrev pub partSize : Part → ℕ
 partSize absent = 0
-partSize (present e) = expressionSize e
+partSize (present e) = expressionSize e dropped
 
 -- A loop's test: its code, the if, its atom, two blocks and a goto.
 abbrev pub testSize : Part → ℕ
 testSize absent = 0
-testSize (present e) = expressionSize e + 5
+testSize (present e) = expressionSize e wanted + 5
 
 -- The cases of a switch; each brings a test of 11 rows, besides its label.
 abbrev pub cases : Items → ℕ
@@ -79,14 +100,14 @@ cases (label l here is) = cases is
 unfoldable mutual
   pub statementSize : Statement → ℕ
   statementSize empty = 1
-  statementSize (express e) = max 1 (expressionSize e)
+  statementSize (express e) = max 1 (expressionSize e dropped)
   statementSize (block is) = 1 + itemsSize is
-  statementSize (ifThen e onTrue) = 4 + expressionSize e + statementSize onTrue
-  statementSize (ifElse e onTrue onFalse) = 4 + expressionSize e + statementSize onTrue + statementSize onFalse
-  statementSize (while e body) = 10 + expressionSize e + statementSize body
-  statementSize (doWhile body e) = 10 + expressionSize e + statementSize body
+  statementSize (ifThen e onTrue) = 4 + expressionSize e wanted + statementSize onTrue
+  statementSize (ifElse e onTrue onFalse) = 4 + expressionSize e wanted + statementSize onTrue + statementSize onFalse
+  statementSize (while e body) = 10 + expressionSize e wanted + statementSize body
+  statementSize (doWhile body e) = 10 + expressionSize e wanted + statementSize body
   statementSize (for first test action body) = 5 + partSize first + testSize test + partSize action + statementSize body
-  statementSize (switch e is) = 2 + expressionSize e + 11 * cases is + itemsSize is
+  statementSize (switch e is) = 2 + expressionSize e wanted + 11 * cases is + itemsSize is
   statementSize break = 1
   statementSize continue = 1
   statementSize (goto l) = 1

@@ -1,0 +1,42 @@
+-- Uses: what becomes of the value of an expression, by the text around it.
+use mathlib.Core.Bool.{Bool, true, false}
+use Prim.Native.Nat.{ℕ}
+use Rattle.language.specs.Trees.{Expression, constant, read, minus, not, binary, and, or, comma, conditional, assign, compound, prefix, postfix, Place, variable, element}
+
+-- Nobody uses the value; something is worked out with it; or an assignment stores it in the variable i.
+pub data Use : Type 0 where
+  dropped : Use
+  wanted : Use
+  stored : ℕ → Use
+
+-- The use of an assignment's right side, by its place: what is stored in an element waits for the index.
+abbrev pub useFor : Place → Use
+useFor (variable i) = stored i
+useFor (element array e) = wanted
+
+-- The use of a comma's right side is the comma's; but a comma is no operation, so what it gives is not stored at once.
+abbrev pub passedOn : Use → Use
+passedOn dropped = dropped
+passedOn wanted = wanted
+passedOn (stored i) = wanted
+
+abbrev pub isElement : Place → Bool
+isElement (variable i) = false
+isElement (element array e) = true
+
+-- Whether the value of an expression is an element or the result of an operation, kinds 3 to 16. The kernel assigns these to any variable, so
+-- one that is stored in a variable goes straight there.
+unfoldable pub direct : Expression → Bool
+direct (constant v) = false
+direct (read p) = isElement p
+direct (minus e) = true
+direct (not e) = true
+direct (binary operator a b) = true
+direct (and a b) = false
+direct (or a b) = false
+direct (comma a b) = false
+direct (conditional c a b) = false
+direct (assign p e) = false
+direct (compound operator p e) = false
+direct (prefix operator p) = false
+direct (postfix operator p) = false

@@ -8,6 +8,8 @@ use lib.ListN.{length, getD}
 use Rattle.words.specs.Table.{rowCount}
 use Rattle.language.specs.Trees.{Expression, Statement, Items, none, _then_, _here_, case, default, label}
 use Rattle.language.specs.Decode.{expressionAt, statementAt, itemsAt}
+use Rattle.translation.specs.declared.Use.{Use}
+use Rattle.translation.specs.declared.Use.the-variants.{Dropped as dropped, Wanted as wanted, Stored as stored}
 use Rattle.translation.specs.Translate.{atomOf, labels, itemsLabels, expressionLevels, statementLevels, itemsLevels}
 use Rattle.translation.specs.TranslateSize.{expressionSize, statementSize, itemsSize, cases}
 use Rattle.shapes.specs.Source.{Source}
@@ -35,13 +37,18 @@ defaultPlace (label l here is) = pastLabels 1 (defaultPlace is)
 -- ---- what is measured
 
 pub record ExpressionMeasured (rows : List ℤ) (e : Expression) (m : ExpressionMeasures) : Type 0 where
-  pub rows-are : m .rows ≡ limited (expressionSize e)
-  pub levels-are : m .levels ≡ limited (expressionLevels e)
+  pub rows-are : m .rows ≡ limited (expressionSize e wanted)
+  pub levels-are : m .levels ≡ limited (expressionLevels e wanted)
   -- the row that the value comes from
   pub value-is : plainAtom (expressionAt rows (m .value)) ≡ atomOf e
   pub value-inside : m .value < rowCount rows
   -- 1 where the value of the first operand is copied
   pub copied-is : m .copied ≡ firstCopied e
+  -- where nobody uses the value
+  pub dropped-rows-are : m .dropped_rows ≡ limited (expressionSize e dropped)
+  pub dropped-levels-are : m .dropped_levels ≡ limited (expressionLevels e dropped)
+  -- where a variable stores it, whichever; its rows are those of a value that is wanted
+  pub stored-levels-are : m .stored_levels ≡ limited (expressionLevels e (stored 0))
 
 pub record StatementMeasured (s : Statement) (m : StatementMeasures) : Type 0 where
   pub rows-are : m .rows ≡ limited (statementSize s)
@@ -59,7 +66,7 @@ pub record ListMeasured (is : Items) (m : ListMeasures) : Type 0 where
 
 -- The words of a row, and where each measure stands among them.
 abbrev pub width : ℕ
-width = 12
+width = 15
 
 abbrev pub rowsSlot : ℕ
 rowsSlot = 0
@@ -97,6 +104,26 @@ listDefaultSlot = 10
 abbrev pub copiedSlot : ℕ
 copiedSlot = 11
 
+abbrev pub droppedRowsSlot : ℕ
+droppedRowsSlot = 12
+
+abbrev pub droppedLevelsSlot : ℕ
+droppedLevelsSlot = 13
+
+abbrev pub storedLevelsSlot : ℕ
+storedLevelsSlot = 14
+
+-- The measures of an expression, by the use of its value.
+abbrev pub rowsFor : Use → ℕ
+rowsFor dropped = droppedRowsSlot
+rowsFor wanted = rowsSlot
+rowsFor (stored i) = rowsSlot
+
+abbrev pub levelsFor : Use → ℕ
+levelsFor dropped = droppedLevelsSlot
+levelsFor wanted = levelsSlot
+levelsFor (stored i) = storedLevelsSlot
+
 abbrev pub slot : List ℕ → ℕ → ℕ → ℕ
 slot table row k = getD table (width * row + k) 0
 
@@ -119,7 +146,8 @@ pub record SlotIs (table : List ℕ) (link k r : ℕ) : Type 0 where
   pub small : r ≤ 65536
 
 abbrev pub expressionSlots : List ℕ → ℕ → ExpressionMeasures
-expressionSlots table row = record { rows = slot table row rowsSlot; levels = slot table row levelsSlot; value = slot table row valueSlot; copied = slot table row copiedSlot }
+expressionSlots table row =
+    record { rows = slot table row rowsSlot; levels = slot table row levelsSlot; value = slot table row valueSlot; copied = slot table row copiedSlot; dropped_rows = slot table row droppedRowsSlot; dropped_levels = slot table row droppedLevelsSlot; stored_levels = slot table row storedLevelsSlot }
 
 abbrev pub statementSlots : List ℕ → ℕ → StatementMeasures
 statementSlots table row = record { rows = slot table row statementRowsSlot; levels = slot table row statementLevelsSlot; labels = slot table row statementLabelsSlot }
@@ -130,7 +158,7 @@ listSlots table row = record { rows = slot table row listRowsSlot; levels = slot
 -- The words of a row.
 abbrev pub rowWords : ExpressionMeasures → StatementMeasures → ListMeasures → List ℕ
 rowWords e s l =
-    e .rows ∷ e .levels ∷ e .value ∷ s .rows ∷ s .levels ∷ s .labels ∷ l .rows ∷ l .levels ∷ l .labels ∷ l .cases ∷ l .default ∷ e .copied ∷ []
+    e .rows ∷ e .levels ∷ e .value ∷ s .rows ∷ s .levels ∷ s .labels ∷ l .rows ∷ l .levels ∷ l .labels ∷ l .cases ∷ l .default ∷ e .copied ∷ e .dropped_rows ∷ e .dropped_levels ∷ e .stored_levels ∷ []
 
 -- A loop's test: its code and 5 rows, where it is there.
 abbrev pub testSlots : List ℕ → ℕ → ℕ
@@ -182,7 +210,7 @@ plainMeasures = measures 1 0 0
 
 module _ (table : List ℕ) where
   abbrev pub expressMeasures : ℕ → StatementMeasures
-  expressMeasures e = measures (max 1 (slotAt table e rowsSlot)) (slotAt table e levelsSlot) 0
+  expressMeasures e = measures (max 1 (slotAt table e droppedRowsSlot)) (slotAt table e droppedLevelsSlot) 0
 
   abbrev pub blockMeasures : ℕ → StatementMeasures
   blockMeasures list = measures (limited (1 + slotAt table list listRowsSlot)) (slotAt table list listLevelsSlot) (slotAt table list listLabelsSlot)
@@ -196,8 +224,8 @@ module _ (table : List ℕ) where
   -- What stands first, the test, the step, the body.
   abbrev pub loopMeasures : ℕ → ℕ → ℕ → ℕ → StatementMeasures
   loopMeasures first test action body =
-      measures (limited (5 + (slotAt table first rowsSlot + testSlots table test) + (slotAt table action rowsSlot + slotAt table body statementRowsSlot)))
-      (max (max (slotAt table first levelsSlot) (slotAt table test levelsSlot)) (max (slotAt table action levelsSlot) (slotAt table body statementLevelsSlot)))
+      measures (limited (5 + (slotAt table first droppedRowsSlot + testSlots table test) + (slotAt table action droppedRowsSlot + slotAt table body statementRowsSlot)))
+      (max (max (slotAt table first droppedLevelsSlot) (slotAt table test levelsSlot)) (max (slotAt table action droppedLevelsSlot) (slotAt table body statementLevelsSlot)))
       (limited (2 + slotAt table body statementLabelsSlot))
 
   -- `held` is how many temporaries the selector's value takes.

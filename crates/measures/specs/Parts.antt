@@ -1,16 +1,24 @@
 -- Parts: an expression's code in parts. Two operands may be worked out first, the second above the first; two more stand in branches.
 -- What is added up over the code of an expression is added up over these parts. And what the code finds of them at a row.
 use mathlib.Core.Path.{_≡_}
+use mathlib.Core.Bool.{Bool}
 use mathlib.Core.List.{List}
 use Prim.Native.Nat.{ℕ, _+_, _<_}
 use lib.IntN.{ℤ}
+use Rattle.words.specs.Word.{pick}
 use Rattle.words.specs.Table.{rowCount}
 use Rattle.language.specs.Trees.{Expression, constant, read, minus, not, binary, and, or, comma, conditional, assign, compound, prefix, postfix, Place, variable, element, Part, absent, present}
 use Rattle.language.specs.Decode.{placeOf, expressionAt, partAt}
 use Rattle.language.specs.Writes.{writes, indexWrites}
 use Rattle.shapes.specs.Shapes.{OptionalOnward}
-use Rattle.translation.specs.Translate.{Atom, number, word, top, held, atomOf, taken}
+use Rattle.shapes.specs.Source.{mostVariables}
+use Rattle.translation.specs.Uses.{useFor, passedOn, direct}
+use Rattle.translation.specs.declared.Use.{Use}
+use Rattle.translation.specs.declared.Use.the-variants.{Dropped as dropped, Wanted as wanted, Stored as stored}
+use Rattle.translation.specs.Translate.{Atom, number, word, top, held, landed, updated, atomOf, taken, resultLevels, readLevels, oldLevels}
 use Rattle.translation.specs.TranslateSize.{indexRows, copied, ownRows}
+use Rattle.measures.specs.declared.Holder.{Holder}
+use Rattle.measures.specs.declared.Holder.the-variants.{Number, Variable, Temporary}
 use Rattle.measures.specs.declared.Own.{Own}
 use Rattle.measures.specs.declared.PlaceOwn.{PlaceOwn}
 
@@ -18,15 +26,15 @@ abbrev pub indexOf : Place → Part
 indexOf (variable i) = absent
 indexOf (element array e) = present e
 
--- The levels of an update of a place: the result's, and for an element the index's and one above it.
+-- The levels of an update: none for a variable; for an element the result's, the index's and one above it.
 abbrev pub updateOwn : Place → ℕ
-updateOwn (variable i) = 1
+updateOwn (variable i) = 0
 updateOwn (element array e) = 2 + taken (atomOf e)
 
--- A variable that is read stands for its value, and names no level.
-abbrev pub readOwn : Place → ℕ
-readOwn (variable i) = 0
-readOwn (element array e) = 1
+-- e++ and e−− keep a variable's old value where it is used.
+abbrev pub postfixOwn : Place → Use → ℕ
+postfixOwn (variable i) u = oldLevels u
+postfixOwn (element array e) u = 2 + taken (atomOf e)
 
 abbrev pub readAtom : Place → Atom
 readAtom (variable i) = word i
@@ -41,30 +49,29 @@ pub record Parts : Type 0 where
   pub above : ℕ
   -- 1 where the value of the first operand is copied, because the second one can write it
   pub copied : ℕ
-  -- the levels that the expression's own code names
-  pub levels : ℕ
   -- the atom of an expression that is neither a comma nor an assignment, whose atoms are those of their right operands; an assignment's
-  -- where it has copied its value
+  -- where its value went straight into its variable, or was copied
   pub atom : Atom
 
-abbrev pub parts : Part → Part → Part → Part → ℕ → ℕ → ℕ → Atom → Parts
-parts first second third fourth above copies levels atom =
-    record { first = first; second = second; third = third; fourth = fourth; above = above; copied = copies; levels = levels; atom = atom }
+abbrev pub parts : Part → Part → Part → Part → ℕ → ℕ → Atom → Parts
+parts first second third fourth above copies atom =
+    record { first = first; second = second; third = third; fourth = fourth; above = above; copied = copies; atom = atom }
 
 abbrev pub partsOf : Expression → Parts
-partsOf (constant v) = parts absent absent absent absent 0 0 0 (number v)
-partsOf (read p) = parts (indexOf p) absent absent absent 0 0 (readOwn p) (readAtom p)
-partsOf (minus e) = parts (present e) absent absent absent 0 0 1 top
-partsOf (not e) = parts (present e) absent absent absent 0 0 1 top
-partsOf (binary operator a b) = parts (present b) (present a) absent absent (taken (held (atomOf b) (writes a))) (copied (atomOf b) (writes a)) 1 top
-partsOf (and a b) = parts (present a) absent (present b) absent 0 0 1 top
-partsOf (or a b) = parts (present a) absent (present b) absent 0 0 1 top
-partsOf (comma a b) = parts (present a) (present b) absent absent 0 0 0 top
-partsOf (conditional c a b) = parts (present c) absent (present a) (present b) 0 0 1 top
-partsOf (assign p e) = parts (present e) (indexOf p) absent absent (taken (held (atomOf e) (indexWrites p))) (copied (atomOf e) (indexWrites p)) 0 top
-partsOf (compound operator p e) = parts (present e) (indexOf p) absent absent 1 (copied (atomOf e) (indexWrites p)) (updateOwn p) top
-partsOf (prefix operator p) = parts absent (indexOf p) absent absent 1 0 (updateOwn p) top
-partsOf (postfix operator p) = parts absent (indexOf p) absent absent 1 0 (updateOwn p) top
+partsOf (constant v) = parts absent absent absent absent 0 0 (number v)
+partsOf (read p) = parts (indexOf p) absent absent absent 0 0 (readAtom p)
+partsOf (minus e) = parts (present e) absent absent absent 0 0 top
+partsOf (not e) = parts (present e) absent absent absent 0 0 top
+partsOf (binary operator a b) = parts (present b) (present a) absent absent (taken (held (atomOf b) (writes a))) (copied (atomOf b) (writes a)) top
+partsOf (and a b) = parts (present a) absent (present b) absent 0 0 top
+partsOf (or a b) = parts (present a) absent (present b) absent 0 0 top
+partsOf (comma a b) = parts (present a) (present b) absent absent 0 0 top
+partsOf (conditional c a b) = parts (present c) absent (present a) (present b) 0 0 top
+partsOf (assign p e) =
+    parts (present e) (indexOf p) absent absent (taken (held (landed p (direct e) (atomOf e)) (indexWrites p))) (copied (atomOf e) (indexWrites p)) (updated p)
+partsOf (compound operator p e) = parts (present e) (indexOf p) absent absent (indexRows p) (copied (atomOf e) (indexWrites p)) (updated p)
+partsOf (prefix operator p) = parts absent (indexOf p) absent absent (indexRows p) 0 (updated p)
+partsOf (postfix operator p) = parts absent (indexOf p) absent absent (indexRows p) 0 top
 
 abbrev pub firstOperand : Expression → Part
 firstOperand e = partsOf e .first
@@ -84,13 +91,72 @@ aboveFirst e = partsOf e .above
 abbrev pub firstCopied : Expression → ℕ
 firstCopied e = partsOf e .copied
 
-abbrev pub ownLevels : Expression → ℕ
-ownLevels e = partsOf e .levels
-
 abbrev pub plainAtom : Expression → Atom
 plainAtom e = partsOf e .atom
 
+-- The use of the first operand's value, and that of the second one's, where u is the use of the expression's. Those in branches are wanted.
+abbrev pub firstUse : Expression → Use
+firstUse (constant v) = wanted
+firstUse (read p) = wanted
+firstUse (minus e) = wanted
+firstUse (not e) = wanted
+firstUse (binary operator a b) = wanted
+firstUse (and a b) = wanted
+firstUse (or a b) = wanted
+firstUse (comma a b) = dropped
+firstUse (conditional c a b) = wanted
+firstUse (assign p e) = useFor p
+firstUse (compound operator p e) = wanted
+firstUse (prefix operator p) = wanted
+firstUse (postfix operator p) = wanted
+
+abbrev pub secondUse : Expression → Use → Use
+secondUse (constant v) u = wanted
+secondUse (read p) u = wanted
+secondUse (minus e) u = wanted
+secondUse (not e) u = wanted
+secondUse (binary operator a b) u = wanted
+secondUse (and a b) u = wanted
+secondUse (or a b) u = wanted
+secondUse (comma a b) u = passedOn u
+secondUse (conditional c a b) u = wanted
+secondUse (assign p e) u = wanted
+secondUse (compound operator p e) u = wanted
+secondUse (prefix operator p) u = wanted
+secondUse (postfix operator p) u = wanted
+
+-- The levels that the expression's own code names.
+abbrev pub ownLevels : Expression → Use → ℕ
+ownLevels (constant v) u = 0
+ownLevels (read p) u = readLevels p u
+ownLevels (minus e) u = resultLevels u
+ownLevels (not e) u = resultLevels u
+ownLevels (binary operator a b) u = resultLevels u
+ownLevels (and a b) u = 1
+ownLevels (or a b) u = 1
+ownLevels (comma a b) u = 0
+ownLevels (conditional c a b) u = 1
+ownLevels (assign p e) u = 0
+ownLevels (compound operator p e) u = updateOwn p
+ownLevels (prefix operator p) u = updateOwn p
+ownLevels (postfix operator p) u = postfixOwn p u
+
 -- ---- what the code finds at a row
+
+-- The use of the second operand's value, by whether the expression passes its own on.
+abbrev pub usePassed : Bool → Use → Use
+usePassed passes u = pick passes (passedOn u) wanted
+
+-- What an own row brings, by the use of its value.
+abbrev pub rowsBy : Own → Use → ℕ
+rowsBy o dropped = o .dropped_rows
+rowsBy o wanted = o .rows
+rowsBy o (stored i) = o .rows
+
+abbrev pub levelsBy : Own → Use → ℕ
+levelsBy o dropped = o .dropped_levels
+levelsBy o wanted = o .levels
+levelsBy o (stored i) = o .stored_levels
 
 module _ (rows : List ℤ) (row : ℕ) where
   -- An operand: what it is, and that its link leads on.
@@ -104,9 +170,15 @@ module _ (rows : List ℤ) (row : ℕ) where
     pub second : Operand (o .second) (secondOperand e)
     pub third : Operand (o .third) (thirdOperand e)
     pub fourth : Operand (o .fourth) (fourthOperand e)
+    pub first-use : o .first_use ≡ firstUse e
+    pub second-use : (u : Use) → usePassed (o .passes) u ≡ secondUse e u
     pub above-is : o .above ≡ aboveFirst e
-    pub rows-are : o .rows ≡ ownRows e
-    pub levels-are : o .levels ≡ ownLevels e
+    pub rows-are : o .rows ≡ ownRows e wanted
+    pub levels-are : o .levels ≡ ownLevels e wanted
+    pub dropped-rows-are : o .dropped_rows ≡ ownRows e dropped
+    pub dropped-levels-are : o .dropped_levels ≡ ownLevels e dropped
+    -- in which variable a value is stored changes nothing here
+    pub stored-levels-are : o .stored_levels ≡ ownLevels e (stored 0)
     pub value-is : plainAtom (expressionAt rows (o .value)) ≡ atomOf e
     pub value-inside : o .value < rowCount rows
 
@@ -118,3 +190,19 @@ module _ (rows : List ℤ) (row : ℕ) where
     pub index : Operand (o .index) (indexOf (placeOf (expressionAt rows row)))
     pub rows-are : o .rows ≡ indexRows (placeOf (expressionAt rows row))
     pub levels-are : o .levels ≡ updateOwn (placeOf (expressionAt rows row))
+
+-- ---- what holds a value, as the code says it
+
+abbrev pub holderAtom : Holder → Atom
+holderAtom (Number v) = number v
+holderAtom (Variable i) = word i
+holderAtom Temporary = top
+
+abbrev pub HolderFits : Holder → Type 0
+HolderFits (Number v) = Unit {0}
+HolderFits (Variable i) = i < mostVariables
+HolderFits Temporary = Unit {0}
+
+pub record Holding (h : Atom) (r : Holder) : Type 0 where
+  pub is : holderAtom r ≡ h
+  pub fits : HolderFits r

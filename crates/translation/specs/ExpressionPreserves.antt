@@ -15,7 +15,9 @@ use Rattle.language.specs.Meaning.{enter, evaluate, locate, value, items}
 use Rattle.language.specs.WellFormed.{NamedExpression, NamedPlace}
 use Rattle.language.specs.Writes.{writes, indexWrites}
 use Rattle.language.specs.Untouched.{leaves-enter, variable-apart, expression-leaves}
-use Rattle.translation.specs.Uses.{Use, dropped, wanted, stored, useFor, passedOn, direct}
+use Rattle.translation.specs.Uses.{useFor, passedOn, direct}
+use Rattle.translation.specs.declared.Use.{Use}
+use Rattle.translation.specs.declared.Use.the-variants.{Dropped as dropped, Wanted as wanted, Stored as stored}
 use Rattle.translation.specs.Translate.{Atom, word, held, landed, taken, placeTaken, atomOf, atom, storeCode, kernelPlace, expressionCode, indexCode, resultLevels, expressionLevels, indexLevels, updateLevels, postfixLevels}
 use Rattle.translation.specs.HeldCode.{holdCode, held-variable}
 use Rattle.translation.specs.TranslateBounds.{taken-most, taken-level}

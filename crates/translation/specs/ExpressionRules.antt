@@ -18,7 +18,9 @@ use Rattle.computation.specs.Run.{State, written, Result, ok, rounds, run}
 use Rattle.language.specs.Trees.{constant, read, minus, binary, Place, variable, element, Items, none, _⧺_}
 use Rattle.language.specs.Meaning.{Signal, next, enter, ifTrue, update, oldValue, newValue, evaluate, perform, items}
 use Rattle.language.specs.Untouched.{Untouched, untouched-ok, Leaves, Any}
-use Rattle.translation.specs.Uses.{Use, dropped, wanted, stored, passedOn}
+use Rattle.translation.specs.Uses.{passedOn}
+use Rattle.translation.specs.declared.Use.{Use}
+use Rattle.translation.specs.declared.Use.the-variants.{Dropped as dropped, Wanted as wanted, Stored as stored}
 use Rattle.translation.specs.Translate.{Atom, number, word, top, held, taken, temporary, atom, assigning, choosing, copyCode, moveCode, target, targetWord, stepCode}
 use Rattle.translation.specs.HeldCode.{holdCode}
 use Rattle.translation.specs.TranslateSize.{copyRows, holdRows}

@@ -11,7 +11,9 @@ use Rattle.computation.specs.Run.{State, Result}
 use Rattle.language.specs.Trees.{Expression, constant, read, minus, not, binary, and, or, comma, conditional, assign, compound, prefix, postfix, Place, variable, element, Part, absent, present, Mark, case, default, label, sameMark, has, Statement, empty, express, block, ifThen, ifElse, while, doWhile, for, switch, break, continue, goto, Items, none, _then_, _here_, _⧺_}
 use Rattle.language.specs.Meaning.{Signal, seeking, items}
 use Rattle.language.specs.Writes.{writes, indexWrites}
-use Rattle.translation.specs.Uses.{Use, dropped, wanted, stored, useFor, passedOn, direct}
+use Rattle.translation.specs.Uses.{useFor, passedOn, direct}
+use Rattle.translation.specs.declared.Use.{Use}
+use Rattle.translation.specs.declared.Use.the-variants.{Dropped as dropped, Wanted as wanted, Stored as stored}
 use Rattle.translation.specs.Translate.{Atom, number, word, top, held, landed, taken, copyCode, readCode, storeCode, atomOf, kernelPlace, updateCode, stepCode, postfixCode, expressionCode, indexCode, partCode, orEmpty, caseTests, labels, itemsLabels, labelOf, Exits, exits, statementCode, itemsCode}
 use Rattle.translation.specs.HeldCode.{holdCode, hold-either, store-either}
 use Rattle.translation.specs.RunThen.{runThen}

@@ -10,7 +10,7 @@ use Rattle.computation.specs.Run.{State}
 use Rattle.language.specs.Trees.{Expression, Part, absent, present, label, has, Statement, empty, express, block, ifThen, ifElse, while, doWhile, for, switch, break, continue, goto, Items, none, _then_, _here_, _⧺_}
 use Rattle.language.specs.Meaning.{Signal, enter, valueOf, rounds, perform}
 use Rattle.language.specs.WellFormed.{NamedPart, NamedStatement, NamedItems, Placed, PlacedItems}
-use Rattle.translation.specs.Uses.{wanted}
+use Rattle.translation.specs.declared.Use.the-variants.{Wanted as wanted}
 use Rattle.translation.specs.Translate.{partCode, testCode, loopCode, labels, Exits, exits, statementCode, itemsCode, partLevels, expressionLevels, statementLevels, itemsLevels}
 use Rattle.translation.specs.TranslateSize.{expressionSize, partSize, cases, statementSize, itemsSize}
 use Rattle.translation.specs.Related.{Frame}

@@ -13,7 +13,7 @@ use Rattle.computation.specs.Computation.{Computation, Turn, again, leave, ret,
 use Rattle.computation.specs.Run.{State, Result}
 use Rattle.language.specs.Trees.{Mark, case, default, label, sameMark, has, Statement, empty, block, goto, Items, none, _then_, _here_, _⧺_}
 use Rattle.language.specs.Meaning.{Signal, next, breaking, continuing, seeking, enter, ifTrue, target, afterSwitch, afterBody, afterTest, evaluate, perform, items}
-use Rattle.translation.specs.Uses.{dropped}
+use Rattle.translation.specs.declared.Use.the-variants.{Dropped as dropped}
 use Rattle.translation.specs.Translate.{Atom, taken, atom, choosing, orEmpty, labels, labelOf, Exits, exits, loopCode, caseTests}
 use Rattle.translation.specs.TranslateSize.{cases}
 use Rattle.translation.specs.Stack.{Stack, bottom, depth}

@@ -10,7 +10,9 @@ use Rattle.words.specs.declared.Operator.{Operator}
 use Rattle.words.specs.declared.Operator.the-variants.{Equal, NotEqual}
 use Rattle.language.specs.Trees.{Expression, constant, read, minus, not, binary, and, or, comma, conditional, assign, compound, prefix, postfix, Place, variable, element, Part, absent, present, Mark, case, default, label, sameMark, Statement, empty, express, block, ifThen, ifElse, while, doWhile, for, switch, break, continue, goto, Items, none, _then_, _here_, _⧺_}
 use Rattle.language.specs.Writes.{writes, indexWrites}
-use Rattle.translation.specs.Uses.{Use, dropped, wanted, stored, useFor, passedOn, direct}
+use Rattle.translation.specs.Uses.{useFor, passedOn, direct}
+use Rattle.translation.specs.declared.Use.{Use}
+use Rattle.translation.specs.declared.Use.the-variants.{Dropped as dropped, Wanted as wanted, Stored as stored}
 
 -- ---- atoms and levels
 
@@ -213,10 +215,13 @@ module _ (S : ℕ) where
     indexCode (variable i) t = none
     indexCode (element array e) t = expressionCode e wanted t
 
-  -- A part of a for; its value is dropped.
+  -- An expression that may be absent; and a part of a for, whose value is dropped.
+  abbrev pub operandCode : Part → Use → ℕ → Items
+  operandCode absent u t = none
+  operandCode (present e) u t = expressionCode e u t
+
   abbrev pub partCode : Part → Items
-  partCode absent = none
-  partCode (present e) = expressionCode e dropped 0
+  partCode part = operandCode part dropped 0
 
   -- Every statement has code: one that leaves nothing to do leaves an empty statement.
   abbrev pub orEmpty : Items → Items
@@ -322,13 +327,15 @@ unfoldable mutual
   postfixLevels (variable i) u = oldLevels u
   postfixLevels (element array e) u = 1 + max (expressionLevels e wanted) (taken (atomOf e) + 1)
 
+abbrev pub operandLevels : Part → Use → ℕ
+operandLevels absent u = 0
+operandLevels (present e) u = expressionLevels e u
+
 abbrev pub partLevels : Part → ℕ
-partLevels absent = 0
-partLevels (present e) = expressionLevels e dropped
+partLevels part = operandLevels part dropped
 
 abbrev pub testLevels : Part → ℕ
-testLevels absent = 0
-testLevels (present e) = expressionLevels e wanted
+testLevels part = operandLevels part wanted
 
 unfoldable mutual
   pub statementLevels : Statement → ℕ

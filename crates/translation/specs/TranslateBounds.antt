@@ -8,7 +8,9 @@ use Rattle.words.specs.Laws.{by-cases}
 use Rattle.language.specs.Trees.{Expression, constant, read, minus, not, binary, and, or, comma, conditional, assign, compound, prefix, postfix, Place, variable, element, Part, absent, present, case, default, label, Statement, empty, express, block, ifThen, ifElse, while, doWhile, for, switch, break, continue, goto, Items, none, _then_, _here_}
 use Rattle.language.specs.Writes.{writes, indexWrites}
 use Rattle.language.specs.Sizes.{expressionRows, placeRows, partRows, statementRows, itemsRows}
-use Rattle.translation.specs.Uses.{Use, dropped, wanted, stored, useFor, passedOn, direct}
+use Rattle.translation.specs.Uses.{useFor, passedOn, direct}
+use Rattle.translation.specs.declared.Use.{Use}
+use Rattle.translation.specs.declared.Use.the-variants.{Dropped as dropped, Wanted as wanted, Stored as stored}
 use Rattle.translation.specs.Translate.{Atom, number, word, top, held, landed, updated, taken, atomOf, labels, itemsLabels, translate, resultLevels, readLevels, oldLevels, expressionLevels, indexLevels, updateLevels, postfixLevels, partLevels, testLevels, statementLevels, itemsLevels, temporaries}
 use Rattle.translation.specs.TranslateRows.{translation-rows}
 use Rattle.translation.specs.TranslateSize.{indexRows, copyRows, holdRows, storeRows, updateRows, stepRows, postfixRows, expressionSize, indexSize, partSize, testSize, cases, statementSize, itemsSize}

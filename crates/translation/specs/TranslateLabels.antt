@@ -12,7 +12,9 @@ use Rattle.words.specs.Laws.{by-cases}
 use Rattle.words.specs.declared.Operator.{Operator}
 use Rattle.language.specs.Trees.{Expression, constant, read, minus, not, binary, and, or, comma, conditional, assign, compound, prefix, postfix, Place, variable, element, Part, absent, present, case, default, label, Statement, empty, express, block, ifThen, ifElse, while, doWhile, for, switch, break, continue, goto, Items, none, _then_, _here_, _⧺_}
 use Rattle.language.specs.Writes.{writes, indexWrites}
-use Rattle.translation.specs.Uses.{Use, dropped, wanted, stored, useFor, passedOn, direct}
+use Rattle.translation.specs.Uses.{useFor, passedOn, direct}
+use Rattle.translation.specs.declared.Use.{Use}
+use Rattle.translation.specs.declared.Use.the-variants.{Dropped as dropped, Wanted as wanted, Stored as stored}
 use Rattle.translation.specs.Translate.{Atom, number, word, top, held, landed, taken, placeTaken, atomOf, atom, copyCode, readCode, storeCode, kernelPlace, updateCode, stepCode, postfixCode, expressionCode, indexCode, partCode, orEmpty, testCode, caseTests, labels, itemsLabels, Exits, exits, statementCode, itemsCode}
 use Rattle.translation.specs.HeldCode.{holdCode, hold-either, store-either}
 use Rattle.translation.specs.KernelForm.{markTimes, itemsTimes}

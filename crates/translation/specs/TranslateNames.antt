@@ -11,7 +11,9 @@ use Rattle.language.specs.WellFormed.{NamedExpression, NamedPlace, NamedPart, N
 use Rattle.language.specs.Writes.{writes, indexWrites}
 use Rattle.translation.specs.HeldCode.{holdCode, held-either, held-variable, store-either}
 use Rattle.translation.specs.TranslateBounds.{taken-most, taken-level}
-use Rattle.translation.specs.Uses.{Use, dropped, wanted, stored, useFor, passedOn, direct}
+use Rattle.translation.specs.Uses.{useFor, passedOn, direct}
+use Rattle.translation.specs.declared.Use.{Use}
+use Rattle.translation.specs.declared.Use.the-variants.{Dropped as dropped, Wanted as wanted, Stored as stored}
 use Rattle.translation.specs.Translate.{Atom, number, word, top, held, landed, updated, taken, placeTaken, atomOf, atom, target, copyCode, moveCode, readCode, storeCode, kernelPlace, updateCode, stepCode, postfixCode, expressionCode, indexCode, partCode, orEmpty, testCode, loopCode, caseTests, labels, Exits, exits, statementCode, itemsCode, resultLevels, oldLevels, expressionLevels, indexLevels, updateLevels, postfixLevels, partLevels, testLevels, statementLevels, itemsLevels}
 
 -- The level of the value of a compound: its own, or one that the result needs too.

@@ -4,7 +4,9 @@ use Prim.Native.Nat.{ℕ, _+_, _*_, _-_, max}
 use Rattle.words.specs.Word.{pick}
 use Rattle.language.specs.Trees.{Expression, constant, read, minus, not, binary, and, or, comma, conditional, assign, compound, prefix, postfix, Place, variable, element, Part, absent, present, case, default, label, Statement, empty, express, block, ifThen, ifElse, while, doWhile, for, switch, break, continue, goto, Items, none, _then_, _here_}
 use Rattle.language.specs.Writes.{writes, indexWrites}
-use Rattle.translation.specs.Uses.{Use, dropped, wanted, stored, useFor, passedOn, direct}
+use Rattle.translation.specs.Uses.{useFor, passedOn, direct}
+use Rattle.translation.specs.declared.Use.{Use}
+use Rattle.translation.specs.declared.Use.the-variants.{Dropped as dropped, Wanted as wanted, Stored as stored}
 use Rattle.translation.specs.Translate.{Atom, number, word, top, held, landed, atomOf, taken}
 
 -- The rows below a kernel place's own: its index.
@@ -80,9 +82,13 @@ unfoldable mutual
   indexSize (variable i) = 0
   indexSize (element array e) = expressionSize e wanted
 
+-- An expression that may be absent; and a part of a for.
+abbrev pub operandSize : Part → Use → ℕ
+operandSize absent u = 0
+operandSize (present e) u = expressionSize e u
+
 abbrev pub partSize : Part → ℕ
-partSize absent = 0
-partSize (present e) = expressionSize e dropped
+partSize part = operandSize part dropped
 
 -- A loop's test: its code, the if, its atom, two blocks and a goto.
 abbrev pub testSize : Part → ℕ

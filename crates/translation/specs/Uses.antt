@@ -1,13 +1,8 @@
 -- Uses: what becomes of the value of an expression, by the text around it.
 use mathlib.Core.Bool.{Bool, true, false}
-use Prim.Native.Nat.{ℕ}
 use Rattle.language.specs.Trees.{Expression, constant, read, minus, not, binary, and, or, comma, conditional, assign, compound, prefix, postfix, Place, variable, element}
-
--- Nobody uses the value; something is worked out with it; or an assignment stores it in the variable i.
-pub data Use : Type 0 where
-  dropped : Use
-  wanted : Use
-  stored : ℕ → Use
+use Rattle.translation.specs.declared.Use.{Use}
+use Rattle.translation.specs.declared.Use.the-variants.{Dropped as dropped, Wanted as wanted, Stored as stored}
 
 -- The use of an assignment's right side, by its place: what is stored in an element waits for the index.
 abbrev pub useFor : Place → Use

@@ -1,5 +1,6 @@
 -- What an expression's own row brings, kind by kind; and an expression's measures from those of its operands.
 use mathlib.Core.Path.{_≡_, refl, sym, ap, ap₂, subst, _∙_}
+use mathlib.Core.Bool.{Bool, true, false}
 use mathlib.Core.List.{List}
 use Prim.Native.Nat.{ℕ, _+_, _*_, _-_, _≤_, _<_, max}
 use native.Mathlib.Omega.{arith}
@@ -10,26 +11,34 @@ use Rattle.words.specs.Word.{pick}
 use Rattle.words.specs.Laws.{by-cases}
 use Rattle.words.specs.Table.{rowCount}
 use Rattle.words.specs.declared.Operator.{Operator}
-use Rattle.language.specs.Trees.{Expression, constant, read, minus, not, binary, and, or, comma, conditional, assign, compound, prefix, postfix, Part, absent, present}
+use Rattle.language.specs.Trees.{Expression, constant, read, minus, not, binary, and, or, comma, conditional, assign, compound, prefix, postfix, Place, variable, element, Part, absent, present}
 use Rattle.language.specs.Writes.{writes, indexWrites}
 use Rattle.language.specs.Decode.{placeOf, expressionAt, partAt}
 use Rattle.language.specs.DecodeLaws.{part-some}
-use Rattle.shapes.specs.Shapes.{expressionTree, Onward, OptionalOnward}
-use Rattle.shapes.specs.Source.{PlaceAt, ExpressionAt}
+use Rattle.shapes.specs.Shapes.{placeTree, operationTree, choiceTree, expressionTree, Onward, OptionalOnward, PlaceOnward}
+use Rattle.shapes.specs.Source.{mostVariables, mostArrays, PlaceAt, ExpressionAt}
+use Rattle.shapes.specs.declared.PlaceShape.{PlaceShape}
 use Rattle.shapes.specs.declared.PlaceShape.the-variants.{Variable, Element}
+use Rattle.shapes.specs.declared.OperationShape.{OperationShape}
 use Rattle.shapes.specs.declared.OperationShape.the-variants.{Minus, Not, Binary, Comma, Assign, Compound, Prefix, Postfix}
+use Rattle.shapes.specs.declared.ChoiceShape.{ChoiceShape}
 use Rattle.shapes.specs.declared.ChoiceShape.the-variants.{And, Or, Conditional}
 use Rattle.shapes.specs.declared.ExpressionShape.{ExpressionShape}
 use Rattle.shapes.specs.declared.ExpressionShape.the-variants.{Number, Read, Operation, Choice}
-use Rattle.translation.specs.Translate.{Atom, number, word, top, held, atomOf, taken, expressionLevels, partLevels}
-use Rattle.translation.specs.TranslateSize.{indexRows, copyRows, ownRows, expressionSize, partSize}
-use Rattle.translation.specs.HeldCode.{taken-held, heldBy, held-by}
-use Rattle.translation.specs.TranslateBounds.{copy-most, hold-most, index-most, taken-most}
-use Rattle.measures.specs.Parts.{indexOf, updateOwn, firstOperand, secondOperand, thirdOperand, fourthOperand, aboveFirst, firstCopied, ownLevels, plainAtom, Operand, Brings, OwnAt, PlaceOwnAt}
-use Rattle.measures.specs.Measures.{limited, rowsSlot, levelsSlot, valueSlot, slotAt, MeasuredFrom}
-use Rattle.measures.specs.MeasureLaws.{at-some, link-measured, part-rows, part-levels, size-parts, levels-parts, operation-top, choice-top}
+use Rattle.translation.specs.Uses.{direct}
+use Rattle.translation.specs.declared.Use.{Use}
+use Rattle.translation.specs.declared.Use.the-variants.{Dropped as dropped, Wanted as wanted, Stored as stored}
+use Rattle.translation.specs.Translate.{Atom, number, word, top, held, landed, updated, atomOf, taken, resultLevels, expressionLevels, operandLevels}
+use Rattle.translation.specs.TranslateSize.{indexRows, copyRows, updateRows, ownRows, expressionSize, operandSize}
+use Rattle.translation.specs.HeldCode.{taken-held, held-variable, heldBy, held-by}
+use Rattle.translation.specs.TranslateBounds.{copy-most, hold-most, index-most, store-most, update-most, postfix-most, taken-most}
+use Rattle.measures.specs.Parts.{indexOf, updateOwn, readAtom, firstOperand, secondOperand, thirdOperand, fourthOperand, aboveFirst, firstCopied, plainAtom, firstUse, secondUse, ownLevels, plainOwn, resultOwn, storedOwn, commaOwn, stepOwn, usePassed, rowsBy, levelsBy, Operand, Brings, OwnAt, PlaceOwnAt, placeHolder, directOperation, Holding}
+use Rattle.measures.specs.Measures.{limited, rowsSlot, levelsSlot, valueSlot, rowsFor, levelsFor, RowsWord, LevelsWord, slotAt, MeasuredFrom, StoreAsks, PostfixAt}
+use Rattle.measures.specs.MeasureLaws.{at-some, link-measured, part-rows, part-levels, size-parts, levels-parts, choice-top}
 use Rattle.measures.specs.declared.Own.{Own}
 use Rattle.measures.specs.declared.PlaceOwn.{PlaceOwn}
+use Rattle.measures.specs.declared.Holder.{Holder}
+use Rattle.measures.specs.declared.Holder.the-variants.{Number as NumberHolder, Temporary}
 
 -- ---- operands
 
@@ -47,13 +56,17 @@ module _ (rows : List ℤ) (row : ℕ) where
     onward = λ h. let n = i .onward h in record { later = omega (arith, o .later, n .later); inside = n .inside };
   }
 
+  -- the index of an element whose row this row links
+  behind-place : {place index : ℕ} → Onward rows row place → Onward rows place index → Operand rows row index (present (expressionAt rows index))
+  behind-place {place} {index} o n = record { is = part-some rows index (omega (arith, n .later)); onward = λ h. record { later = omega (arith, o .later, n .later); inside = n .inside } }
+
 -- ---- places
 
 abbrev placeOwn : ℕ → ℕ → ℕ → PlaceOwn
 placeOwn index n levels = record { index = index; rows = n; levels = levels }
 
 module _ {rows : List ℤ} {row : ℕ} where
-  pub own-variable-place : {i : ℕ} → PlaceAt rows row (Variable i) → PlaceOwnAt rows row (placeOwn 0 0 1)
+  pub own-variable-place : {i : ℕ} → PlaceAt rows row (Variable i) → PlaceOwnAt rows row (placeOwn 0 0 0)
   own-variable-place f = record {
     index = record { is = sym (ap indexOf (f .is)); onward = λ h. absurd (omega arith) };
     rows-are = sym (ap indexRows (f .is));
@@ -69,103 +82,127 @@ module _ {rows : List ℤ} {row : ℕ} where
 
 -- ---- expressions, kind by kind
 
-abbrev own : ℕ → ℕ → ℕ → ℕ → ℕ → ℕ → ℕ → ℕ → Own
-own a b c d above n levels value = record { first = a; second = b; third = c; fourth = d; above = above; rows = n; levels = levels; value = value }
-
 pub copy-taken : (h : Atom) → copyRows h ≡ 4 - 4 * taken h
 copy-taken (number v) = refl
 copy-taken (word i) = refl
 copy-taken top = refl
 
--- the row that an assignment's value comes from
+update-rows : (p : Place) → 6 + 10 * indexRows p ≡ updateRows p
+update-rows (variable i) = refl
+update-rows (element array e) = refl
+
+-- the row that the value of an assignment to an element comes from
 pub value-own : (k row other : ℕ) → k ≡ 1 → row ≡ pick (eqb k 1) row other
 value-own k row other e = rw (eq-eqb k 1 e)
 
 pub value-other : (k row : ℕ) {other x : ℕ} → (k ≡ 1 → ⊥) → x ≡ other → x ≡ pick (eqb k 1) row other
 value-other k row n e = rw (ne-eqb k 1 n) e
 
+copies-of : {d e : Expression} {k : ℕ} → d ≡ e → k ≡ firstCopied d → k ≡ firstCopied e
+copies-of is ek = ek ∙ ap firstCopied is
+
 module _ {rows : List ℤ} {row : ℕ} where
-  own-by : {s : ExpressionShape} (a b c d above n levels value : ℕ) → ExpressionAt rows row s
-      → Operand rows row a (firstOperand (expressionTree rows s)) → Operand rows row b (secondOperand (expressionTree rows s)) → Operand rows row c (thirdOperand (expressionTree rows s)) → Operand rows row d (fourthOperand (expressionTree rows s))
-      → above ≡ aboveFirst (expressionTree rows s) → n ≡ ownRows (expressionTree rows s) → levels ≡ ownLevels (expressionTree rows s) → plainAtom (expressionAt rows value) ≡ atomOf (expressionTree rows s) → value < rowCount rows
-      → {o : Own} → o ≡ own a b c d above n levels value → OwnAt rows row o
-  own-by {s} a b c d above n levels value f pa pb pc pd ea en el ev iv {o} e =
-      subst (λ (x : Expression). Brings rows row x o) (sym (f .is))
-      (rw e (record { first = pa; second = pb; third = pc; fourth = pd; above-is = ea; rows-are = en; levels-are = el; value-is = ev; value-inside = iv }))
+  own-by : {e : Expression} {o o′ : Own} → expressionAt rows row ≡ e → Brings rows row e o′ → o ≡ o′ → OwnAt rows row o
+  own-by {e} {o} {o′} is b h = subst (λ (x : Expression). Brings rows row x o) (sym is) (rw h b)
 
-  -- whose value comes from its own row
+  -- whose own code does not depend on the use of its value
+  own-plain : {e : Expression} (a b c d above n levels value : ℕ) → expressionAt rows row ≡ e
+      → Operand rows row a (firstOperand e) → Operand rows row b (secondOperand e) → Operand rows row c (thirdOperand e) → Operand rows row d (fourthOperand e) → wanted ≡ firstUse e → ((u : Use) → wanted ≡ secondUse e u)
+      → above ≡ aboveFirst e → ((u : Use) → n ≡ ownRows e u) → ((u : Use) → levels ≡ ownLevels e u) → plainAtom (expressionAt rows value) ≡ atomOf e → value < rowCount rows
+      → {o : Own} → o ≡ plainOwn a b c d above n levels value → OwnAt rows row o
+  own-plain a b c d above n levels value is pa pb pc pd f s ea en el ev iv h = own-by is (record {
+    first = pa; second = pb; third = pc; fourth = pd; first-use = f; second-use = s; above-is = ea;
+    rows-are = en wanted; levels-are = el wanted; dropped-rows-are = en dropped; dropped-levels-are = el dropped; stored-levels-are = el (stored 0);
+    value-is = ev; value-inside = iv;
+  }) h
+
+  -- an element or an operation
+  own-result : {e : Expression} (a b above n : ℕ) → expressionAt rows row ≡ e → row < rowCount rows
+      → Operand rows row a (firstOperand e) → Operand rows row b (secondOperand e) → Operand rows row 0 (thirdOperand e) → Operand rows row 0 (fourthOperand e) → wanted ≡ firstUse e → ((u : Use) → wanted ≡ secondUse e u)
+      → above ≡ aboveFirst e → ((u : Use) → n ≡ ownRows e u) → ((u : Use) → resultLevels u ≡ ownLevels e u) → plainAtom e ≡ atomOf e
+      → {o : Own} → o ≡ resultOwn a b above n row → OwnAt rows row o
+  own-result a b above n is inside pa pb pc pd f s ea en el ev h = own-by is (record {
+    first = pa; second = pb; third = pc; fourth = pd; first-use = f; second-use = s; above-is = ea;
+    rows-are = en wanted; levels-are = el wanted; dropped-rows-are = en dropped; dropped-levels-are = el dropped; stored-levels-are = el (stored 0);
+    value-is = ap plainAtom is ∙ ev; value-inside = inside;
+  }) h
+
   module _ (inside : row < rowCount rows) where
-    own-plain : {s : ExpressionShape} (a b c d above n levels : ℕ) → ExpressionAt rows row s
-        → Operand rows row a (firstOperand (expressionTree rows s)) → Operand rows row b (secondOperand (expressionTree rows s)) → Operand rows row c (thirdOperand (expressionTree rows s)) → Operand rows row d (fourthOperand (expressionTree rows s))
-        → above ≡ aboveFirst (expressionTree rows s) → n ≡ ownRows (expressionTree rows s) → levels ≡ ownLevels (expressionTree rows s) → plainAtom (expressionTree rows s) ≡ atomOf (expressionTree rows s)
-        → {o : Own} → o ≡ own a b c d above n levels row → OwnAt rows row o
-    own-plain a b c d above n levels f pa pb pc pd ea en el ev e = own-by a b c d above n levels row f pa pb pc pd ea en el (ap plainAtom (f .is) ∙ ev) inside e
-
-    copies-of : {s : ExpressionShape} {k : ℕ} → ExpressionAt rows row s → k ≡ firstCopied (expressionAt rows row) → k ≡ firstCopied (expressionTree rows s)
-    copies-of f ek = ek ∙ ap firstCopied (f .is)
-
-    pub own-number : {v : ℤ} {o : Own} → ExpressionAt rows row (Number v) → o ≡ own 0 0 0 0 0 0 0 row → OwnAt rows row o
+    pub own-number : {v : ℤ} {o : Own} → ExpressionAt rows row (Number v) → o ≡ plainOwn 0 0 0 0 0 0 0 row → OwnAt rows row o
     unfolding atomOf
-    own-number f e = own-plain 0 0 0 0 0 0 0 f (nothing rows row) (nothing rows row) (nothing rows row) (nothing rows row) refl refl refl refl e
+    own-number f h = own-plain 0 0 0 0 0 0 0 row (f .is) (nothing rows row) (nothing rows row) (nothing rows row) (nothing rows row) refl (λ u. refl) refl (λ u. refl) (λ u. refl) (ap plainAtom (f .is)) inside h
 
-    pub own-variable : {i : ℕ} {o : Own} → ExpressionAt rows row (Read (Variable i)) → o ≡ own 0 0 0 0 0 0 0 row → OwnAt rows row o
+    pub own-variable : {i : ℕ} {o : Own} → ExpressionAt rows row (Read (Variable i)) → o ≡ plainOwn 0 0 0 0 0 0 0 row → OwnAt rows row o
     unfolding atomOf
-    own-variable f e = own-plain 0 0 0 0 0 0 0 f (nothing rows row) (nothing rows row) (nothing rows row) (nothing rows row) refl refl refl refl e
+    own-variable f h = own-plain 0 0 0 0 0 0 0 row (f .is) (nothing rows row) (nothing rows row) (nothing rows row) (nothing rows row) refl (λ u. refl) refl (λ u. refl) (λ u. refl) (ap plainAtom (f .is)) inside h
 
-    pub own-element : {array index : ℕ} {o : Own} → ExpressionAt rows row (Read (Element array index)) → o ≡ own index 0 0 0 0 5 1 row → OwnAt rows row o
+    pub own-element : {array index : ℕ} {o : Own} → ExpressionAt rows row (Read (Element array index)) → o ≡ resultOwn index 0 0 5 row → OwnAt rows row o
     unfolding atomOf
-    own-element {array} {index} f e = own-plain index 0 0 0 0 5 1 f (some rows row (f .onward .1)) (nothing rows row) (nothing rows row) (nothing rows row) refl refl refl refl e
+    own-element {array} {index} f h = own-result index 0 0 5 (f .is) inside (some rows row (f .onward .1)) (nothing rows row) (nothing rows row) (nothing rows row) refl (λ u. refl) refl (λ u. refl) (λ u. refl) refl h
 
-    pub own-minus : {a : ℕ} {o : Own} → ExpressionAt rows row (Operation (Minus a)) → o ≡ own a 0 0 0 0 5 1 row → OwnAt rows row o
+    pub own-minus : {a : ℕ} {o : Own} → ExpressionAt rows row (Operation (Minus a)) → o ≡ resultOwn a 0 0 5 row → OwnAt rows row o
     unfolding atomOf
-    own-minus {a} f e = own-plain a 0 0 0 0 5 1 f (some rows row (f .onward)) (nothing rows row) (nothing rows row) (nothing rows row) refl refl refl refl e
+    own-minus {a} f h = own-result a 0 0 5 (f .is) inside (some rows row (f .onward)) (nothing rows row) (nothing rows row) (nothing rows row) refl (λ u. refl) refl (λ u. refl) (λ u. refl) refl h
 
-    pub own-not : {a : ℕ} {o : Own} → ExpressionAt rows row (Operation (Not a)) → o ≡ own a 0 0 0 0 6 1 row → OwnAt rows row o
+    pub own-not : {a : ℕ} {o : Own} → ExpressionAt rows row (Operation (Not a)) → o ≡ resultOwn a 0 0 6 row → OwnAt rows row o
     unfolding atomOf
-    own-not {a} f e = own-plain a 0 0 0 0 6 1 f (some rows row (f .onward)) (nothing rows row) (nothing rows row) (nothing rows row) refl refl refl refl e
+    own-not {a} f h = own-result a 0 0 6 (f .is) inside (some rows row (f .onward)) (nothing rows row) (nothing rows row) (nothing rows row) refl (λ u. refl) refl (λ u. refl) (λ u. refl) refl h
 
     pub own-binary : {operator : Operator} {a b t k : ℕ} {o : Own} → ExpressionAt rows row (Operation (Binary operator a b)) → t ≡ taken (atomOf (expressionAt rows b)) → k ≡ firstCopied (expressionAt rows row)
-        → o ≡ own b a 0 0 (t + k) (6 + 4 * k) 1 row → OwnAt rows row o
+        → o ≡ resultOwn b a (t + k) (6 + 4 * k) row → OwnAt rows row o
     unfolding atomOf
-    own-binary {operator} {a} {b} {t} {k} f et ek e =
-        let copies = copies-of f ek in
-        own-plain b a 0 0 (t + k) (6 + 4 * k) 1 f (some rows row (f .onward .1)) (some rows row (f .onward .0)) (nothing rows row) (nothing rows row)
-        (ap₂ _+_ et copies ∙ sym (taken-held (atomOf (expressionAt rows b)) (writes (expressionAt rows a)))) (ap (λ (n : ℕ). 6 + 4 * n) copies) refl refl e
+    own-binary {operator} {a} {b} {t} {k} f et ek h =
+        let copies = copies-of (f .is) ek in
+        own-result b a (t + k) (6 + 4 * k) (f .is) inside (some rows row (f .onward .1)) (some rows row (f .onward .0)) (nothing rows row) (nothing rows row) refl (λ u. refl)
+        (ap₂ _+_ et copies ∙ sym (taken-held (atomOf (expressionAt rows b)) (writes (expressionAt rows a)))) (λ u. ap (λ (n : ℕ). 6 + 4 * n) copies) (λ u. refl) refl h
 
-    pub own-and : {a b : ℕ} {o : Own} → ExpressionAt rows row (Choice (And a b)) → o ≡ own a 0 b 0 0 14 1 row → OwnAt rows row o
+    pub own-and : {a b : ℕ} {o : Own} → ExpressionAt rows row (Choice (And a b)) → o ≡ plainOwn a 0 b 0 0 14 1 row → OwnAt rows row o
     unfolding atomOf
-    own-and {a} {b} f e = own-plain a 0 b 0 0 14 1 f (some rows row (f .onward .0)) (nothing rows row) (some rows row (f .onward .1)) (nothing rows row) refl refl refl refl e
+    own-and {a} {b} f h = own-plain a 0 b 0 0 14 1 row (f .is) (some rows row (f .onward .0)) (nothing rows row) (some rows row (f .onward .1)) (nothing rows row) refl (λ u. refl) refl (λ u. refl) (λ u. refl) (ap plainAtom (f .is)) inside h
 
-    pub own-or : {a b : ℕ} {o : Own} → ExpressionAt rows row (Choice (Or a b)) → o ≡ own a 0 b 0 0 14 1 row → OwnAt rows row o
+    pub own-or : {a b : ℕ} {o : Own} → ExpressionAt rows row (Choice (Or a b)) → o ≡ plainOwn a 0 b 0 0 14 1 row → OwnAt rows row o
     unfolding atomOf
-    own-or {a} {b} f e = own-plain a 0 b 0 0 14 1 f (some rows row (f .onward .0)) (nothing rows row) (some rows row (f .onward .1)) (nothing rows row) refl refl refl refl e
+    own-or {a} {b} f h = own-plain a 0 b 0 0 14 1 row (f .is) (some rows row (f .onward .0)) (nothing rows row) (some rows row (f .onward .1)) (nothing rows row) refl (λ u. refl) refl (λ u. refl) (λ u. refl) (ap plainAtom (f .is)) inside h
 
-    pub own-conditional : {c a b t u : ℕ} {o : Own} → ExpressionAt rows row (Choice (Conditional c a b)) → t ≡ taken (atomOf (expressionAt rows a)) → u ≡ taken (atomOf (expressionAt rows b))
-        → o ≡ own c 0 a b 0 (12 - 4 * t - 4 * u) 1 row → OwnAt rows row o
+    pub own-conditional : {c a b t t′ : ℕ} {o : Own} → ExpressionAt rows row (Choice (Conditional c a b)) → t ≡ taken (atomOf (expressionAt rows a)) → t′ ≡ taken (atomOf (expressionAt rows b))
+        → o ≡ plainOwn c 0 a b 0 (12 - 4 * t - 4 * t′) 1 row → OwnAt rows row o
     unfolding atomOf
-    own-conditional {c} {a} {b} {t} {u} f et eu e =
-        own-plain c 0 a b 0 (12 - 4 * t - 4 * u) 1 f (some rows row (f .onward .0)) (nothing rows row) (some rows row (f .onward .1)) (some rows row (f .onward .2)) refl
-        (omega (arith, copy-taken (atomOf (expressionAt rows a)), copy-taken (atomOf (expressionAt rows b)), taken-most (atomOf (expressionAt rows a)), taken-most (atomOf (expressionAt rows b))))
-        refl refl e
+    own-conditional {c} {a} {b} {t} {t′} f et eu h =
+        own-plain c 0 a b 0 (12 - 4 * t - 4 * t′) 1 row (f .is) (some rows row (f .onward .0)) (nothing rows row) (some rows row (f .onward .1)) (some rows row (f .onward .2)) refl (λ u. refl) refl
+        (λ u. omega (arith, copy-taken (atomOf (expressionAt rows a)), copy-taken (atomOf (expressionAt rows b)), taken-most (atomOf (expressionAt rows a)), taken-most (atomOf (expressionAt rows b))))
+        (λ u. refl) (ap plainAtom (f .is)) inside h
 
     pub own-compound : {operator : Operator} {place v k : ℕ} {p : PlaceOwn} {o : Own} → ExpressionAt rows row (Operation (Compound operator place v)) → PlaceOwnAt rows place p → k ≡ firstCopied (expressionAt rows row)
-        → o ≡ own v (p .index) 0 0 1 (10 + 6 * p .rows + 4 * k) (p .levels) row → OwnAt rows row o
+        → o ≡ plainOwn v (p .index) 0 0 (p .rows) (6 + 10 * p .rows + 4 * k) (p .levels) row → OwnAt rows row o
     unfolding atomOf
-    own-compound {operator} {place} {v} {k} {p} f q ek e =
-        own-plain v (p .index) 0 0 1 (10 + 6 * p .rows + 4 * k) (p .levels) f (some rows row (f .onward .1)) (indexed rows row (f .onward .0) (q .index)) (nothing rows row) (nothing rows row) refl
-        (ap₂ (λ (n m : ℕ). 10 + 6 * n + 4 * m) (q .rows-are) (copies-of f ek)) (q .levels-are) refl e
+    own-compound {operator} {place} {v} {k} {p} f q ek h =
+        own-plain v (p .index) 0 0 (p .rows) (6 + 10 * p .rows + 4 * k) (p .levels) row (f .is) (some rows row (f .onward .1)) (indexed rows row (f .onward .0) (q .index)) (nothing rows row) (nothing rows row) refl (λ u. refl) (q .rows-are)
+        (λ u. ap₂ (λ (n m : ℕ). n + 4 * m) (ap (λ (n : ℕ). 6 + 10 * n) (q .rows-are) ∙ update-rows (placeOf (expressionAt rows place))) (copies-of (f .is) ek)) (λ u. q .levels-are) (ap plainAtom (f .is)) inside h
 
     pub own-prefix : {operator : Operator} {place : ℕ} {p : PlaceOwn} {o : Own} → ExpressionAt rows row (Operation (Prefix operator place)) → PlaceOwnAt rows place p
-        → o ≡ own 0 (p .index) 0 0 1 (10 + 6 * p .rows) (p .levels) row → OwnAt rows row o
+        → o ≡ plainOwn 0 (p .index) 0 0 (p .rows) (6 + 10 * p .rows) (p .levels) row → OwnAt rows row o
     unfolding atomOf
-    own-prefix {operator} {place} {p} f q e =
-        own-plain 0 (p .index) 0 0 1 (10 + 6 * p .rows) (p .levels) f (nothing rows row) (indexed rows row (f .onward) (q .index)) (nothing rows row) (nothing rows row) refl (ap (λ (n : ℕ). 10 + 6 * n) (q .rows-are)) (q .levels-are) refl e
+    own-prefix {operator} {place} {p} f q h =
+        own-plain 0 (p .index) 0 0 (p .rows) (6 + 10 * p .rows) (p .levels) row (f .is) (nothing rows row) (indexed rows row (f .onward) (q .index)) (nothing rows row) (nothing rows row) refl (λ u. refl) (q .rows-are)
+        (λ u. ap (λ (n : ℕ). 6 + 10 * n) (q .rows-are) ∙ update-rows (placeOf (expressionAt rows place))) (λ u. q .levels-are) (ap plainAtom (f .is)) inside h
 
-    pub own-postfix : {operator : Operator} {place : ℕ} {p : PlaceOwn} {o : Own} → ExpressionAt rows row (Operation (Postfix operator place)) → PlaceOwnAt rows place p
-        → o ≡ own 0 (p .index) 0 0 1 (10 + 6 * p .rows) (p .levels) row → OwnAt rows row o
+    -- e++ and e−−, by the place
+    postfix-tree : {place : ℕ} {p : PlaceShape} (f : PostfixAt rows row place) → PlaceAt rows place p → expressionAt rows row ≡ postfix (f .operator) (placeTree rows p)
+    postfix-tree f g = f .is ∙ ap (postfix (f .operator)) (g .is)
+
+    pub own-step-variable : {place i : ℕ} {o : Own} → PostfixAt rows row place → PlaceAt rows place (Variable i) → o ≡ stepOwn row → OwnAt rows row o
     unfolding atomOf
-    own-postfix {operator} {place} {p} f q e =
-        own-plain 0 (p .index) 0 0 1 (10 + 6 * p .rows) (p .levels) f (nothing rows row) (indexed rows row (f .onward) (q .index)) (nothing rows row) (nothing rows row) refl (ap (λ (n : ℕ). 10 + 6 * n) (q .rows-are)) (q .levels-are) refl e
+    own-step-variable f g h = let is = postfix-tree f g in own-by is (record {
+      first = nothing rows row; second = nothing rows row; third = nothing rows row; fourth = nothing rows row; first-use = refl; second-use = λ u. refl; above-is = refl;
+      rows-are = refl; levels-are = refl; dropped-rows-are = refl; dropped-levels-are = refl; stored-levels-are = refl;
+      value-is = ap plainAtom is; value-inside = inside;
+    }) h
+
+    pub own-step-element : {place array index t : ℕ} {o : Own} → PostfixAt rows row place → PlaceAt rows place (Element array index) → t ≡ taken (atomOf (expressionAt rows index)) → o ≡ plainOwn 0 index 0 0 1 16 (2 + t) row → OwnAt rows row o
+    unfolding atomOf
+    own-step-element {place} {array} {index} {t} f g et h =
+        let is = postfix-tree f g in
+        own-plain 0 index 0 0 1 16 (2 + t) row is (nothing rows row) (behind-place rows row (f .onward) (g .onward .1)) (nothing rows row) (nothing rows row) refl (λ u. refl) refl (λ u. refl) (λ u. ap (λ (n : ℕ). 2 + n) et) (ap plainAtom is) inside h
 
   -- whose value comes from where an operand's comes from
   module _ {table : List ℕ} (m : MeasuredFrom rows table (row + 1)) where
@@ -174,53 +211,132 @@ module _ {rows : List ℤ} {row : ℕ} where
         let found = link-measured rows table link m o .expression in
         rw (e ∙ at-some table link valueSlot (omega (arith, o .later))) (found .value-is, found .value-inside)
 
-    pub own-comma : {a b value : ℕ} {o : Own} → ExpressionAt rows row (Operation (Comma a b)) → value ≡ slotAt table b valueSlot → o ≡ own a b 0 0 0 0 0 value → OwnAt rows row o
+    pub own-comma : {a b : ℕ} {o : Own} → ExpressionAt rows row (Operation (Comma a b)) → o ≡ commaOwn a b (slotAt table b valueSlot) → OwnAt rows row o
     unfolding atomOf
-    own-comma {a} {b} {value} f ev e =
-        let found = value-of (f .onward .1) ev in
-        own-by a b 0 0 0 0 0 value f (some rows row (f .onward .0)) (some rows row (f .onward .1)) (nothing rows row) (nothing rows row) refl refl refl (found .0) (found .1) e
+    own-comma {a} {b} f h =
+        let found = value-of (f .onward .1) refl in
+        own-by (f .is) (record {
+          first = some rows row (f .onward .0); second = some rows row (f .onward .1); third = nothing rows row; fourth = nothing rows row; first-use = refl; second-use = λ u. refl; above-is = refl;
+          rows-are = refl; levels-are = refl; dropped-rows-are = refl; dropped-levels-are = refl; stored-levels-are = refl;
+          value-is = found .0; value-inside = found .1;
+        }) h
 
-    -- where the value of an assignment comes from: its own row, where it was copied, or where its right side's comes from
-    assigned : {place v k value : ℕ} → row < rowCount rows → ExpressionAt rows row (Operation (Assign place v)) → k ≡ firstCopied (expressionAt rows row) → value ≡ pick (eqb k 1) row (slotAt table v valueSlot)
-        → (plainAtom (expressionAt rows value) ≡ held (atomOf (expressionAt rows v)) (indexWrites (placeOf (expressionAt rows place)))) × (value < rowCount rows)
-    assigned {place} {v} {k} {value} inside f ek ev =
+    -- an assignment to an element: its value comes from its own row, where it was copied, or from where its right side's comes from
+    assigned : (array index v : ℕ) {k value : ℕ} → row < rowCount rows → Onward rows row v → expressionAt rows row ≡ assign (element array (expressionAt rows index)) (expressionAt rows v) → k ≡ firstCopied (expressionAt rows row)
+        → value ≡ pick (eqb k 1) row (slotAt table v valueSlot)
+        → (plainAtom (expressionAt rows value) ≡ held (atomOf (expressionAt rows v)) (indexWrites (element array (expressionAt rows index)))) × (value < rowCount rows)
+    assigned array index v {k} {value} inside o is ek ev =
         let h = atomOf (expressionAt rows v) in
-        let W = indexWrites (placeOf (expressionAt rows place)) in
-        let copies = copies-of inside f ek in
+        let W = indexWrites (element array (expressionAt rows index)) in
+        let copies = copies-of is ek in
         let holds = held-by h W ∙ ap (λ (n : ℕ). heldBy n h) (sym copies) in
         by-cases (eqb k 1)
-        (λ b. let own = rw b at ev in (ap (λ (n : ℕ). plainAtom (expressionAt rows n)) own ∙ ap plainAtom (f .is) ∙ sym (rw b at holds), omega (arith, own, inside)))
-        (λ b. let found = value-of (f .onward .1) (rw b at ev) in (found .0 ∙ sym (rw b at holds), found .1))
+        (λ b. let own = rw b at ev in (ap (λ (n : ℕ). plainAtom (expressionAt rows n)) own ∙ ap plainAtom is ∙ sym (rw b at holds), omega (arith, own, inside)))
+        (λ b. let found = value-of o (rw b at ev) in (found .0 ∙ sym (rw b at holds), found .1))
 
-    pub own-assign : {place v t k value : ℕ} {p : PlaceOwn} {o : Own} → row < rowCount rows → ExpressionAt rows row (Operation (Assign place v)) → PlaceOwnAt rows place p → t ≡ taken (atomOf (expressionAt rows v)) → k ≡ firstCopied (expressionAt rows row)
-        → value ≡ pick (eqb k 1) row (slotAt table v valueSlot) → o ≡ own v (p .index) 0 0 (t + k) (4 + p .rows + 4 * k) 0 value → OwnAt rows row o
+    assign-tree : {place v : ℕ} {p : PlaceShape} → ExpressionAt rows row (Operation (Assign place v)) → PlaceAt rows place p → expressionAt rows row ≡ assign (placeTree rows p) (expressionAt rows v)
+    assign-tree {place} {v} f g = f .is ∙ ap (λ (q : Place). assign q (expressionAt rows v)) (g .is)
+
+    pub own-assign : {place array index v t k value : ℕ} {o : Own} → row < rowCount rows → ExpressionAt rows row (Operation (Assign place v)) → PlaceAt rows place (Element array index) → t ≡ taken (atomOf (expressionAt rows v)) → k ≡ firstCopied (expressionAt rows row)
+        → value ≡ pick (eqb k 1) row (slotAt table v valueSlot) → o ≡ plainOwn v index 0 0 (t + k) (5 + 4 * k) 0 value → OwnAt rows row o
     unfolding atomOf
-    own-assign {place} {v} {t} {k} {value} {p} inside f q et ek ev e =
-        let copies = copies-of inside f ek in
-        let found = assigned inside f ek ev in
-        own-by v (p .index) 0 0 (t + k) (4 + p .rows + 4 * k) 0 value f (some rows row (f .onward .1)) (indexed rows row (f .onward .0) (q .index)) (nothing rows row) (nothing rows row)
-        (ap₂ _+_ et copies ∙ sym (taken-held (atomOf (expressionAt rows v)) (indexWrites (placeOf (expressionAt rows place)))))
-        (ap₂ (λ (n m : ℕ). 4 + n + 4 * m) (q .rows-are) copies) refl (found .0) (found .1) e
+    own-assign {place} {array} {index} {v} {t} {k} {value} inside f g et ek ev h =
+        let is = assign-tree f g in
+        let copies = copies-of is ek in
+        let found = assigned array index v inside (f .onward .1) is ek ev in
+        own-plain v index 0 0 (t + k) (5 + 4 * k) 0 value is (some rows row (f .onward .1)) (behind-place rows row (f .onward .0) (g .onward .1)) (nothing rows row) (nothing rows row) refl (λ u. refl)
+        (ap₂ _+_ et copies ∙ sym (taken-held (atomOf (expressionAt rows v)) (indexWrites (element array (expressionAt rows index)))))
+        (λ u. ap (λ (n : ℕ). 5 + 4 * n) copies) (λ u. refl) (found .0) (found .1) h
+
+    -- an assignment to a variable
+    pub store-asks : {place i v : ℕ} → row < rowCount rows → ExpressionAt rows row (Operation (Assign place v)) → PlaceAt rows place (Variable i) → StoreAsks rows table row i v
+    store-asks inside f g = record { measured = m; inside = inside; is = assign-tree f g; onward = f .onward .1 }
+
+-- the value of an assignment to a variable, and its rows
+landed-atom : (i : ℕ) (e : Expression) → atomOf (assign (variable i) e) ≡ pick (direct e) (word i) (atomOf e)
+unfolding atomOf
+landed-atom i e = held-variable (pick (direct e) (word i) (atomOf e)) i
+
+store-rows : (i : ℕ) (e : Expression) (u : Use) → ownRows (assign (variable i) e) u ≡ pick (direct e) 0 4
+store-rows i e u = rw (held-variable (pick (direct e) (word i) (atomOf e)) i) (omega arith)
+
+module _ {rows : List ℤ} {table : List ℕ} {row i v : ℕ} (asks : StoreAsks rows table row i v) where
+  own-stored : (above n value : ℕ) → above ≡ taken (pick (direct (expressionAt rows v)) (word i) (atomOf (expressionAt rows v))) → n ≡ pick (direct (expressionAt rows v)) 0 4
+      → plainAtom (expressionAt rows value) ≡ pick (direct (expressionAt rows v)) (word i) (atomOf (expressionAt rows v)) → value < rowCount rows → {o : Own} → o ≡ storedOwn i v above n value → OwnAt rows row o
+  own-stored above n value ea en ev iv h =
+      let e = expressionAt rows v in
+      let same : (u : Use) → n ≡ ownRows (assign (variable i) e) u = λ u. en ∙ sym (store-rows i e u) in
+      own-by (asks .is) (record {
+        first = some rows row (asks .onward); second = nothing rows row; third = nothing rows row; fourth = nothing rows row; first-use = refl; second-use = λ u. refl;
+        above-is = ea ∙ ap taken (sym (held-variable (pick (direct e) (word i) (atomOf e)) i));
+        rows-are = same wanted; levels-are = refl; dropped-rows-are = same dropped; dropped-levels-are = refl; stored-levels-are = refl;
+        value-is = ev ∙ sym (landed-atom i e); value-inside = iv;
+      }) h
+
+  -- what goes straight into the variable
+  pub own-straight : {o : Own} → direct (expressionAt rows v) ≡ true → o ≡ storedOwn i v 0 0 row → OwnAt rows row o
+  own-straight d h = own-stored 0 0 row (rw d) (rw d) (ap plainAtom (asks .is) ∙ rw d) (asks .inside) h
+
+  -- and what an atom brings there
+  pub own-moved : {t value : ℕ} {o : Own} → direct (expressionAt rows v) ≡ false → t ≡ taken (atomOf (expressionAt rows v)) → value ≡ slotAt table v valueSlot → o ≡ storedOwn i v t 4 value → OwnAt rows row o
+  own-moved {t} {value} d et ev h =
+      let found = value-of (asks .measured) (asks .onward) ev in
+      own-stored t 4 value (rw d et) (rw d) (rw d (found .0)) (found .1) h
 
 -- ---- values
 
--- whether a plain expression takes a temporary
-abbrev pub takenBy : ExpressionShape → ℕ
-takenBy (Number v) = 0
-takenBy (Read (Variable i)) = 0
-takenBy (Read (Element array index)) = 1
-takenBy (Operation o) = 1
-takenBy (Choice c) = 1
+-- what holds the value that comes from a row
+pub held-as : {h : Atom} {x y : Holder} → Holding h x → x ≡ y → Holding h y
+held-as {h} a e = subst (Holding h) e a
 
-taken-plain : (rows : List ℤ) (s : ExpressionShape) → takenBy s ≡ taken (plainAtom (expressionTree rows s))
-taken-plain rows (Number v) = refl
-taken-plain rows (Read (Variable i)) = refl
-taken-plain rows (Read (Element array index)) = refl
-taken-plain rows (Operation o) = sym (ap taken (operation-top rows o))
-taken-plain rows (Choice c) = sym (ap taken (choice-top rows c))
+pub held-same : {h h′ : Atom} {x : Holder} → Holding h x → h ≡ h′ → Holding h′ x
+held-same {x = x} a e = subst (λ (k : Atom). Holding k x) e a
 
-pub taken-of : {rows : List ℤ} {value : ℕ} {s : ExpressionShape} {held : Atom} → ExpressionAt rows value s → plainAtom (expressionAt rows value) ≡ held → takenBy s ≡ taken held
-taken-of {rows} {value} {s} {held} f h = taken-plain rows s ∙ ap (λ x. taken (plainAtom x)) (sym (f .is)) ∙ ap taken h
+pub place-holds : (rows : List ℤ) (row : ℕ) {x : Holder} (p : PlaceShape) → PlaceOnward rows row mostVariables mostArrays p → x ≡ placeHolder p → Holding (readAtom (placeTree rows p)) x
+place-holds rows row (Variable i) o e = rw e (record { is = refl; fits = o })
+place-holds rows row (Element array index) o e = rw e (record { is = refl; fits = tt })
+
+read-updated : (p : Place) → readAtom p ≡ updated p
+read-updated (variable i) = refl
+read-updated (element array e) = refl
+
+pub updated-holds : {rows : List ℤ} {row : ℕ} {p : PlaceShape} {x : Holder} → PlaceAt rows row p → x ≡ placeHolder p → Holding (updated (placeOf (expressionAt rows row))) x
+updated-holds {rows} {row} {p} f e = held-same (place-holds rows row p (f .onward) e) (read-updated (placeTree rows p) ∙ ap updated (sym (f .is)))
+
+-- a temporary, or what an expression of this shape gives
+pub plain-holds : {rows : List ℤ} {row : ℕ} {s : ExpressionShape} {x : Holder} → ExpressionAt rows row s → Holding (plainAtom (expressionTree rows s)) x → Holding (plainAtom (expressionAt rows row)) x
+plain-holds f a = held-same a (ap plainAtom (sym (f .is)))
+
+pub top-holds : {h : Atom} → h ≡ top → Holding h Temporary
+top-holds e = rw e (record { is = refl; fits = tt })
+
+pub number-holds : {z v : ℤ} → z ≡ v → Holding (number v) (NumberHolder z)
+number-holds e = record { is = ap number e; fits = tt }
+
+pub choice-holds : {rows : List ℤ} {row : ℕ} {c : ChoiceShape} → ExpressionAt rows row (Choice c) → Holding (plainAtom (expressionAt rows row)) Temporary
+choice-holds {rows} {row} {c} f = plain-holds f (top-holds (choice-top rows c))
+
+-- ---- whether a value goes straight into a variable
+
+pub direct-shape : {rows : List ℤ} {row : ℕ} {s : ExpressionShape} {b : Bool} → ExpressionAt rows row s → b ≡ direct (expressionTree rows s) → b ≡ direct (expressionAt rows row)
+direct-shape f e = e ∙ ap direct (sym (f .is))
+
+pub operation-direct : (rows : List ℤ) (o : OperationShape) → directOperation o ≡ direct (operationTree rows o)
+unfolding direct
+operation-direct rows (Minus a) = refl
+operation-direct rows (Not a) = refl
+operation-direct rows (Binary operator a b) = refl
+operation-direct rows (Comma a b) = refl
+operation-direct rows (Assign p e) = refl
+operation-direct rows (Compound operator p e) = refl
+operation-direct rows (Prefix operator p) = refl
+operation-direct rows (Postfix operator p) = refl
+
+pub choice-direct : (rows : List ℤ) (c : ChoiceShape) → false ≡ direct (choiceTree rows c)
+unfolding direct
+choice-direct rows (And a b) = refl
+choice-direct rows (Or a b) = refl
+choice-direct rows (Conditional c a b) = refl
 
 -- ---- sums
 
@@ -236,50 +352,102 @@ pub limited-more : (n a : ℕ) → limited (n + limited a) ≡ limited (n + a)
 unfolding limited
 limited-more n a = omega arith
 
+-- what an own row brings, by the use of its value
+stored-rows : (e : Expression) (i : ℕ) → ownRows e (stored i) ≡ ownRows e wanted
+stored-rows (constant v) i = refl
+stored-rows (read p) i = refl
+stored-rows (minus e) i = refl
+stored-rows (not e) i = refl
+stored-rows (binary operator a b) i = refl
+stored-rows (and a b) i = refl
+stored-rows (or a b) i = refl
+stored-rows (comma a b) i = refl
+stored-rows (conditional c a b) i = refl
+stored-rows (assign p e) i = refl
+stored-rows (compound operator p e) i = refl
+stored-rows (prefix operator p) i = refl
+stored-rows (postfix operator (variable j)) i = refl
+stored-rows (postfix operator (element array e)) i = refl
+
+stored-own-levels : (e : Expression) (i : ℕ) → ownLevels e (stored i) ≡ ownLevels e (stored 0)
+stored-own-levels (constant v) i = refl
+stored-own-levels (read (variable j)) i = refl
+stored-own-levels (read (element array e)) i = refl
+stored-own-levels (minus e) i = refl
+stored-own-levels (not e) i = refl
+stored-own-levels (binary operator a b) i = refl
+stored-own-levels (and a b) i = refl
+stored-own-levels (or a b) i = refl
+stored-own-levels (comma a b) i = refl
+stored-own-levels (conditional c a b) i = refl
+stored-own-levels (assign p e) i = refl
+stored-own-levels (compound operator p e) i = refl
+stored-own-levels (prefix operator p) i = refl
+stored-own-levels (postfix operator (variable j)) i = refl
+stored-own-levels (postfix operator (element array e)) i = refl
+
+module _ {rows : List ℤ} {row : ℕ} {o : Own} (at : OwnAt rows row o) where
+  pub own-rows-by : (u : Use) → rowsBy o u ≡ ownRows (expressionAt rows row) u
+  own-rows-by dropped = at .dropped-rows-are
+  own-rows-by wanted = at .rows-are
+  own-rows-by (stored i) = at .rows-are ∙ sym (stored-rows (expressionAt rows row) i)
+
+  pub own-levels-by : (u : Use) → levelsBy o u ≡ ownLevels (expressionAt rows row) u
+  own-levels-by dropped = at .dropped-levels-are
+  own-levels-by wanted = at .levels-are
+  own-levels-by (stored i) = at .stored-levels-are ∙ sym (stored-own-levels (expressionAt rows row) i)
+
 module _ (rows : List ℤ) (table : List ℕ) (row : ℕ) (m : MeasuredFrom rows table (row + 1)) where
-  part-row : (link : ℕ) (part : Part) (x : ℕ) → partAt rows link ≡ part → OptionalOnward rows row link → x ≡ slotAt table link rowsSlot → x ≡ limited (partSize part)
-  part-row link part x e o h = h ∙ part-rows rows table m link o ∙ ap (λ p. limited (partSize p)) e
+  part-row : (u : Use) (link k : ℕ) (part : Part) (x : ℕ) → partAt rows link ≡ part → OptionalOnward rows row link → k ≡ rowsFor u → x ≡ slotAt table link k → x ≡ limited (operandSize part u)
+  part-row u link k part x e o f h = h ∙ ap (slotAt table link) f ∙ part-rows rows table m u link o ∙ ap (λ p. limited (operandSize p u)) e
 
-  part-level : (link : ℕ) (part : Part) (x : ℕ) → partAt rows link ≡ part → OptionalOnward rows row link → x ≡ slotAt table link levelsSlot → x ≡ limited (partLevels part)
-  part-level link part x e o h = h ∙ part-levels rows table m link o ∙ ap (λ p. limited (partLevels p)) e
+  part-level : (u : Use) (link k : ℕ) (part : Part) (x : ℕ) → partAt rows link ≡ part → OptionalOnward rows row link → k ≡ levelsFor u → x ≡ slotAt table link k → x ≡ limited (operandLevels part u)
+  part-level u link k part x e o f h = h ∙ ap (slotAt table link) f ∙ part-levels rows table m u link o ∙ ap (λ p. limited (operandLevels p u)) e
 
-  module _ (o : Own) (at : OwnAt rows row o) where
+  module _ (o : Own) (at : OwnAt rows row o) (u : Use) where
     abbrev e : Expression
     e = expressionAt rows row
 
-    pub rows-of : (a b c d own : ℕ) → a ≡ slotAt table (o .first) rowsSlot → b ≡ slotAt table (o .second) rowsSlot → c ≡ slotAt table (o .third) rowsSlot → d ≡ slotAt table (o .fourth) rowsSlot → own ≡ ownRows e
-        → limited (a + b + c + d + own) ≡ limited (expressionSize e)
+    -- the use of the second operand's value, as the code finds it
+    passed : {v : Use} → v ≡ usePassed (o .passes) u → v ≡ secondUse e u
+    passed h = h ∙ at .second-use u
+
+    pub rows-of : {v : Use} (i j a b c d own : ℕ) → v ≡ usePassed (o .passes) u → RowsWord (o .«first_use») i → RowsWord v j
+        → a ≡ slotAt table (o .first) i → b ≡ slotAt table (o .second) j → c ≡ slotAt table (o .third) rowsSlot → d ≡ slotAt table (o .fourth) rowsSlot → own ≡ rowsBy o u
+        → limited (a + b + c + d + own) ≡ limited (expressionSize e u)
     unfolding limited
-    rows-of a b c d own ea eb ec ed eo =
-        let qa = part-row (o .first) (firstOperand e) a (at .first .is) (at .first .onward) ea in
-        let qb = part-row (o .second) (secondOperand e) b (at .second .is) (at .second .onward) eb in
-        let qc = part-row (o .third) (thirdOperand e) c (at .third .is) (at .third .onward) ec in
-        let qd = part-row (o .fourth) (fourthOperand e) d (at .fourth .is) (at .fourth .onward) ed in
-        omega (arith, size-parts e)
+    rows-of i j a b c d own ep ei ej ea eb ec ed eo =
+        let qa = part-row (firstUse e) (o .first) i (firstOperand e) a (at .first .is) (at .first .onward) (ei .is ∙ ap rowsFor (at .first-use)) ea in
+        let qb = part-row (secondUse e u) (o .second) j (secondOperand e) b (at .second .is) (at .second .onward) (ej .is ∙ ap rowsFor (passed ep)) eb in
+        let qc = part-row wanted (o .third) rowsSlot (thirdOperand e) c (at .third .is) (at .third .onward) refl ec in
+        let qd = part-row wanted (o .fourth) rowsSlot (fourthOperand e) d (at .fourth .is) (at .fourth .onward) refl ed in
+        omega (arith, size-parts e u, own-rows-by at u)
 
-    pub levels-of : (a b c d own above : ℕ) → a ≡ slotAt table (o .first) levelsSlot → b ≡ slotAt table (o .second) levelsSlot → c ≡ slotAt table (o .third) levelsSlot → d ≡ slotAt table (o .fourth) levelsSlot → own ≡ ownLevels e → above ≡ aboveFirst e
-        → limited (max own (max (max a (above + b)) (max c d))) ≡ limited (expressionLevels e)
-    levels-of a b c d own above ea eb ec ed eo ev =
-        let qa = part-level (o .first) (firstOperand e) a (at .first .is) (at .first .onward) ea in
-        let qb = part-level (o .second) (secondOperand e) b (at .second .is) (at .second .onward) eb in
-        let qc = part-level (o .third) (thirdOperand e) c (at .third .is) (at .third .onward) ec in
-        let qd = part-level (o .fourth) (fourthOperand e) d (at .fourth .is) (at .fourth .onward) ed in
-        rw (qa, qb, qc, qd, eo, ev, levels-parts e) (simp (limited-max, limited-twice, limited-more))
+    pub levels-of : {v : Use} (i j a b c d own above : ℕ) → v ≡ usePassed (o .passes) u → LevelsWord (o .«first_use») i → LevelsWord v j
+        → a ≡ slotAt table (o .first) i → b ≡ slotAt table (o .second) j → c ≡ slotAt table (o .third) levelsSlot → d ≡ slotAt table (o .fourth) levelsSlot → own ≡ levelsBy o u → above ≡ aboveFirst e
+        → limited (max own (max (max a (above + b)) (max c d))) ≡ limited (expressionLevels e u)
+    levels-of i j a b c d own above ep ei ej ea eb ec ed eo ev =
+        let qa = part-level (firstUse e) (o .first) i (firstOperand e) a (at .first .is) (at .first .onward) (ei .is ∙ ap levelsFor (at .first-use)) ea in
+        let qb = part-level (secondUse e u) (o .second) j (secondOperand e) b (at .second .is) (at .second .onward) (ej .is ∙ ap levelsFor (passed ep)) eb in
+        let qc = part-level wanted (o .third) levelsSlot (thirdOperand e) c (at .third .is) (at .third .onward) refl ec in
+        let qd = part-level wanted (o .fourth) levelsSlot (fourthOperand e) d (at .fourth .is) (at .fourth .onward) refl ed in
+        let qo = eo ∙ own-levels-by at u in
+        rw (qa, qb, qc, qd, qo, ev, levels-parts e u) (simp (limited-max, limited-twice, limited-more))
 
-pub own-most : (e : Expression) → ownRows e ≤ 20
-own-most (constant v) = omega arith
-own-most (read p) = omega (arith, index-most p)
-own-most (minus e) = omega arith
-own-most (not e) = omega arith
-own-most (binary operator a b) = omega (arith, hold-most (atomOf b) (writes a))
-own-most (and a b) = omega arith
-own-most (or a b) = omega arith
-own-most (comma a b) = omega arith
-own-most (conditional c a b) = omega (arith, copy-most (atomOf a), copy-most (atomOf b))
-own-most (assign p e) = omega (arith, index-most p, hold-most (atomOf e) (indexWrites p))
-own-most (compound operator p e) = omega (arith, index-most p, hold-most (atomOf e) (indexWrites p))
-own-most (prefix operator p) = omega (arith, index-most p)
-own-most (postfix operator p) = omega (arith, index-most p)
+pub own-most : (e : Expression) (u : Use) → ownRows e u ≤ 20
+own-most (constant v) u = omega arith
+own-most (read p) u = omega (arith, index-most p)
+own-most (minus e) u = omega arith
+own-most (not e) u = omega arith
+own-most (binary operator a b) u = omega (arith, hold-most (atomOf b) (writes a))
+own-most (and a b) u = omega arith
+own-most (or a b) u = omega arith
+own-most (comma a b) u = omega arith
+own-most (conditional c a b) u = omega (arith, copy-most (atomOf a), copy-most (atomOf b))
+own-most (assign p e) u = omega (arith, store-most p (direct e), hold-most (landed p (direct e) (atomOf e)) (indexWrites p))
+own-most (compound operator p e) u = omega (arith, update-most p, hold-most (atomOf e) (indexWrites p))
+own-most (prefix operator p) u = omega (arith, update-most p)
+own-most (postfix operator p) u = omega (arith, postfix-most p u)
 
 pub above-most : (e : Expression) → aboveFirst e ≤ 1
 above-most (constant v) = omega arith
@@ -291,7 +459,7 @@ above-most (and a b) = omega arith
 above-most (or a b) = omega arith
 above-most (comma a b) = omega arith
 above-most (conditional c a b) = omega arith
-above-most (assign p e) = taken-most (held (atomOf e) (indexWrites p))
-above-most (compound operator p e) = omega arith
-above-most (prefix operator p) = omega arith
-above-most (postfix operator p) = omega arith
+above-most (assign p e) = taken-most (held (landed p (direct e) (atomOf e)) (indexWrites p))
+above-most (compound operator p e) = index-most p
+above-most (prefix operator p) = index-most p
+above-most (postfix operator p) = index-most p

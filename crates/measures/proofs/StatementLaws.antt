@@ -7,16 +7,18 @@ use lib.IntN.{ℤ}
 use Rattle.language.specs.Trees.{Expression, absent, present, Statement, while, doWhile, for, Items, none, _here_, Mark, case, default, label}
 use Rattle.language.specs.Decode.{expressionAt, statementAt, itemsAt, listAt, partAt}
 use Rattle.language.specs.DecodeLaws.{part-some}
-use Rattle.translation.specs.Translate.{atomOf, taken, labels, itemsLabels, expressionLevels, partLevels, statementLevels, itemsLevels}
+use Rattle.translation.specs.declared.Use.{Use}
+use Rattle.translation.specs.declared.Use.the-variants.{Dropped as dropped, Wanted as wanted}
+use Rattle.translation.specs.Translate.{atomOf, taken, labels, itemsLabels, expressionLevels, operandLevels, statementLevels, itemsLevels}
 use Rattle.translation.specs.TranslateBounds.{taken-most}
-use Rattle.translation.specs.TranslateSize.{expressionSize, partSize, testSize, statementSize, itemsSize, cases}
+use Rattle.translation.specs.TranslateSize.{expressionSize, operandSize, testSize, statementSize, itemsSize, cases}
 use Rattle.shapes.specs.Shapes.{statementTree, Onward, OptionalOnward, StatementAt, ItemAt}
 use Rattle.shapes.specs.ShapeLaws.{optional}
 use Rattle.shapes.specs.declared.StatementShape.{StatementShape}
 use Rattle.shapes.specs.declared.StatementShape.the-variants.{Express, Block, If, While, Do, For, Switch}
 use Rattle.shapes.specs.declared.MarkShape.the-variants.{Case, Default, Label}
 use Rattle.shapes.specs.declared.Item.the-variants as item
-use Rattle.measures.specs.Measures.{limited, pastLabels, defaultPlace, rowsSlot, levelsSlot, statementRowsSlot, statementLevelsSlot, statementLabelsSlot, listRowsSlot, listLevelsSlot, listLabelsSlot, listCasesSlot, listDefaultSlot, slotAt, testSlots, MeasuredFrom, StatementMeasured, ListMeasured, markMeasures, statementMeasures, plainMeasures, expressMeasures, blockMeasures, ifMeasures, loopMeasures, switchMeasures}
+use Rattle.measures.specs.Measures.{limited, pastLabels, defaultPlace, rowsSlot, levelsSlot, droppedRowsSlot, droppedLevelsSlot, rowsFor, levelsFor, statementRowsSlot, statementLevelsSlot, statementLabelsSlot, listRowsSlot, listLevelsSlot, listLabelsSlot, listCasesSlot, listDefaultSlot, slotAt, testSlots, MeasuredFrom, StatementMeasured, ListMeasured, markMeasures, statementMeasures, plainMeasures, expressMeasures, blockMeasures, ifMeasures, loopMeasures, switchMeasures}
 use Rattle.measures.specs.declared.StatementMeasures.{StatementMeasures}
 use Rattle.measures.specs.declared.ListMeasures.{ListMeasures}
 use Rattle.measures.specs.MeasureLaws.{part-rows, part-levels, list-rows, list-levels, list-labels, list-cases, list-default, body-rows, body-levels, body-labels}
@@ -80,11 +82,11 @@ do-measured {e} {body} h = same-measured {s = for absent (present e) absent body
 
 module _ {rows : List ℤ} {table : List ℕ} {row : ℕ} (m : MeasuredFrom rows table (row + 1)) where
   -- an expression that is there
-  some-rows : (link : ℕ) → Onward rows row link → slotAt table link rowsSlot ≡ limited (expressionSize (expressionAt rows link))
-  some-rows link o = part-rows rows table m link (optional o) ∙ ap (λ p. limited (partSize p)) (part-some rows link (omega (arith, o .later)))
+  some-rows : (u : Use) (link : ℕ) → Onward rows row link → slotAt table link (rowsFor u) ≡ limited (expressionSize (expressionAt rows link) u)
+  some-rows u link o = part-rows rows table m u link (optional o) ∙ ap (λ p. limited (operandSize p u)) (part-some rows link (omega (arith, o .later)))
 
-  some-levels : (link : ℕ) → Onward rows row link → slotAt table link levelsSlot ≡ limited (expressionLevels (expressionAt rows link))
-  some-levels link o = part-levels rows table m link (optional o) ∙ ap (λ p. limited (partLevels p)) (part-some rows link (omega (arith, o .later)))
+  some-levels : (u : Use) (link : ℕ) → Onward rows row link → slotAt table link (levelsFor u) ≡ limited (expressionLevels (expressionAt rows link) u)
+  some-levels u link o = part-levels rows table m u link (optional o) ∙ ap (λ p. limited (operandLevels p u)) (part-some rows link (omega (arith, o .later)))
 
   -- ---- statements, shape by shape
 
@@ -98,7 +100,7 @@ module _ {rows : List ℤ} {table : List ℕ} {row : ℕ} (m : MeasuredFrom rows
 
   pub express-measured : {e : ℕ} {r : StatementMeasures} → StatementAt rows row (Express e) → r ≡ expressMeasures table e → StatementMeasured (statementAt rows row) r
   unfolding statementSize statementLevels labels limited
-  express-measured {e} f h = by-shape f h (record { rows-are = omega (arith, some-rows e (f .onward)); levels-are = some-levels e (f .onward); labels-are = refl })
+  express-measured {e} f h = by-shape f h (record { rows-are = omega (arith, some-rows dropped e (f .onward)); levels-are = some-levels dropped e (f .onward); labels-are = refl })
 
   pub block-measured : {list : ℕ} {r : StatementMeasures} → StatementAt rows row (Block list) → r ≡ blockMeasures table list → StatementMeasured (statementAt rows row) r
   unfolding statementSize statementLevels labels limited
@@ -110,16 +112,16 @@ module _ {rows : List ℤ} {table : List ℕ} {row : ℕ} (m : MeasuredFrom rows
 
   if-rows : (e onTrue onFalse : ℕ) → Onward rows row e → Onward rows row onTrue → OptionalOnward rows row onFalse → ifMeasures table e onTrue onFalse .rows ≡ limited (statementSize (statementTree rows (If e onTrue onFalse)))
   unfolding statementSize limited
-  if-rows e onTrue zero a b c = omega (arith, some-rows e a, body-rows rows table m onTrue b)
-  if-rows e onTrue (suc onFalse) a b c = omega (arith, some-rows e a, body-rows rows table m onTrue b, body-rows rows table m (suc onFalse) (c (omega arith)))
+  if-rows e onTrue zero a b c = omega (arith, some-rows wanted e a, body-rows rows table m onTrue b)
+  if-rows e onTrue (suc onFalse) a b c = omega (arith, some-rows wanted e a, body-rows rows table m onTrue b, body-rows rows table m (suc onFalse) (c (omega arith)))
 
   if-levels : (e onTrue onFalse : ℕ) → Onward rows row e → Onward rows row onTrue → OptionalOnward rows row onFalse → ifMeasures table e onTrue onFalse .levels ≡ limited (statementLevels (statementTree rows (If e onTrue onFalse)))
   unfolding statementLevels
   if-levels e onTrue zero a b c =
       let none : max (slotAt table onTrue statementLevelsSlot) 0 ≡ slotAt table onTrue statementLevelsSlot = omega arith in
-      rw (none, limited-max) (ap₂ max (some-levels e a) (body-levels rows table m onTrue b))
+      rw (none, limited-max) (ap₂ max (some-levels wanted e a) (body-levels rows table m onTrue b))
   if-levels e onTrue (suc onFalse) a b c =
-      rw (limited-max, limited-max) (ap₂ max (some-levels e a) (ap₂ max (body-levels rows table m onTrue b) (body-levels rows table m (suc onFalse) (c (omega arith)))))
+      rw (limited-max, limited-max) (ap₂ max (some-levels wanted e a) (ap₂ max (body-levels rows table m onTrue b) (body-levels rows table m (suc onFalse) (c (omega arith)))))
 
   if-labels : (e onTrue onFalse : ℕ) → Onward rows row onTrue → OptionalOnward rows row onFalse → ifMeasures table e onTrue onFalse .labels ≡ limited (labels (statementTree rows (If e onTrue onFalse)))
   unfolding labels limited
@@ -134,16 +136,16 @@ module _ {rows : List ℤ} {table : List ℕ} {row : ℕ} (m : MeasuredFrom rows
   test-slots : (test : ℕ) → OptionalOnward rows row test → limited (testSlots table test) ≡ limited (testSize (partAt rows test))
   unfolding limited
   test-slots zero o = refl
-  test-slots (suc test) o = omega (arith, part-rows rows table m (suc test) o)
+  test-slots (suc test) o = omega (arith, part-rows rows table m wanted (suc test) o)
 
   loop-measured : (first test action body : ℕ) → OptionalOnward rows row first → OptionalOnward rows row test → OptionalOnward rows row action → Onward rows row body
       → StatementMeasured (for (partAt rows first) (partAt rows test) (partAt rows action) (statementAt rows body)) (loopMeasures table first test action body)
   unfolding statementSize statementLevels labels
   loop-measured first test action body a b c d = record {
     rows-are =
-        ap limited (flat (slotAt table first rowsSlot) (testSlots table test) (slotAt table action rowsSlot) (slotAt table body statementRowsSlot))
-        ∙ step _ _ _ _ (step _ _ _ _ (step _ _ _ _ (step 5 5 _ _ refl (cut _ _ (part-rows rows table m first a))) (test-slots test b)) (cut _ _ (part-rows rows table m action c))) (cut _ _ (body-rows rows table m body d));
-    levels-are = simp limited-max (ap₂ max (ap₂ max (part-levels rows table m first a) (part-levels rows table m test b)) (ap₂ max (part-levels rows table m action c) (body-levels rows table m body d)));
+        ap limited (flat (slotAt table first droppedRowsSlot) (testSlots table test) (slotAt table action droppedRowsSlot) (slotAt table body statementRowsSlot))
+        ∙ step _ _ _ _ (step _ _ _ _ (step _ _ _ _ (step 5 5 _ _ refl (cut _ _ (part-rows rows table m dropped first a))) (test-slots test b)) (cut _ _ (part-rows rows table m dropped action c))) (cut _ _ (body-rows rows table m body d));
+    levels-are = simp limited-max (ap₂ max (ap₂ max (part-levels rows table m dropped first a) (part-levels rows table m wanted test b)) (ap₂ max (part-levels rows table m dropped action c) (body-levels rows table m body d)));
     labels-are = two-more _ _ (body-labels rows table m body d);
   }
 
@@ -166,12 +168,12 @@ module _ {rows : List ℤ} {table : List ℕ} {row : ℕ} (m : MeasuredFrom rows
       let o = f .onward in
       by-shape f h (record {
         rows-are = switch-rows e list (o .0) (o .1);
-        levels-are = simp limited-max (ap₂ max (small (held + 1) (omega (arith, taken-most (atomOf (expressionAt rows e)))) ∙ ap (λ (n : ℕ). limited (n + 1)) p) (ap₂ max (some-levels e (o .0)) (list-levels rows table m list (o .1))));
+        levels-are = simp limited-max (ap₂ max (small (held + 1) (omega (arith, taken-most (atomOf (expressionAt rows e)))) ∙ ap (λ (n : ℕ). limited (n + 1)) p) (ap₂ max (some-levels wanted e (o .0)) (list-levels rows table m list (o .1))));
         labels-are = one-more _ _ (list-labels rows table m list (o .1));
       })
     where
-      switch-rows : (e list : ℕ) → Onward rows row e → OptionalOnward rows row list → switchMeasures table held e list .rows ≡ limited (2 + expressionSize (expressionAt rows e) + 11 * cases (listAt rows list) + itemsSize (listAt rows list))
-      switch-rows e list a b = selected _ _ _ _ _ _ (some-rows e a) (list-cases rows table m list b) (list-rows rows table m list b)
+      switch-rows : (e list : ℕ) → Onward rows row e → OptionalOnward rows row list → switchMeasures table held e list .rows ≡ limited (2 + expressionSize (expressionAt rows e) wanted + 11 * cases (listAt rows list) + itemsSize (listAt rows list))
+      switch-rows e list a b = selected _ _ _ _ _ _ (some-rows wanted e a) (list-cases rows table m list b) (list-rows rows table m list b)
 
   -- ---- lists
 
@@ -250,8 +252,8 @@ module _ (table : List ℕ) where
       → three (limited (4 + a + b + c)) (max x (max y z)) (limited (u + v)) ≡ ifMeasures table e onTrue onFalse
   if-words e onTrue onFalse pa pb pc px py pz pu pv = rw (pa, pb, pc, px, py, pz, pu, pv)
 
-  pub loop-words : (first test action body : ℕ) {a t b c w x y z v : ℕ} → a ≡ slotAt table first rowsSlot → t ≡ testSlots table test → b ≡ slotAt table action rowsSlot → c ≡ slotAt table body statementRowsSlot
-      → w ≡ slotAt table first levelsSlot → x ≡ slotAt table test levelsSlot → y ≡ slotAt table action levelsSlot → z ≡ slotAt table body statementLevelsSlot → v ≡ slotAt table body statementLabelsSlot
+  pub loop-words : (first test action body : ℕ) {a t b c w x y z v : ℕ} → a ≡ slotAt table first droppedRowsSlot → t ≡ testSlots table test → b ≡ slotAt table action droppedRowsSlot → c ≡ slotAt table body statementRowsSlot
+      → w ≡ slotAt table first droppedLevelsSlot → x ≡ slotAt table test levelsSlot → y ≡ slotAt table action droppedLevelsSlot → z ≡ slotAt table body statementLevelsSlot → v ≡ slotAt table body statementLabelsSlot
       → three (limited (5 + (a + t) + (b + c))) (max (max w x) (max y z)) (limited (2 + v)) ≡ loopMeasures table first test action body
   loop-words first test action body pa pt pb pc pw px py pz pv = rw (pa, pt, pb, pc, pw, px, py, pz, pv)
 

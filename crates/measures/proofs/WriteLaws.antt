@@ -31,8 +31,7 @@ use Rattle.shapes.specs.declared.ExpressionShape.the-variants.{Number, Read, Op
 use Rattle.write_sets.specs.Sets.{member, nothing, join, single}
 use Rattle.write_sets.specs.SetLaws.{member-join, member-nothing, member-single}
 use Rattle.write_sets.specs.declared.WriteSet.{WriteSet}
-use Rattle.measures.specs.Parts.{indexOf, firstCopied, plainAtom, Operand}
-use Rattle.measures.specs.MeasureLaws.{operation-top, choice-top}
+use Rattle.measures.specs.Parts.{indexOf, firstCopied, Operand}
 use Rattle.measures.specs.WriteSets.{SetIs, placeWrites, partWrites, setWidth, setOf, setAt, SetHeld, setWords, SetsFrom, Sets}
 use Rattle.measures.proofs.RowWords.{stored-length, own-words, other-words}
 
@@ -209,37 +208,25 @@ copied-same (number v) X W e = refl
 copied-same (word i) X W e = rw (e i)
 copied-same top X W e = refl
 
--- By the shape of the row that the value comes from.
-abbrev pub copiedBy : ExpressionShape → (ℕ → Bool) → ℕ
-copiedBy (Number v) W = 0
-copiedBy (Read (Variable i)) W = pick (W i) 1 0
-copiedBy (Read (Element array index)) W = 0
-copiedBy (Operation o) W = 0
-copiedBy (Choice c) W = 0
+-- by what holds the value
+pub copied-number : {h : Atom} {v : ℤ} (W : ℕ → Bool) → number v ≡ h → 0 ≡ copied h W
+copied-number W e = ap (λ (x : Atom). copied x W) e
 
-copied-top : {h : Atom} (W : ℕ → Bool) → h ≡ top → 0 ≡ copied h W
-copied-top W e = rw e
+pub copied-temporary : {h : Atom} (W : ℕ → Bool) → top ≡ h → 0 ≡ copied h W
+copied-temporary W e = ap (λ (x : Atom). copied x W) e
 
 copied-word : (i : ℕ) (W : ℕ → Bool) → pick (W i) 1 0 ≡ copied (word i) W
 copied-word i W = by-cases (W i) (λ e. rw e) (λ e. rw e)
-
-copied-plain : (rows : List ℤ) (s : ExpressionShape) (W : ℕ → Bool) → copiedBy s W ≡ copied (plainAtom (expressionTree rows s)) W
-copied-plain rows (Number v) W = refl
-copied-plain rows (Read (Variable i)) W = copied-word i W
-copied-plain rows (Read (Element array index)) W = refl
-copied-plain rows (Operation o) W = copied-top W (operation-top rows o)
-copied-plain rows (Choice c) W = copied-top W (choice-top rows c)
-
-pub copied-of : {rows : List ℤ} {value : ℕ} {s : ExpressionShape} {h : Atom} (W : ℕ → Bool) → ExpressionAt rows value s → plainAtom (expressionAt rows value) ≡ h → copiedBy s W ≡ copied h W
-copied-of {rows} {value} {s} {h} W f e = copied-plain rows s W ∙ ap (λ (x : Expression). copied (plainAtom x) W) (sym (f .is)) ∙ ap (λ (x : Atom). copied x W) e
 
 -- the set at a link, as what the expression there writes
 pub part-set : {rows : List ℤ} {sets : List ℕ} (link i : ℕ) → Sets rows sets → link < rowCount rows → i < mostVariables → member (setAt sets link) i ≡ partWrites (partAt rows link) i
 part-set zero i m h l = member-nothing i
 part-set (suc link) i m h l = m .row-set (suc link) (omega arith) h .is i l
 
-pub written-of : {rows : List ℤ} {sets : List ℕ} {link i r : ℕ} → Sets rows sets → link < rowCount rows → i < mostVariables → r ≡ pick (member (setAt sets link) i) 1 0 → r ≡ copiedBy (Read (Variable i)) (partWrites (partAt rows link))
-written-of {rows} {sets} {link} {i} m h l e = e ∙ ap (λ (b : Bool). pick b 1 0) (part-set link i m h l)
+pub copied-variable : {rows : List ℤ} {sets : List ℕ} {link i r : ℕ} {h : Atom} → Sets rows sets → link < rowCount rows → i < mostVariables → word i ≡ h → r ≡ pick (member (setAt sets link) i) 1 0 → r ≡ copied h (partWrites (partAt rows link))
+copied-variable {rows} {sets} {link} {i} m h l e w =
+    let W = partWrites (partAt rows link) in
+    w ∙ ap (λ (b : Bool). pick b 1 0) (part-set link i m h l) ∙ copied-word i W ∙ ap (λ (x : Atom). copied x W) e
 
 index-writes : (p : Place) (i : ℕ) → partWrites (indexOf p) i ≡ indexWrites p i
 unfolding indexWrites

@@ -1,25 +1,27 @@
 -- Laws of the measures: sums that are cut off, the words of the table, and an expression's measures from those of its operands.
-use mathlib.Core.Path.{_≡_, refl, _∙_}
+use mathlib.Core.Path.{_≡_, refl, sym, ap, _∙_}
+use mathlib.Core.Bool.{Bool}
 use mathlib.Core.List.{List}
 use Prim.Native.Nat.{ℕ, zero, suc, _+_, _*_, _-_, _≤_, _<_, min, max}
 use native.Mathlib.Omega.{arith}
 use lib.IntN.{ℤ}
 use lib.ListN.{length}
 use Rattle.words.specs.Table.{rowCount}
-use Rattle.language.specs.Trees.{Expression, constant, read, minus, not, binary, and, or, comma, conditional, assign, compound, prefix, postfix, variable, element, present, _here_}
+use Rattle.language.specs.Trees.{Expression, constant, read, minus, not, binary, and, or, comma, conditional, assign, compound, prefix, postfix, Place, variable, element, present, _here_}
 use Rattle.language.specs.Decode.{expressionAt, statementAt, listAt, partAt}
-use Rattle.translation.specs.Translate.{top, atomOf, labels, itemsLabels, expressionLevels, partLevels, statementLevels, itemsLevels}
+use Rattle.translation.specs.Uses.{direct}
+use Rattle.translation.specs.declared.Use.{Use}
+use Rattle.translation.specs.declared.Use.the-variants.{Dropped as dropped, Wanted as wanted, Stored as stored}
+use Rattle.translation.specs.Translate.{Atom, top, held, landed, atomOf, taken, labels, itemsLabels, expressionLevels, operandLevels, statementLevels, itemsLevels}
 use Rattle.language.specs.Writes.{writes, indexWrites}
-use Rattle.translation.specs.HeldCode.{copied-most}
-use Rattle.translation.specs.TranslateSize.{ownRows, expressionSize, partSize, statementSize, itemsSize, cases}
-use Rattle.shapes.specs.Shapes.{operationTree, choiceTree, Onward, OptionalOnward}
+use Rattle.translation.specs.HeldCode.{copied-most, held-variable}
+use Rattle.translation.specs.TranslateSize.{copied, holdRows, ownRows, expressionSize, operandSize, statementSize, itemsSize, cases}
+use Rattle.shapes.specs.Shapes.{choiceTree, Onward, OptionalOnward}
 use Rattle.shapes.specs.Source.{Source}
-use Rattle.shapes.specs.declared.OperationShape.{OperationShape}
-use Rattle.shapes.specs.declared.OperationShape.the-variants.{Minus, Not, Binary, Comma, Assign, Compound, Prefix, Postfix}
 use Rattle.shapes.specs.declared.ChoiceShape.{ChoiceShape}
 use Rattle.shapes.specs.declared.ChoiceShape.the-variants.{And, Or, Conditional}
-use Rattle.measures.specs.Parts.{firstOperand, secondOperand, thirdOperand, fourthOperand, aboveFirst, firstCopied, ownLevels, plainAtom}
-use Rattle.measures.specs.Measures.{limited, defaultPlace, width, rowsSlot, levelsSlot, valueSlot, statementRowsSlot, statementLevelsSlot, statementLabelsSlot, listRowsSlot, listLevelsSlot, listLabelsSlot, listCasesSlot, listDefaultSlot, copiedSlot, slot, slotAt, LinkMeasured, MeasuredRow, MeasuredFrom, Measured}
+use Rattle.measures.specs.Parts.{firstOperand, secondOperand, thirdOperand, fourthOperand, aboveFirst, firstCopied, firstUse, secondUse, ownLevels, plainAtom}
+use Rattle.measures.specs.Measures.{limited, defaultPlace, width, rowsSlot, levelsSlot, valueSlot, statementRowsSlot, statementLevelsSlot, statementLabelsSlot, listRowsSlot, listLevelsSlot, listLabelsSlot, listCasesSlot, listDefaultSlot, copiedSlot, rowsFor, levelsFor, slot, slotAt, LinkMeasured, MeasuredRow, MeasuredFrom, Measured}
 
 -- ---- sums that are cut off
 
@@ -45,6 +47,56 @@ pub at-some : (table : List ℕ) (link k : ℕ) → 0 < link → slotAt table li
 at-some table zero k h = absurd (omega arith)
 at-some table (suc link) k h = refl
 
+-- ---- a value that is stored
+
+-- takes the rows of one that is wanted; and it does not matter which variable stores it
+pub stored-size : (e : Expression) (i : ℕ) → expressionSize e (stored i) ≡ expressionSize e wanted
+unfolding expressionSize
+stored-size (constant v) i = refl
+stored-size (read p) i = refl
+stored-size (minus e) i = refl
+stored-size (not e) i = refl
+stored-size (binary operator a b) i = refl
+stored-size (and a b) i = refl
+stored-size (or a b) i = refl
+stored-size (comma a b) i = refl
+stored-size (conditional c a b) i = refl
+stored-size (assign p e) i = refl
+stored-size (compound operator p e) i = refl
+stored-size (prefix operator p) i = refl
+stored-size (postfix operator (variable j)) i = refl
+stored-size (postfix operator (element array e)) i = refl
+
+pub stored-levels : (e : Expression) (i : ℕ) → expressionLevels e (stored i) ≡ expressionLevels e (stored 0)
+unfolding expressionLevels
+stored-levels (constant v) i = refl
+stored-levels (read (variable j)) i = refl
+stored-levels (read (element array e)) i = refl
+stored-levels (minus e) i = refl
+stored-levels (not e) i = refl
+stored-levels (binary operator a b) i = refl
+stored-levels (and a b) i = refl
+stored-levels (or a b) i = refl
+stored-levels (comma a b) i = refl
+stored-levels (conditional c a b) i = refl
+stored-levels (assign p e) i = refl
+stored-levels (compound operator p e) i = refl
+stored-levels (prefix operator p) i = refl
+stored-levels (postfix operator (variable j)) i = refl
+stored-levels (postfix operator (element array e)) i = refl
+
+-- ---- the measures of a row, by the use of its value
+
+pub measured-rows : {rows : List ℤ} {table : List ℕ} {row : ℕ} (u : Use) → MeasuredRow rows table row → slot table row (rowsFor u) ≡ limited (expressionSize (expressionAt rows row) u)
+measured-rows dropped m = m .expression .dropped-rows-are
+measured-rows wanted m = m .expression .rows-are
+measured-rows {rows} {table} {row} (stored i) m = m .expression .rows-are ∙ ap limited (sym (stored-size (expressionAt rows row) i))
+
+pub measured-levels : {rows : List ℤ} {table : List ℕ} {row : ℕ} (u : Use) → MeasuredRow rows table row → slot table row (levelsFor u) ≡ limited (expressionLevels (expressionAt rows row) u)
+measured-levels dropped m = m .expression .dropped-levels-are
+measured-levels wanted m = m .expression .levels-are
+measured-levels {rows} {table} {row} (stored i) m = m .expression .stored-levels-are ∙ ap limited (sym (stored-levels (expressionAt rows row) i))
+
 module _ (rows : List ℤ) (table : List ℕ) where
   -- a link of this row that leads on leads to a measured row
   pub link-measured : {row : ℕ} (link : ℕ) → MeasuredFrom rows table (row + 1) → Onward rows row link → MeasuredRow rows table link
@@ -54,16 +106,16 @@ module _ (rows : List ℤ) (table : List ℕ) where
   link-held link m o p = omega (arith, m .room, o p .inside)
 
   module _ {row : ℕ} (m : MeasuredFrom rows table (row + 1)) where
-    -- the measures of an expression at a link
-    pub part-rows : (link : ℕ) → OptionalOnward rows row link → slotAt table link rowsSlot ≡ limited (partSize (partAt rows link))
+    -- the measures of an expression at a link, by the use of its value
+    pub part-rows : (u : Use) (link : ℕ) → OptionalOnward rows row link → slotAt table link (rowsFor u) ≡ limited (operandSize (partAt rows link) u)
     unfolding limited
-    part-rows zero o = refl
-    part-rows (suc link) o = link-measured (suc link) m (o (omega arith)) .expression .rows-are
+    part-rows u zero o = refl
+    part-rows u (suc link) o = measured-rows u (link-measured (suc link) m (o (omega arith)))
 
-    pub part-levels : (link : ℕ) → OptionalOnward rows row link → slotAt table link levelsSlot ≡ limited (partLevels (partAt rows link))
+    pub part-levels : (u : Use) (link : ℕ) → OptionalOnward rows row link → slotAt table link (levelsFor u) ≡ limited (operandLevels (partAt rows link) u)
     unfolding limited
-    part-levels zero o = refl
-    part-levels (suc link) o = link-measured (suc link) m (o (omega arith)) .expression .levels-are
+    part-levels u zero o = refl
+    part-levels u (suc link) o = measured-levels u (link-measured (suc link) m (o (omega arith)))
 
     -- those of a list
     pub list-rows : (link : ℕ) → OptionalOnward rows row link → slotAt table link listRowsSlot ≡ limited (itemsSize (listAt rows link))
@@ -103,61 +155,54 @@ module _ (rows : List ℤ) (table : List ℕ) where
 
 -- ---- an expression's measures, from those of its operands
 
-pub size-parts : (e : Expression) → expressionSize e ≡ partSize (firstOperand e) + partSize (secondOperand e) + partSize (thirdOperand e) + partSize (fourthOperand e) + ownRows e
+pub size-parts : (e : Expression) (u : Use)
+    → expressionSize e u
+    ≡ operandSize (firstOperand e) (firstUse e) + operandSize (secondOperand e) (secondUse e u) + operandSize (thirdOperand e) wanted + operandSize (fourthOperand e) wanted + ownRows e u
 unfolding expressionSize
-size-parts (constant v) = refl
-size-parts (read (variable i)) = refl
-size-parts (read (element array e)) = omega arith
-size-parts (minus e) = omega arith
-size-parts (not e) = omega arith
-size-parts (binary operator a b) = omega arith
-size-parts (and a b) = omega arith
-size-parts (or a b) = omega arith
-size-parts (comma a b) = omega arith
-size-parts (conditional c a b) = omega arith
-size-parts (assign (variable i) e) = omega arith
-size-parts (assign (element array i) e) = omega arith
-size-parts (compound operator (variable i) e) = omega arith
-size-parts (compound operator (element array i) e) = omega arith
-size-parts (prefix operator (variable i)) = refl
-size-parts (prefix operator (element array i)) = omega arith
-size-parts (postfix operator (variable i)) = refl
-size-parts (postfix operator (element array i)) = omega arith
+size-parts (constant v) u = refl
+size-parts (read (variable i)) u = refl
+size-parts (read (element array e)) u = omega arith
+size-parts (minus e) u = omega arith
+size-parts (not e) u = omega arith
+size-parts (binary operator a b) u = omega arith
+size-parts (and a b) u = omega arith
+size-parts (or a b) u = omega arith
+size-parts (comma a b) u = omega arith
+size-parts (conditional c a b) u = omega arith
+size-parts (assign (variable i) e) u = omega arith
+size-parts (assign (element array i) e) u = omega arith
+size-parts (compound operator (variable i) e) u = omega arith
+size-parts (compound operator (element array i) e) u = omega arith
+size-parts (prefix operator (variable i)) u = refl
+size-parts (prefix operator (element array i)) u = omega arith
+size-parts (postfix operator (variable i)) u = omega arith
+size-parts (postfix operator (element array i)) u = omega arith
 
-pub levels-parts : (e : Expression)
-    → expressionLevels e
-    ≡ max (ownLevels e) (max (max (partLevels (firstOperand e)) (aboveFirst e + partLevels (secondOperand e))) (max (partLevels (thirdOperand e)) (partLevels (fourthOperand e))))
+pub levels-parts : (e : Expression) (u : Use)
+    → expressionLevels e u
+    ≡ max (ownLevels e u)
+    (max (max (operandLevels (firstOperand e) (firstUse e)) (aboveFirst e + operandLevels (secondOperand e) (secondUse e u))) (max (operandLevels (thirdOperand e) wanted) (operandLevels (fourthOperand e) wanted)))
 unfolding expressionLevels atomOf
-levels-parts (constant v) = refl
-levels-parts (read (variable i)) = refl
-levels-parts (read (element array e)) = omega arith
-levels-parts (minus e) = omega arith
-levels-parts (not e) = omega arith
-levels-parts (binary operator a b) = omega arith
-levels-parts (and a b) = omega arith
-levels-parts (or a b) = omega arith
-levels-parts (comma a b) = omega arith
-levels-parts (conditional c a b) = omega arith
-levels-parts (assign (variable i) e) = omega arith
-levels-parts (assign (element array i) e) = omega arith
-levels-parts (compound operator (variable i) e) = omega arith
-levels-parts (compound operator (element array i) e) = omega arith
-levels-parts (prefix operator (variable i)) = refl
-levels-parts (prefix operator (element array i)) = omega arith
-levels-parts (postfix operator (variable i)) = refl
-levels-parts (postfix operator (element array i)) = omega arith
+levels-parts (constant v) u = refl
+levels-parts (read (variable i)) u = refl
+levels-parts (read (element array e)) u = omega arith
+levels-parts (minus e) u = omega arith
+levels-parts (not e) u = omega arith
+levels-parts (binary operator a b) u = omega arith
+levels-parts (and a b) u = omega arith
+levels-parts (or a b) u = omega arith
+levels-parts (comma a b) u = omega arith
+levels-parts (conditional c a b) u = omega arith
+levels-parts (assign (variable i) e) u = omega arith
+levels-parts (assign (element array i) e) u = omega arith
+levels-parts (compound operator (variable i) e) u = omega arith
+levels-parts (compound operator (element array i) e) u = omega arith
+levels-parts (prefix operator (variable i)) u = refl
+levels-parts (prefix operator (element array i)) u = omega arith
+levels-parts (postfix operator (variable i)) u = omega arith
+levels-parts (postfix operator (element array i)) u = omega arith
 
--- ---- the value of an operation, and that of a choice, stand in a temporary
-
-pub operation-top : (rows : List ℤ) (o : OperationShape) → plainAtom (operationTree rows o) ≡ top
-operation-top rows (Minus a) = refl
-operation-top rows (Not a) = refl
-operation-top rows (Binary operator a b) = refl
-operation-top rows (Comma a b) = refl
-operation-top rows (Assign p e) = refl
-operation-top rows (Compound operator p e) = refl
-operation-top rows (Prefix operator p) = refl
-operation-top rows (Postfix operator p) = refl
+-- ---- the value of a choice stands in a temporary
 
 pub choice-top : (rows : List ℤ) (c : ChoiceShape) → plainAtom (choiceTree rows c) ≡ top
 choice-top rows (And a b) = refl
@@ -181,21 +226,26 @@ first-copied-most (compound operator p e) = copied-most (atomOf e) (indexWrites 
 first-copied-most (prefix operator p) = omega arith
 first-copied-most (postfix operator p) = omega arith
 
+-- a value that an assignment stores is copied where its own atom would be: a variable has no index
+pub landed-copied : (p : Place) (straight : Bool) (h : Atom) → copied (landed p straight h) (indexWrites p) ≡ copied h (indexWrites p)
+landed-copied (variable i) straight h = rw (held-variable (landed (variable i) straight h) i, held-variable h i) (omega arith)
+landed-copied (element array e) straight h = refl
+
 -- its rows are among the own ones
-pub own-copies : (e : Expression) → 4 * firstCopied e ≤ ownRows e
-own-copies (constant v) = omega arith
-own-copies (read p) = omega arith
-own-copies (minus e) = omega arith
-own-copies (not e) = omega arith
-own-copies (binary operator a b) = omega arith
-own-copies (and a b) = omega arith
-own-copies (or a b) = omega arith
-own-copies (comma a b) = omega arith
-own-copies (conditional c a b) = omega arith
-own-copies (assign p e) = omega arith
-own-copies (compound operator p e) = omega arith
-own-copies (prefix operator p) = omega arith
-own-copies (postfix operator p) = omega arith
+pub own-copies : (e : Expression) (u : Use) → 4 * firstCopied e ≤ ownRows e u
+own-copies (constant v) u = omega arith
+own-copies (read p) u = omega arith
+own-copies (minus e) u = omega arith
+own-copies (not e) u = omega arith
+own-copies (binary operator a b) u = omega arith
+own-copies (and a b) u = omega arith
+own-copies (or a b) u = omega arith
+own-copies (comma a b) u = omega arith
+own-copies (conditional c a b) u = omega arith
+own-copies (assign p e) u = omega (arith, landed-copied p (direct e) (atomOf e))
+own-copies (compound operator p e) u = omega arith
+own-copies (prefix operator p) u = omega arith
+own-copies (postfix operator p) u = omega arith
 
 -- ---- what calls ask
 
@@ -215,7 +265,10 @@ measured-small s m (suc (suc (suc (suc (suc (suc (suc (suc zero)))))))) h = limi
 measured-small s m (suc (suc (suc (suc (suc (suc (suc (suc (suc zero))))))))) h = limited-as _ (m .list .cases-are)
 measured-small s m (suc (suc (suc (suc (suc (suc (suc (suc (suc (suc zero)))))))))) h = limited-as _ (m .list .default-is)
 measured-small {rows} {table} {row} s m (suc (suc (suc (suc (suc (suc (suc (suc (suc (suc (suc zero))))))))))) h = omega (arith, m .expression .copied-is, first-copied-most (expressionAt rows row))
-measured-small s m (suc (suc (suc (suc (suc (suc (suc (suc (suc (suc (suc (suc k)))))))))))) h = absurd (omega arith)
+measured-small s m (suc (suc (suc (suc (suc (suc (suc (suc (suc (suc (suc (suc zero)))))))))))) h = limited-as _ (m .expression .dropped-rows-are)
+measured-small s m (suc (suc (suc (suc (suc (suc (suc (suc (suc (suc (suc (suc (suc zero))))))))))))) h = limited-as _ (m .expression .dropped-levels-are)
+measured-small s m (suc (suc (suc (suc (suc (suc (suc (suc (suc (suc (suc (suc (suc (suc zero)))))))))))))) h = limited-as _ (m .expression .stored-levels-are)
+measured-small s m (suc (suc (suc (suc (suc (suc (suc (suc (suc (suc (suc (suc (suc (suc (suc k))))))))))))))) h = absurd (omega arith)
 
 pub measured-less : {rows : List ℤ} {table : List ℕ} {k : ℕ} (j : ℕ) → MeasuredFrom rows table k → k ≤ j → MeasuredFrom rows table j
 measured-less j m h = record { source = m .source; room = m .room; row-measured = λ row l. m .row-measured row (omega arith) }
@@ -263,10 +316,10 @@ module _ {rows : List ℤ} {table : List ℕ} (m : Measured rows table) where
       by zero h = omega arith
       by (suc link) h = measured-small (m .source) (whole-row h) k l
 
-  pub whole-part : (link : ℕ) → link < rowCount rows → slotAt table link rowsSlot ≡ limited (partSize (partAt rows link))
+  pub whole-part : (u : Use) (link : ℕ) → link < rowCount rows → slotAt table link (rowsFor u) ≡ limited (operandSize (partAt rows link) u)
   unfolding limited
-  whole-part zero h = refl
-  whole-part (suc link) h = whole-row h .expression .rows-are
+  whole-part u zero h = refl
+  whole-part u (suc link) h = measured-rows u (whole-row h)
 
   pub whole-list : (link : ℕ) → link < rowCount rows → slotAt table link listRowsSlot ≡ limited (itemsSize (listAt rows link))
   unfolding limited itemsSize

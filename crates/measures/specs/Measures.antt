@@ -6,12 +6,14 @@ use Prim.Native.Nat.{ℕ, zero, suc, _+_, _*_, _≤_, _<_, min, max}
 use lib.IntN.{ℤ}
 use lib.ListN.{length, getD}
 use Rattle.words.specs.Table.{rowCount}
-use Rattle.language.specs.Trees.{Expression, Statement, Items, none, _then_, _here_, case, default, label}
-use Rattle.language.specs.Decode.{expressionAt, statementAt, itemsAt}
+use Rattle.words.specs.declared.Operator.{Operator}
+use Rattle.language.specs.Trees.{Expression, assign, postfix, variable, Statement, Items, none, _then_, _here_, case, default, label}
+use Rattle.language.specs.Decode.{placeOf, expressionAt, statementAt, itemsAt}
 use Rattle.translation.specs.declared.Use.{Use}
 use Rattle.translation.specs.declared.Use.the-variants.{Dropped as dropped, Wanted as wanted, Stored as stored}
 use Rattle.translation.specs.Translate.{atomOf, labels, itemsLabels, expressionLevels, statementLevels, itemsLevels}
 use Rattle.translation.specs.TranslateSize.{expressionSize, statementSize, itemsSize, cases}
+use Rattle.shapes.specs.Shapes.{Onward}
 use Rattle.shapes.specs.Source.{Source}
 use Rattle.measures.specs.Parts.{firstCopied, plainAtom}
 use Rattle.measures.specs.declared.ExpressionMeasures.{ExpressionMeasures}
@@ -45,10 +47,10 @@ pub record ExpressionMeasured (rows : List ℤ) (e : Expression) (m : Expression
   -- 1 where the value of the first operand is copied
   pub copied-is : m .copied ≡ firstCopied e
   -- where nobody uses the value
-  pub dropped-rows-are : m .dropped_rows ≡ limited (expressionSize e dropped)
-  pub dropped-levels-are : m .dropped_levels ≡ limited (expressionLevels e dropped)
+  pub dropped-rows-are : m .«dropped_rows» ≡ limited (expressionSize e dropped)
+  pub dropped-levels-are : m .«dropped_levels» ≡ limited (expressionLevels e dropped)
   -- where a variable stores it, whichever; its rows are those of a value that is wanted
-  pub stored-levels-are : m .stored_levels ≡ limited (expressionLevels e (stored 0))
+  pub stored-levels-are : m .«stored_levels» ≡ limited (expressionLevels e (stored 0))
 
 pub record StatementMeasured (s : Statement) (m : StatementMeasures) : Type 0 where
   pub rows-are : m .rows ≡ limited (statementSize s)
@@ -124,6 +126,14 @@ levelsFor dropped = droppedLevelsSlot
 levelsFor wanted = levelsSlot
 levelsFor (stored i) = storedLevelsSlot
 
+pub record RowsWord (u : Use) (k : ℕ) : Type 0 where
+  pub is : k ≡ rowsFor u
+  pub inside : k < width
+
+pub record LevelsWord (u : Use) (k : ℕ) : Type 0 where
+  pub is : k ≡ levelsFor u
+  pub inside : k < width
+
 abbrev pub slot : List ℕ → ℕ → ℕ → ℕ
 slot table row k = getD table (width * row + k) 0
 
@@ -147,7 +157,7 @@ pub record SlotIs (table : List ℕ) (link k r : ℕ) : Type 0 where
 
 abbrev pub expressionSlots : List ℕ → ℕ → ExpressionMeasures
 expressionSlots table row =
-    record { rows = slot table row rowsSlot; levels = slot table row levelsSlot; value = slot table row valueSlot; copied = slot table row copiedSlot; dropped_rows = slot table row droppedRowsSlot; dropped_levels = slot table row droppedLevelsSlot; stored_levels = slot table row storedLevelsSlot }
+    record { rows = slot table row rowsSlot; levels = slot table row levelsSlot; value = slot table row valueSlot; copied = slot table row copiedSlot; «dropped_rows» = slot table row droppedRowsSlot; «dropped_levels» = slot table row droppedLevelsSlot; «stored_levels» = slot table row storedLevelsSlot }
 
 abbrev pub statementSlots : List ℕ → ℕ → StatementMeasures
 statementSlots table row = record { rows = slot table row statementRowsSlot; levels = slot table row statementLevelsSlot; labels = slot table row statementLabelsSlot }
@@ -158,7 +168,7 @@ listSlots table row = record { rows = slot table row listRowsSlot; levels = slot
 -- The words of a row.
 abbrev pub rowWords : ExpressionMeasures → StatementMeasures → ListMeasures → List ℕ
 rowWords e s l =
-    e .rows ∷ e .levels ∷ e .value ∷ s .rows ∷ s .levels ∷ s .labels ∷ l .rows ∷ l .levels ∷ l .labels ∷ l .cases ∷ l .default ∷ e .copied ∷ e .dropped_rows ∷ e .dropped_levels ∷ e .stored_levels ∷ []
+    e .rows ∷ e .levels ∷ e .value ∷ s .rows ∷ s .levels ∷ s .labels ∷ l .rows ∷ l .levels ∷ l .labels ∷ l .cases ∷ l .default ∷ e .copied ∷ e .«dropped_rows» ∷ e .«dropped_levels» ∷ e .«stored_levels» ∷ []
 
 -- A loop's test: its code and 5 rows, where it is there.
 abbrev pub testSlots : List ℕ → ℕ → ℕ
@@ -183,6 +193,20 @@ pub record MeasuredFrom (rows : List ℤ) (table : List ℕ) (least : ℕ) : Typ
 
 abbrev pub Measured : List ℤ → List ℕ → Type 0
 Measured rows table = MeasuredFrom rows table 0
+
+-- ---- what the functions that measure an assignment and a postfix ask
+
+-- The variable i at a row's place, and the value's row.
+pub record StoreAsks (rows : List ℤ) (table : List ℕ) (row i e : ℕ) : Type 0 where
+  pub measured : MeasuredFrom rows table (row + 1)
+  pub inside : row < rowCount rows
+  pub is : expressionAt rows row ≡ assign (variable i) (expressionAt rows e)
+  pub onward : Onward rows row e
+
+pub record PostfixAt (rows : List ℤ) (row place : ℕ) : Type 0 where
+  pub operator : Operator
+  pub is : expressionAt rows row ≡ postfix operator (placeOf (expressionAt rows place))
+  pub onward : Onward rows row place
 
 -- ---- what the functions that measure a list give, from the words of the table
 

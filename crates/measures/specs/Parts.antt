@@ -1,7 +1,7 @@
 -- Parts: an expression's code in parts. Two operands may be worked out first, the second above the first; two more stand in branches.
 -- What is added up over the code of an expression is added up over these parts. And what the code finds of them at a row.
 use mathlib.Core.Path.{_≡_}
-use mathlib.Core.Bool.{Bool}
+use mathlib.Core.Bool.{Bool, true, false}
 use mathlib.Core.List.{List}
 use Prim.Native.Nat.{ℕ, _+_, _<_}
 use lib.IntN.{ℤ}
@@ -12,6 +12,10 @@ use Rattle.language.specs.Decode.{placeOf, expressionAt, partAt}
 use Rattle.language.specs.Writes.{writes, indexWrites}
 use Rattle.shapes.specs.Shapes.{OptionalOnward}
 use Rattle.shapes.specs.Source.{mostVariables}
+use Rattle.shapes.specs.declared.PlaceShape.{PlaceShape}
+use Rattle.shapes.specs.declared.PlaceShape.the-variants.{Variable as VariableShape, Element as ElementShape}
+use Rattle.shapes.specs.declared.OperationShape.{OperationShape}
+use Rattle.shapes.specs.declared.OperationShape.the-variants.{Minus, Not, Binary, Comma, Assign, Compound, Prefix, Postfix}
 use Rattle.translation.specs.Uses.{useFor, passedOn, direct}
 use Rattle.translation.specs.declared.Use.{Use}
 use Rattle.translation.specs.declared.Use.the-variants.{Dropped as dropped, Wanted as wanted, Stored as stored}
@@ -141,6 +145,32 @@ ownLevels (compound operator p e) u = updateOwn p
 ownLevels (prefix operator p) u = updateOwn p
 ownLevels (postfix operator p) u = postfixOwn p u
 
+-- ---- what an own row brings, as the code puts it together
+
+-- An expression whose own code does not depend on the use of its value.
+abbrev pub plainOwn : ℕ → ℕ → ℕ → ℕ → ℕ → ℕ → ℕ → ℕ → Own
+plainOwn a b c d above n levels value =
+    record { first = a; second = b; third = c; fourth = d; «first_use» = wanted; passes = false; above = above; rows = n; levels = levels; «dropped_rows» = n; «dropped_levels» = levels; «stored_levels» = levels; value = value }
+
+-- An element or an operation.
+abbrev pub resultOwn : ℕ → ℕ → ℕ → ℕ → ℕ → Own
+resultOwn a b above n value =
+    record { first = a; second = b; third = 0; fourth = 0; «first_use» = wanted; passes = false; above = above; rows = n; levels = 1; «dropped_rows» = n; «dropped_levels» = 1; «stored_levels» = 0; value = value }
+
+-- An assignment to the variable i.
+abbrev pub storedOwn : ℕ → ℕ → ℕ → ℕ → ℕ → Own
+storedOwn i a above n value =
+    record { first = a; second = 0; third = 0; fourth = 0; «first_use» = stored i; passes = false; above = above; rows = n; levels = 0; «dropped_rows» = n; «dropped_levels» = 0; «stored_levels» = 0; value = value }
+
+abbrev pub commaOwn : ℕ → ℕ → ℕ → Own
+commaOwn a b value =
+    record { first = a; second = b; third = 0; fourth = 0; «first_use» = dropped; passes = true; above = 0; rows = 0; levels = 0; «dropped_rows» = 0; «dropped_levels» = 0; «stored_levels» = 0; value = value }
+
+-- e++ and e−− on a variable.
+abbrev pub stepOwn : ℕ → Own
+stepOwn value =
+    record { first = 0; second = 0; third = 0; fourth = 0; «first_use» = wanted; passes = false; above = 0; rows = 10; levels = 1; «dropped_rows» = 6; «dropped_levels» = 0; «stored_levels» = 1; value = value }
+
 -- ---- what the code finds at a row
 
 -- The use of the second operand's value, by whether the expression passes its own on.
@@ -149,14 +179,14 @@ usePassed passes u = pick passes (passedOn u) wanted
 
 -- What an own row brings, by the use of its value.
 abbrev pub rowsBy : Own → Use → ℕ
-rowsBy o dropped = o .dropped_rows
+rowsBy o dropped = o .«dropped_rows»
 rowsBy o wanted = o .rows
 rowsBy o (stored i) = o .rows
 
 abbrev pub levelsBy : Own → Use → ℕ
-levelsBy o dropped = o .dropped_levels
+levelsBy o dropped = o .«dropped_levels»
 levelsBy o wanted = o .levels
-levelsBy o (stored i) = o .stored_levels
+levelsBy o (stored i) = o .«stored_levels»
 
 module _ (rows : List ℤ) (row : ℕ) where
   -- An operand: what it is, and that its link leads on.
@@ -170,15 +200,15 @@ module _ (rows : List ℤ) (row : ℕ) where
     pub second : Operand (o .second) (secondOperand e)
     pub third : Operand (o .third) (thirdOperand e)
     pub fourth : Operand (o .fourth) (fourthOperand e)
-    pub first-use : o .first_use ≡ firstUse e
+    pub first-use : o .«first_use» ≡ firstUse e
     pub second-use : (u : Use) → usePassed (o .passes) u ≡ secondUse e u
     pub above-is : o .above ≡ aboveFirst e
     pub rows-are : o .rows ≡ ownRows e wanted
     pub levels-are : o .levels ≡ ownLevels e wanted
-    pub dropped-rows-are : o .dropped_rows ≡ ownRows e dropped
-    pub dropped-levels-are : o .dropped_levels ≡ ownLevels e dropped
+    pub dropped-rows-are : o .«dropped_rows» ≡ ownRows e dropped
+    pub dropped-levels-are : o .«dropped_levels» ≡ ownLevels e dropped
     -- in which variable a value is stored changes nothing here
-    pub stored-levels-are : o .stored_levels ≡ ownLevels e (stored 0)
+    pub stored-levels-are : o .«stored_levels» ≡ ownLevels e (stored 0)
     pub value-is : plainAtom (expressionAt rows (o .value)) ≡ atomOf e
     pub value-inside : o .value < rowCount rows
 
@@ -202,6 +232,22 @@ abbrev pub HolderFits : Holder → Type 0
 HolderFits (Number v) = Unit {0}
 HolderFits (Variable i) = i < mostVariables
 HolderFits Temporary = Unit {0}
+
+-- A variable holds its own value; an element's goes into the temporary.
+abbrev pub placeHolder : PlaceShape → Holder
+placeHolder (VariableShape i) = Variable i
+placeHolder (ElementShape array index) = Temporary
+
+-- Whether an operation gives a result.
+abbrev pub directOperation : OperationShape → Bool
+directOperation (Minus a) = true
+directOperation (Not a) = true
+directOperation (Binary operator a b) = true
+directOperation (Comma a b) = false
+directOperation (Assign p e) = false
+directOperation (Compound operator p e) = false
+directOperation (Prefix operator p) = false
+directOperation (Postfix operator p) = false
 
 pub record Holding (h : Atom) (r : Holder) : Type 0 where
   pub is : holderAtom r ≡ h

@@ -1,6 +1,6 @@
 // Which values are copied: a variable's that waits for its use while something is worked out that can write the variable.
-use super::VALUE;
-use super::WIDTH;
+use super::Holder;
+use super::holders::holder_at;
 use super::writes::set_at;
 use shapes::ExpressionShape;
 use shapes::OperationShape;
@@ -40,15 +40,11 @@ fn copied_over(rows: &[i32], sets: &[u64], table: &[usize], row: usize, meanwhil
     requires { ⌜ (width * rowCount (now rows) ≤ length (now table)) × MeasuredRow (now rows) (now table) row ⌝ }
     ensures { λ r. ⌜ r ≡ copied (atomOf (expressionAt (now (rows .entry)) row)) (partWrites (partAt (now (rows .entry)) meanwhile)) ⌝ }
 {
-    let shape = expression_at(rows, table[WIDTH * row + VALUE]);
-    match shape {
-        ExpressionShape::Number(_) => 0,
-        ExpressionShape::Read(place) => match place {
-            PlaceShape::Variable(variable) => written(sets, meanwhile, variable),
-            PlaceShape::Element(_, _) => 0,
-        },
-        ExpressionShape::Operation(_) => 0,
-        ExpressionShape::Choice(_) => 0,
+    let holder = holder_at(rows, table, row);
+    match holder {
+        Holder::Number(_) => 0,
+        Holder::Variable(variable) => written(sets, meanwhile, variable),
+        Holder::Temporary => 0,
     }
 }
 

@@ -3,68 +3,54 @@ use super::ExpressionMeasures;
 use super::LEVELS;
 use super::Own;
 use super::ROWS;
-use super::VALUE;
-use super::WIDTH;
 use super::copies::copied_at;
 use super::parts::own_at;
 use super::table::larger;
 use super::table::limited;
 use super::table::measure_at;
-use shapes::ExpressionShape;
-use shapes::PlaceShape;
-use shapes::rows::expression_at;
+use super::uses::levels_by;
+use super::uses::levels_for;
+use super::uses::rows_by;
+use super::uses::rows_for;
+use super::uses::second_use;
+use translation::Use;
 ghost use mathlib.Core.Path.{_≡_};
-ghost use Prim.Native.Nat.{_+_, _*_, _≤_, _<_};
-ghost use lib.ListN.{length};
+ghost use Prim.Native.Nat.{_+_, _<_};
 ghost use Rattle.words.specs.Table.{rowCount};
 ghost use Rattle.language.specs.Decode.{expressionAt};
-ghost use Rattle.translation.specs.Translate.{atomOf, taken as takenOf, expressionLevels};
+ghost use Rattle.translation.specs.Translate.{expressionLevels};
 ghost use Rattle.translation.specs.TranslateSize.{expressionSize};
-ghost use Rattle.shapes.specs.Source.{Source};
 ghost use Rattle.measures.specs.Parts.{OwnAt};
 ghost use Rattle.measures.specs.WriteSets.{Sets};
-ghost use Rattle.measures.specs.Measures.{limited as limitedTo, width, MeasuredFrom, MeasuredRow, ExpressionMeasured};
+ghost use Rattle.measures.specs.Measures.{limited as limitedTo, MeasuredFrom, ExpressionMeasured};
 
-// Whether the value of the expression at a row takes a temporary: 1 or 0.
-pub fn taken_at(rows: &[i32], table: &[usize], row: usize) -> usize
-    requires { ⌜ Source (now rows) × (row < rowCount (now rows)) × (width * rowCount (now rows) ≤ length (now table)) × MeasuredRow (now rows) (now table) row ⌝ }
-    ensures { λ r. ⌜ r ≡ takenOf (atomOf (expressionAt (now (rows .entry)) row)) ⌝ }
-{
-    let shape = expression_at(rows, table[WIDTH * row + VALUE]);
-    match shape {
-        ExpressionShape::Number(_) => 0,
-        ExpressionShape::Read(place) => match place {
-            PlaceShape::Variable(_) => 0,
-            PlaceShape::Element(_, _) => 1,
-        },
-        ExpressionShape::Operation(_) => 1,
-        ExpressionShape::Choice(_) => 1,
-    }
-}
-
-// The kernel rows of the expression at a row, from those of its operands.
-fn expression_rows(rows: &[i32], table: &[usize], row: usize, own: Own) -> usize
+// The kernel rows of the expression at a row, where its value has this use, from those of its operands.
+fn expression_rows(rows: &[i32], table: &[usize], row: usize, own: Own, usage: Use) -> usize
     requires { ⌜ MeasuredFrom (now rows) (now table) (row + 1) × (row < rowCount (now rows)) × OwnAt (now rows) row own ⌝ }
-    ensures { λ r. ⌜ r ≡ limitedTo (expressionSize (expressionAt (now (rows .entry)) row)) ⌝ }
+    ensures { λ r. ⌜ r ≡ limitedTo (expressionSize (expressionAt (now (rows .entry)) row) usage) ⌝ }
 {
-    let first = measure_at(table, own.first, ROWS);
-    let second = measure_at(table, own.second, ROWS);
+    let first_use = own.first_use;
+    let second_use = second_use(own.passes, usage);
+    let first = measure_at(table, own.first, rows_for(first_use));
+    let second = measure_at(table, own.second, rows_for(second_use));
     let third = measure_at(table, own.third, ROWS);
     let fourth = measure_at(table, own.fourth, ROWS);
-    limited(first + second + third + fourth + own.rows)
+    limited(first + second + third + fourth + rows_by(own, usage))
 }
 
-// The levels of the expression at a row, from those of its operands.
-fn expression_levels(rows: &[i32], table: &[usize], row: usize, own: Own) -> usize
+// The levels of the expression at a row, where its value has this use, from those of its operands.
+fn expression_levels(rows: &[i32], table: &[usize], row: usize, own: Own, usage: Use) -> usize
     requires { ⌜ MeasuredFrom (now rows) (now table) (row + 1) × (row < rowCount (now rows)) × OwnAt (now rows) row own ⌝ }
-    ensures { λ r. ⌜ r ≡ limitedTo (expressionLevels (expressionAt (now (rows .entry)) row)) ⌝ }
+    ensures { λ r. ⌜ r ≡ limitedTo (expressionLevels (expressionAt (now (rows .entry)) row) usage) ⌝ }
 {
-    let first = measure_at(table, own.first, LEVELS);
-    let second = own.above + measure_at(table, own.second, LEVELS);
+    let first_use = own.first_use;
+    let second_use = second_use(own.passes, usage);
+    let first = measure_at(table, own.first, levels_for(first_use));
+    let second = own.above + measure_at(table, own.second, levels_for(second_use));
     let third = measure_at(table, own.third, LEVELS);
     let fourth = measure_at(table, own.fourth, LEVELS);
     limited(larger(
-        own.levels,
+        levels_by(own, usage),
         larger(larger(first, second), larger(third, fourth)),
     ))
 }
@@ -81,9 +67,12 @@ pub fn measured_expression(
     let copied = copied_at(rows, sets, table, row);
     let own = own_at(rows, table, row, copied);
     ExpressionMeasures {
-        rows: expression_rows(rows, table, row, own),
-        levels: expression_levels(rows, table, row, own),
+        rows: expression_rows(rows, table, row, own, Use::Wanted),
+        levels: expression_levels(rows, table, row, own, Use::Wanted),
         value: own.value,
         copied,
+        dropped_rows: expression_rows(rows, table, row, own, Use::Dropped),
+        dropped_levels: expression_levels(rows, table, row, own, Use::Dropped),
+        stored_levels: expression_levels(rows, table, row, own, Use::Stored(0)),
     }
 }

@@ -1,17 +1,21 @@
 // Measures: how many kernel rows, temporaries and labels the code of each source row takes, found by one pass before anything is
 // written. So every link of the translation is known when its row is written.
+use translation::Use;
+
 pub mod copies; // copies.rt: which values are copied
 pub mod expressions; // expressions.rt: the measures of an expression
+pub mod holders; // holders.rt: what holds a value
 pub mod lists; // lists.rt: the measures of a list
 pub mod parts; // parts.rt: what an expression's own row brings
 pub mod pass; // pass.rt: the pass over the rows
 pub mod statements; // statements.rt: the measures of a statement
 pub mod table; // table.rt: the words of the table of measures
+pub mod uses; // uses.rt: what goes by the use of a value
 pub mod writes; // writes.rt: the write sets of the rows
 
 // The words of a row in the table of measures, and where each measure stands among them: of the row as an expression, as a statement,
 // and of the list from it on.
-pub const WIDTH: usize = 12;
+pub const WIDTH: usize = 15;
 
 pub const ROWS: usize = 0;
 
@@ -37,17 +41,29 @@ pub const LIST_DEFAULT: usize = 10;
 
 pub const COPIED: usize = 11;
 
+pub const DROPPED_ROWS: usize = 12;
+
+pub const DROPPED_LEVELS: usize = 13;
+
+pub const STORED_LEVELS: usize = 14;
+
 // What an expression's own row brings: the rows of its operands, of which 0 is absent, the first two worked out before all else, the
-// second `above` levels above the first, the others in branches; the kernel rows and the levels of its own code; and the row that its
-// value comes from.
+// second `above` levels above the first, the others in branches; the use of the first one's value, and whether the second one's is used as
+// the expression's is; the kernel rows and the levels of its own code, where the value is wanted, dropped, and stored in a variable, which
+// takes the rows of a wanted one; and the row that its value comes from.
 pub struct Own {
     pub first: usize,
     pub second: usize,
     pub third: usize,
     pub fourth: usize,
+    pub first_use: Use,
+    pub passes: bool,
     pub above: usize,
     pub rows: usize,
     pub levels: usize,
+    pub dropped_rows: usize,
+    pub dropped_levels: usize,
+    pub stored_levels: usize,
     pub value: usize,
 }
 
@@ -58,13 +74,23 @@ pub struct PlaceOwn {
     pub levels: usize,
 }
 
+// What holds a value: the number itself, a variable, or the temporary of its level.
+pub enum Holder {
+    Number(i32),
+    Variable(usize),
+    Temporary,
+}
+
 // The measures of an expression: kernel rows, levels, the row that its value comes from, and 1 where the value of its first operand is
-// copied, because the second one can write it, else 0.
+// copied, because the second one can write it, else 0; rows and levels where its value is dropped, and levels where it is stored.
 pub struct ExpressionMeasures {
     pub rows: usize,
     pub levels: usize,
     pub value: usize,
     pub copied: usize,
+    pub dropped_rows: usize,
+    pub dropped_levels: usize,
+    pub stored_levels: usize,
 }
 
 // The measures of a statement: kernel rows, levels, labels.

@@ -2,7 +2,8 @@
 use super::Own;
 use super::PlaceOwn;
 use super::VALUE;
-use super::expressions::taken_at;
+use super::holders::direct_at;
+use super::holders::taken_at;
 use super::table::measure_at;
 use shapes::ChoiceShape;
 use shapes::ExpressionShape;
@@ -10,6 +11,7 @@ use shapes::OperationShape;
 use shapes::PlaceShape;
 use shapes::rows::expression_at;
 use shapes::rows::place_at;
+use translation::Use;
 ghost use mathlib.Core.Path.{_≡_};
 ghost use Prim.Native.Nat.{_+_, _<_};
 ghost use lib.Dec.{eqb};
@@ -18,9 +20,11 @@ ghost use Rattle.words.specs.Table.{rowCount};
 ghost use Rattle.language.specs.Decode.{expressionAt};
 ghost use Rattle.shapes.specs.Source.{ExpressionAt};
 ghost use Rattle.shapes.specs.declared.ExpressionShape.the-variants.{Read, Operation, Choice};
-ghost use Rattle.measures.specs.Parts.{firstCopied, OwnAt, PlaceOwnAt};
-ghost use Rattle.measures.specs.Measures.{valueSlot, slotAt, LinkMeasured, MeasuredFrom};
+ghost use Rattle.shapes.specs.declared.OperationShape.the-variants.{Assign};
+ghost use Rattle.measures.specs.Parts.{firstCopied, plainOwn, resultOwn, storedOwn, commaOwn, stepOwn, OwnAt, PlaceOwnAt};
+ghost use Rattle.measures.specs.Measures.{valueSlot, slotAt, LinkMeasured, MeasuredFrom, StoreAsks, PostfixAt};
 
+// An expression whose own code does not depend on the use of its value.
 fn own(
     first: usize,
     second: usize,
@@ -31,17 +35,106 @@ fn own(
     levels: usize,
     value: usize,
 ) -> Own
-    ensures { λ r. ⌜ r ≡ record { first = first; second = second; third = third; fourth = fourth; above = above; rows = rows; levels = levels; value = value } ⌝ }
+    ensures { λ r. ⌜ r ≡ plainOwn first second third fourth above rows levels value ⌝ }
 {
     Own {
         first,
         second,
         third,
         fourth,
+        first_use: Use::Wanted,
+        passes: false,
         above,
         rows,
         levels,
+        dropped_rows: rows,
+        dropped_levels: levels,
+        stored_levels: levels,
         value,
+    }
+}
+
+// An element or an operation, whose value takes a temporary where no variable stores it.
+fn result(first: usize, second: usize, above: usize, rows: usize, value: usize) -> Own
+    ensures { λ r. ⌜ r ≡ resultOwn first second above rows value ⌝ }
+{
+    Own {
+        first,
+        second,
+        third: 0,
+        fourth: 0,
+        first_use: Use::Wanted,
+        passes: false,
+        above,
+        rows,
+        levels: 1,
+        dropped_rows: rows,
+        dropped_levels: 1,
+        stored_levels: 0,
+        value,
+    }
+}
+
+// An assignment to a variable.
+fn stored(number: usize, first: usize, above: usize, rows: usize, value: usize) -> Own
+    ensures { λ r. ⌜ r ≡ storedOwn number first above rows value ⌝ }
+{
+    Own {
+        first,
+        second: 0,
+        third: 0,
+        fourth: 0,
+        first_use: Use::Stored(number),
+        passes: false,
+        above,
+        rows,
+        levels: 0,
+        dropped_rows: rows,
+        dropped_levels: 0,
+        stored_levels: 0,
+        value,
+    }
+}
+
+fn own_comma(table: &[usize], left: usize, right: usize) -> Own
+    requires { ⌜ LinkMeasured (now table) right ⌝ }
+    ensures { λ r. ⌜ r ≡ commaOwn left right (slotAt (now (table .entry)) right valueSlot) ⌝ }
+{
+    Own {
+        first: left,
+        second: right,
+        third: 0,
+        fourth: 0,
+        first_use: Use::Dropped,
+        passes: true,
+        above: 0,
+        rows: 0,
+        levels: 0,
+        dropped_rows: 0,
+        dropped_levels: 0,
+        stored_levels: 0,
+        value: measure_at(table, right, VALUE),
+    }
+}
+
+// e++ and e−− on a variable: its old value is kept only where it is used.
+fn own_step(row: usize) -> Own
+    ensures { λ r. ⌜ r ≡ stepOwn row ⌝ }
+{
+    Own {
+        first: 0,
+        second: 0,
+        third: 0,
+        fourth: 0,
+        first_use: Use::Wanted,
+        passes: false,
+        above: 0,
+        rows: 10,
+        levels: 1,
+        dropped_rows: 6,
+        dropped_levels: 0,
+        stored_levels: 1,
+        value: row,
     }
 }
 
@@ -55,7 +148,7 @@ fn place_own(rows: &[i32], table: &[usize], row: usize) -> PlaceOwn
         PlaceShape::Variable(_) => PlaceOwn {
             index: 0,
             rows: 0,
-            levels: 1,
+            levels: 0,
         },
         PlaceShape::Element(_, index) => PlaceOwn {
             index,
@@ -71,7 +164,7 @@ fn own_read(rows: &[i32], row: usize, place: PlaceShape) -> Own
 {
     match place {
         PlaceShape::Variable(_) => own(0, 0, 0, 0, 0, 0, 0, row),
-        PlaceShape::Element(_, index) => own(index, 0, 0, 0, 0, 5, 1, row),
+        PlaceShape::Element(_, index) => result(index, 0, 0, 5, row),
     }
 }
 
@@ -86,6 +179,54 @@ fn value_at(table: &[usize], row: usize, e: usize, copied: usize) -> usize
     measure_at(table, e, VALUE)
 }
 
+// An assignment to a variable: a value that goes straight there comes from the assignment's own row.
+fn own_store(rows: &[i32], table: &[usize], row: usize, number: usize, e: usize) -> Own
+    requires { ⌜ StoreAsks (now rows) (now table) row number e ⌝ }
+    ensures { λ r. ⌜ OwnAt (now (rows .entry)) row r ⌝ }
+{
+    if direct_at(rows, e) {
+        return stored(number, e, 0, 0, row);
+    }
+    let above = taken_at(rows, table, e);
+    stored(number, e, above, 4, measure_at(table, e, VALUE))
+}
+
+fn own_assign(
+    rows: &[i32],
+    table: &[usize],
+    row: usize,
+    copied: usize,
+    place: usize,
+    e: usize,
+) -> Own
+    requires { ⌜ MeasuredFrom (now rows) (now table) (row + 1) × (row < rowCount (now rows)) × ExpressionAt (now rows) row (Operation (Assign place e)) × (copied ≡ firstCopied (expressionAt (now rows) row)) ⌝ }
+    ensures { λ r. ⌜ OwnAt (now (rows .entry)) row r ⌝ }
+{
+    let shape = place_at(rows, place);
+    match shape {
+        PlaceShape::Variable(number) => own_store(rows, table, row, number, e),
+        PlaceShape::Element(_, index) => {
+            let above = taken_at(rows, table, e) + copied;
+            let value = value_at(table, row, e, copied);
+            own(e, index, 0, 0, above, 5 + 4 * copied, 0, value)
+        }
+    }
+}
+
+fn own_postfix(rows: &[i32], table: &[usize], row: usize, place: usize) -> Own
+    requires { ⌜ MeasuredFrom (now rows) (now table) (row + 1) × (row < rowCount (now rows)) × PostfixAt (now rows) row place ⌝ }
+    ensures { λ r. ⌜ OwnAt (now (rows .entry)) row r ⌝ }
+{
+    let shape = place_at(rows, place);
+    match shape {
+        PlaceShape::Variable(_) => own_step(row),
+        PlaceShape::Element(_, index) => {
+            let levels = 2 + taken_at(rows, table, index);
+            own(0, index, 0, 0, 1, 16, levels, row)
+        }
+    }
+}
+
 fn own_operation(
     rows: &[i32],
     table: &[usize],
@@ -97,33 +238,24 @@ fn own_operation(
     ensures { λ r. ⌜ OwnAt (now (rows .entry)) row r ⌝ }
 {
     match operation {
-        OperationShape::Minus(a) => own(a, 0, 0, 0, 0, 5, 1, row),
-        OperationShape::Not(a) => own(a, 0, 0, 0, 0, 6, 1, row),
+        OperationShape::Minus(a) => result(a, 0, 0, 5, row),
+        OperationShape::Not(a) => result(a, 0, 0, 6, row),
         OperationShape::Binary(_, a, b) => {
             let above = taken_at(rows, table, b) + copied;
-            own(b, a, 0, 0, above, 6 + 4 * copied, 1, row)
+            result(b, a, above, 6 + 4 * copied, row)
         }
-        OperationShape::Comma(a, b) => own(a, b, 0, 0, 0, 0, 0, measure_at(table, b, VALUE)),
-        OperationShape::Assign(place, e) => {
-            let p = place_own(rows, table, place);
-            let above = taken_at(rows, table, e) + copied;
-            let own_rows = 4 + p.rows + 4 * copied;
-            let value = value_at(table, row, e, copied);
-            own(e, p.index, 0, 0, above, own_rows, 0, value)
-        }
+        OperationShape::Comma(a, b) => own_comma(table, a, b),
+        OperationShape::Assign(place, e) => own_assign(rows, table, row, copied, place, e),
         OperationShape::Compound(_, place, e) => {
             let p = place_own(rows, table, place);
-            let own_rows = 10 + 6 * p.rows + 4 * copied;
-            own(e, p.index, 0, 0, 1, own_rows, p.levels, row)
+            let own_rows = 6 + 10 * p.rows + 4 * copied;
+            own(e, p.index, 0, 0, p.rows, own_rows, p.levels, row)
         }
         OperationShape::Prefix(_, place) => {
             let p = place_own(rows, table, place);
-            own(0, p.index, 0, 0, 1, 10 + 6 * p.rows, p.levels, row)
+            own(0, p.index, 0, 0, p.rows, 6 + 10 * p.rows, p.levels, row)
         }
-        OperationShape::Postfix(_, place) => {
-            let p = place_own(rows, table, place);
-            own(0, p.index, 0, 0, 1, 10 + 6 * p.rows, p.levels, row)
-        }
+        OperationShape::Postfix(_, place) => own_postfix(rows, table, row, place),
     }
 }
 

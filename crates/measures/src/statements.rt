@@ -1,4 +1,6 @@
 // The measures of a statement, by its shape, from those of the rows that its links lead to.
+use super::DROPPED_LEVELS;
+use super::DROPPED_ROWS;
 use super::LEVELS;
 use super::LIST_CASES;
 use super::LIST_LABELS;
@@ -9,7 +11,7 @@ use super::STATEMENT_LABELS;
 use super::STATEMENT_LEVELS;
 use super::STATEMENT_ROWS;
 use super::StatementMeasures;
-use super::expressions::taken_at;
+use super::holders::taken_at;
 use super::table::larger;
 use super::table::limited;
 use super::table::measure_at;
@@ -48,8 +50,8 @@ fn express_measures(table: &[usize], e: usize) -> StatementMeasures
     ensures { λ r. ⌜ r ≡ expressMeasures (now (table .entry)) e ⌝ }
 {
     StatementMeasures {
-        rows: larger(1, measure_at(table, e, ROWS)),
-        levels: measure_at(table, e, LEVELS),
+        rows: larger(1, measure_at(table, e, DROPPED_ROWS)),
+        levels: measure_at(table, e, DROPPED_LEVELS),
         labels: 0,
     }
 }
@@ -95,14 +97,14 @@ fn loop_measures(
     requires { ⌜ LinkMeasured (now table) first × LinkMeasured (now table) test × LinkMeasured (now table) step × LinkMeasured (now table) body ⌝ }
     ensures { λ r. ⌜ r ≡ loopMeasures (now (table .entry)) first test step body ⌝ }
 {
-    let before = measure_at(table, first, ROWS) + test_rows(table, test);
-    let round = measure_at(table, step, ROWS) + measure_at(table, body, STATEMENT_ROWS);
+    let before = measure_at(table, first, DROPPED_ROWS) + test_rows(table, test);
+    let round = measure_at(table, step, DROPPED_ROWS) + measure_at(table, body, STATEMENT_ROWS);
     let outer = larger(
-        measure_at(table, first, LEVELS),
+        measure_at(table, first, DROPPED_LEVELS),
         measure_at(table, test, LEVELS),
     );
     let inner = larger(
-        measure_at(table, step, LEVELS),
+        measure_at(table, step, DROPPED_LEVELS),
         measure_at(table, body, STATEMENT_LEVELS),
     );
     StatementMeasures {

@@ -1,5 +1,7 @@
 // The words of the table of measures.
 use super::COPIED;
+use super::DROPPED_LEVELS;
+use super::DROPPED_ROWS;
 use super::ExpressionMeasures;
 use super::LEVELS;
 use super::LIST_CASES;
@@ -12,6 +14,7 @@ use super::ROWS;
 use super::STATEMENT_LABELS;
 use super::STATEMENT_LEVELS;
 use super::STATEMENT_ROWS;
+use super::STORED_LEVELS;
 use super::StatementMeasures;
 use super::VALUE;
 use super::WIDTH;
@@ -75,4 +78,7 @@ pub fn set_measures(
     table[at + LIST_CASES] = list.cases;
     table[at + LIST_DEFAULT] = list.default;
     table[at + COPIED] = expression.copied;
+    table[at + DROPPED_ROWS] = expression.dropped_rows;
+    table[at + DROPPED_LEVELS] = expression.dropped_levels;
+    table[at + STORED_LEVELS] = expression.stored_levels;
 }

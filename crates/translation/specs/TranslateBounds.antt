@@ -34,12 +34,12 @@ pub index-most : (p : Place) → indexRows p ≤ 1
 index-most (variable i) = omega arith
 index-most (element array e) = omega arith
 
-store-most : (p : Place) (straight : Bool) → storeRows p straight ≤ 5
+pub store-most : (p : Place) (straight : Bool) → storeRows p straight ≤ 5
 store-most (variable i) true = omega arith
 store-most (variable i) false = omega arith
 store-most (element array e) straight = omega arith
 
-update-most : (p : Place) → updateRows p ≤ 16
+pub update-most : (p : Place) → updateRows p ≤ 16
 update-most (variable i) = omega arith
 update-most (element array e) = omega arith
 
@@ -48,7 +48,7 @@ step-most dropped = omega arith
 step-most wanted = omega arith
 step-most (stored i) = omega arith
 
-postfix-most : (p : Place) (u : Use) → postfixRows p u ≤ 16
+pub postfix-most : (p : Place) (u : Use) → postfixRows p u ≤ 16
 postfix-most (variable i) u = step-most u
 postfix-most (element array e) u = omega arith
 

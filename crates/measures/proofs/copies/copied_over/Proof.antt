@@ -1,84 +1,52 @@
--- Whether a value is copied, by the shape of the row that it comes from.
+-- Whether a value is copied, by what holds it.
 use mathlib.Core.Path.{ap, _∙_}
 use native.Mathlib.Omega.{arith}
-use Rattle.shapes.specs.ShapeLaws.{expressed}
-use Rattle.shapes.specs.declared.ExpressionShape.the-variants.{Read}
-use Rattle.measures.proofs.WriteLaws.{copied-of, written-of}
+use Rattle.measures.proofs.OwnLaws.{held-as}
+use Rattle.measures.proofs.WriteLaws.{copied-number, copied-variable, copied-temporary}
 use borrow.Author.Needs.{needs}
 use Rattle.measures.proofs.copies.copied_over.Statement.{statement}
 use Rattle.measures.proofs.copies.copied_over.Tie as tie
+use Rattle.measures.proofs.copies.copied_over.Reads as reads
+use Rattle.measures.proofs.copies.copied_over.Lts as lts
 use Rattle.measures.proofs.copies.written.Reads as written-reads
-use Rattle.shapes.proofs.rows.expression_at.Reads as expression-at-reads
+use Rattle.measures.proofs.holders.holder_at.Reads as holder-at-reads
 
-mul-expression-at : tie.Need-mul-expression-at
-mul-expression-at c = search needs
-
-add-expression-at : tie.Need-add-expression-at
-add-expression-at c = search needs
-
-mul-expression-at-2 : tie.Need-mul-expression-at-2
-mul-expression-at-2 c = search needs
-
-shared-slice-read-expression-at : tie.Need-shared-slice-read-expression-at
-shared-slice-read-expression-at c = search needs
-
-expression-at-requires : tie.Need-expression-at-requires
-expression-at-requires c κs = search needs
+holder-at-requires : tie.Need-holder-at-requires
+holder-at-requires c κs = search needs
 
 enum-told : tie.Need-enum-told
 enum-told c = search needs
 
-enum-known-shape : tie.Need-enum-known-shape
-enum-known-shape c = search needs
-
-enum-known-place : tie.Need-enum-known-place
-enum-known-place c = search needs
+enum-known-holder : tie.Need-enum-known-holder
+enum-known-holder c = search needs
 
 written-requires : tie.Need-written-requires
-written-requires c κs = λ h. omega (arith, c .before .before .before .before .before .before .before .before .before .before .pre .0 .0 .room, c .before .before .before .before .before .before .before .before .before .before .pre .0 .2)
+written-requires c κs = search needs
 
 enum-told-2 : tie.Need-enum-told-2
 enum-told-2 c = search needs
 
-enum-told-3 : tie.Need-enum-told-3
-enum-told-3 c = search needs
-
-enum-told-4 : tie.Need-enum-told-4
-enum-told-4 c = search needs
-
 returns : tie.Need-returns
-returns c = copied-of _ (expressed (c .before .before .expression-at .ensures) (c .enum-told .given .1)) (c .before .before .before .before .before .before .pre .1 .1 .expression .value-is)
+returns c =
+    copied-number _ (held-as (c .before .before .holder-at .ensures) (c .enum-told .given .1) .is)
 
 returns-2 : tie.Need-returns-2
-returns-2 c = written-of (c .before .before .before .before .before .before .before .before .before .before .before .pre .0 .0) (c .before .before .before .before .before .before .before .before .before .before .before .pre .0 .2) ((expressed (expressed (c .before .before .before .before .before .before .before .expression-at .ensures) (c .before .before .before .before .before .shape .given .1)) (ap Read (c .before .before .place .given .1))) .onward) (c .written .ensures) ∙ copied-of _ (expressed (expressed (c .before .before .before .before .before .before .before .expression-at .ensures) (c .before .before .before .before .before .shape .given .1)) (ap Read (c .before .before .place .given .1))) (c .before .before .before .before .before .before .before .before .before .before .before .pre .1 .1 .expression .value-is)
+returns-2 c =
+    let a = held-as (c .before .before .before .before .holder-at .ensures) (c .before .before .holder .given .1) in copied-variable (c .before .before .before .before .before .before .before .pre .0 .0) (c .before .before .before .before .before .before .before .pre .0 .2) (a .fits) (a .is) (c .written .ensures)
 
 returns-3 : tie.Need-returns-3
-returns-3 c = copied-of _ (expressed (expressed (c .before .before .before .before .before .expression-at .ensures) (c .before .before .before .shape .given .1)) (ap Read (c .enum-told2 .given .1))) (c .before .before .before .before .before .before .before .before .before .pre .1 .1 .expression .value-is)
-
-returns-4 : tie.Need-returns-4
-returns-4 c = copied-of _ (expressed (c .before .before .expression-at .ensures) (c .enum-told3 .given .1)) (c .before .before .before .before .before .before .pre .1 .1 .expression .value-is)
-
-returns-5 : tie.Need-returns-5
-returns-5 c = copied-of _ (expressed (c .before .before .expression-at .ensures) (c .enum-told4 .given .1)) (c .before .before .before .before .before .before .pre .1 .1 .expression .value-is)
+returns-3 c =
+    copied-temporary _ (held-as (c .before .before .holder-at .ensures) (c .enum-told2 .given .1) .is)
 
 pub copied-over-spec : {M : Type 1} → statement M
 copied-over-spec =
     tie.close
     (tie.spec
-    mul-expression-at
-    add-expression-at
-    mul-expression-at-2
-    shared-slice-read-expression-at
-    expression-at-requires
+    holder-at-requires
     enum-told
-    enum-known-shape
-    enum-known-place
+    enum-known-holder
     written-requires
     enum-told-2
-    enum-told-3
-    enum-told-4
     returns
     returns-2
-    returns-3
-    returns-4
-    returns-5)
+    returns-3)

@@ -18,8 +18,17 @@ expression-rows-requires c κs = (c .before .before .before .before .pre .1, c .
 expression-levels-requires : tie.Need-expression-levels-requires
 expression-levels-requires c κs = (c .before .before .before .before .before .pre .1, c .before .before .before .before .before .pre .2, c .before .own-at .ensures)
 
+expression-rows-requires-2 : tie.Need-expression-rows-requires-2
+expression-rows-requires-2 c κs = (c .before .before .before .before .before .before .pre .1, c .before .before .before .before .before .before .pre .2, c .before .before .own-at .ensures)
+
+expression-levels-requires-2 : tie.Need-expression-levels-requires-2
+expression-levels-requires-2 c κs = (c .before .before .before .before .before .before .before .pre .1, c .before .before .before .before .before .before .before .pre .2, c .before .before .before .own-at .ensures)
+
+expression-levels-requires-3 : tie.Need-expression-levels-requires-3
+expression-levels-requires-3 c κs = (c .before .before .before .before .before .before .before .before .pre .1, c .before .before .before .before .before .before .before .before .pre .2, c .before .before .before .before .own-at .ensures)
+
 returns : tie.Need-returns
-returns c = record { rows-are = c .before .expression-rows .ensures; levels-are = c .expression-levels .ensures; value-is = c .before .before .own-at .ensures .value-is; value-inside = c .before .before .own-at .ensures .value-inside; copied-is = c .before .before .before .copied-at .ensures }
+returns c = record { rows-are = c .before .before .before .before .expression-rows .ensures; levels-are = c .before .before .before .expression-levels .ensures; value-is = c .before .before .before .before .before .own-at .ensures .value-is; value-inside = c .before .before .before .before .before .own-at .ensures .value-inside; copied-is = c .before .before .before .before .before .before .copied-at .ensures; dropped-rows-are = c .before .before .expression-rows2 .ensures; dropped-levels-are = c .before .expression-levels2 .ensures; stored-levels-are = c .expression-levels3 .ensures }
 
 pub measured-expression-spec : {M : Type 1} → statement M
 measured-expression-spec =
@@ -29,4 +38,7 @@ measured-expression-spec =
     own-at-requires
     expression-rows-requires
     expression-levels-requires
+    expression-rows-requires-2
+    expression-levels-requires-2
+    expression-levels-requires-3
     returns)

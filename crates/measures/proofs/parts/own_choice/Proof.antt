@@ -11,7 +11,7 @@ use Rattle.measures.proofs.OwnLaws.{own-and, own-or, own-conditional}
 use borrow.Author.Needs.{needs}
 use Rattle.measures.proofs.parts.own_choice.Statement.{statement}
 use Rattle.measures.proofs.parts.own_choice.Tie as tie
-use Rattle.measures.proofs.expressions.taken_at.Reads as taken-at-reads
+use Rattle.measures.proofs.holders.taken_at.Reads as taken-at-reads
 use Rattle.measures.proofs.parts.own.Reads as own-reads
 
 enum-known-choice : tie.Need-enum-known-choice

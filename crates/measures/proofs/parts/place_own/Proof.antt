@@ -9,7 +9,7 @@ use Rattle.measures.proofs.OwnLaws.{own-variable-place, own-element-pla
 use borrow.Author.Needs.{needs}
 use Rattle.measures.proofs.parts.place_own.Statement.{statement}
 use Rattle.measures.proofs.parts.place_own.Tie as tie
-use Rattle.measures.proofs.expressions.taken_at.Reads as taken-at-reads
+use Rattle.measures.proofs.holders.taken_at.Reads as taken-at-reads
 use Rattle.shapes.proofs.rows.place_at.Reads as place-at-reads
 
 place-at-requires : tie.Need-place-at-requires

@@ -2,6 +2,7 @@
 use mathlib.Core.Path.{refl, ap, _∙_}
 use Prim.Native.Nat.{max}
 use native.Mathlib.Omega.{arith}
+use Rattle.measures.specs.Measures.{droppedRowsSlot, droppedLevelsSlot}
 use Rattle.measures.proofs.StatementLaws.{same-three}
 use borrow.Author.Needs.{needs}
 use Rattle.measures.proofs.statements.express_measures.Statement.{statement}
@@ -10,13 +11,13 @@ use Rattle.measures.proofs.table.larger.Reads as larger-reads
 use Rattle.measures.proofs.table.measure_at.Reads as measure-at-reads
 
 measure-at-requires : tie.Need-measure-at-requires
-measure-at-requires c κs = c .before .pre 0 (omega arith)
+measure-at-requires c κs = c .before .pre droppedRowsSlot (omega arith)
 
 larger-requires : tie.Need-larger-requires
 larger-requires c κs = search needs
 
 measure-at-requires-2 : tie.Need-measure-at-requires-2
-measure-at-requires-2 c κs = c .before .before .before .pre 1 (omega arith)
+measure-at-requires-2 c κs = c .before .before .before .pre droppedLevelsSlot (omega arith)
 
 returns : tie.Need-returns
 returns c = same-three (c .before .larger .ensures ∙ ap (max 1) (c .before .before .measure-at .ensures .is)) (c .measure-at2 .ensures .is) refl

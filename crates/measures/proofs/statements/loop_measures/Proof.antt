@@ -2,6 +2,7 @@
 use mathlib.Core.Path.{ap₂, _∙_}
 use Prim.Native.Nat.{max}
 use native.Mathlib.Omega.{arith}
+use Rattle.measures.specs.Measures.{droppedRowsSlot, droppedLevelsSlot}
 use Rattle.measures.proofs.StatementLaws.{same-three, loop-words}
 use borrow.Author.Needs.{needs}
 use Rattle.measures.proofs.statements.loop_measures.Statement.{statement}
@@ -12,7 +13,7 @@ use Rattle.measures.proofs.table.limited.Reads as limited-reads
 use Rattle.measures.proofs.table.measure_at.Reads as measure-at-reads
 
 measure-at-requires : tie.Need-measure-at-requires
-measure-at-requires c κs = c .before .pre .0 0 (omega arith)
+measure-at-requires c κs = c .before .pre .0 droppedRowsSlot (omega arith)
 
 test-rows-requires : tie.Need-test-rows-requires
 test-rows-requires c κs = c .before .before .pre .1
@@ -21,7 +22,7 @@ add-before : tie.Need-add-before
 add-before c = omega (arith, c .before .measure-at .ensures .small, c .test-rows .ensures .small)
 
 measure-at-requires-2 : tie.Need-measure-at-requires-2
-measure-at-requires-2 c κs = c .before .before .before .pre .2 0 (omega arith)
+measure-at-requires-2 c κs = c .before .before .before .pre .2 droppedRowsSlot (omega arith)
 
 measure-at-requires-3 : tie.Need-measure-at-requires-3
 measure-at-requires-3 c κs = c .before .before .before .before .pre .3 3 (omega arith)
@@ -30,7 +31,7 @@ add-round : tie.Need-add-round
 add-round c = omega (arith, c .before .measure-at2 .ensures .small, c .measure-at3 .ensures .small)
 
 measure-at-requires-4 : tie.Need-measure-at-requires-4
-measure-at-requires-4 c κs = c .before .before .before .before .before .pre .0 1 (omega arith)
+measure-at-requires-4 c κs = c .before .before .before .before .before .pre .0 droppedLevelsSlot (omega arith)
 
 measure-at-requires-5 : tie.Need-measure-at-requires-5
 measure-at-requires-5 c κs = c .before .before .before .before .before .before .pre .1 1 (omega arith)
@@ -39,7 +40,7 @@ larger-requires : tie.Need-larger-requires
 larger-requires c κs = search needs
 
 measure-at-requires-6 : tie.Need-measure-at-requires-6
-measure-at-requires-6 c κs = c .before .before .before .before .before .before .before .before .pre .2 1 (omega arith)
+measure-at-requires-6 c κs = c .before .before .before .before .before .before .before .before .pre .2 droppedLevelsSlot (omega arith)
 
 measure-at-requires-7 : tie.Need-measure-at-requires-7
 measure-at-requires-7 c κs = c .before .before .before .before .before .before .before .before .before .pre .3 4 (omega arith)

@@ -11,7 +11,7 @@ use Rattle.measures.proofs.StatementLaws.{absent-link, plain-measured, 
 use borrow.Author.Needs.{needs}
 use Rattle.measures.proofs.statements.measured_statement.Statement.{statement}
 use Rattle.measures.proofs.statements.measured_statement.Tie as tie
-use Rattle.measures.proofs.expressions.taken_at.Reads as taken-at-reads
+use Rattle.measures.proofs.holders.taken_at.Reads as taken-at-reads
 use Rattle.measures.proofs.statements.block_measures.Reads as block-measures-reads
 use Rattle.measures.proofs.statements.express_measures.Reads as express-measures-reads
 use Rattle.measures.proofs.statements.if_measures.Reads as if-measures-reads

@@ -1,7 +1,7 @@
 -- The stores of a row's measures.
 use native.Mathlib.Omega.{arith}
 use lib.ListN.{length-set}
-use Rattle.measures.proofs.Stores.{twelve-stores}
+use Rattle.measures.proofs.Stores.{fifteen-stores}
 use borrow.Author.Needs.{needs}
 use Rattle.measures.proofs.table.set_measures.Statement.{statement}
 use Rattle.measures.proofs.table.set_measures.Tie as tie
@@ -117,11 +117,38 @@ mul-table-12 c = search needs
 slice-write-table-12 : tie.Need-slice-write-table-12
 slice-write-table-12 c = simp length-set (omega arith)
 
+add-table-13 : tie.Need-add-table-13
+add-table-13 c = search needs
+
+mul-table-13 : tie.Need-mul-table-13
+mul-table-13 c = search needs
+
+slice-write-table-13 : tie.Need-slice-write-table-13
+slice-write-table-13 c = simp length-set (omega arith)
+
+add-table-14 : tie.Need-add-table-14
+add-table-14 c = search needs
+
+mul-table-14 : tie.Need-mul-table-14
+mul-table-14 c = search needs
+
+slice-write-table-14 : tie.Need-slice-write-table-14
+slice-write-table-14 c = simp length-set (omega arith)
+
+add-table-15 : tie.Need-add-table-15
+add-table-15 c = search needs
+
+mul-table-15 : tie.Need-mul-table-15
+mul-table-15 c = search needs
+
+slice-write-table-15 : tie.Need-slice-write-table-15
+slice-write-table-15 c = simp length-set (omega arith)
+
 same-length : tie.Need-same-length
 same-length c = simp length-set
 
 returns : tie.Need-returns
-returns c = twelve-stores _ _ _ _ _ _ _ _ _ _ _ _ _ _ (c .pre)
+returns c = fifteen-stores _ _ _ _ _ _ _ _ _ _ _ _ _ _ _ _ _ (c .pre)
 
 pub set-measures-spec : {M : Type 1} → statement M
 set-measures-spec =
@@ -164,5 +191,14 @@ set-measures-spec =
     add-table-12
     mul-table-12
     slice-write-table-12
+    add-table-13
+    mul-table-13
+    slice-write-table-13
+    add-table-14
+    mul-table-14
+    slice-write-table-14
+    add-table-15
+    mul-table-15
+    slice-write-table-15
     same-length
     returns)

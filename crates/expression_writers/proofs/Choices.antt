@@ -9,8 +9,10 @@ use Rattle.words.specs.declared.Operator.the-variants.{NotEqual}
 use Rattle.language.specs.Trees.{Expression, constant, binary, Items, none, _⧺_}
 use Rattle.language.specs.Decode.{expressionAt, partAt}
 use Rattle.language.specs.DecodeLaws.{part-some}
-use Rattle.translation.specs.Translate.{Atom as Held, number, word, top, atomOf, taken, atom, temporary, assigning, choosing, copyCode, expressionCode}
-use Rattle.translation.specs.TranslateSize.{copyRows, partSize, expressionSize}
+use Rattle.translation.specs.declared.Use.{Use}
+use Rattle.translation.specs.declared.Use.the-variants.{Wanted as wanted}
+use Rattle.translation.specs.Translate.{Atom as Held, number, word, top, atomOf, taken, atom, temporary, assigning, choosing, copyCode, expressionCode, operandCode}
+use Rattle.translation.specs.TranslateSize.{copyRows, operandSize, expressionSize}
 use Rattle.shapes.specs.Shapes.{operationTree, expressionTree, Onward}
 use Rattle.shapes.specs.Source.{ExpressionAt}
 use Rattle.shapes.specs.declared.OperationShape.{OperationShape}
@@ -23,7 +25,7 @@ use Rattle.leaves.specs.Atoms.{atomTree, AtomFits}
 use Rattle.leaves.specs.Straight.{straightCode, lastSize}
 use Rattle.leaves.specs.Asks.{Writing, AtomAt}
 use Rattle.leaves.specs.declared.Atom.{Atom}
-use Rattle.expression_writers.specs.Code.{operandCode, lastCode, finishCode, branchCode}
+use Rattle.expression_writers.specs.Code.{lastCode, finishCode, branchCode}
 use Rattle.expression_writers.specs.Asks.{endOf, finishSize, branchSize, BranchFits, ChoiceAt, numberBranch}
 use Rattle.expression_writers.specs.declared.End.{End}
 use Rattle.expression_writers.specs.declared.End.the-variants.{Truth, Copy, Stays}
@@ -44,7 +46,7 @@ pub record BranchesFit (rows : List ℤ) (row level : ℕ) (test : Atom) (onTrue
   pub false-fits : BranchFits rows onFalse level
   pub true-later : 0 < onTrue .row → row < onTrue .row
   pub false-later : 0 < onFalse .row → row < onFalse .row
-  pub rows-are : lastSize (expressionAt rows row) ≡ 2 + branchSize rows onTrue + branchSize rows onFalse
+  pub rows-are : (u : Use) → lastSize (expressionAt rows row) u ≡ 2 + branchSize rows onTrue + branchSize rows onFalse
 
 pub branches-fit : {S : ℕ} {rows : List ℤ} {row level : ℕ} {test : Atom} {onTrue onFalse : Branch} → ChoiceAt S rows row level (Choose test onTrue onFalse)
     → BranchesFit rows row level test onTrue onFalse
@@ -84,18 +86,18 @@ pub level-small : {S : ℕ} {rows : List ℤ} {table : List ℕ} {row level : �
 level-small asked = omega (arith, asked .level-low, asked .inside, few-rows asked)
 
 module _ (S : ℕ) (rows : List ℤ) (row level : ℕ) where
-  pub straight : {s : ExpressionShape} → ExpressionAt rows row s → lastCode S (expressionTree rows s) level ≡ straightCode S (expressionTree rows s) level → ChoiceAt S rows row level Straight
-  straight {s} f h = record { is = ap (λ (e : Expression). lastCode S e level) (f .is) ∙ h ∙ sym (ap (λ (e : Expression). straightCode S e level) (f .is)); fits = tt }
+  pub straight : {s : ExpressionShape} → ExpressionAt rows row s → ((u : Use) → lastCode S (expressionTree rows s) u level ≡ straightCode S (expressionTree rows s) u level) → ChoiceAt S rows row level Straight
+  straight {s} f h = record { is = λ u. ap (λ (e : Expression). lastCode S e u level) (f .is) ∙ h u ∙ sym (ap (λ (e : Expression). straightCode S e u level) (f .is)); fits = tt }
 
-  operation-code : (o : OperationShape) → lastCode S (operationTree rows o) level ≡ straightCode S (operationTree rows o) level
-  operation-code (Minus a) = refl
-  operation-code (Not a) = refl
-  operation-code (Binary operator a b) = refl
-  operation-code (Comma a b) = refl
-  operation-code (Assign p e) = refl
-  operation-code (Compound operator p e) = refl
-  operation-code (Prefix operator p) = refl
-  operation-code (Postfix operator p) = refl
+  operation-code : (o : OperationShape) (u : Use) → lastCode S (operationTree rows o) u level ≡ straightCode S (operationTree rows o) u level
+  operation-code (Minus a) u = refl
+  operation-code (Not a) u = refl
+  operation-code (Binary operator a b) u = refl
+  operation-code (Comma a b) u = refl
+  operation-code (Assign p e) u = refl
+  operation-code (Compound operator p e) u = refl
+  operation-code (Prefix operator p) u = refl
+  operation-code (Postfix operator p) u = refl
 
   pub straight-operation : {o : OperationShape} → ExpressionAt rows row (Operation o) → ChoiceAt S rows row level Straight
   straight-operation {o} f = straight f (operation-code o)
@@ -105,15 +107,15 @@ module _ (S : ℕ) (rows : List ℤ) (row level : ℕ) where
 
   -- ---- the code of a branch
 
-  some-code : (link : ℕ) → 0 < link → operandCode S (partAt rows link) level ≡ expressionCode S (expressionAt rows link) level
-  some-code link h = ap (λ p. operandCode S p level) (part-some rows link h)
+  some-code : (link : ℕ) → 0 < link → operandCode S (partAt rows link) wanted level ≡ expressionCode S (expressionAt rows link) wanted level
+  some-code link h = ap (λ p. operandCode S p wanted level) (part-some rows link h)
 
   -- whether a value is not 0, into the temporary
   abbrev truth-of : Expression → Items
   truth-of value = assigning S (temporary S level) (binary NotEqual value (constant (pos 0))) none
 
   truth-code : (link : ℕ) (x : Atom) → 0 < link → AtomAt S rows link level x
-      → branchCode S rows (branch link Truth x) level ≡ expressionCode S (expressionAt rows link) level ⧺ truth-of (atom S level (atomOf (expressionAt rows link)))
+      → branchCode S rows (branch link Truth x) level ≡ expressionCode S (expressionAt rows link) wanted level ⧺ truth-of (atom S level (atomOf (expressionAt rows link)))
   truth-code link x h a = ap₂ (λ (is : Items) (y : Expression). is ⧺ truth-of y) (some-code link h) (a .is)
 
   -- a number or a variable goes into the temporary; a value that is there already stays
@@ -128,7 +130,7 @@ module _ (S : ℕ) (rows : List ℤ) (row level : ℕ) where
   finish-rows top = refl
 
   value-code : (link : ℕ) (x : Atom) → 0 < link → AtomAt S rows link level x
-      → branchCode S rows (branch link (endOf (atomOf (expressionAt rows link))) x) level ≡ expressionCode S (expressionAt rows link) level ⧺ copyCode S level (atomOf (expressionAt rows link))
+      → branchCode S rows (branch link (endOf (atomOf (expressionAt rows link))) x) level ≡ expressionCode S (expressionAt rows link) wanted level ⧺ copyCode S level (atomOf (expressionAt rows link))
   value-code link x h a = ap₂ _⧺_ (some-code link h) (finish-copy x (atomOf (expressionAt rows link)) (a .is))
 
   number-code : (v : ℤ) → branchCode S rows (numberBranch v) level ≡ assigning S (temporary S level) (constant v) none
@@ -154,14 +156,14 @@ module _ (S : ℕ) (rows : List ℤ) (row level : ℕ) where
       atom-fits = tt;
     }
 
-    some-size : {link : ℕ} → Onward rows row link → partSize (partAt rows link) ≡ expressionSize (expressionAt rows link)
-    some-size {link} o = ap partSize (part-some rows link (omega (arith, o .later)))
+    some-size : {link : ℕ} → Onward rows row link → operandSize (partAt rows link) wanted ≡ expressionSize (expressionAt rows link) wanted
+    some-size {link} o = ap (λ p. operandSize p wanted) (part-some rows link (omega (arith, o .later)))
 
-    last-size : {s : ExpressionShape} → ExpressionAt rows row s → lastSize (expressionAt rows row) ≡ lastSize (expressionTree rows s)
-    last-size f = ap lastSize (f .is)
+    last-size : {s : ExpressionShape} → ExpressionAt rows row s → (u : Use) → lastSize (expressionAt rows row) u ≡ lastSize (expressionTree rows s) u
+    last-size f u = ap (λ (e : Expression). lastSize e u) (f .is)
 
-    as-last : {s : ExpressionShape} (is : Items) → ExpressionAt rows row s → lastCode S (expressionTree rows s) level ≡ is → lastCode S (expressionAt rows row) level ≡ is
-    as-last is f h = ap (λ (e : Expression). lastCode S e level) (f .is) ∙ h
+    as-last : {s : ExpressionShape} (is : Items) → ExpressionAt rows row s → (u : Use) → lastCode S (expressionTree rows s) u level ≡ is → lastCode S (expressionAt rows row) u level ≡ is
+    as-last is f u h = ap (λ (e : Expression). lastCode S e u level) (f .is) ∙ h
 
     ap₃ : {A B C D : Type 0} (f : A → B → C → D) {x x′ : A} {y y′ : B} {z z′ : C} → x ≡ x′ → y ≡ y′ → z ≡ z′ → f x y z ≡ f x′ y′ z′
     ap₃ f p q r = ap₂ (λ g w. g w) (ap₂ f p q) r
@@ -172,28 +174,28 @@ module _ (S : ℕ) (rows : List ℤ) (row level : ℕ) where
     pub and-choice : {a b : ℕ} {test x : Atom} {no : Branch} → ExpressionAt rows row (expression.Choice (And a b)) → AtomAt S rows a level test → AtomAt S rows b level x → no ≡ numberBranch (pos 0)
         → ChoiceAt S rows row level (Choose test (branch b Truth x) no)
     and-choice {a} {b} {test} {x} {no} f t y n = rw n (record {
-      is = as-last _ f (sym (ap₃ if-of (t .is) (truth-code b x (omega (arith, f .onward .1 .later)) y) (number-code (pos 0))));
+      is = λ u. as-last _ f u (sym (ap₃ if-of (t .is) (truth-code b x (omega (arith, f .onward .1 .later)) y) (number-code (pos 0))));
       fits = (
         t .fits,
         branch-fits (f .onward .1) (y .fits),
         number-fits (pos 0),
         (λ h. f .onward .1 .later),
         (λ h. absurd (omega arith)),
-        last-size f ∙ omega (arith, some-size (f .onward .1)),
+        (λ u. last-size f u ∙ omega (arith, some-size (f .onward .1))),
       );
     })
 
     pub or-choice : {a b : ℕ} {test x : Atom} {onTrue : Branch} → ExpressionAt rows row (expression.Choice (Or a b)) → AtomAt S rows a level test → AtomAt S rows b level x → onTrue ≡ numberBranch (pos 1)
         → ChoiceAt S rows row level (Choose test onTrue (branch b Truth x))
     or-choice {a} {b} {test} {x} {onTrue} f t y n = rw n (record {
-      is = as-last _ f (sym (ap₃ if-of (t .is) (number-code (pos 1)) (truth-code b x (omega (arith, f .onward .1 .later)) y)));
+      is = λ u. as-last _ f u (sym (ap₃ if-of (t .is) (number-code (pos 1)) (truth-code b x (omega (arith, f .onward .1 .later)) y)));
       fits = (
         t .fits,
         number-fits (pos 1),
         branch-fits (f .onward .1) (y .fits),
         (λ h. absurd (omega arith)),
         (λ h. f .onward .1 .later),
-        last-size f ∙ omega (arith, some-size (f .onward .1)),
+        (λ u. last-size f u ∙ omega (arith, some-size (f .onward .1))),
       );
     })
 
@@ -201,13 +203,13 @@ module _ (S : ℕ) (rows : List ℤ) (row level : ℕ) where
         → yesEnd ≡ endOf (atomOf (expressionAt rows a)) → AtomAt S rows a level x → noEnd ≡ endOf (atomOf (expressionAt rows b)) → AtomAt S rows b level y
         → ChoiceAt S rows row level (Choose test (branch a yesEnd x) (branch b noEnd y))
     conditional-choice {c} {a} {b} {test} {x} {y} f t ea p eb q = rw (ea, eb) (record {
-      is = as-last _ f (sym (ap₃ if-of (t .is) (value-code a x (omega (arith, f .onward .1 .later)) p) (value-code b y (omega (arith, f .onward .2 .later)) q)));
+      is = λ u. as-last _ f u (sym (ap₃ if-of (t .is) (value-code a x (omega (arith, f .onward .1 .later)) p) (value-code b y (omega (arith, f .onward .2 .later)) q)));
       fits = (
         t .fits,
         branch-fits (f .onward .1) (p .fits),
         branch-fits (f .onward .2) (q .fits),
         (λ h. f .onward .1 .later),
         (λ h. f .onward .2 .later),
-        last-size f ∙ omega (arith, some-size (f .onward .1), some-size (f .onward .2), finish-rows (atomOf (expressionAt rows a)), finish-rows (atomOf (expressionAt rows b))),
+        (λ u. last-size f u ∙ omega (arith, some-size (f .onward .1), some-size (f .onward .2), finish-rows (atomOf (expressionAt rows a)), finish-rows (atomOf (expressionAt rows b)))),
       );
     })

@@ -1,7 +1,7 @@
 -- The parts of an expression in the table: its first operand's code, the copy of its value where it waits, its second operand's code, what
 -- it does with their values. A record for each place between them has what is known there; the laws below it are what the next part asks,
 -- and at last that the four are the expression's code.
-use mathlib.Core.Path.{_≡_, sym, ap, _∙_}
+use mathlib.Core.Path.{_≡_, sym, ap, ap₂, subst, _∙_}
 use mathlib.Core.Bool.{Bool}
 use mathlib.Core.List.{List}
 use Prim.Native.Nat.{ℕ, zero, suc, _+_, _*_, _-_, _≤_, _<_}
@@ -13,21 +13,22 @@ use Rattle.words.specs.Over.{over}
 use Rattle.language.specs.Trees.{_⧺_}
 use Rattle.language.specs.Decode.{expressionAt, partAt}
 use Rattle.language.specs.DecodeLaws.{part-some}
-use Rattle.translation.specs.TranslateSize.{partSize}
+use Rattle.translation.specs.TranslateSize.{operandSize}
 use Rattle.emission.specs.Emission.{emitItems}
 use Rattle.shapes.specs.Shapes.{OptionalOnward}
 use Rattle.shapes.specs.Source.{Source}
-use Rattle.translation.specs.Translate.{atomOf}
+use Rattle.translation.specs.declared.Use.{Use}
+use Rattle.translation.specs.Translate.{atomOf, operandCode}
 use Rattle.translation.specs.HeldCode.{holdBy}
-use Rattle.measures.specs.Parts.{firstOperand, aboveFirst, firstCopied, OwnAt}
-use Rattle.measures.specs.MeasureLaws.{size-parts, first-copied-most, own-copies}
+use Rattle.measures.specs.Parts.{firstOperand, aboveFirst, firstCopied, secondUse, usePassed, UseFits, OwnAt}
+use Rattle.measures.specs.MeasureLaws.{passed-fits, size-parts, first-copied-most, own-copies}
 use Rattle.measures.specs.declared.Own.{Own}
 use Rattle.measures.proofs.OwnLaws.{above-most}
 use Rattle.leaves.specs.Room.{Room, moreRows}
 use Rattle.leaves.specs.Straight.{lastSize}
 use Rattle.leaves.specs.Asks.{Writing, LastAsks}
 use Rattle.leaves.specs.Chain.{part, back-in, Reach, put-length, put-reach, put-room, room-less, Wrote, wrote-put, wrote-next, wrote-as}
-use Rattle.expression_writers.specs.Code.{operandCode, waitCode, lastCode}
+use Rattle.expression_writers.specs.Code.{waitCode, lastCode}
 use Rattle.expression_writers.specs.Asks.{OperandAsks}
 use Rattle.expression_writers.specs.CodeLaws.{code-parts, rows-operand, wait-hold, rows-hold, hold-part, waits-some, rows-last}
 use Rattle.expression_writers.proofs.Ranks.{rank, rank-falls}
@@ -39,15 +40,15 @@ inside-of (suc link) s o = o (omega arith) .inside
 
 -- ---- what the caller promised
 
-pub record ExpressionAsked (S : ℕ) (rows : List ℤ) (table : List ℕ) (row level base : ℕ) (out : List ℤ) : Type 0 where
+pub record ExpressionAsked (S : ℕ) (rows : List ℤ) (table : List ℕ) (row : ℕ) (u : Use) (level base : ℕ) (out : List ℤ) : Type 0 where
   pub writing : Writing rows table S
-  pub asks : OperandAsks rows row level base (length out)
+  pub asks : OperandAsks rows row u level base (length out)
 
-module _ {S : ℕ} {rows : List ℤ} {table : List ℕ} {row level base : ℕ} {out : List ℤ} (asked : ExpressionAsked S rows table row level base out) where
+module _ {S : ℕ} {rows : List ℤ} {table : List ℕ} {row : ℕ} {u : Use} {level base : ℕ} {out : List ℤ} (asked : ExpressionAsked S rows table row u level base out) where
   pub source : Source rows
   source = asked .writing .measured .source
 
-  pub all-small : partSize (partAt rows row) ≤ 40980
+  pub all-small : operandSize (partAt rows row) u ≤ 40980
   all-small = omega (arith, asked .asks .room .low)
 
   pub row-low : row < 2048
@@ -55,19 +56,24 @@ module _ {S : ℕ} {rows : List ℤ} {table : List ℕ} {row level base : ℕ} {
 
   -- ---- the row is not absent, and its operands are known
 
-  -- `copied` is 1 where the value of the first one is copied.
-  pub record OperandsFound (copied : ℕ) (operands : Own) : Type 0 where
+  -- `copied` is 1 where the value of the first one is copied; v is the use of the second one's.
+  pub record OperandsFound (copied : ℕ) (operands : Own) (v : Use) : Type 0 where
     pub some : 0 < row
     pub copied-is : copied ≡ firstCopied (expressionAt rows row)
     pub at : OwnAt rows row operands
+    pub passed : v ≡ usePassed (operands .passes) u
 
-module _ {S : ℕ} {rows : List ℤ} {table : List ℕ} {row level base : ℕ} {out : List ℤ} {asked : ExpressionAsked S rows table row level base out}
-    {copied : ℕ} {operands : Own} (found : OperandsFound asked copied operands) where
+module _ {S : ℕ} {rows : List ℤ} {table : List ℕ} {row : ℕ} {u : Use} {level base : ℕ} {out : List ℤ} {asked : ExpressionAsked S rows table row u level base out}
+    {copied : ℕ} {operands : Own} {v : Use} (found : OperandsFound asked copied operands v) where
+  second-use : v ≡ secondUse (expressionAt rows row) u
+  second-use = found .passed ∙ found .at .second-use u
+
   -- The rows of an expression are those of its operands, of the copy, and those behind them.
-  all-rows : partSize (partAt rows row) ≡ partSize (partAt rows (operands .first)) + 4 * copied + partSize (partAt rows (operands .second)) + lastSize (expressionAt rows row)
+  all-rows : operandSize (partAt rows row) u ≡ operandSize (partAt rows (operands .first)) (operands .«first_use») + 4 * copied + operandSize (partAt rows (operands .second)) v + lastSize (expressionAt rows row) u
   all-rows =
-      omega
-      (arith, ap partSize (part-some rows row (found .some)), size-parts (expressionAt rows row), ap partSize (found .at .first .is), ap partSize (found .at .second .is), found .copied-is, own-copies (expressionAt rows row))
+      let first = ap₂ operandSize (found .at .first .is) (found .at .first-use) in
+      let second = ap₂ operandSize (found .at .second .is) second-use in
+      omega (arith, ap (λ p. operandSize p u) (part-some rows row (found .some)), size-parts (expressionAt rows row) u, first, second, found .copied-is, own-copies (expressionAt rows row) u)
 
   pub copied-most : copied ≤ 1
   copied-most = omega (arith, found .copied-is, first-copied-most (expressionAt rows row))
@@ -75,20 +81,20 @@ module _ {S : ℕ} {rows : List ℤ} {table : List ℕ} {row level base : ℕ} {
   pub first-inside : operands .first < rowCount rows
   first-inside = inside-of (operands .first) (source asked) (found .at .first .onward)
 
-  pub first-small : partSize (partAt rows (operands .first)) ≤ 40980
+  pub first-small : operandSize (partAt rows (operands .first)) (operands .«first_use») ≤ 40980
   first-small = omega (arith, all-rows, all-small asked)
 
   pub second-inside : operands .second < rowCount rows
   second-inside = inside-of (operands .second) (source asked) (found .at .second .onward)
 
-  pub second-small : partSize (partAt rows (operands .second)) ≤ 40980
+  pub second-small : operandSize (partAt rows (operands .second)) v ≤ 40980
   second-small = omega (arith, all-rows, all-small asked)
 
-  pub held-within : {firstRows : ℕ} → firstRows ≡ partSize (partAt rows (operands .first)) → firstRows + 4 * copied ≤ partSize (partAt rows row)
+  pub held-within : {firstRows : ℕ} → firstRows ≡ operandSize (partAt rows (operands .first)) (operands .«first_use») → firstRows + 4 * copied ≤ operandSize (partAt rows row) u
   held-within e = omega (arith, all-rows)
 
-  pub operands-within : {firstRows secondRows : ℕ} → firstRows ≡ partSize (partAt rows (operands .first)) → secondRows ≡ partSize (partAt rows (operands .second))
-      → firstRows + 4 * copied + secondRows ≤ partSize (partAt rows row)
+  pub operands-within : {firstRows secondRows : ℕ} → firstRows ≡ operandSize (partAt rows (operands .first)) (operands .«first_use») → secondRows ≡ operandSize (partAt rows (operands .second)) v
+      → firstRows + 4 * copied + secondRows ≤ operandSize (partAt rows row) u
   operands-within e h = omega (arith, all-rows)
 
   -- The second operand is worked out at most one level higher, and no level passes its row.
@@ -104,10 +110,11 @@ module _ {S : ℕ} {rows : List ℤ} {table : List ℕ} {row level base : ℕ} {
   pub second-falls : rank rows (operands .second) < rank rows row
   second-falls = rank-falls rows row (operands .second) (found .some) (asked .asks .inside) (λ h. found .at .second .onward h .later)
 
-  pub first-asks : OperandAsks rows (operands .first) level base (length out)
+  pub first-asks : OperandAsks rows (operands .first) (operands .«first_use») level base (length out)
   first-asks = record {
     inside = first-inside;
     level-low = λ h. omega (arith, found .at .first .onward h .later, asked .asks .level-low (found .some));
+    use-fits = found .at .first-fits;
     room = room-less _ (asked .asks .room) (omega (arith, all-rows));
   }
 
@@ -115,41 +122,43 @@ module _ {S : ℕ} {rows : List ℤ} {table : List ℕ} {row level base : ℕ} {
 
   pub record ExpressionSizes (above firstRows secondRows allRows : ℕ) : Type 0 where
     pub above-is : above ≡ aboveFirst (expressionAt rows row)
-    pub first-is : firstRows ≡ partSize (partAt rows (operands .first))
-    pub second-is : secondRows ≡ partSize (partAt rows (operands .second))
-    pub all-is : allRows ≡ partSize (partAt rows row)
+    pub first-is : firstRows ≡ operandSize (partAt rows (operands .first)) (operands .«first_use»)
+    pub second-is : secondRows ≡ operandSize (partAt rows (operands .second)) v
+    pub all-is : allRows ≡ operandSize (partAt rows row) u
 
-module _ {S : ℕ} {rows : List ℤ} {table : List ℕ} {row level base : ℕ} {out : List ℤ} {asked : ExpressionAsked S rows table row level base out}
-    {copied : ℕ} {operands : Own} {found : OperandsFound asked copied operands} {above firstRows secondRows allRows : ℕ}
+module _ {S : ℕ} {rows : List ℤ} {table : List ℕ} {row : ℕ} {u : Use} {level base : ℕ} {out : List ℤ} {asked : ExpressionAsked S rows table row u level base out}
+    {copied : ℕ} {operands : Own} {v : Use} {found : OperandsFound asked copied operands v} {above firstRows secondRows allRows : ℕ}
     (sizes : ExpressionSizes found above firstRows secondRows allRows) where
   pub sizes-within : firstRows + 4 * copied + secondRows ≤ allRows
   sizes-within = omega (arith, all-rows found, sizes .first-is, sizes .second-is, sizes .all-is)
 
-  last-is : allRows - (firstRows + 4 * copied + secondRows) ≡ lastSize (expressionAt rows row)
+  last-is : allRows - (firstRows + 4 * copied + secondRows) ≡ lastSize (expressionAt rows row) u
   last-is = omega (arith, all-rows found, sizes .first-is, sizes .second-is, sizes .all-is)
 
   -- The code of the four parts is the expression's.
-  code-is : ((operandCode S (partAt rows (operands .first)) level ⧺ holdBy S level copied (atomOf (expressionAt rows (operands .first)))) ⧺ operandCode S (partAt rows (operands .second)) (level + above)) ⧺ lastCode S (expressionAt rows row) level
-      ≡ operandCode S (partAt rows row) level
+  code-is : ((operandCode S (partAt rows (operands .first)) (operands .«first_use») level ⧺ holdBy S level copied (atomOf (expressionAt rows (operands .first)))) ⧺ operandCode S (partAt rows (operands .second)) v (level + above)) ⧺ lastCode S (expressionAt rows row) u level
+      ≡ operandCode S (partAt rows row) u level
   code-is =
       let e = expressionAt rows row in
       let copy : holdBy S level copied (atomOf (expressionAt rows (operands .first))) ≡ waitCode S e level =
       ap (λ (k : ℕ). holdBy S level k (atomOf (expressionAt rows (operands .first)))) (found .copied-is)
       ∙ hold-part S level rows (operands .first) (firstOperand e) (firstCopied e) (found .at .first .is) (λ h. waits-some e rows (operands .first) h (found .at .first .is))
       ∙ sym (wait-hold S e level) in
-      rw (copy, found .at .first .is, found .at .second .is, sizes .above-is)
-      (code-parts S e level ∙ sym (ap (λ p. operandCode S p level) (part-some rows row (found .some))))
+      let first = ap₂ (λ p w. operandCode S p w level) (found .at .first .is) (found .at .first-use) in
+      let second = ap₂ (λ p w. operandCode S p w (level + above)) (found .at .second .is) (second-use found) in
+      rw (copy, first, second, sizes .above-is)
+      (code-parts S e u level ∙ sym (ap (λ p. operandCode S p u level) (part-some rows row (found .some))))
 
   -- ---- the first operand is written
 
   pub record FirstOperand (more : Bool) (firstTable : List ℤ) : Type 0 where
-    pub table-is : firstTable ≡ over (emitItems more (operandCode S (partAt rows (operands .first)) level) base) out
+    pub table-is : firstTable ≡ over (emitItems more (operandCode S (partAt rows (operands .first)) (operands .«first_use») level) base) out
 
-module _ {S : ℕ} {rows : List ℤ} {table : List ℕ} {row level base : ℕ} {out : List ℤ} {asked : ExpressionAsked S rows table row level base out}
-    {copied : ℕ} {operands : Own} {found : OperandsFound asked copied operands} {above firstRows secondRows allRows : ℕ}
+module _ {S : ℕ} {rows : List ℤ} {table : List ℕ} {row : ℕ} {u : Use} {level base : ℕ} {out : List ℤ} {asked : ExpressionAsked S rows table row u level base out}
+    {copied : ℕ} {operands : Own} {v : Use} {found : OperandsFound asked copied operands v} {above firstRows secondRows allRows : ℕ}
     {sizes : ExpressionSizes found above firstRows secondRows allRows} {more : Bool} {firstTable : List ℤ} (written : FirstOperand sizes more firstTable) where
-  first-wrote : Wrote more (operandCode S (partAt rows (operands .first)) level) base firstRows out firstTable
-  first-wrote = record { table = written .table-is; size = rows-operand S (partAt rows (operands .first)) level ∙ sym (sizes .first-is) }
+  first-wrote : Wrote more (operandCode S (partAt rows (operands .first)) (operands .«first_use») level) base firstRows out firstTable
+  first-wrote = record { table = written .table-is; size = rows-operand S (partAt rows (operands .first)) (operands .«first_use») level ∙ sym (sizes .first-is) }
 
   pub first-reach : Reach firstRows base firstTable
   first-reach = put-reach 0 (wrote-put first-wrote) (asked .asks .room) (omega (arith, all-rows found, sizes .first-is))
@@ -163,24 +172,25 @@ module _ {S : ℕ} {rows : List ℤ} {table : List ℕ} {row level base : ℕ} {
     pub more-is : more ≡ moreRows held (4 * copied)
     pub table-is : holdWords ≡ over (emitItems held (holdBy S level copied (atomOf (expressionAt rows (operands .first)))) (base + firstRows)) (part firstRows firstTable)
 
-module _ {S : ℕ} {rows : List ℤ} {table : List ℕ} {row level base : ℕ} {out : List ℤ} {asked : ExpressionAsked S rows table row level base out}
-    {copied : ℕ} {operands : Own} {found : OperandsFound asked copied operands} {above firstRows secondRows allRows : ℕ}
+module _ {S : ℕ} {rows : List ℤ} {table : List ℕ} {row : ℕ} {u : Use} {level base : ℕ} {out : List ℤ} {asked : ExpressionAsked S rows table row u level base out}
+    {copied : ℕ} {operands : Own} {v : Use} {found : OperandsFound asked copied operands v} {above firstRows secondRows allRows : ℕ}
     {sizes : ExpressionSizes found above firstRows secondRows allRows} {more : Bool} {firstTable : List ℤ} {first : FirstOperand sizes more firstTable}
     {held : Bool} {holdWords : List ℤ} (written : HeldFirst first held holdWords) where
   hold-wrote : Wrote held (holdBy S level copied (atomOf (expressionAt rows (operands .first)))) (base + firstRows) (4 * copied) (part firstRows firstTable) holdWords
   hold-wrote = record { table = written .table-is; size = rows-hold S level copied (atomOf (expressionAt rows (operands .first))) (copied-most found) }
 
-  held-wrote : Wrote held (operandCode S (partAt rows (operands .first)) level ⧺ holdBy S level copied (atomOf (expressionAt rows (operands .first))))
+  held-wrote : Wrote held (operandCode S (partAt rows (operands .first)) (operands .«first_use») level ⧺ holdBy S level copied (atomOf (expressionAt rows (operands .first))))
       base (firstRows + 4 * copied) out (back-in firstRows firstTable holdWords)
   held-wrote = wrote-next (rw (written .more-is) at (first-wrote first)) hold-wrote
 
   pub held-reach : Reach (firstRows + 4 * copied) base (back-in firstRows firstTable holdWords)
   held-reach = put-reach 0 (wrote-put held-wrote) (asked .asks .room) (omega (arith, all-rows found, sizes .first-is))
 
-  pub second-asks : OperandAsks rows (operands .second) (level + above) (base + (firstRows + 4 * copied)) (length (part (firstRows + 4 * copied) (back-in firstRows firstTable holdWords)))
+  pub second-asks : OperandAsks rows (operands .second) v (level + above) (base + (firstRows + 4 * copied)) (length (part (firstRows + 4 * copied) (back-in firstRows firstTable holdWords)))
   second-asks = record {
     inside = second-inside found;
     level-low = λ h. omega (arith, found .at .second .onward h .later, above-low found (sizes .above-is));
+    use-fits = subst UseFits (sym (found .passed)) (passed-fits (operands .passes) u);
     room = put-room _ (wrote-put held-wrote) (asked .asks .room) (omega (arith, all-rows found, sizes .first-is));
   }
 
@@ -189,10 +199,10 @@ module _ {S : ℕ} {rows : List ℤ} {table : List ℕ} {row level base : ℕ} {
   pub record SecondOperand (then : Bool) (secondWords : List ℤ) : Type 0 where
     pub more-is : held ≡ moreRows then secondRows
     pub table-is : secondWords
-        ≡ over (emitItems then (operandCode S (partAt rows (operands .second)) (level + above)) (base + (firstRows + 4 * copied))) (part (firstRows + 4 * copied) (back-in firstRows firstTable holdWords))
+        ≡ over (emitItems then (operandCode S (partAt rows (operands .second)) v (level + above)) (base + (firstRows + 4 * copied))) (part (firstRows + 4 * copied) (back-in firstRows firstTable holdWords))
 
-module _ {S : ℕ} {rows : List ℤ} {table : List ℕ} {row level base : ℕ} {out : List ℤ} {asked : ExpressionAsked S rows table row level base out}
-    {copied : ℕ} {operands : Own} {found : OperandsFound asked copied operands} {above firstRows secondRows allRows : ℕ}
+module _ {S : ℕ} {rows : List ℤ} {table : List ℕ} {row : ℕ} {u : Use} {level base : ℕ} {out : List ℤ} {asked : ExpressionAsked S rows table row u level base out}
+    {copied : ℕ} {operands : Own} {v : Use} {found : OperandsFound asked copied operands v} {above firstRows secondRows allRows : ℕ}
     {sizes : ExpressionSizes found above firstRows secondRows allRows} {more : Bool} {firstTable : List ℤ} {first : FirstOperand sizes more firstTable}
     {held : Bool} {holdWords : List ℤ} {hold : HeldFirst first held holdWords} {then : Bool} {secondWords : List ℤ} (written : SecondOperand hold then secondWords) where
   abbrev behind : ℕ
@@ -201,20 +211,21 @@ module _ {S : ℕ} {rows : List ℤ} {table : List ℕ} {row level base : ℕ} {
   abbrev operandsTable : List ℤ
   operandsTable = back-in (firstRows + 4 * copied) (back-in firstRows firstTable holdWords) secondWords
 
-  second-wrote : Wrote then (operandCode S (partAt rows (operands .second)) (level + above)) (base + (firstRows + 4 * copied)) secondRows (part (firstRows + 4 * copied) (back-in firstRows firstTable holdWords)) secondWords
-  second-wrote = record { table = written .table-is; size = rows-operand S (partAt rows (operands .second)) (level + above) ∙ sym (sizes .second-is) }
+  second-wrote : Wrote then (operandCode S (partAt rows (operands .second)) v (level + above)) (base + (firstRows + 4 * copied)) secondRows (part (firstRows + 4 * copied) (back-in firstRows firstTable holdWords)) secondWords
+  second-wrote = record { table = written .table-is; size = rows-operand S (partAt rows (operands .second)) v (level + above) ∙ sym (sizes .second-is) }
 
-  both-wrote : Wrote then ((operandCode S (partAt rows (operands .first)) level ⧺ holdBy S level copied (atomOf (expressionAt rows (operands .first)))) ⧺ operandCode S (partAt rows (operands .second)) (level + above))
+  both-wrote : Wrote then ((operandCode S (partAt rows (operands .first)) (operands .«first_use») level ⧺ holdBy S level copied (atomOf (expressionAt rows (operands .first)))) ⧺ operandCode S (partAt rows (operands .second)) v (level + above))
       base behind out operandsTable
   both-wrote = wrote-next (rw (written .more-is) at (held-wrote hold)) second-wrote
 
   pub second-reach : Reach behind base operandsTable
   second-reach = put-reach 0 (wrote-put both-wrote) (asked .asks .room) (omega (arith, sizes-within sizes, sizes .all-is))
 
-  pub last-asks : LastAsks rows row level (base + behind) (length (part behind operandsTable))
+  pub last-asks : LastAsks rows row u level (base + behind) (length (part behind operandsTable))
   last-asks = record {
     inside = asked .asks .inside;
     level-low = asked .asks .level-low (found .some);
+    use-fits = asked .asks .use-fits;
     room = put-room _ (wrote-put both-wrote) (asked .asks .room) (omega (arith, last-is sizes, sizes-within sizes, sizes .all-is));
   }
 
@@ -222,21 +233,21 @@ module _ {S : ℕ} {rows : List ℤ} {table : List ℕ} {row level base : ℕ} {
 
   pub record LastPart (follows : Bool) (lastWords : List ℤ) : Type 0 where
     pub more-is : then ≡ moreRows follows (allRows - behind)
-    pub table-is : lastWords ≡ over (emitItems follows (lastCode S (expressionAt rows row) level) (base + behind)) (part behind operandsTable)
+    pub table-is : lastWords ≡ over (emitItems follows (lastCode S (expressionAt rows row) u level) (base + behind)) (part behind operandsTable)
 
-module _ {S : ℕ} {rows : List ℤ} {table : List ℕ} {row level base : ℕ} {out : List ℤ} {asked : ExpressionAsked S rows table row level base out}
-    {copied : ℕ} {operands : Own} {found : OperandsFound asked copied operands} {above firstRows secondRows allRows : ℕ}
+module _ {S : ℕ} {rows : List ℤ} {table : List ℕ} {row : ℕ} {u : Use} {level base : ℕ} {out : List ℤ} {asked : ExpressionAsked S rows table row u level base out}
+    {copied : ℕ} {operands : Own} {v : Use} {found : OperandsFound asked copied operands v} {above firstRows secondRows allRows : ℕ}
     {sizes : ExpressionSizes found above firstRows secondRows allRows} {more : Bool} {firstTable : List ℤ} {first : FirstOperand sizes more firstTable}
     {held : Bool} {holdWords : List ℤ} {hold : HeldFirst first held holdWords} {then : Bool} {secondWords : List ℤ} {second : SecondOperand hold then secondWords}
     {follows : Bool} {lastWords : List ℤ} (rest : LastPart second follows lastWords) where
-  last-wrote : Wrote follows (lastCode S (expressionAt rows row) level) (base + behind second) (allRows - behind second) (part (behind second) (operandsTable second)) lastWords
-  last-wrote = record { table = rest .table-is; size = rows-last S (expressionAt rows row) level ∙ sym (last-is sizes) }
+  last-wrote : Wrote follows (lastCode S (expressionAt rows row) u level) (base + behind second) (allRows - behind second) (part (behind second) (operandsTable second)) lastWords
+  last-wrote = record { table = rest .table-is; size = rows-last S (expressionAt rows row) u level ∙ sym (last-is sizes) }
 
-  all-wrote : Wrote follows (operandCode S (partAt rows row) level) base (behind second + (allRows - behind second)) out (back-in (behind second) (operandsTable second) lastWords)
+  all-wrote : Wrote follows (operandCode S (partAt rows row) u level) base (behind second + (allRows - behind second)) out (back-in (behind second) (operandsTable second) lastWords)
   all-wrote = wrote-as _ (wrote-next (rw (rest .more-is) at (both-wrote second)) last-wrote) (code-is sizes)
 
   pub expression-length : length (back-in (behind second) (operandsTable second) lastWords) ≡ length out
   expression-length = put-length (wrote-put all-wrote) (omega (arith, sizes-within sizes, sizes .all-is, asked .asks .room .inside))
 
-  pub expression-written : back-in (behind second) (operandsTable second) lastWords ≡ over (emitItems follows (operandCode S (partAt rows row) level) base) out
+  pub expression-written : back-in (behind second) (operandsTable second) lastWords ≡ over (emitItems follows (operandCode S (partAt rows row) u level) base) out
   expression-written = all-wrote .table

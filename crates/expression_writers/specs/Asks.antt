@@ -5,8 +5,11 @@ use Prim.Native.Nat.{ℕ, _+_, _≤_, _<_}
 use lib.IntN.{ℤ}
 use Rattle.words.specs.Table.{rowCount}
 use Rattle.language.specs.Decode.{expressionAt, partAt}
+use Rattle.translation.specs.declared.Use.{Use}
+use Rattle.translation.specs.declared.Use.the-variants.{Wanted as wanted}
 use Rattle.translation.specs.Translate.{Atom as Held, number, word, top}
-use Rattle.translation.specs.TranslateSize.{partSize}
+use Rattle.translation.specs.TranslateSize.{operandSize}
+use Rattle.measures.specs.Parts.{UseFits}
 use Rattle.leaves.specs.Room.{Room}
 use Rattle.leaves.specs.Atoms.{AtomFits}
 use Rattle.leaves.specs.Straight.{lastSize}
@@ -18,11 +21,12 @@ use Rattle.expression_writers.specs.declared.Branch.{Branch}
 use Rattle.expression_writers.specs.declared.Choice.{Choice}
 use Rattle.expression_writers.specs.declared.Choice.the-variants.{Choose, Straight}
 
--- An expression at a link, at a level. Links rise faster than levels, so no level passes its row.
-pub record OperandAsks (rows : List ℤ) (row level base words : ℕ) : Type 0 where
+-- An expression at a link, at a level, for a use of its value. Links rise faster than levels, so no level passes its row.
+pub record OperandAsks (rows : List ℤ) (row : ℕ) (u : Use) (level base words : ℕ) : Type 0 where
   pub inside : row < rowCount rows
   pub level-low : 0 < row → level ≤ row
-  pub room : Room (partSize (partAt rows row)) base words
+  pub use-fits : UseFits u
+  pub room : Room (operandSize (partAt rows row) u) base words
 
 -- The rows of a branch: its block, its expression, its end.
 abbrev pub finishSize : End → ℕ
@@ -31,7 +35,7 @@ finishSize Copy = 4
 finishSize Stays = 0
 
 abbrev pub branchSize : List ℤ → Branch → ℕ
-branchSize rows branch = 1 + partSize (partAt rows (branch .row)) + finishSize (branch .end)
+branchSize rows branch = 1 + operandSize (partAt rows (branch .row)) wanted + finishSize (branch .end)
 
 -- How a branch of a conditional ends: a value that stands in the temporary stays.
 abbrev pub endOf : Held → End
@@ -50,11 +54,11 @@ abbrev pub ChoiceFits : List ℤ → ℕ → ℕ → Choice → Type 0
 ChoiceFits rows row level (Choose test onTrue onFalse) =
     AtomFits test × BranchFits rows onTrue level × BranchFits rows onFalse level
     × (0 < onTrue .row → row < onTrue .row) × (0 < onFalse .row → row < onFalse .row)
-    × (lastSize (expressionAt rows row) ≡ 2 + branchSize rows onTrue + branchSize rows onFalse)
+    × ((u : Use) → lastSize (expressionAt rows row) u ≡ 2 + branchSize rows onTrue + branchSize rows onFalse)
 ChoiceFits rows row level Straight = Unit {0}
 
 pub record ChoiceAt (S : ℕ) (rows : List ℤ) (row level : ℕ) (choice : Choice) : Type 0 where
-  pub is : lastCode S (expressionAt rows row) level ≡ chosenCode S rows choice (expressionAt rows row) level
+  pub is : (u : Use) → lastCode S (expressionAt rows row) u level ≡ chosenCode S rows choice (expressionAt rows row) u level
   pub fits : ChoiceFits rows row level choice
 
 -- A branch that puts a number into the result's temporary.

@@ -3,10 +3,13 @@ use mathlib.Core.List.{List}
 use Prim.Native.Nat.{ℕ}
 use lib.IntN.{ℤ, pos}
 use Rattle.words.specs.declared.Operator.the-variants.{NotEqual}
-use Rattle.language.specs.Trees.{Expression, constant, read, minus, not, binary, and, or, comma, conditional, assign, compound, prefix, postfix, Part, absent, present, Items, none, _here_, _⧺_}
+use Rattle.language.specs.Trees.{Expression, constant, read, minus, not, binary, and, or, comma, conditional, assign, compound, prefix, postfix, Items, none, _here_, _⧺_}
 use Rattle.language.specs.Writes.{writes, indexWrites}
 use Rattle.language.specs.Decode.{partAt}
-use Rattle.translation.specs.Translate.{atomOf, atom, temporary, assigning, choosing, copyCode, expressionCode}
+use Rattle.translation.specs.Uses.{direct}
+use Rattle.translation.specs.declared.Use.{Use}
+use Rattle.translation.specs.declared.Use.the-variants.{Wanted as wanted}
+use Rattle.translation.specs.Translate.{landed, atomOf, atom, temporary, assigning, choosing, copyCode, expressionCode, operandCode}
 use Rattle.translation.specs.HeldCode.{holdCode}
 use Rattle.leaves.specs.Atoms.{atomTree}
 use Rattle.leaves.specs.Straight.{straightCode}
@@ -18,11 +21,6 @@ use Rattle.expression_writers.specs.declared.Choice.{Choice}
 use Rattle.expression_writers.specs.declared.Choice.the-variants.{Choose, Straight}
 
 module _ (S : ℕ) where
-  -- An operand at level t, which may be absent.
-  abbrev pub operandCode : Part → ℕ → Items
-  operandCode absent t = none
-  operandCode (present e) t = expressionCode S e t
-
   -- The copy of the first operand's value, which waits while the second one is worked out.
   abbrev pub waitCode : Expression → ℕ → Items
   waitCode (constant v) t = none
@@ -34,29 +32,29 @@ module _ (S : ℕ) where
   waitCode (or a b) t = none
   waitCode (comma a b) t = none
   waitCode (conditional c a b) t = none
-  waitCode (assign p e) t = holdCode S t (atomOf e) (indexWrites p)
+  waitCode (assign p e) t = holdCode S t (landed p (direct e) (atomOf e)) (indexWrites p)
   waitCode (compound operator p e) t = holdCode S t (atomOf e) (indexWrites p)
   waitCode (prefix operator p) t = none
   waitCode (postfix operator p) t = none
 
-  -- What an expression does behind its first two operands.
-  abbrev pub lastCode : Expression → ℕ → Items
-  lastCode (constant v) t = none
-  lastCode (read p) t = straightCode S (read p) t
-  lastCode (minus e) t = straightCode S (minus e) t
-  lastCode (not e) t = straightCode S (not e) t
-  lastCode (binary operator a b) t = straightCode S (binary operator a b) t
-  lastCode (and a b) t =
-      choosing S (atom S t (atomOf a)) (expressionCode S b t ⧺ assigning S (temporary S t) (binary NotEqual (atom S t (atomOf b)) (constant (pos 0))) none) (assigning S (temporary S t) (constant (pos 0)) none) none
-  lastCode (or a b) t =
-      choosing S (atom S t (atomOf a)) (assigning S (temporary S t) (constant (pos 1)) none) (expressionCode S b t ⧺ assigning S (temporary S t) (binary NotEqual (atom S t (atomOf b)) (constant (pos 0))) none) none
-  lastCode (comma a b) t = none
-  lastCode (conditional c a b) t =
-      choosing S (atom S t (atomOf c)) (expressionCode S a t ⧺ copyCode S t (atomOf a)) (expressionCode S b t ⧺ copyCode S t (atomOf b)) none
-  lastCode (assign p e) t = straightCode S (assign p e) t
-  lastCode (compound operator p e) t = straightCode S (compound operator p e) t
-  lastCode (prefix operator p) t = straightCode S (prefix operator p) t
-  lastCode (postfix operator p) t = straightCode S (postfix operator p) t
+  -- What an expression does behind its first two operands, where its value has the use u.
+  abbrev pub lastCode : Expression → Use → ℕ → Items
+  lastCode (constant v) u t = none
+  lastCode (read p) u t = straightCode S (read p) u t
+  lastCode (minus e) u t = straightCode S (minus e) u t
+  lastCode (not e) u t = straightCode S (not e) u t
+  lastCode (binary operator a b) u t = straightCode S (binary operator a b) u t
+  lastCode (and a b) u t =
+      choosing S (atom S t (atomOf a)) (expressionCode S b wanted t ⧺ assigning S (temporary S t) (binary NotEqual (atom S t (atomOf b)) (constant (pos 0))) none) (assigning S (temporary S t) (constant (pos 0)) none) none
+  lastCode (or a b) u t =
+      choosing S (atom S t (atomOf a)) (assigning S (temporary S t) (constant (pos 1)) none) (expressionCode S b wanted t ⧺ assigning S (temporary S t) (binary NotEqual (atom S t (atomOf b)) (constant (pos 0))) none) none
+  lastCode (comma a b) u t = none
+  lastCode (conditional c a b) u t =
+      choosing S (atom S t (atomOf c)) (expressionCode S a wanted t ⧺ copyCode S t (atomOf a)) (expressionCode S b wanted t ⧺ copyCode S t (atomOf b)) none
+  lastCode (assign p e) u t = straightCode S (assign p e) u t
+  lastCode (compound operator p e) u t = straightCode S (compound operator p e) u t
+  lastCode (prefix operator p) u t = straightCode S (prefix operator p) u t
+  lastCode (postfix operator p) u t = straightCode S (postfix operator p) u t
 
   -- The end of a branch: its atom into temporary t, as a truth value, or as it is where it is not there already.
   abbrev pub finishCode : End → Atom → ℕ → Items
@@ -67,12 +65,12 @@ module _ (S : ℕ) where
   -- `rows` is the source.
   module _ (rows : List ℤ) where
     abbrev pub branchCode : Branch → ℕ → Items
-    branchCode branch t = operandCode (partAt rows (branch .row)) t ⧺ finishCode (branch .end) (branch .atom) t
+    branchCode branch t = operandCode S (partAt rows (branch .row)) wanted t ⧺ finishCode (branch .end) (branch .atom) t
 
     abbrev pub choiceCode : Atom → Branch → Branch → ℕ → Items
     choiceCode test onTrue onFalse t = choosing S (atomTree test) (branchCode onTrue t) (branchCode onFalse t) none
 
     -- The same by a choice.
-    abbrev pub chosenCode : Choice → Expression → ℕ → Items
-    chosenCode (Choose test onTrue onFalse) e t = choiceCode test onTrue onFalse t
-    chosenCode Straight e t = straightCode S e t
+    abbrev pub chosenCode : Choice → Expression → Use → ℕ → Items
+    chosenCode (Choose test onTrue onFalse) e u t = choiceCode test onTrue onFalse t
+    chosenCode Straight e u t = straightCode S e u t

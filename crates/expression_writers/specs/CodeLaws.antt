@@ -9,19 +9,22 @@ use lib.Dec.{eqb}
 use lib.IntN.{ℤ, pos}
 use Rattle.words.specs.Word.{pick}
 use Rattle.words.specs.Laws.{by-cases}
-use Rattle.language.specs.Trees.{Expression, constant, read, minus, not, binary, and, or, comma, conditional, assign, compound, prefix, postfix, variable, element, Part, absent, present, block, Items, _here_, _⧺_}
+use Rattle.language.specs.Trees.{Expression, constant, read, minus, not, binary, and, or, comma, conditional, assign, compound, prefix, postfix, variable, element, Part, absent, present, block, Items, none, _here_, _⧺_}
 use Rattle.language.specs.Sizes.{expressionRows, statementRows, itemsRows}
 use Rattle.language.specs.TreeLaws.{append-none, append-append}
 use Rattle.language.specs.Decode.{expressionAt, partAt}
 use Rattle.language.specs.DecodeLaws.{part-some}
 use Rattle.language.specs.Writes.{writes, indexWrites}
-use Rattle.translation.specs.Translate.{Atom as Held, number, word, top, atomOf, expressionCode}
-use Rattle.translation.specs.HeldCode.{holdBy, hold-by}
-use Rattle.translation.specs.TranslateSize.{expressionSize, partSize}
+use Rattle.translation.specs.Uses.{passedOn, direct}
+use Rattle.translation.specs.declared.Use.{Use}
+use Rattle.translation.specs.declared.Use.the-variants.{Dropped as dropped, Wanted as wanted}
+use Rattle.translation.specs.Translate.{Atom as Held, number, word, top, landed, atomOf, moveCode, expressionCode, operandCode}
+use Rattle.translation.specs.HeldCode.{held-variable, holdCode, holdBy, hold-by}
+use Rattle.translation.specs.TranslateSize.{expressionSize, operandSize}
 use Rattle.translation.specs.TranslateRows.{rows-append, rows-expression}
 use Rattle.emission.specs.Emission.{rowOf, emitStatement, emitItems}
 use Rattle.emission.specs.EmissionLaws.{emit-append}
-use Rattle.measures.specs.Parts.{firstOperand, secondOperand, aboveFirst, firstCopied}
+use Rattle.measures.specs.Parts.{firstOperand, secondOperand, aboveFirst, firstCopied, firstUse, secondUse}
 use Rattle.measures.specs.MeasureLaws.{size-parts, first-copied-most, own-copies}
 use Rattle.words.specs.Over.{over}
 use Rattle.leaves.specs.Room.{moreRows}
@@ -29,7 +32,7 @@ use Rattle.leaves.specs.Straight.{lastSize}
 use Rattle.leaves.specs.Chain.{Wrote, more-is, block-words}
 use Rattle.leaves.specs.declared.Atom.{Atom}
 use Rattle.leaves.specs.declared.Atom.the-variants.{Constant, Variable}
-use Rattle.expression_writers.specs.Code.{operandCode, waitCode, lastCode, finishCode, branchCode}
+use Rattle.expression_writers.specs.Code.{waitCode, lastCode, finishCode, branchCode}
 use Rattle.expression_writers.specs.Asks.{finishSize, branchSize}
 use Rattle.expression_writers.specs.declared.End.{End}
 use Rattle.expression_writers.specs.declared.End.the-variants.{Truth, Copy, Stays}
@@ -61,38 +64,49 @@ waits-some e rows zero h p = absurd (first-some e h p)
 waits-some e rows (suc link) h p = omega arith
 
 module _ (S : ℕ) where
-  plus-none : (p : Part) (t : ℕ) → operandCode S p (t + 0) ≡ operandCode S p t
-  plus-none p t = let z : t + 0 ≡ t = omega arith in ap (operandCode S p) z
+  plus-none : (p : Part) (u : Use) (t : ℕ) → operandCode S p u (t + 0) ≡ operandCode S p u t
+  plus-none p u t = let z : t + 0 ≡ t = omega arith in ap (operandCode S p u) z
 
   -- the operands' code, with the copy of the first one's value between them, and then what is done with their values
-  code-four : (e : Expression) (t : ℕ) → operandCode S (firstOperand e) t ⧺ (waitCode S e t ⧺ (operandCode S (secondOperand e) (t + aboveFirst e) ⧺ lastCode S e t)) ≡ expressionCode S e t
+  code-four : (e : Expression) (u : Use) (t : ℕ)
+      → operandCode S (firstOperand e) (firstUse e) t ⧺ (waitCode S e t ⧺ (operandCode S (secondOperand e) (secondUse e u) (t + aboveFirst e) ⧺ lastCode S e u t)) ≡ expressionCode S e u t
   unfolding expressionCode _⧺_
-  code-four (constant v) t = refl
-  code-four (read (variable i)) t = refl
-  code-four (read (element array e)) t = refl
-  code-four (minus e) t = refl
-  code-four (not e) t = refl
-  code-four (binary operator a b) t = refl
-  code-four (and a b) t = refl
-  code-four (or a b) t = refl
-  code-four (comma a b) t = ap (λ (x : Items). expressionCode S a t ⧺ x) (append-none (operandCode S (present b) (t + 0)) ∙ plus-none (present b) t)
-  code-four (conditional c a b) t = refl
-  code-four (assign (variable i) e) t = refl
-  code-four (assign (element array i) e) t = refl
-  code-four (compound operator (variable i) e) t = refl
-  code-four (compound operator (element array i) e) t = refl
-  code-four (prefix operator (variable i)) t = refl
-  code-four (prefix operator (element array i)) t = refl
-  code-four (postfix operator (variable i)) t = refl
-  code-four (postfix operator (element array i)) t = refl
+  code-four (constant v) u t = refl
+  code-four (read (variable i)) u t = refl
+  code-four (read (element array e)) u t = refl
+  code-four (minus e) u t = refl
+  code-four (not e) u t = refl
+  code-four (binary operator a b) u t = refl
+  code-four (and a b) u t = refl
+  code-four (or a b) u t = refl
+  code-four (comma a b) u t = ap (λ (x : Items). expressionCode S a dropped t ⧺ x) (append-none (operandCode S (present b) (passedOn u) (t + 0)) ∙ plus-none (present b) (passedOn u) t)
+  code-four (conditional c a b) u t = refl
+  code-four (assign (variable i) e) u t = refl
+  code-four (assign (element array i) e) u t = refl
+  code-four (compound operator (variable i) e) u t = refl
+  code-four (compound operator (element array i) e) u t = refl
+  code-four (prefix operator (variable i)) u t = refl
+  code-four (prefix operator (element array i)) u t = refl
+  code-four (postfix operator (variable i)) u t = refl
+  code-four (postfix operator (element array i)) u t = refl
 
-  pub code-parts : (e : Expression) (t : ℕ) → ((operandCode S (firstOperand e) t ⧺ waitCode S e t) ⧺ operandCode S (secondOperand e) (t + aboveFirst e)) ⧺ lastCode S e t ≡ expressionCode S e t
-  code-parts e t = append-append _ _ _ ∙ append-append _ _ _ ∙ code-four e t
+  pub code-parts : (e : Expression) (u : Use) (t : ℕ)
+      → ((operandCode S (firstOperand e) (firstUse e) t ⧺ waitCode S e t) ⧺ operandCode S (secondOperand e) (secondUse e u) (t + aboveFirst e)) ⧺ lastCode S e u t ≡ expressionCode S e u t
+  code-parts e u t = append-append _ _ _ ∙ append-append _ _ _ ∙ code-four e u t
 
-  pub rows-operand : (p : Part) (t : ℕ) → itemsRows (operandCode S p t) ≡ partSize p
+  pub rows-operand : (p : Part) (u : Use) (t : ℕ) → itemsRows (operandCode S p u t) ≡ operandSize p u
   unfolding itemsRows
-  rows-operand absent t = refl
-  rows-operand (present e) t = rows-expression S e t
+  rows-operand absent u t = refl
+  rows-operand (present e) u t = rows-expression S e u t
+
+  -- a variable has no index, so that nothing waits for it
+  hold-variable : (t i : ℕ) (h : Held) → holdCode S t h (indexWrites (variable i)) ≡ none
+  hold-variable t i h = ap (moveCode S t h) (held-variable h i) ∙ moved h
+    where
+      moved : (h : Held) → moveCode S t h h ≡ none
+      moved (number v) = refl
+      moved (word j) = refl
+      moved top = refl
 
   -- the copy, by whether there is one
   pub wait-hold : (e : Expression) (t : ℕ) → waitCode S e t ≡ holdBy S t (firstCopied e) (partAtom (firstOperand e))
@@ -105,7 +119,8 @@ module _ (S : ℕ) where
   wait-hold (or a b) t = refl
   wait-hold (comma a b) t = refl
   wait-hold (conditional c a b) t = refl
-  wait-hold (assign p e) t = hold-by S t (atomOf e) (indexWrites p)
+  wait-hold (assign (variable i) e) t = hold-variable t i (landed (variable i) (direct e) (atomOf e)) ∙ sym (hold-variable t i (atomOf e)) ∙ hold-by S t (atomOf e) (indexWrites (variable i))
+  wait-hold (assign (element array i) e) t = hold-by S t (atomOf e) (indexWrites (element array i))
   wait-hold (compound operator p e) t = hold-by S t (atomOf e) (indexWrites p)
   wait-hold (prefix operator p) t = refl
   wait-hold (postfix operator p) t = refl
@@ -124,15 +139,16 @@ module _ (S : ℕ) where
       by-cases (eqb k 1) (λ b. ap (λ (q : Part). holdBy S t k (partAtom q)) (sym (part-some rows link (some (eqb-true k 1 b))) ∙ e)) (λ b. rw b)
 
   -- the rows behind the first two operands and the copy
-  pub rows-last : (e : Expression) (t : ℕ) → itemsRows (lastCode S e t) ≡ lastSize e
-  rows-last e t =
-      let above = operandCode S (secondOperand e) (t + aboveFirst e) in
-      let whole : itemsRows (operandCode S (firstOperand e) t ⧺ (waitCode S e t ⧺ (above ⧺ lastCode S e t))) ≡ expressionSize e = ap itemsRows (code-four e t) ∙ rows-expression S e t in
-      let outer = rows-append (operandCode S (firstOperand e) t) (waitCode S e t ⧺ (above ⧺ lastCode S e t)) in
-      let middle = rows-append (waitCode S e t) (above ⧺ lastCode S e t) in
-      let inner = rows-append above (lastCode S e t) in
+  pub rows-last : (e : Expression) (u : Use) (t : ℕ) → itemsRows (lastCode S e u t) ≡ lastSize e u
+  rows-last e u t =
+      let first = operandCode S (firstOperand e) (firstUse e) t in
+      let above = operandCode S (secondOperand e) (secondUse e u) (t + aboveFirst e) in
+      let whole : itemsRows (first ⧺ (waitCode S e t ⧺ (above ⧺ lastCode S e u t))) ≡ expressionSize e u = ap itemsRows (code-four e u t) ∙ rows-expression S e u t in
+      let outer = rows-append first (waitCode S e t ⧺ (above ⧺ lastCode S e u t)) in
+      let middle = rows-append (waitCode S e t) (above ⧺ lastCode S e u t) in
+      let inner = rows-append above (lastCode S e u t) in
       let copy : itemsRows (waitCode S e t) ≡ 4 * firstCopied e = ap itemsRows (wait-hold e t) ∙ rows-hold t (firstCopied e) (partAtom (firstOperand e)) (first-copied-most e) in
-      omega (arith, size-parts e, own-copies e, rows-operand (firstOperand e) t, rows-operand (secondOperand e) (t + aboveFirst e))
+      omega (arith, size-parts e u, own-copies e u, rows-operand (firstOperand e) (firstUse e) t, rows-operand (secondOperand e) (secondUse e u) (t + aboveFirst e))
 
   -- a branch
   pub rows-finish : (end : End) (x : Atom) (t : ℕ) → itemsRows (finishCode S end x t) ≡ finishSize end
@@ -146,7 +162,7 @@ module _ (S : ℕ) where
   pub rows-branch : (rows : List ℤ) (branch : Branch) (t : ℕ) → statementRows (block (branchCode S rows branch t)) ≡ branchSize rows branch
   unfolding statementRows
   rows-branch rows branch t =
-      omega (arith, rows-append (operandCode S (partAt rows (branch .row)) t) (finishCode S (branch .end) (branch .atom) t), rows-operand (partAt rows (branch .row)) t, rows-finish (branch .end) (branch .atom) t)
+      omega (arith, rows-append (operandCode S (partAt rows (branch .row)) wanted t) (finishCode S (branch .end) (branch .atom) t), rows-operand (partAt rows (branch .row)) wanted t, rows-finish (branch .end) (branch .atom) t)
 
 -- the words of a block of two lists
 pub branch-words : (xs ys : Items) (base k end first : ℕ) (more : Bool) → itemsRows xs ≡ k → itemsRows ys ≡ end → first ≡ pick (moreRows false (k + end)) (base + 1) 0 → more ≡ moreRows false end

@@ -7,10 +7,11 @@ use leaves::assignments::put_binary;
 use leaves::assignments::put_copy;
 use leaves::atoms::atom_at;
 use leaves::atoms::operand_size;
-use measures::expressions::taken_at;
+use measures::holders::taken_at;
 use shapes::ChoiceShape;
 use shapes::ExpressionShape;
 use shapes::rows::expression_at;
+use translation::Use;
 use words::Operator;
 ghost use mathlib.Core.Path.{_≡_};
 ghost use mathlib.Core.Bool.{false};
@@ -114,7 +115,7 @@ pub fn branch_size(rows: &[i32], table: &[usize], branch: Branch) -> usize
     ensures { λ r. ⌜ r ≡ sizeOf (now (rows .entry)) branch ⌝ }
 {
     let end = branch.end;
-    1 + operand_size(rows, table, branch.row) + finish_size(end)
+    1 + operand_size(rows, table, branch.row, Use::Wanted) + finish_size(end)
 }
 
 // The end of a branch: its atom into the temporary of a level, where it is not there already.

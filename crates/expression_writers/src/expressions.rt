@@ -15,33 +15,37 @@ use leaves::rows::more;
 use leaves::straight::put_hold;
 use leaves::straight::put_straight;
 use measures::parts::own_at;
+use measures::uses::second_use;
+use translation::Use;
 ghost use mathlib.Core.Path.{_≡_};
 ghost use mathlib.Core.Bool.{false};
 ghost use Prim.Native.Nat.{_+_, _*_};
 ghost use lib.ListN.{length};
 ghost use Rattle.language.specs.Trees.{block};
 ghost use Rattle.language.specs.Decode.{expressionAt, partAt};
+ghost use Rattle.translation.specs.Translate.{operandCode};
 ghost use Rattle.emission.specs.Emission.{emitStatement, emitItems};
 ghost use Rattle.words.specs.Over.{over};
 ghost use Rattle.leaves.specs.Room.{Room};
 ghost use Rattle.leaves.specs.Atoms.{AtomFits};
-ghost use Rattle.expression_writers.specs.Code.{operandCode, lastCode, branchCode, choiceCode};
+ghost use Rattle.expression_writers.specs.Code.{lastCode, branchCode, choiceCode};
 ghost use Rattle.leaves.specs.Asks.{Writing, LastAsks};
 ghost use Rattle.expression_writers.specs.Asks.{OperandAsks, branchSize, BranchFits};
 
-// The code of the expression at a link, worked out at a level; an absent one has none.
+// The code of the expression at a link, worked out at a level for a use of its value; an absent one has none.
 pub fn write_expression(
     rows: &[i32],
     table: &[usize],
     store: usize,
     row: usize,
+    usage: Use,
     level: usize,
     base: usize,
     follows: bool,
     out: &mut [i32],
 )
-    requires { ⌜ Writing (now rows) (now table) store × OperandAsks (now rows) row level base (length (now out)) ⌝ }
-    ensures { λ _. ⌜ now (out .exit) ≡ over (emitItems follows (operandCode store (partAt (now (rows .entry)) row) level) base) (now (out .entry)) ⌝ }
+    requires { ⌜ Writing (now rows) (now table) store × OperandAsks (now rows) row usage level base (length (now out)) ⌝ }
+    ensures { λ _. ⌜ now (out .exit) ≡ over (emitItems follows (operandCode store (partAt (now (rows .entry)) row) usage level) base) (now (out .entry)) ⌝ }
 {
     if row == 0 {
         return;
@@ -50,13 +54,15 @@ pub fn write_expression(
     let own = own_at(rows, table, row, copied);
     let first = own.first;
     let second = own.second;
+    let first_use = own.first_use;
+    let second_use = second_use(own.passes, usage);
     let above = level + own.above;
     let copy = 4 * copied;
-    let m = operand_size(rows, table, first);
+    let m = operand_size(rows, table, first, first_use);
     let h = m + copy;
-    let k = operand_size(rows, table, second);
+    let k = operand_size(rows, table, second, second_use);
     let n = h + k;
-    let last = operand_size(rows, table, row) - n;
+    let last = operand_size(rows, table, row, usage) - n;
     let then = more(follows, last);
     let held = more(then, k);
     write_expression(
@@ -64,6 +70,7 @@ pub fn write_expression(
         table,
         store,
         first,
+        first_use,
         level,
         base,
         more(held, copy),
@@ -85,6 +92,7 @@ pub fn write_expression(
         table,
         store,
         second,
+        second_use,
         above,
         base + h,
         then,
@@ -95,6 +103,7 @@ pub fn write_expression(
         table,
         store,
         row,
+        usage,
         level,
         base + n,
         follows,
@@ -108,13 +117,14 @@ fn write_last(
     table: &[usize],
     store: usize,
     row: usize,
+    usage: Use,
     level: usize,
     base: usize,
     follows: bool,
     out: &mut [i32],
 )
-    requires { ⌜ Writing (now rows) (now table) store × LastAsks (now rows) row level base (length (now out)) ⌝ }
-    ensures { λ _. ⌜ now (out .exit) ≡ over (emitItems follows (lastCode store (expressionAt (now (rows .entry)) row) level) base) (now (out .entry)) ⌝ }
+    requires { ⌜ Writing (now rows) (now table) store × LastAsks (now rows) row usage level base (length (now out)) ⌝ }
+    ensures { λ _. ⌜ now (out .exit) ≡ over (emitItems follows (lastCode store (expressionAt (now (rows .entry)) row) usage level) base) (now (out .entry)) ⌝ }
 {
     let choice = choice_at(rows, table, store, row, level);
     match choice {
@@ -130,7 +140,9 @@ fn write_last(
             follows,
             out,
         ),
-        Choice::Straight => put_straight(rows, table, store, row, level, base, follows, out),
+        Choice::Straight => {
+            put_straight(rows, table, store, row, usage, level, base, follows, out)
+        }
     }
 }
 
@@ -174,7 +186,7 @@ fn write_branch(
     let row = branch.row;
     let end = branch.end;
     let atom = branch.atom;
-    let k = operand_size(rows, table, row);
+    let k = operand_size(rows, table, row, Use::Wanted);
     let last = finish_size(end);
     let n = 1 + k;
     put_block(behind(more(false, k + last), base + 1), 0, out);
@@ -183,6 +195,7 @@ fn write_branch(
         table,
         store,
         row,
+        Use::Wanted,
         level,
         base + 1,
         more(false, last),

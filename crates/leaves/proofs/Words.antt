@@ -14,7 +14,7 @@ use Rattle.language.specs.Sizes.{expressionRows, statementRows}
 use Rattle.emission.specs.Emission.{rowOf, operatorNumber, emitExpression, emitItems}
 use Rattle.words.specs.Over.{over}
 use Rattle.leaves.specs.Atoms.{atomTree, atomRow, AtomFits}
-use Rattle.leaves.specs.Straight.{target}
+use Rattle.leaves.specs.Straight.{targetRows}
 use Rattle.leaves.specs.Chain.{Put}
 use Rattle.leaves.specs.declared.Atom.{Atom}
 use Rattle.leaves.specs.declared.Atom.the-variants.{Constant, Variable}
@@ -59,8 +59,8 @@ module _ (l m : List ℤ) where
   if-put base second next (Constant v) e = record { table = e; size = refl }
   if-put base second next (Variable n) e = record { table = e; size = refl }
 
-  pub operand-put : (number kind a b size base : ℕ) (follows : Bool) (x : Atom) → m ≡ over ((target 2 number 0 (base + 3) size base follows ++ rowOf kind (pos a) b 0 0 0) ++ atomRow x) l
-      → Put ((target 2 number 0 (base + 3) size base follows ++ rowOf kind (pos a) b 0 0 0) ++ atomRow x) 5 l m
+  pub operand-put : (number kind a b size base : ℕ) (follows : Bool) (x : Atom) → m ≡ over ((targetRows 2 number 0 (base + 3) size base follows ++ rowOf kind (pos a) b 0 0 0) ++ atomRow x) l
+      → Put ((targetRows 2 number 0 (base + 3) size base follows ++ rowOf kind (pos a) b 0 0 0) ++ atomRow x) 5 l m
   operand-put number kind a b size base follows (Constant v) e = record { table = e; size = refl }
   operand-put number kind a b size base follows (Variable n) e = record { table = e; size = refl }
 
@@ -98,25 +98,25 @@ sums : (base : ℕ) → Sums base
 sums base = record { two = omega arith; three = omega arith; four = omega arith; five = omega arith; two-more = omega arith }
 
 module _ (base : ℕ) (follows : Bool) where
-  pub copy-words : (number : ℕ) (x : Atom) → target 2 number 0 (base + 3) 4 base follows ++ atomRow x ≡ emitItems follows (express (assign (variable number) (atomTree x)) then none) base
+  pub copy-words : (number : ℕ) (x : Atom) → targetRows 2 number 0 (base + 3) 4 base follows ++ atomRow x ≡ emitItems follows (express (assign (variable number) (atomTree x)) then none) base
   unfolding emitItems emitExpression statementRows expressionRows
   copy-words number (Constant v) = let s = sums base in cc
   copy-words number (Variable n) = let s = sums base in cc
 
   pub minus-words : (number : ℕ) (x : Atom)
-      → (target 2 number 0 (base + 3) 5 base follows ++ rowOf 4 (pos (base + 4)) 0 0 0 0) ++ atomRow x ≡ emitItems follows (express (assign (variable number) (minus (atomTree x))) then none) base
+      → (targetRows 2 number 0 (base + 3) 5 base follows ++ rowOf 4 (pos (base + 4)) 0 0 0 0) ++ atomRow x ≡ emitItems follows (express (assign (variable number) (minus (atomTree x))) then none) base
   unfolding emitItems emitExpression statementRows expressionRows
   minus-words number (Constant v) = let s = sums base in cc
   minus-words number (Variable n) = let s = sums base in cc
 
   pub fetch-words : (number array : ℕ) (x : Atom)
-      → (target 2 number 0 (base + 3) 5 base follows ++ rowOf 3 (pos array) (base + 4) 0 0 0) ++ atomRow x ≡ emitItems follows (express (assign (variable number) (read (element array (atomTree x)))) then none) base
+      → (targetRows 2 number 0 (base + 3) 5 base follows ++ rowOf 3 (pos array) (base + 4) 0 0 0) ++ atomRow x ≡ emitItems follows (express (assign (variable number) (read (element array (atomTree x)))) then none) base
   unfolding emitItems emitExpression statementRows expressionRows
   fetch-words number array (Constant v) = let s = sums base in cc
   fetch-words number array (Variable n) = let s = sums base in cc
 
   pub binary-words : (number : ℕ) (operator : Operator) (x y : Atom) {o : ℕ} → o ≡ operatorNumber operator
-      → ((target 2 number 0 (base + 3) 6 base follows ++ rowOf (6 + o) (pos (base + 4)) (base + 5) 0 0 0) ++ atomRow x) ++ atomRow y
+      → ((targetRows 2 number 0 (base + 3) 6 base follows ++ rowOf (6 + o) (pos (base + 4)) (base + 5) 0 0 0) ++ atomRow x) ++ atomRow y
       ≡ emitItems follows (express (assign (variable number) (binary operator (atomTree x) (atomTree y))) then none) base
   unfolding emitItems emitExpression statementRows expressionRows
   binary-words number operator (Constant v) (Constant w) e = let s = sums base in cc
@@ -125,7 +125,7 @@ module _ (base : ℕ) (follows : Bool) where
   binary-words number operator (Variable n) (Variable k) e = let s = sums base in cc
 
   pub store-words : (array : ℕ) (x y : Atom)
-      → (target 3 array (base + 3) (base + 4) 5 base follows ++ atomRow x) ++ atomRow y ≡ emitItems follows (express (assign (element array (atomTree x)) (atomTree y)) then none) base
+      → (targetRows 3 array (base + 3) (base + 4) 5 base follows ++ atomRow x) ++ atomRow y ≡ emitItems follows (express (assign (element array (atomTree x)) (atomTree y)) then none) base
   unfolding emitItems emitExpression statementRows expressionRows
   store-words array (Constant v) (Constant w) = let s = sums base in cc
   store-words array (Constant v) (Variable k) = let s = sums base in cc

@@ -1,21 +1,25 @@
 -- Asks: what the leaves ask of their caller, and what they find of atoms and places.
 use mathlib.Core.Path.{_≡_}
 use mathlib.Core.List.{List}
-use Prim.Native.Nat.{ℕ, _+_, _*_, _≤_, _<_}
+use Prim.Native.Nat.{ℕ, _*_, _≤_, _<_}
 use lib.IntN.{ℤ}
 use Rattle.words.specs.Table.{rowCount}
+use Rattle.language.specs.Trees.{variable, element}
 use Rattle.language.specs.Writes.{writes, indexWrites}
 use Rattle.language.specs.Decode.{placeOf, expressionAt}
-use Rattle.translation.specs.Translate.{atomOf, atom, kernelPlace}
-use Rattle.translation.specs.TranslateSize.{indexRows as indexRowsOf, copied}
+use Rattle.translation.specs.Uses.{direct}
+use Rattle.translation.specs.declared.Use.{Use}
+use Rattle.translation.specs.Translate.{atomOf, atom, targetWord, kernelPlace}
+use Rattle.translation.specs.TranslateSize.{indexRows as indexRowsOf, storeRows, copied}
 use Rattle.translation.specs.HeldCode.{heldBy}
+use Rattle.measures.specs.Parts.{UseFits}
 use Rattle.measures.specs.Measures.{Measured}
 use Rattle.shapes.specs.Source.{mostVariables, mostArrays}
 use Rattle.shapes.specs.Shapes.{placeTree as placeShapeTree}
 use Rattle.shapes.specs.declared.PlaceShape.{PlaceShape}
 use Rattle.shapes.specs.declared.PlaceShape.the-variants.{Variable as VariableShape, Element as ElementShape}
 use Rattle.leaves.specs.Room.{Room}
-use Rattle.leaves.specs.Atoms.{atomTree, placeTree, AtomFits, PlaceFits, indexRows}
+use Rattle.leaves.specs.Atoms.{atomTree, placeTree, AtomFits, PlaceFits}
 use Rattle.leaves.specs.Straight.{lastSize}
 use Rattle.leaves.specs.declared.Atom.{Atom}
 use Rattle.leaves.specs.declared.KernelPlace.{KernelPlace}
@@ -26,10 +30,16 @@ pub record Writing (rows : List ℤ) (table : List ℕ) (S : ℕ) : Type 0 where
   pub small-store : S ≤ 8192
 
 -- What an expression does behind its first two operands.
-pub record LastAsks (rows : List ℤ) (row level base words : ℕ) : Type 0 where
+pub record LastAsks (rows : List ℤ) (row : ℕ) (u : Use) (level base words : ℕ) : Type 0 where
   pub inside : row < rowCount rows
   pub level-low : level ≤ row
-  pub room : Room (lastSize (expressionAt rows row)) base words
+  pub use-fits : UseFits u
+  pub room : Room (lastSize (expressionAt rows row) u) base words
+
+-- The word where an element's value or an operation's result goes.
+pub record TargetIs (S : ℕ) (u : Use) (t r : ℕ) : Type 0 where
+  pub is : r ≡ targetWord S u t
+  pub fits : r < 65536
 
 -- ---- atoms and places
 
@@ -52,20 +62,19 @@ PlaceInside rows (ElementShape array index) = (array < mostArrays) × (index < r
 pub record HeldPlace (S : ℕ) (rows : List ℤ) (place : PlaceShape) (t : ℕ) (p : KernelPlace) : Type 0 where
   pub is : placeTree p ≡ kernelPlace S (placeShapeTree rows place) t
   pub fits : PlaceFits p
-  pub rows-are : indexRows p ≡ indexRowsOf (placeShapeTree rows place)
 
 -- The place at a row, its index held at level t.
 pub record PlaceAt (S : ℕ) (rows : List ℤ) (row t : ℕ) (p : KernelPlace) : Type 0 where
   pub is : placeTree p ≡ kernelPlace S (placeOf (expressionAt rows row)) t
   pub fits : PlaceFits p
-  pub rows-are : indexRows p ≡ indexRowsOf (placeOf (expressionAt rows row))
 
 -- ---- what ends the code of an expression
 
-pub record ReadAsks (rows : List ℤ) (table : List ℕ) (S : ℕ) (place : PlaceShape) (level base words : ℕ) : Type 0 where
+pub record ReadAsks (rows : List ℤ) (table : List ℕ) (S : ℕ) (place : PlaceShape) (u : Use) (level base words : ℕ) : Type 0 where
   pub writing : Writing rows table S
   pub place-inside : PlaceInside rows place
   pub level-low : level ≤ 2048
+  pub use-fits : UseFits u
   pub room : Room (5 * indexRowsOf (placeShapeTree rows place)) base words
 
 -- `copies` is 1 where the value of the first operand was copied.
@@ -75,18 +84,36 @@ pub record AssignmentAsks (rows : List ℤ) (table : List ℕ) (S place value co
   pub value-inside : value < rowCount rows
   pub copies-are : copies ≡ copied (atomOf (expressionAt rows value)) (indexWrites (placeOf (expressionAt rows place)))
   pub level-low : level ≤ 2048
-  pub room : Room (4 + indexRowsOf (placeOf (expressionAt rows place))) base words
+  pub room : Room (storeRows (placeOf (expressionAt rows place)) (direct (expressionAt rows value))) base words
 
-pub record OperationAsks (rows : List ℤ) (table : List ℕ) (S place level base words : ℕ) : Type 0 where
+pub record VariableAsks (rows : List ℤ) (table : List ℕ) (S i value level base words : ℕ) : Type 0 where
+  pub writing : Writing rows table S
+  pub low : i < mostVariables
+  pub value-inside : value < rowCount rows
+  pub level-low : level ≤ 2048
+  pub room : Room (storeRows (variable i) (direct (expressionAt rows value))) base words
+
+pub record ElementAsks (rows : List ℤ) (table : List ℕ) (S array index value copies level base words : ℕ) : Type 0 where
+  pub writing : Writing rows table S
+  pub low : array < mostArrays
+  pub index-inside : index < rowCount rows
+  pub value-inside : value < rowCount rows
+  pub copies-are : copies ≡ copied (atomOf (expressionAt rows value)) (indexWrites (element array (expressionAt rows index)))
+  pub level-low : level ≤ 2048
+  pub room : Room 5 base words
+
+-- An operation on a place, of so many rows.
+pub record OperationAsks (rows : List ℤ) (table : List ℕ) (S place size level base words : ℕ) : Type 0 where
   pub writing : Writing rows table S
   pub place-inside : place < rowCount rows
   pub level-low : level ≤ 2048
-  pub room : Room (10 + 6 * indexRowsOf (placeOf (expressionAt rows place))) base words
+  pub room : Room size base words
 
-pub record OperatorAsks (rows : List ℤ) (table : List ℕ) (S left right copies level base words : ℕ) : Type 0 where
+pub record OperatorAsks (rows : List ℤ) (table : List ℕ) (S left right copies : ℕ) (u : Use) (level base words : ℕ) : Type 0 where
   pub writing : Writing rows table S
   pub left-inside : left < rowCount rows
   pub right-inside : right < rowCount rows
   pub copies-are : copies ≡ copied (atomOf (expressionAt rows right)) (writes (expressionAt rows left))
+  pub use-fits : UseFits u
   pub level-low : level ≤ 2048
   pub room : Room 6 base words

@@ -30,8 +30,3 @@ AtomFits (Variable n) = n < 65536
 abbrev pub PlaceFits : KernelPlace → Type 0
 PlaceFits (VariablePlace n) = n < 65536
 PlaceFits (Element array index) = (array < 65536) × AtomFits index
-
--- The rows of a place below its own.
-abbrev pub indexRows : KernelPlace → ℕ
-indexRows (VariablePlace n) = 0
-indexRows (Element array index) = 1

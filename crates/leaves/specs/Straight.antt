@@ -8,31 +8,34 @@ use Rattle.words.specs.declared.Operator.{Operator}
 use Rattle.words.specs.declared.Operator.the-variants.{Equal}
 use Rattle.language.specs.Trees.{Expression, constant, read, minus, not, binary, and, or, comma, conditional, assign, compound, prefix, postfix, variable, element, express, Items, none, _then_, _here_}
 use Rattle.language.specs.Writes.{writes, indexWrites}
-use Rattle.translation.specs.Translate.{held, atomOf, taken, placeTaken, atom, temporary, assigning, readCode, kernelPlace, updateCode, postfixCode}
-use Rattle.translation.specs.TranslateSize.{partSize, ownRows}
+use Rattle.translation.specs.Uses.{direct}
+use Rattle.translation.specs.declared.Use.{Use}
+use Rattle.translation.specs.declared.Use.the-variants.{Wanted as wanted}
+use Rattle.translation.specs.Translate.{held, landed, atomOf, taken, placeTaken, atom, assigning, target, readCode, storeCode, kernelPlace, updateCode, postfixCode}
+use Rattle.translation.specs.TranslateSize.{operandSize, ownRows}
 use Rattle.emission.specs.Emission.{rowOf}
 use Rattle.measures.specs.Parts.{thirdOperand, fourthOperand, firstCopied}
 
 module _ (S : ℕ) where
-  -- What an expression does with the values of its first two operands.
-  abbrev pub straightCode : Expression → ℕ → Items
-  straightCode (constant v) t = none
-  straightCode (read p) t = readCode S p t
-  straightCode (minus e) t = assigning S (temporary S t) (minus (atom S t (atomOf e))) none
-  straightCode (not e) t = assigning S (temporary S t) (binary Equal (atom S t (atomOf e)) (constant (pos 0))) none
-  straightCode (binary operator a b) t =
+  -- What an expression does with the values of its first two operands, where its own has the use u.
+  abbrev pub straightCode : Expression → Use → ℕ → Items
+  straightCode (constant v) u t = none
+  straightCode (read p) u t = readCode S p u t
+  straightCode (minus e) u t = assigning S (target S u t) (minus (atom S t (atomOf e))) none
+  straightCode (not e) u t = assigning S (target S u t) (binary Equal (atom S t (atomOf e)) (constant (pos 0))) none
+  straightCode (binary operator a b) u t =
       let right = held (atomOf b) (writes a) in
-      assigning S (temporary S t) (binary operator (atom S (t + taken right) (atomOf a)) (atom S t right)) none
-  straightCode (and a b) t = none
-  straightCode (or a b) t = none
-  straightCode (comma a b) t = none
-  straightCode (conditional c a b) t = none
-  straightCode (assign p e) t =
-      let value = held (atomOf e) (indexWrites p) in
-      assigning S (kernelPlace S p (t + taken value)) (atom S t value) none
-  straightCode (compound operator p e) t = updateCode S operator (kernelPlace S p (t + 1)) (atom S t (held (atomOf e) (indexWrites p))) t (t + 1 + placeTaken p)
-  straightCode (prefix operator p) t = updateCode S operator (kernelPlace S p (t + 1)) (constant (pos 1)) t (t + 1 + placeTaken p)
-  straightCode (postfix operator p) t = postfixCode S operator (kernelPlace S p (t + 1)) t (t + 1 + placeTaken p)
+      assigning S (target S u t) (binary operator (atom S (t + taken right) (atomOf a)) (atom S t right)) none
+  straightCode (and a b) u t = none
+  straightCode (or a b) u t = none
+  straightCode (comma a b) u t = none
+  straightCode (conditional c a b) u t = none
+  straightCode (assign p e) u t =
+      let value = held (landed p (direct e) (atomOf e)) (indexWrites p) in
+      storeCode S (kernelPlace S p (t + taken value)) (direct e) (atom S t value)
+  straightCode (compound operator p e) u t = updateCode S operator (kernelPlace S p (t + 1)) (atom S t (held (atomOf e) (indexWrites p))) t (t + 1 + placeTaken p)
+  straightCode (prefix operator p) u t = updateCode S operator (kernelPlace S p (t + 1)) (constant (pos 1)) t (t + 1 + placeTaken p)
+  straightCode (postfix operator p) u t = postfixCode S operator (kernelPlace S p (t + 1)) u t (t + 1 + placeTaken p)
 
 -- An element's update: its old value into one variable, the new value into another, and from there into the element.
 abbrev pub elementUpdate : Operator → ℕ → Expression → Expression → ℕ → ℕ → Items
@@ -42,12 +45,18 @@ elementUpdate operator array index operand old new =
     express (assign (element array index) (read (variable new))) then none
 
 -- The kernel rows behind an expression's first two operands and the copy of the first one's value.
-abbrev pub lastSize : Expression → ℕ
-lastSize e = partSize (thirdOperand e) + partSize (fourthOperand e) + (ownRows e - 4 * firstCopied e)
+abbrev pub lastSize : Expression → Use → ℕ
+lastSize e u = operandSize (thirdOperand e) wanted + operandSize (fourthOperand e) wanted + (ownRows e u - 4 * firstCopied e)
+
+-- A variable's old value into another one, and old op 1 into the variable.
+abbrev pub keptStep : Operator → ℕ → ℕ → Items
+keptStep operator i old =
+    express (assign (variable old) (read (variable i))) then
+    express (assign (variable i) (binary operator (read (variable old)) (constant (pos 1)))) then none
 
 -- The rows that head an assignment of `size` rows: the statement, the assignment, whose value stands at the row `value`, and its place's own row.
-abbrev pub target : ℕ → ℕ → ℕ → ℕ → ℕ → ℕ → Bool → List ℤ
-target kind number index value size base follows =
+abbrev pub targetRows : ℕ → ℕ → ℕ → ℕ → ℕ → ℕ → Bool → List ℤ
+targetRows kind number index value size base follows =
     rowOf 41 (pos (base + 1)) 0 0 0 (pick follows (base + size) 0) ++ rowOf 21 (pos (base + 2)) value 0 0 0 ++ rowOf kind (pos number) index 0 0 0
 
 -- The rows that head a loop: the while, its constant test, and the block of its body, which takes `rows` rows.

@@ -15,7 +15,7 @@ ghost use Rattle.emission.specs.Emission.{rowOf, emitItems};
 ghost use Rattle.words.specs.Over.{over};
 ghost use Rattle.leaves.specs.Room.{Room};
 ghost use Rattle.leaves.specs.Atoms.{atomTree, atomRow, AtomFits};
-ghost use Rattle.leaves.specs.Straight.{target};
+ghost use Rattle.leaves.specs.Straight.{targetRows};
 
 // The rows that head an assignment of `size` rows: the statement, the assignment, whose value stands at the row `value`, and its place's own row.
 fn put_target(
@@ -29,7 +29,7 @@ fn put_target(
     out: &mut [i32],
 )
     requires { ⌜ Room size base (length (now out)) × (3 ≤ size) × (kind < 65536) × (number < 65536) × (index < 65536) × (value < 65536) ⌝ }
-    ensures { λ _. ⌜ now (out .exit) ≡ over (target kind number index value size base follows) (now (out .entry)) ⌝ }
+    ensures { λ _. ⌜ now (out .exit) ≡ over (targetRows kind number index value size base follows) (now (out .entry)) ⌝ }
 {
     put_row(41, base + 1, 0, 0, behind(follows, base + size), out);
     put_row(21, base + 2, value, 0, 0, &mut out[6..]);
@@ -49,7 +49,7 @@ fn put_operand(
     out: &mut [i32],
 )
     requires { ⌜ Room size base (length (now out)) × (5 ≤ size) × (number < 65536) × (kind < 65536) × (a < 65536) × (b < 65536) × AtomFits operand ⌝ }
-    ensures { λ _. ⌜ now (out .exit) ≡ over ((target 2 number 0 (base + 3) size base follows ++ rowOf kind (pos a) b 0 0 0) ++ atomRow operand) (now (out .entry)) ⌝ }
+    ensures { λ _. ⌜ now (out .exit) ≡ over ((targetRows 2 number 0 (base + 3) size base follows ++ rowOf kind (pos a) b 0 0 0) ++ atomRow operand) (now (out .entry)) ⌝ }
 {
     put_target(2, number, 0, base + 3, size, base, follows, out);
     put_row(kind, a, b, 0, 0, &mut out[18..]);

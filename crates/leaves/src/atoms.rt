@@ -2,40 +2,47 @@
 use super::Atom;
 use super::KernelPlace;
 use measures::COPIED;
-use measures::ROWS;
-use measures::VALUE;
+use measures::Holder;
 use measures::WIDTH;
-use measures::expressions::taken_at;
+use measures::holders::holder_at;
+use measures::holders::taken_at;
 use measures::table::measure_at;
-use shapes::ExpressionShape;
+use measures::uses::rows_for;
 use shapes::PlaceShape;
-use shapes::rows::expression_at;
 use shapes::rows::place_at;
+use translation::Use;
 ghost use mathlib.Core.Path.{_≡_};
 ghost use Prim.Native.Nat.{_+_, _≤_, _<_};
 ghost use Rattle.words.specs.Table.{rowCount};
 ghost use Rattle.language.specs.Decode.{placeOf, expressionAt, partAt};
 ghost use Rattle.translation.specs.Translate.{placeTaken};
-ghost use Rattle.translation.specs.TranslateSize.{partSize};
-ghost use Rattle.measures.specs.Parts.{firstCopied};
+ghost use Rattle.translation.specs.TranslateSize.{operandSize};
+ghost use Rattle.measures.specs.Parts.{firstCopied, UseFits};
 ghost use Rattle.measures.specs.Measures.{Measured};
-ghost use Rattle.leaves.specs.Asks.{Writing, AtomAt, HeldAt, PlaceInside, HeldPlace, PlaceAt};
+ghost use Rattle.leaves.specs.Asks.{Writing, AtomAt, TargetIs, HeldAt, PlaceInside, HeldPlace, PlaceAt};
 
 // The atom of the expression at a row, worked out at a level.
 pub fn atom_at(rows: &[i32], table: &[usize], store: usize, row: usize, level: usize) -> Atom
     requires { ⌜ Writing (now rows) (now table) store × (row < rowCount (now rows)) × (level ≤ 4096) ⌝ }
     ensures { λ r. ⌜ AtomAt store (now (rows .entry)) row level r ⌝ }
 {
-    let temporary = Atom::Variable(store + level);
-    let shape = expression_at(rows, table[WIDTH * row + VALUE]);
-    match shape {
-        ExpressionShape::Number(value) => Atom::Constant(value),
-        ExpressionShape::Read(place) => match place {
-            PlaceShape::Variable(number) => Atom::Variable(number),
-            PlaceShape::Element(_, _) => temporary,
-        },
-        ExpressionShape::Operation(_) => temporary,
-        ExpressionShape::Choice(_) => temporary,
+    let holder = holder_at(rows, table, row);
+    match holder {
+        Holder::Number(value) => Atom::Constant(value),
+        Holder::Variable(number) => Atom::Variable(number),
+        Holder::Temporary => Atom::Variable(store + level),
+    }
+}
+
+// The word where an element's value or an operation's result goes: the temporary of its level, or the variable that stores it.
+pub fn target_word(store: usize, level: usize, usage: Use) -> usize
+    requires { ⌜ (store + level < 65536) × UseFits usage ⌝ }
+    ensures { λ r. ⌜ TargetIs store usage level r ⌝ }
+{
+    match usage {
+        Use::Dropped => store + level,
+        Use::Wanted => store + level,
+        Use::Stored(number) => number,
     }
 }
 
@@ -112,10 +119,10 @@ pub fn place_taken(rows: &[i32], table: &[usize], row: usize) -> usize
     }
 }
 
-// The kernel rows of the expression at a link.
-pub fn operand_size(rows: &[i32], table: &[usize], row: usize) -> usize
-    requires { ⌜ Measured (now rows) (now table) × (row < rowCount (now rows)) × (partSize (partAt (now rows) row) ≤ 40980) ⌝ }
-    ensures { λ r. ⌜ r ≡ partSize (partAt (now (rows .entry)) row) ⌝ }
+// The kernel rows of the expression at a link, where its value has this use.
+pub fn operand_size(rows: &[i32], table: &[usize], row: usize, usage: Use) -> usize
+    requires { ⌜ Measured (now rows) (now table) × (row < rowCount (now rows)) × (operandSize (partAt (now rows) row) usage ≤ 40980) ⌝ }
+    ensures { λ r. ⌜ r ≡ operandSize (partAt (now (rows .entry)) row) usage ⌝ }
 {
-    measure_at(table, row, ROWS)
+    measure_at(table, row, rows_for(usage))
 }

@@ -12,27 +12,32 @@ use super::atoms::held_atom;
 use super::atoms::kernel_place;
 use super::atoms::operand_copied;
 use super::atoms::place_taken;
-use measures::expressions::taken_at;
+use super::atoms::target_word;
+use measures::holders::direct_at;
+use measures::holders::taken_at;
 use shapes::ExpressionShape;
 use shapes::OperationShape;
 use shapes::PlaceShape;
 use shapes::rows::expression_at;
+use shapes::rows::place_at;
+use translation::Use;
 use words::Operator;
 ghost use mathlib.Core.Path.{_≡_};
 ghost use Prim.Native.Nat.{_+_, _*_, _≤_, _<_};
 ghost use lib.ListN.{length};
 ghost use Rattle.words.specs.Table.{rowCount};
-ghost use Rattle.language.specs.Trees.{binary, assign, express, none, _then_};
+ghost use Rattle.language.specs.Trees.{binary, assign, variable, element};
 ghost use Rattle.language.specs.Decode.{placeOf, expressionAt};
-ghost use Rattle.translation.specs.Translate.{atomOf, placeTaken, readCode, kernelPlace, updateCode, postfixCode};
+ghost use Rattle.translation.specs.Translate.{atomOf, placeTaken, readCode, kernelPlace, updateCode, stepCode, postfixCode};
+ghost use Rattle.translation.specs.TranslateSize.{updateRows, stepRows, postfixRows};
 ghost use Rattle.translation.specs.HeldCode.{holdBy};
 ghost use Rattle.shapes.specs.Shapes.{placeTree as placeShapeTree};
 ghost use Rattle.emission.specs.Emission.{emitItems};
 ghost use Rattle.words.specs.Over.{over};
 ghost use Rattle.leaves.specs.Room.{Room};
-ghost use Rattle.leaves.specs.Atoms.{atomTree, placeTree, AtomFits, PlaceFits, indexRows};
-ghost use Rattle.leaves.specs.Straight.{straightCode, elementUpdate};
-ghost use Rattle.leaves.specs.Asks.{Writing, LastAsks, ReadAsks, AssignmentAsks, OperationAsks, OperatorAsks};
+ghost use Rattle.leaves.specs.Atoms.{atomTree, placeTree, AtomFits, PlaceFits};
+ghost use Rattle.leaves.specs.Straight.{straightCode, elementUpdate, keptStep};
+ghost use Rattle.leaves.specs.Asks.{Writing, LastAsks, ReadAsks, VariableAsks, ElementAsks, AssignmentAsks, OperationAsks, OperatorAsks};
 
 // The copy of a value that waits, into the temporary of its level; nothing where it is not copied.
 pub fn put_hold(
@@ -55,28 +60,25 @@ pub fn put_hold(
     }
 }
 
-// An element's value into the temporary of the level; a variable stands for its own.
-fn put_read(rows: &[i32], table: &[usize], place: PlaceShape, at: Position, out: &mut [i32])
-    requires { ⌜ ReadAsks (now rows) (now table) (at .store) place (at .level) (at .base) (length (now out)) ⌝ }
-    ensures { λ _. ⌜ now (out .exit) ≡ over (emitItems (at .follows) (readCode (at .store) (placeShapeTree (now (rows .entry)) place) (at .level)) (at .base)) (now (out .entry)) ⌝ }
+// An element's value into its target; a variable stands for its own.
+fn put_read(
+    rows: &[i32],
+    table: &[usize],
+    place: PlaceShape,
+    usage: Use,
+    at: Position,
+    out: &mut [i32],
+)
+    requires { ⌜ ReadAsks (now rows) (now table) (at .store) place usage (at .level) (at .base) (length (now out)) ⌝ }
+    ensures { λ _. ⌜ now (out .exit) ≡ over (emitItems (at .follows) (readCode (at .store) (placeShapeTree (now (rows .entry)) place) usage (at .level)) (at .base)) (now (out .entry)) ⌝ }
 {
     match place {
         PlaceShape::Variable(_) => {}
         PlaceShape::Element(array, index) => {
+            let number = target_word(at.store, at.level, usage);
             let atom = atom_at(rows, table, at.store, index, at.level);
-            put_fetch(at.store + at.level, array, atom, at.base, at.follows, out);
+            put_fetch(number, array, atom, at.base, at.follows, out);
         }
-    }
-}
-
-// place := atom
-fn put_assign(place: KernelPlace, value: Atom, base: usize, follows: bool, out: &mut [i32])
-    requires { ⌜ Room (4 + indexRows place) base (length (now out)) × PlaceFits place × AtomFits value ⌝ }
-    ensures { λ _. ⌜ now (out .exit) ≡ over (emitItems follows (express (assign (placeTree place) (atomTree value)) then none) base) (now (out .entry)) ⌝ }
-{
-    match place {
-        KernelPlace::Variable(number) => put_copy(number, value, base, follows, out),
-        KernelPlace::Element(array, index) => put_store(array, index, value, base, follows, out),
     }
 }
 
@@ -115,7 +117,7 @@ fn put_element_update(
     );
 }
 
-// place := place operator atom, through the temporary of a level, and an element's old value through one above.
+// place := place operator atom; an element's through the temporary of a level, and its old value through one above.
 fn put_update(
     store: usize,
     operator: Operator,
@@ -127,7 +129,7 @@ fn put_update(
     follows: bool,
     out: &mut [i32],
 )
-    requires { ⌜ Room (10 + 6 * indexRows place) base (length (now out)) × PlaceFits place × AtomFits operand × (store + level < 65536) × (store + above < 65536) ⌝ }
+    requires { ⌜ Room (updateRows (placeTree place)) base (length (now out)) × PlaceFits place × AtomFits operand × (store + level < 65536) × (store + above < 65536) ⌝ }
     ensures { λ _. ⌜ now (out .exit) ≡ over (emitItems follows (updateCode store operator (placeTree place) (atomTree operand) level above) base) (now (out .entry)) ⌝ }
 {
     let result = store + level;
@@ -135,9 +137,7 @@ fn put_update(
     match place {
         KernelPlace::Variable(number) => {
             let value = Atom::Variable(number);
-            put_binary(result, operator, value, operand, base, true, out);
-            let changed = Atom::Variable(result);
-            put_copy(number, changed, base + 6, follows, &mut out[36..]);
+            put_binary(number, operator, value, operand, base, follows, out);
         }
         KernelPlace::Element(array, index) => put_element_update(
             array,
@@ -153,34 +153,118 @@ fn put_update(
     }
 }
 
-// The old value into the temporary of a level, and the new one into the place, an element's through a temporary above.
+// old := variable, variable := old operator 1
+fn put_kept_step(
+    operator: Operator,
+    number: usize,
+    old: usize,
+    base: usize,
+    follows: bool,
+    out: &mut [i32],
+)
+    requires { ⌜ Room 10 base (length (now out)) × (number < 65536) × (old < 65536) ⌝ }
+    ensures { λ _. ⌜ now (out .exit) ≡ over (emitItems follows (keptStep operator number old) base) (now (out .entry)) ⌝ }
+{
+    put_copy(old, Atom::Variable(number), base, true, out);
+    let value = Atom::Variable(old);
+    let one = Atom::Constant(1);
+    let rest = &mut out[24..];
+    put_binary(number, operator, value, one, base + 4, follows, rest);
+}
+
+// A variable operated on with 1; its old value goes into the temporary of a level, where it is used.
+fn put_variable_step(
+    store: usize,
+    operator: Operator,
+    number: usize,
+    usage: Use,
+    level: usize,
+    base: usize,
+    follows: bool,
+    out: &mut [i32],
+)
+    requires { ⌜ Room (stepRows usage) base (length (now out)) × (number < 65536) × (store + level < 65536) ⌝ }
+    ensures { λ _. ⌜ now (out .exit) ≡ over (emitItems follows (stepCode store operator number usage level) base) (now (out .entry)) ⌝ }
+{
+    let old = store + level;
+    match usage {
+        Use::Dropped => {
+            let value = Atom::Variable(number);
+            let one = Atom::Constant(1);
+            put_binary(number, operator, value, one, base, follows, out);
+        }
+        Use::Wanted => put_kept_step(operator, number, old, base, follows, out),
+        Use::Stored(_) => put_kept_step(operator, number, old, base, follows, out),
+    }
+}
+
+// The old value into the temporary of a level, where it is used, and the new one into the place, an element's through a temporary above.
 fn put_postfix(
     store: usize,
     operator: Operator,
     place: KernelPlace,
+    usage: Use,
     level: usize,
     above: usize,
     base: usize,
     follows: bool,
     out: &mut [i32],
 )
-    requires { ⌜ Room (10 + 6 * indexRows place) base (length (now out)) × PlaceFits place × (store + level < 65536) × (store + above < 65536) ⌝ }
-    ensures { λ _. ⌜ now (out .exit) ≡ over (emitItems follows (postfixCode store operator (placeTree place) level above) base) (now (out .entry)) ⌝ }
+    requires { ⌜ Room (postfixRows (placeTree place) usage) base (length (now out)) × PlaceFits place × (store + level < 65536) × (store + above < 65536) ⌝ }
+    ensures { λ _. ⌜ now (out .exit) ≡ over (emitItems follows (postfixCode store operator (placeTree place) usage level above) base) (now (out .entry)) ⌝ }
 {
     let old = store + level;
     let new = store + above;
     let one = Atom::Constant(1);
     match place {
         KernelPlace::Variable(number) => {
-            put_copy(old, Atom::Variable(number), base, true, out);
-            let value = Atom::Variable(old);
-            let rest = &mut out[24..];
-            put_binary(number, operator, value, one, base + 4, follows, rest);
+            put_variable_step(store, operator, number, usage, level, base, follows, out)
         }
         KernelPlace::Element(array, index) => {
             put_element_update(array, index, operator, one, old, new, base, follows, out)
         }
     }
+}
+
+// A value into a variable; one that went straight there is there already.
+fn put_variable(
+    rows: &[i32],
+    table: &[usize],
+    number: usize,
+    value: usize,
+    usage: Use,
+    at: Position,
+    out: &mut [i32],
+)
+    requires { ⌜ VariableAsks (now rows) (now table) (at .store) number value (at .level) (at .base) (length (now out)) ⌝ }
+    ensures { λ _. ⌜ now (out .exit) ≡ over (emitItems (at .follows) (straightCode (at .store) (assign (variable number) (expressionAt (now (rows .entry)) value)) usage (at .level)) (at .base)) (now (out .entry)) ⌝ }
+{
+    if direct_at(rows, value) {
+        return;
+    }
+    let source = atom_at(rows, table, at.store, value, at.level);
+    put_copy(number, source, at.base, at.follows, out);
+}
+
+// A value that waited into an element.
+fn put_element(
+    rows: &[i32],
+    table: &[usize],
+    array: usize,
+    index: usize,
+    value: usize,
+    copied: usize,
+    usage: Use,
+    at: Position,
+    out: &mut [i32],
+)
+    requires { ⌜ ElementAsks (now rows) (now table) (at .store) array index value copied (at .level) (at .base) (length (now out)) ⌝ }
+    ensures { λ _. ⌜ now (out .exit) ≡ over (emitItems (at .follows) (straightCode (at .store) (assign (element array (expressionAt (now (rows .entry)) index)) (expressionAt (now (rows .entry)) value)) usage (at .level)) (at .base)) (now (out .entry)) ⌝ }
+{
+    let source = held_atom(rows, table, at.store, value, copied, at.level);
+    let above = at.level + taken_at(rows, table, value) + copied;
+    let index_atom = atom_at(rows, table, at.store, index, above);
+    put_store(array, index_atom, source, at.base, at.follows, out);
 }
 
 // The value of the first operand into the place at a row.
@@ -190,16 +274,20 @@ fn put_assignment(
     place: usize,
     value: usize,
     copied: usize,
+    usage: Use,
     at: Position,
     out: &mut [i32],
 )
     requires { ⌜ AssignmentAsks (now rows) (now table) (at .store) place value copied (at .level) (at .base) (length (now out)) ⌝ }
-    ensures { λ _. ⌜ now (out .exit) ≡ over (emitItems (at .follows) (straightCode (at .store) (assign (placeOf (expressionAt (now (rows .entry)) place)) (expressionAt (now (rows .entry)) value)) (at .level)) (at .base)) (now (out .entry)) ⌝ }
+    ensures { λ _. ⌜ now (out .exit) ≡ over (emitItems (at .follows) (straightCode (at .store) (assign (placeOf (expressionAt (now (rows .entry)) place)) (expressionAt (now (rows .entry)) value)) usage (at .level)) (at .base)) (now (out .entry)) ⌝ }
 {
-    let source = held_atom(rows, table, at.store, value, copied, at.level);
-    let above = at.level + taken_at(rows, table, value) + copied;
-    let target = kernel_place(rows, table, at.store, place, above);
-    put_assign(target, source, at.base, at.follows, out);
+    let shape = place_at(rows, place);
+    match shape {
+        PlaceShape::Variable(number) => put_variable(rows, table, number, value, usage, at, out),
+        PlaceShape::Element(array, index) => {
+            put_element(rows, table, array, index, value, copied, usage, at, out)
+        }
+    }
 }
 
 // The place at a row, operated on with an atom.
@@ -212,7 +300,7 @@ fn put_operation(
     at: Position,
     out: &mut [i32],
 )
-    requires { ⌜ OperationAsks (now rows) (now table) (at .store) place (at .level) (at .base) (length (now out)) × AtomFits operand ⌝ }
+    requires { ⌜ OperationAsks (now rows) (now table) (at .store) place (updateRows (placeOf (expressionAt (now rows) place))) (at .level) (at .base) (length (now out)) × AtomFits operand ⌝ }
     ensures { λ _. ⌜ now (out .exit) ≡ over (emitItems (at .follows) (updateCode (at .store) operator (kernelPlace (at .store) (placeOf (expressionAt (now (rows .entry)) place)) (at .level + 1)) (atomTree operand) (at .level) (at .level + 1 + placeTaken (placeOf (expressionAt (now (rows .entry)) place)))) (at .base)) (now (out .entry)) ⌝ }
 {
     let target = kernel_place(rows, table, at.store, place, at.level + 1);
@@ -236,11 +324,12 @@ fn put_step(
     table: &[usize],
     operator: Operator,
     place: usize,
+    usage: Use,
     at: Position,
     out: &mut [i32],
 )
-    requires { ⌜ OperationAsks (now rows) (now table) (at .store) place (at .level) (at .base) (length (now out)) ⌝ }
-    ensures { λ _. ⌜ now (out .exit) ≡ over (emitItems (at .follows) (postfixCode (at .store) operator (kernelPlace (at .store) (placeOf (expressionAt (now (rows .entry)) place)) (at .level + 1)) (at .level) (at .level + 1 + placeTaken (placeOf (expressionAt (now (rows .entry)) place)))) (at .base)) (now (out .entry)) ⌝ }
+    requires { ⌜ OperationAsks (now rows) (now table) (at .store) place (postfixRows (placeOf (expressionAt (now rows) place)) usage) (at .level) (at .base) (length (now out)) ⌝ }
+    ensures { λ _. ⌜ now (out .exit) ≡ over (emitItems (at .follows) (postfixCode (at .store) operator (kernelPlace (at .store) (placeOf (expressionAt (now (rows .entry)) place)) (at .level + 1)) usage (at .level) (at .level + 1 + placeTaken (placeOf (expressionAt (now (rows .entry)) place)))) (at .base)) (now (out .entry)) ⌝ }
 {
     let target = kernel_place(rows, table, at.store, place, at.level + 1);
     let above = at.level + 1 + place_taken(rows, table, place);
@@ -248,6 +337,7 @@ fn put_step(
         at.store,
         operator,
         target,
+        usage,
         at.level,
         above,
         at.base,
@@ -264,17 +354,19 @@ fn put_operator(
     left: usize,
     right: usize,
     copied: usize,
+    usage: Use,
     at: Position,
     out: &mut [i32],
 )
-    requires { ⌜ OperatorAsks (now rows) (now table) (at .store) left right copied (at .level) (at .base) (length (now out)) ⌝ }
-    ensures { λ _. ⌜ now (out .exit) ≡ over (emitItems (at .follows) (straightCode (at .store) (binary operator (expressionAt (now (rows .entry)) left) (expressionAt (now (rows .entry)) right)) (at .level)) (at .base)) (now (out .entry)) ⌝ }
+    requires { ⌜ OperatorAsks (now rows) (now table) (at .store) left right copied usage (at .level) (at .base) (length (now out)) ⌝ }
+    ensures { λ _. ⌜ now (out .exit) ≡ over (emitItems (at .follows) (straightCode (at .store) (binary operator (expressionAt (now (rows .entry)) left) (expressionAt (now (rows .entry)) right)) usage (at .level)) (at .base)) (now (out .entry)) ⌝ }
 {
     let right_atom = held_atom(rows, table, at.store, right, copied, at.level);
     let above = at.level + taken_at(rows, table, right) + copied;
     let left_atom = atom_at(rows, table, at.store, left, above);
+    let number = target_word(at.store, at.level, usage);
     put_binary(
-        at.store + at.level,
+        number,
         operator,
         left_atom,
         right_atom,
@@ -290,15 +382,16 @@ pub fn put_straight(
     table: &[usize],
     store: usize,
     row: usize,
+    usage: Use,
     level: usize,
     base: usize,
     follows: bool,
     out: &mut [i32],
 )
-    requires { ⌜ Writing (now rows) (now table) store × LastAsks (now rows) row level base (length (now out)) ⌝ }
-    ensures { λ _. ⌜ now (out .exit) ≡ over (emitItems follows (straightCode store (expressionAt (now (rows .entry)) row) level) base) (now (out .entry)) ⌝ }
+    requires { ⌜ Writing (now rows) (now table) store × LastAsks (now rows) row usage level base (length (now out)) ⌝ }
+    ensures { λ _. ⌜ now (out .exit) ≡ over (emitItems follows (straightCode store (expressionAt (now (rows .entry)) row) usage level) base) (now (out .entry)) ⌝ }
 {
-    let number = store + level;
+    let number = target_word(store, level, usage);
     let at = Position {
         store,
         level,
@@ -309,7 +402,7 @@ pub fn put_straight(
     let shape = expression_at(rows, row);
     match shape {
         ExpressionShape::Number(_) => {}
-        ExpressionShape::Read(place) => put_read(rows, table, place, at, out),
+        ExpressionShape::Read(place) => put_read(rows, table, place, usage, at, out),
         ExpressionShape::Operation(operation) => match operation {
             OperationShape::Minus(operand) => {
                 let atom = atom_at(rows, table, store, operand, level);
@@ -321,11 +414,11 @@ pub fn put_straight(
                 put_binary(number, Operator::Equal, atom, zero, base, follows, out);
             }
             OperationShape::Binary(operator, left, right) => {
-                put_operator(rows, table, operator, left, right, copied, at, out)
+                put_operator(rows, table, operator, left, right, copied, usage, at, out)
             }
             OperationShape::Comma(_, _) => {}
             OperationShape::Assign(place, value) => {
-                put_assignment(rows, table, place, value, copied, at, out)
+                put_assignment(rows, table, place, value, copied, usage, at, out)
             }
             OperationShape::Compound(operator, place, value) => {
                 let atom = held_atom(rows, table, store, value, copied, level);
@@ -335,7 +428,7 @@ pub fn put_straight(
                 put_operation(rows, table, operator, place, Atom::Constant(1), at, out)
             }
             OperationShape::Postfix(operator, place) => {
-                put_step(rows, table, operator, place, at, out)
+                put_step(rows, table, operator, place, usage, at, out)
             }
         },
         ExpressionShape::Choice(_) => {}

@@ -1,6 +1,6 @@
 -- Laws of the measures: sums that are cut off, the words of the table, and an expression's measures from those of its operands.
 use mathlib.Core.Path.{_≡_, refl, sym, ap, _∙_}
-use mathlib.Core.Bool.{Bool}
+use mathlib.Core.Bool.{Bool, true, false}
 use mathlib.Core.List.{List}
 use Prim.Native.Nat.{ℕ, zero, suc, _+_, _*_, _-_, _≤_, _<_, min, max}
 use native.Mathlib.Omega.{arith}
@@ -20,7 +20,7 @@ use Rattle.shapes.specs.Shapes.{choiceTree, Onward, OptionalOnward}
 use Rattle.shapes.specs.Source.{Source}
 use Rattle.shapes.specs.declared.ChoiceShape.{ChoiceShape}
 use Rattle.shapes.specs.declared.ChoiceShape.the-variants.{And, Or, Conditional}
-use Rattle.measures.specs.Parts.{firstOperand, secondOperand, thirdOperand, fourthOperand, aboveFirst, firstCopied, firstUse, secondUse, ownLevels, plainAtom}
+use Rattle.measures.specs.Parts.{firstOperand, secondOperand, thirdOperand, fourthOperand, aboveFirst, firstCopied, plainAtom, firstUse, secondUse, ownLevels, usePassed, UseFits}
 use Rattle.measures.specs.Measures.{limited, defaultPlace, width, rowsSlot, levelsSlot, valueSlot, statementRowsSlot, statementLevelsSlot, statementLabelsSlot, listRowsSlot, listLevelsSlot, listLabelsSlot, listCasesSlot, listDefaultSlot, copiedSlot, rowsFor, levelsFor, slot, slotAt, LinkMeasured, MeasuredRow, MeasuredFrom, Measured}
 
 -- ---- sums that are cut off
@@ -84,6 +84,13 @@ stored-levels (compound operator p e) i = refl
 stored-levels (prefix operator p) i = refl
 stored-levels (postfix operator (variable j)) i = refl
 stored-levels (postfix operator (element array e)) i = refl
+
+-- a use that is passed on stores nothing
+pub passed-fits : (passes : Bool) (u : Use) → UseFits (usePassed passes u)
+passed-fits true dropped = tt
+passed-fits true wanted = tt
+passed-fits true (stored i) = tt
+passed-fits false u = tt
 
 -- ---- the measures of a row, by the use of its value
 

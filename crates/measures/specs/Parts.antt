@@ -177,6 +177,12 @@ stepOwn value =
 abbrev pub usePassed : Bool → Use → Use
 usePassed passes u = pick passes (passedOn u) wanted
 
+-- The variable that stores a value is one of the source.
+abbrev pub UseFits : Use → Type 0
+UseFits dropped = Unit {0}
+UseFits wanted = Unit {0}
+UseFits (stored i) = i < mostVariables
+
 -- What an own row brings, by the use of its value.
 abbrev pub rowsBy : Own → Use → ℕ
 rowsBy o dropped = o .«dropped_rows»
@@ -201,6 +207,7 @@ module _ (rows : List ℤ) (row : ℕ) where
     pub third : Operand (o .third) (thirdOperand e)
     pub fourth : Operand (o .fourth) (fourthOperand e)
     pub first-use : o .«first_use» ≡ firstUse e
+    pub first-fits : UseFits (o .«first_use»)
     pub second-use : (u : Use) → usePassed (o .passes) u ≡ secondUse e u
     pub above-is : o .above ≡ aboveFirst e
     pub rows-are : o .rows ≡ ownRows e wanted

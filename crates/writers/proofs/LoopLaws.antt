@@ -1,4 +1,4 @@
--- Loops: the code of an operand, of a loop's test, of a round's end, of a round and of a loop, one part behind another.
+-- Loops: the code of a part of a for, of a loop's test, of a round's end, of a round and of a loop, one part behind another.
 use mathlib.Core.Path.{_≡_, refl, sym, ap, ap₂, _∙_}
 use mathlib.Core.Bool.{Bool, true, false}
 use mathlib.Core.List.{List, _++_}
@@ -10,8 +10,9 @@ use Rattle.language.specs.Trees.{Expression, Part, absent, present, label, Stat
 use Rattle.language.specs.Sizes.{expressionRows, statementRows, itemsRows}
 use Rattle.language.specs.TreeLaws.{append-append}
 use Rattle.language.specs.Decode.{expressionAt, statementAt, partAt}
-use Rattle.translation.specs.Translate.{choosing, testCode, loopCode, expressionCode, Exits, exits, statementCode}
-use Rattle.translation.specs.TranslateSize.{partSize, testSize, statementSize}
+use Rattle.translation.specs.declared.Use.the-variants.{Dropped as dropped, Wanted as wanted}
+use Rattle.translation.specs.Translate.{choosing, operandCode, partCode, testCode, loopCode, expressionCode, Exits, exits, statementCode}
+use Rattle.translation.specs.TranslateSize.{operandSize, partSize, testSize, statementSize}
 use Rattle.translation.specs.TranslateRows.{rows-append, rows-expression, rows-test, rows-statement}
 use Rattle.emission.specs.Emission.{rowOf, listLink, emitExpression, emitStatement, emitItems}
 use Rattle.emission.specs.EmissionLaws.{orMore, emit-append}
@@ -21,7 +22,6 @@ use Rattle.leaves.specs.Atoms.{atomTree}
 use Rattle.leaves.specs.Asks.{AtomAt}
 use Rattle.writers.specs.Asks.{roundSize}
 use Rattle.leaves.specs.Straight.{loopHead}
-use Rattle.expression_writers.specs.Code.{operandCode}
 use Rattle.expression_writers.specs.CodeLaws.{rows-operand}
 use Rattle.writers.specs.Code.{roundEnd, roundCode, wholeLoop}
 use Rattle.leaves.specs.declared.Atom.{Atom}
@@ -32,11 +32,11 @@ use Rattle.writers.proofs.Sequence.{put-behind, wrote-behind, more-rows
 
 -- ---- operands and tests
 
-pub test-some : (rows : List ℤ) (test : ℕ) → (test ≡ 0 → ⊥) → testSize (partAt rows test) ≡ partSize (partAt rows test) + 5
+pub test-some : (rows : List ℤ) (test : ℕ) → (test ≡ 0 → ⊥) → testSize (partAt rows test) ≡ operandSize (partAt rows test) wanted + 5
 test-some rows zero h = absurd (h refl)
 test-some rows (suc test) h = refl
 
-pub test-most : (p : Part) → partSize p ≤ testSize p
+pub test-most : (p : Part) → operandSize p wanted ≤ testSize p
 test-most absent = omega arith
 test-most (present e) = omega arith
 
@@ -45,9 +45,9 @@ module _ (S : ℕ) where
   unfolding itemsRows
   test-rows p number = rows-test S p number none ∙ omega arith
 
-  -- What a writer of an operand, of a test and of a statement leaves.
-  pub operand-written : (p : Part) (t : ℕ) {follows : Bool} {n base : ℕ} {l m : List ℤ} → n ≡ partSize p → m ≡ over (emitItems follows (operandCode S p t) base) l → Wrote follows (operandCode S p t) base n l m
-  operand-written p t h e = record { table = e; size = rows-operand S p t ∙ sym h }
+  -- What a writer of a part of a for, of a test and of a statement leaves.
+  pub part-written : (p : Part) {follows : Bool} {n base : ℕ} {l m : List ℤ} → n ≡ partSize p → m ≡ over (emitItems follows (partCode S p) base) l → Wrote follows (partCode S p) base n l m
+  part-written p h e = record { table = e; size = rows-operand S p dropped 0 ∙ sym h }
 
   pub test-written : (p : Part) (number : ℕ) {follows : Bool} {n base : ℕ} {l m : List ℤ} → n ≡ testSize p → m ≡ over (emitItems follows (testCode S p number none) base) l → Wrote follows (testCode S p number none) base n l m
   test-written p number h e = record { table = e; size = test-rows p number ∙ sym h }
@@ -57,8 +57,8 @@ module _ (S : ℕ) where
   statement-written s x number h e = record { table = e; size = rows-statement S s x number ∙ sym h }
 
   -- A test: the expression, and then the exit.
-  pub test-done : (follows : Bool) (number base : ℕ) (l : List ℤ) {rows : List ℤ} (test : ℕ) {k : ℕ} {x : Atom} {l1 l2 : List ℤ} → (test ≡ 0 → ⊥) → AtomAt S rows test 0 x → k ≡ partSize (partAt rows test)
-      → l1 ≡ over (emitItems true (operandCode S (partAt rows test) 0) base) l
+  pub test-done : (follows : Bool) (number base : ℕ) (l : List ℤ) {rows : List ℤ} (test : ℕ) {k : ℕ} {x : Atom} {l1 l2 : List ℤ} → (test ≡ 0 → ⊥) → AtomAt S rows test 0 x → k ≡ operandSize (partAt rows test) wanted
+      → l1 ≡ over (emitItems true (operandCode S (partAt rows test) wanted 0) base) l
       → l2 ≡ over (emitItems follows (ifElse (atomTree x) (block none) (block (goto number then none)) then none) (base + k)) (part k l1)
       → back-in k l1 l2 ≡ over (emitItems follows (testCode S (partAt rows test) number none) base) l
   unfolding itemsRows expressionRows
@@ -66,30 +66,30 @@ module _ (S : ℕ) where
   test-done follows number base l {rows} (suc test) {k} {x} some a ek e1 e2 =
       let e = expressionAt rows (suc test) in
       wrote-behind {first = true} (k + 5) refl refl refl
-      (record { table = e1; size = rows-expression S e 0 ∙ sym ek })
+      (record { table = e1; size = rows-expression S e wanted 0 ∙ sym ek })
       (record { table = e2; size = omega (arith, atom-rows x) }) .table
-      ∙ ap (λ (y : Expression). over (emitItems follows (expressionCode S e 0 ⧺ choosing S y none (goto number then none) none) base) l) (a .is)
+      ∙ ap (λ (y : Expression). over (emitItems follows (expressionCode S e wanted 0 ⧺ choosing S y none (goto number then none) none) base) l) (a .is)
 
   module _ (rows : List ℤ) where
     -- The end of a round: the label, the step, the test.
     pub round-end-done : (action after : Part) (number base : ℕ) (l : List ℤ) {k end : ℕ} {first second : Bool} {l1 l2 l3 : List ℤ} → k ≡ partSize action → end ≡ testSize after
         → second ≡ moreRows false end → first ≡ moreRows second k
         → l1 ≡ over (emitItems first (label (number + 1) here none) base) l
-        → l2 ≡ over (emitItems second (operandCode S action 0) (base + 1)) (part 1 l1)
+        → l2 ≡ over (emitItems second (partCode S action) (base + 1)) (part 1 l1)
         → l3 ≡ over (emitItems false (testCode S after number none) (base + (1 + k))) (part (1 + k) (back-in 1 l1 l2))
         → back-in (1 + k) (back-in 1 l1 l2) l3 ≡ over (emitItems false (roundEnd S rows action after number) base) l
     unfolding itemsRows _⧺_
     round-end-done action after number base l {k} {end} {first} {second} ek eend e2 e1 t1 t2 t3 =
         let w1 : Wrote first (label (number + 1) here none) base 1 _ _ = record { table = t1; size = refl } in
-        let w2 = operand-written action 0 ek t2 in
+        let w2 = part-written action ek t2 in
         let w3 = test-written after number eend t3 in
-        let a = wrote-behind (1 + k) refl (e1 ∙ more-rows second (operandCode S action 0) k (w2 .size)) refl w1 w2 in
+        let a = wrote-behind (1 + k) refl (e1 ∙ more-rows second (partCode S action) k (w2 .size)) refl w1 w2 in
         wrote-behind (1 + k + end) refl (e2 ∙ more-rows false (testCode S after number none) end (w3 .size)) refl a w3 .table
 
     round-end-rows : (action after : Part) (number : ℕ) → itemsRows (roundEnd S rows action after number) ≡ 1 + partSize action + testSize after
     unfolding itemsRows
     round-end-rows action after number =
-        omega (arith, rows-append (operandCode S action 0) (testCode S after number none), rows-operand S action 0, test-rows after number)
+        omega (arith, rows-append (partCode S action) (testCode S after number none), rows-operand S action dropped 0, test-rows after number)
 
     round-rows : (parts : Loop) (number : ℕ) → itemsRows (roundCode S rows parts number) ≡ roundSize rows parts
     round-rows parts number =
@@ -147,17 +147,17 @@ module _ (S : ℕ) where
   module _ (rows : List ℤ) where
     -- A loop: its first part, its head, its round, and the label behind it.
     pub loop-done : (follows : Bool) (parts : Loop) (number base : ℕ) (l : List ℤ) {k round : ℕ} {l1 l2 l3 l4 : List ℤ} → k ≡ partSize (partAt rows (parts .first)) → round ≡ roundSize rows parts
-        → l1 ≡ over (emitItems true (operandCode S (partAt rows (parts .first)) 0) base) l
+        → l1 ≡ over (emitItems true (partCode S (partAt rows (parts .first))) base) l
         → l2 ≡ over (loopHead (base + k) round) (part k l1)
         → l3 ≡ over (emitItems false (roundCode S rows parts number) (base + (k + 3))) (part (k + 3) (back-in k l1 l2))
         → l4 ≡ over (emitItems follows (label number here none) (base + (k + 3 + round))) (part (k + 3 + round) (back-in (k + 3) (back-in k l1 l2) l3))
         → back-in (k + 3 + round) (back-in (k + 3) (back-in k l1 l2) l3) l4 ≡ over (emitItems follows (wholeLoop S rows parts number) base) l
     unfolding itemsRows
     loop-done follows parts number base l {k} {round} ek er t1 t2 t3 t4 =
-        let F = operandCode S (partAt rows (parts .first)) 0 in
+        let F = partCode S (partAt rows (parts .first)) in
         let R = roundCode S rows parts number in
         let size : itemsRows R ≡ round = round-rows rows parts number ∙ sym er in
-        let first = operand-written (partAt rows (parts .first)) 0 ek t1 in
+        let first = part-written (partAt rows (parts .first)) ek t1 in
         let head : Put (loopHead (base + k) round) 3 _ _ = record { table = t2; size = refl } in
         let body : Wrote false R _ round _ _ = record { table = t3; size = size } in
         let behind : Wrote follows (label number here none) _ 1 _ _ = record { table = t4; size = refl } in

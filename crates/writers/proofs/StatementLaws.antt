@@ -10,8 +10,10 @@ use Rattle.language.specs.Trees.{Expression, Part, absent, present, default, la
 use Rattle.language.specs.Sizes.{statementRows, itemsRows}
 use Rattle.language.specs.TreeLaws.{append-none, append-append, statement-some}
 use Rattle.language.specs.Decode.{expressionAt, ifOf, statementAt, partAt}
-use Rattle.translation.specs.Translate.{Atom, number as constantAtom, top, atomOf, taken, atom, labels, labelOf, choosing, orEmpty, partCode, testCode, loopCode, caseTests, expressionCode, Exits, exits, statementCode, itemsCode}
-use Rattle.translation.specs.TranslateSize.{expressionSize, partSize, cases, statementSize, itemsSize}
+use Rattle.translation.specs.declared.Use.{Use}
+use Rattle.translation.specs.declared.Use.the-variants.{Dropped as dropped, Wanted as wanted}
+use Rattle.translation.specs.Translate.{Atom, number as constantAtom, top, atomOf, taken, atom, labels, labelOf, choosing, orEmpty, operandCode, partCode, testCode, loopCode, caseTests, expressionCode, Exits, exits, statementCode, itemsCode}
+use Rattle.translation.specs.TranslateSize.{expressionSize, operandSize, partSize, cases, statementSize, itemsSize}
 use Rattle.translation.specs.TranslateRows.{rows-expression, rows-cases, rows-statement, rows-items}
 use Rattle.emission.specs.Emission.{rowOf, listLink, emitExpression, emitStatement, emitItems}
 use Rattle.emission.specs.EmissionLaws.{emit-append, length-expression, length-statement}
@@ -22,7 +24,6 @@ use Rattle.shapes.specs.Shapes.{statementTree, StatementAt}
 use Rattle.shapes.specs.declared.StatementShape.{StatementShape}
 use Rattle.leaves.specs.Asks.{AtomAt}
 use Rattle.writers.specs.Asks.{bodySize, bodyLabels, loopSize}
-use Rattle.expression_writers.specs.Code.{operandCode}
 use Rattle.writers.specs.Code.{bodyCode, wholeLoop}
 use Rattle.writers.specs.declared.Loop.{Loop}
 use Rattle.leaves.specs.declared.Atom.{Atom as KernelAtom}
@@ -40,9 +41,9 @@ pub body-labels : (rows : List ℤ) (row : ℕ) → 0 < row → bodyLabels rows 
 body-labels rows zero h = absurd (omega arith)
 body-labels rows (suc row) h = refl
 
-pub part-size : (rows : List ℤ) (row : ℕ) → 0 < row → partSize (partAt rows row) ≡ expressionSize (expressionAt rows row)
-part-size rows zero h = absurd (omega arith)
-part-size rows (suc row) h = refl
+pub part-size : (u : Use) (rows : List ℤ) (row : ℕ) → 0 < row → operandSize (partAt rows row) u ≡ expressionSize (expressionAt rows row) u
+part-size u rows zero h = absurd (omega arith)
+part-size u rows (suc row) h = refl
 
 -- ---- expression statements
 
@@ -58,24 +59,24 @@ some-rows S none h = absurd (h refl)
 some-rows S (s then xs) h = refl
 some-rows S (m here xs) h = refl
 
-operand-is : (S : ℕ) (rows : List ℤ) (row : ℕ) → 0 < row → operandCode S (partAt rows row) 0 ≡ expressionCode S (expressionAt rows row) 0
-operand-is S rows zero h = absurd (omega arith)
-operand-is S rows (suc row) h = refl
+part-is : (S : ℕ) (rows : List ℤ) (row : ℕ) → 0 < row → partCode S (partAt rows row) ≡ expressionCode S (expressionAt rows row) dropped 0
+part-is S rows zero h = absurd (omega arith)
+part-is S rows (suc row) h = refl
 
 module _ (S : ℕ) (rows : List ℤ) (row base : ℕ) (follows : Bool) (l : List ℤ) where
-  express-rows : {n : ℕ} → 0 < row → n ≡ partSize (partAt rows row) → itemsRows (expressionCode S (expressionAt rows row) 0) ≡ n
-  express-rows some size = rows-expression S (expressionAt rows row) 0 ∙ sym (part-size rows row some) ∙ sym size
+  express-rows : {n : ℕ} → 0 < row → n ≡ partSize (partAt rows row) → itemsRows (expressionCode S (expressionAt rows row) dropped 0) ≡ n
+  express-rows some size = rows-expression S (expressionAt rows row) dropped 0 ∙ sym (part-size dropped rows row some) ∙ sym size
 
   -- Nothing to do: an empty statement.
   pub express-nothing : {n : ℕ} {m : List ℤ} → 0 < row → n ≡ partSize (partAt rows row) → n ≡ 0 → m ≡ over (emitItems follows (empty then none) base) l
-      → m ≡ over (emitItems follows (orEmpty S (expressionCode S (expressionAt rows row) 0)) base) l
+      → m ≡ over (emitItems follows (orEmpty S (expressionCode S (expressionAt rows row) dropped 0)) base) l
   express-nothing some size z e =
-      e ∙ ap (λ (xs : Items). over (emitItems follows (orEmpty S xs) base) l) (sym (no-rows (expressionCode S (expressionAt rows row) 0) (express-rows some size ∙ z)))
+      e ∙ ap (λ (xs : Items). over (emitItems follows (orEmpty S xs) base) l) (sym (no-rows (expressionCode S (expressionAt rows row) dropped 0) (express-rows some size ∙ z)))
 
-  pub express-something : {n : ℕ} {m : List ℤ} → 0 < row → n ≡ partSize (partAt rows row) → (n ≡ 0 → ⊥) → m ≡ over (emitItems follows (operandCode S (partAt rows row) 0) base) l
-      → m ≡ over (emitItems follows (orEmpty S (expressionCode S (expressionAt rows row) 0)) base) l
+  pub express-something : {n : ℕ} {m : List ℤ} → 0 < row → n ≡ partSize (partAt rows row) → (n ≡ 0 → ⊥) → m ≡ over (emitItems follows (partCode S (partAt rows row)) base) l
+      → m ≡ over (emitItems follows (orEmpty S (expressionCode S (expressionAt rows row) dropped 0)) base) l
   express-something some size h e =
-      e ∙ ap (λ (xs : Items). over (emitItems follows xs base) l) (operand-is S rows row some ∙ sym (some-rows S (expressionCode S (expressionAt rows row) 0) (λ z. h (sym (express-rows some size) ∙ z))))
+      e ∙ ap (λ (xs : Items). over (emitItems follows xs base) l) (part-is S rows row some ∙ sym (some-rows S (expressionCode S (expressionAt rows row) dropped 0) (λ z. h (sym (express-rows some size) ∙ z))))
 
 -- ---- blocks
 
@@ -153,16 +154,16 @@ module _ (S : ℕ) (rows : List ℤ) where
   -- An if with or without its second branch.
   if-code : (onFalse : ℕ) (e : Expression) (s : Statement) (x : Exits) (number : ℕ)
       → statementCode S (ifOf onFalse e s (statementAt rows onFalse)) x number
-      ≡ expressionCode S e 0 ⧺ choosing S (atom S 0 (atomOf e)) (statementCode S s x number) (bodyCode S rows onFalse x (number + labels s)) none
+      ≡ expressionCode S e wanted 0 ⧺ choosing S (atom S 0 (atomOf e)) (statementCode S s x number) (bodyCode S rows onFalse x (number + labels s)) none
   unfolding statementCode
   if-code zero e s x number = refl
   if-code (suc onFalse) e s x number = refl
 
   -- An if: its test, its head, its two blocks.
   pub if-done : (test onTrue onFalse : ℕ) (x : Exits) (number base : ℕ) (follows : Bool) (l : List ℤ) {k sy sn count next : ℕ} {a : KernelAtom} {l1 l2 l3 l4 : List ℤ}
-      → 0 < test → 0 < onTrue → AtomAt S rows test 0 a → k ≡ partSize (partAt rows test) → sy ≡ statementSize (statementAt rows onTrue) → sn ≡ bodySize rows onFalse → count ≡ labels (statementAt rows onTrue)
+      → 0 < test → 0 < onTrue → AtomAt S rows test 0 a → k ≡ operandSize (partAt rows test) wanted → sy ≡ statementSize (statementAt rows onTrue) → sn ≡ bodySize rows onFalse → count ≡ labels (statementAt rows onTrue)
       → next ≡ pick follows (base + (k + 2 + 1 + sy + 1 + sn)) 0
-      → l1 ≡ over (emitItems true (operandCode S (partAt rows test) 0) base) l
+      → l1 ≡ over (emitItems true (operandCode S (partAt rows test) wanted 0) base) l
       → l2 ≡ over (rowOf 43 (pos (base + k + 1)) (base + k + 2) (base + (k + 2 + 1 + sy)) 0 next ++ emitExpression (atomTree a) (base + k + 1)) (part k l1)
       → l3 ≡ over (emitStatement (block (bodyCode S rows onTrue x number)) (base + (k + 2)) 0) (part (k + 2) (back-in k l1 l2))
       → l4 ≡ over (emitStatement (block (bodyCode S rows onFalse x (number + count))) (base + (k + 2 + 1 + sy)) 0) (part (k + 2 + 1 + sy) (back-in (k + 2) (back-in k l1 l2) l3))
@@ -175,7 +176,7 @@ module _ (S : ℕ) (rows : List ℤ) where
       let e = expressionAt rows (suc test) in
       let Y = bodyCode S rows (suc onTrue) x number in
       let N = bodyCode S rows onFalse x (number + count) in
-      let test-written : Wrote true (expressionCode S e 0) base k l _ = record { table = t1; size = rows-expression S e 0 ∙ sym ek } in
+      let test-written : Wrote true (expressionCode S e wanted 0) base k l _ = record { table = t1; size = rows-expression S e wanted 0 ∙ sym ek } in
       let size-yes : itemsRows Y ≡ sy = body-rows S rows (suc onTrue) x number ∙ sym ey in
       let size-no : itemsRows N ≡ sn = body-rows S rows onFalse x (number + count) ∙ sym en in
       let head : Put (rowOf 43 (pos (base + k + 1)) (base + k + 2) (base + (k + 2 + 1 + sy)) 0 next ++ emitExpression (atomTree a) (base + k + 1)) 2 _ _ =
@@ -183,7 +184,7 @@ module _ (S : ℕ) (rows : List ℤ) where
       let put-yes : Put (emitStatement (block Y) (base + (k + 2)) 0) (1 + sy) _ _ = record { table = t3; size = length-statement (block Y) (base + (k + 2)) 0 ∙ omega (arith, size-yes) } in
       let put-no : Put (emitStatement (block N) (base + (k + 2 + 1 + sy)) 0) (1 + sn) _ _ = record { table = t4; size = length-statement (block N) (base + (k + 2 + 1 + sy)) 0 ∙ omega (arith, size-no) } in
       let put = put-behind (k + 2 + 1 + sy + 1 + sn) (omega arith) (put-behind (k + 2 + 1 + sy) (omega arith) (put-behind (k + 2) refl (wrote-put test-written) head) put-yes) put-no in
-      let A = emitItems true (expressionCode S e 0) base in
+      let A = emitItems true (expressionCode S e wanted 0) base in
       let words : ℕ → ℕ → List ℤ = λ first other.
       ((A ++ (rowOf 43 (pos (base + k + 1)) (base + k + 2) other 0 next ++ emitExpression (atomTree a) (base + k + 1))) ++ emitStatement (block Y) first 0) ++ emitStatement (block N) other 0 in
       let at-yes : base + (k + 2) ≡ base + k + 2 = omega arith in
@@ -195,18 +196,18 @@ module _ (S : ℕ) (rows : List ℤ) where
       ∙ ap (λ (ws : List ℤ). A ++ ws)
       (choice-words follows (atomTree a) (block Y) (block N) (base + k) (1 + sy) (1 + sn) next (atom-rows a) (omega (arith, size-yes)) (omega (arith, size-no)) (enext ∙ ap (λ (b : ℕ). pick follows b 0) at-end))
       ∙ ap (λ (n : ℕ). A ++ emitItems follows (choosing S (atomTree a) Y N none) (base + n)) (sym (test-written .size))
-      ∙ sym (emit-append follows (expressionCode S e 0) (choosing S (atomTree a) Y N none) base)
+      ∙ sym (emit-append follows (expressionCode S e wanted 0) (choosing S (atomTree a) Y N none) base)
       )
-      ∙ ap₂ (λ (b : Expression) (c : ℕ). over (emitItems follows (expressionCode S e 0 ⧺ choosing S b Y (bodyCode S rows onFalse x (number + c)) none) base) l) (at .is) ec
+      ∙ ap₂ (λ (b : Expression) (c : ℕ). over (emitItems follows (expressionCode S e wanted 0 ⧺ choosing S b Y (bodyCode S rows onFalse x (number + c)) none) base) l) (at .is) ec
       ∙ ap (λ (xs : Items). over (emitItems follows xs base) l) (sym (if-code onFalse e (statementAt rows (suc onTrue)) x number))
 
   -- ---- switches
 
   -- A switch: its selector, the tests, the jump, the items, the label behind it.
   pub switch-done : (selector : ℕ) (is : Items) (x : Exits) (number base : ℕ) (follows : Bool) (l : List ℤ) {k count size level target : ℕ} {a : KernelAtom} {l1 l2 l3 l4 l5 : List ℤ}
-      → 0 < selector → AtomAt S rows selector 0 a → k ≡ partSize (partAt rows selector) → count ≡ cases is → size ≡ itemsSize is → level ≡ taken (atomOf (expressionAt rows selector))
+      → 0 < selector → AtomAt S rows selector 0 a → k ≡ operandSize (partAt rows selector) wanted → count ≡ cases is → size ≡ itemsSize is → level ≡ taken (atomOf (expressionAt rows selector))
       → target ≡ labelOf default is (number + 1) number
-      → l1 ≡ over (emitItems true (operandCode S (partAt rows selector) 0) base) l
+      → l1 ≡ over (emitItems true (operandCode S (partAt rows selector) wanted 0) base) l
       → l2 ≡ over (emitItems true (caseTests S (atomTree a) level is (number + 1)) (base + k)) (part k l1)
       → l3 ≡ over (emitItems true (goto target then none) (base + (k + 11 * count))) (part (k + 11 * count) (back-in k l1 l2))
       → l4 ≡ over (emitItems true (itemsCode S is (exits number (x .onContinue)) (number + 1)) (base + (k + 11 * count + 1))) (part (k + 11 * count + 1) (back-in (k + 11 * count) (back-in k l1 l2) l3))
@@ -217,12 +218,12 @@ module _ (S : ℕ) (rows : List ℤ) where
   switch-done zero is x number base follows l some at ek ec es el et t1 t2 t3 t4 t5 = absurd (omega arith)
   switch-done (suc selector) is x number base follows l {k} {count} {size} {level} {target} {a} {l1} some at ek ec es el et t1 t2 t3 t4 t5 =
       let e = expressionAt rows (suc selector) in
-      let E = expressionCode S e 0 in
+      let E = expressionCode S e wanted 0 in
       let T = caseTests S (atom S 0 (atomOf e)) (taken (atomOf e)) is (number + 1) in
       let I = itemsCode S is (exits number (x .onContinue)) (number + 1) in
       let L = label number here none in
       let table2 = t2 ∙ ap₂ (λ (b : Expression) (u : ℕ). over (emitItems true (caseTests S b u is (number + 1)) (base + k)) (part k l1)) (at .is) el in
-      let w1 : Wrote true E base k l _ = record { table = t1; size = rows-expression S e 0 ∙ sym ek } in
+      let w1 : Wrote true E base k l _ = record { table = t1; size = rows-expression S e wanted 0 ∙ sym ek } in
       let w2 : Wrote true T (base + k) (11 * count) _ _ = record { table = table2; size = rows-cases S 0 (taken (atomOf e)) (atomOf e) is (number + 1) ∙ ap (λ (n : ℕ). 11 * n) (sym ec) } in
       let w3 : Wrote true (goto target then none) _ 1 _ _ = record { table = t3; size = refl } in
       let w4 : Wrote true I _ size _ _ = record { table = t4; size = rows-items S is (exits number (x .onContinue)) (number + 1) ∙ sym es } in
@@ -242,7 +243,7 @@ pub line-done : (S : ℕ) (x : Exits) (number base : ℕ) (follows : Bool) (l : 
     → m ≡ over (emitItems follows (statementCode S (statementTree rows line) x number) base) l → m ≡ over (emitItems follows (statementCode S (statementAt rows row) x number) base) l
 line-done S x number base follows l line e = e ∙ sym (ap (λ (s : Statement). over (emitItems follows (statementCode S s x number) base) l) (line .is))
 
-pub if-size : (rows : List ℤ) (onFalse : ℕ) (e : Expression) (s : Statement) → statementSize (ifOf onFalse e s (statementAt rows onFalse)) ≡ 4 + expressionSize e + statementSize s + bodySize rows onFalse
+pub if-size : (rows : List ℤ) (onFalse : ℕ) (e : Expression) (s : Statement) → statementSize (ifOf onFalse e s (statementAt rows onFalse)) ≡ 4 + expressionSize e wanted + statementSize s + bodySize rows onFalse
 unfolding statementSize
 if-size rows zero e s = omega arith
 if-size rows (suc onFalse) e s = refl
@@ -287,7 +288,7 @@ module _ (rows : List ℤ) where
     test-code : (p : Part) (number : ℕ) (rest : Items) → testCode S p number none ⧺ rest ≡ testCode S p number rest
     unfolding _⧺_
     test-code absent number rest = refl
-    test-code (present e) number rest = append-append (expressionCode S e 0) (choosing S (atom S 0 (atomOf e)) none (goto number then none) none) rest
+    test-code (present e) number rest = append-append (expressionCode S e wanted 0) (choosing S (atom S 0 (atomOf e)) none (goto number then none) none) rest
 
     pub while-code : (e body : ℕ) (x : Exits) (number : ℕ) → 0 < e → wholeLoop S rows (whileLoop e body) number ≡ statementCode S (while (expressionAt rows e) (statementAt rows body)) x number
     unfolding statementCode _⧺_

@@ -4,6 +4,7 @@ use Prim.Native.Nat.{ℕ, zero, suc, _+_, _*_, _≤_, _<_, max}
 use lib.IntN.{ℤ}
 use Rattle.words.specs.Table.{rowCount}
 use Rattle.language.specs.Decode.{expressionAt, statementAt, itemsAt, listAt, partAt}
+use Rattle.translation.specs.declared.Use.the-variants.{Dropped as dropped, Wanted as wanted}
 use Rattle.translation.specs.Translate.{labels, itemsLabels}
 use Rattle.translation.specs.TranslateSize.{expressionSize, partSize, testSize, statementSize, itemsSize, cases}
 use Rattle.shapes.specs.Source.{Source}
@@ -113,7 +114,7 @@ pub record ItemAsks (rows : List ℤ) (row : ℕ) (x : Exits) (label base words 
 pub record ExpressAsks (rows : List ℤ) (row base words : ℕ) : Type 0 where
   pub some : 0 < row
   pub inside : row < rowCount rows
-  pub room : Room (max 1 (expressionSize (expressionAt rows row))) base words
+  pub room : Room (max 1 (expressionSize (expressionAt rows row) dropped)) base words
 
 pub record IfAsks (rows : List ℤ) (test onTrue onFalse : ℕ) (x : Exits) (label base words : ℕ) : Type 0 where
   pub test-some : 0 < test
@@ -121,7 +122,7 @@ pub record IfAsks (rows : List ℤ) (test onTrue onFalse : ℕ) (x : Exits) (lab
   pub true-some : 0 < onTrue
   pub true-inside : onTrue < rowCount rows
   pub false-inside : onFalse < rowCount rows
-  pub room : Room (4 + expressionSize (expressionAt rows test) + statementSize (statementAt rows onTrue) + bodySize rows onFalse) base words
+  pub room : Room (4 + expressionSize (expressionAt rows test) wanted + statementSize (statementAt rows onTrue) + bodySize rows onFalse) base words
   pub labels-low : label + labels (statementAt rows onTrue) + bodyLabels rows onFalse ≤ 65535
   pub exits-low : ExitsLow x
 
@@ -129,6 +130,6 @@ pub record SwitchAsks (rows : List ℤ) (selector list : ℕ) (x : Exits) (label
   pub selector-some : 0 < selector
   pub selector-inside : selector < rowCount rows
   pub inside : list < rowCount rows
-  pub room : Room (2 + expressionSize (expressionAt rows selector) + 11 * cases (listAt rows list) + itemsSize (listAt rows list)) base words
+  pub room : Room (2 + expressionSize (expressionAt rows selector) wanted + 11 * cases (listAt rows list) + itemsSize (listAt rows list)) base words
   pub labels-low : label + (1 + itemsLabels (listAt rows list)) ≤ 65535
   pub exits-low : ExitsLow x

@@ -4,8 +4,7 @@ use Prim.Native.Nat.{ℕ, zero, suc, _+_}
 use lib.IntN.{ℤ}
 use Rattle.language.specs.Trees.{Part, label, Items, none, _here_, _⧺_}
 use Rattle.language.specs.Decode.{statementAt, partAt}
-use Rattle.translation.specs.Translate.{testCode, loopCode, Exits, exits, statementCode}
-use Rattle.expression_writers.specs.Code.{operandCode}
+use Rattle.translation.specs.Translate.{partCode, testCode, loopCode, Exits, exits, statementCode}
 use Rattle.writers.specs.declared.Exits.{Exits as ExitLabels}
 use Rattle.writers.specs.declared.Loop.{Loop}
 
@@ -18,7 +17,7 @@ module _ (S : ℕ) (rows : List ℤ) where
 
   -- The end of a round: the label for continue, the step, and a test that stands behind the body.
   abbrev pub roundEnd : Part → Part → ℕ → Items
-  roundEnd action after l = label (l + 1) here (operandCode S action 0 ⧺ testCode S after l none)
+  roundEnd action after l = label (l + 1) here (partCode S action ⧺ testCode S after l none)
 
   abbrev pub roundCode : Loop → ℕ → Items
   roundCode parts l =
@@ -26,7 +25,7 @@ module _ (S : ℕ) (rows : List ℤ) where
       ⧺ statementCode S (statementAt rows (parts .body)) (exits l (l + 1)) (l + 2) ⧺ roundEnd (partAt rows (parts .action)) (partAt rows (parts .after)) l
 
   abbrev pub wholeLoop : Loop → ℕ → Items
-  wholeLoop parts l = operandCode S (partAt rows (parts .first)) 0 ⧺ loopCode S (roundCode parts l) l
+  wholeLoop parts l = partCode S (partAt rows (parts .first)) ⧺ loopCode S (roundCode parts l) l
 
 abbrev pub exitsOf : ExitLabels → Exits
 exitsOf x = exits (x .breaking) (x .continuing)

@@ -7,6 +7,7 @@ use leaves::atoms::operand_size;
 use leaves::control::put_exit;
 use leaves::control::put_label;
 use leaves::rows::more;
+use translation::Use;
 ghost use mathlib.Core.Path.{_≡_};
 ghost use mathlib.Core.Bool.{false};
 ghost use Prim.Native.Nat.{_≤_, _<_};
@@ -31,7 +32,7 @@ pub fn test_size(rows: &[i32], table: &[usize], test: usize) -> usize
     if test == 0 {
         return 0;
     }
-    operand_size(rows, table, test) + 5
+    operand_size(rows, table, test, Use::Wanted) + 5
 }
 
 // A loop's test: where it is 0, go to the label.
@@ -51,9 +52,19 @@ pub fn write_test(
     if test == 0 {
         return;
     }
-    let n = operand_size(rows, table, test);
+    let n = operand_size(rows, table, test, Use::Wanted);
     let atom = atom_at(rows, table, store, test, 0);
-    write_expression(rows, table, store, test, 0, base, true, out);
+    write_expression(
+        rows,
+        table,
+        store,
+        test,
+        Use::Wanted,
+        0,
+        base,
+        true,
+        out,
+    );
     put_exit(atom, label, base + n, follows, &mut out[6 * n..]);
 }
 
@@ -71,12 +82,22 @@ pub fn write_round_end(
     requires { ⌜ Writing (now rows) (now table) store × RoundEndAsks (now rows) action after label base (length (now out)) ⌝ }
     ensures { λ _. ⌜ now (out .exit) ≡ over (emitItems false (roundEnd store (now (rows .entry)) (partAt (now (rows .entry)) action) (partAt (now (rows .entry)) after) label) base) (now (out .entry)) ⌝ }
 {
-    let k = operand_size(rows, table, action);
+    let k = operand_size(rows, table, action, Use::Dropped);
     let end = test_size(rows, table, after);
     let n = 1 + k;
     let then = more(false, end);
     put_label(label + 1, base, more(then, k), out);
-    write_expression(rows, table, store, action, 0, base + 1, then, &mut out[6..]);
+    write_expression(
+        rows,
+        table,
+        store,
+        action,
+        Use::Dropped,
+        0,
+        base + 1,
+        then,
+        &mut out[6..],
+    );
     write_test(
         rows,
         table,
@@ -96,6 +117,7 @@ pub fn round_size(rows: &[i32], table: &[usize], parts: Loop) -> usize
 {
     let before = test_size(rows, table, parts.before);
     let body = statement_size(rows, table, parts.body);
-    let end = 1 + operand_size(rows, table, parts.action) + test_size(rows, table, parts.after);
+    let action = operand_size(rows, table, parts.action, Use::Dropped);
+    let end = 1 + action + test_size(rows, table, parts.after);
     before + body + end
 }

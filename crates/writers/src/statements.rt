@@ -25,12 +25,13 @@ use leaves::control::put_label;
 use leaves::control::put_loop;
 use leaves::rows::behind;
 use leaves::rows::more;
-use measures::expressions::taken_at;
+use measures::holders::taken_at;
 use shapes::Item;
 use shapes::StatementShape;
 use shapes::rows::item_at;
 use shapes::rows::statement_at;
 use words::table::number_at;
+use translation::Use;
 ghost use mathlib.Core.Path.{_≡_};
 ghost use mathlib.Core.Bool.{false};
 ghost use lib.ListN.{length};
@@ -58,12 +59,22 @@ fn write_express(
     requires { ⌜ Writing (now rows) (now table) store × ExpressAsks (now rows) expression base (length (now out)) ⌝ }
     ensures { λ _. ⌜ now (out .exit) ≡ over (emitItems follows (orEmpty store (expressionCode store (expressionAt (now (rows .entry)) expression) 0)) base) (now (out .entry)) ⌝ }
 {
-    let n = operand_size(rows, table, expression);
+    let n = operand_size(rows, table, expression, Use::Dropped);
     if n == 0 {
         put_empty(base, follows, out);
         return;
     }
-    write_expression(rows, table, store, expression, 0, base, follows, out);
+    write_expression(
+        rows,
+        table,
+        store,
+        expression,
+        Use::Dropped,
+        0,
+        base,
+        follows,
+        out,
+    );
 }
 
 // The code of the statement at a row. Its labels begin at `label`.
@@ -194,13 +205,23 @@ fn write_if(
     requires { ⌜ Writing (now rows) (now table) store × IfAsks (now rows) test yes no exits label base (length (now out)) ⌝ }
     ensures { λ _. ⌜ now (out .exit) ≡ over (emitItems follows (statementCode store (ifOf no (expressionAt (now (rows .entry)) test) (statementAt (now (rows .entry)) yes) (statementAt (now (rows .entry)) no)) (exitsOf exits) label) base) (now (out .entry)) ⌝ }
 {
-    let k = operand_size(rows, table, test);
+    let k = operand_size(rows, table, test, Use::Wanted);
     let n = k + 2;
     let m = n + 1 + statement_size(rows, table, yes);
     let end = m + 1 + body_size(rows, table, no);
     let atom = atom_at(rows, table, store, test, 0);
     let other = label + statement_labels(rows, table, yes);
-    write_expression(rows, table, store, test, 0, base, true, out);
+    write_expression(
+        rows,
+        table,
+        store,
+        test,
+        Use::Wanted,
+        0,
+        base,
+        true,
+        out,
+    );
     put_if(
         atom,
         base + k,
@@ -279,11 +300,21 @@ fn write_loop(
     ensures { λ _. ⌜ now (out .exit) ≡ over (emitItems follows (wholeLoop store (now (rows .entry)) parts label) base) (now (out .entry)) ⌝ }
 {
     let first = parts.first;
-    let k = operand_size(rows, table, first);
+    let k = operand_size(rows, table, first, Use::Dropped);
     let n = k + 3;
     let round = round_size(rows, table, parts);
     let m = n + round;
-    write_expression(rows, table, store, first, 0, base, true, out);
+    write_expression(
+        rows,
+        table,
+        store,
+        first,
+        Use::Dropped,
+        0,
+        base,
+        true,
+        out,
+    );
     put_loop(base + k, round, &mut out[6 * k..]);
     write_round(
         rows,
@@ -360,7 +391,7 @@ fn write_switch(
     requires { ⌜ Writing (now rows) (now table) store × SwitchAsks (now rows) selector list exits label base (length (now out)) ⌝ }
     ensures { λ _. ⌜ now (out .exit) ≡ over (emitItems follows (statementCode store (switch (expressionAt (now (rows .entry)) selector) (listAt (now (rows .entry)) list)) (exitsOf exits) label) base) (now (out .entry)) ⌝ }
 {
-    let k = operand_size(rows, table, selector);
+    let k = operand_size(rows, table, selector, Use::Wanted);
     let n = k + 11 * list_cases(rows, table, list);
     let i = n + 1;
     let m = i + list_size(rows, table, list);
@@ -370,7 +401,17 @@ fn write_switch(
         breaking: label,
         continuing: exits.continuing,
     };
-    write_expression(rows, table, store, selector, 0, base, true, out);
+    write_expression(
+        rows,
+        table,
+        store,
+        selector,
+        Use::Wanted,
+        0,
+        base,
+        true,
+        out,
+    );
     write_cases(
         rows,
         table,

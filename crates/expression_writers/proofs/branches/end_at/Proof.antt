@@ -6,7 +6,7 @@ use Rattle.measures.specs.MeasureLaws.{whole-asks}
 use Rattle.expression_writers.proofs.Choices.{end-stays, end-copy}
 use Rattle.expression_writers.proofs.branches.end_at.Statement.{statement}
 use Rattle.expression_writers.proofs.branches.end_at.Tie as tie
-use Rattle.measures.proofs.expressions.taken_at.Reads as taken-at-reads
+use Rattle.measures.proofs.holders.taken_at.Reads as taken-at-reads
 
 taken-at-requires : tie.Need-taken-at-requires
 taken-at-requires c κs = whole-asks (c .before .pre .0) (c .before .pre .1)

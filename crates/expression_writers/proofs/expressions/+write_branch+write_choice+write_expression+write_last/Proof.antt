@@ -41,7 +41,7 @@ pub +write-branch+write-choice+write-expression+write-last-spec : {M : Type 1} â
     (write-choice.mul-write-branch t) (write-choice.mul-write-branch-2 t) (write-choice.sub-write-branch-2 t) (write-choice.part-write-branch-start-2 t)
     (write-choice.part-write-branch-end-2 t) (write-choice.write-branch-requires-2 t) (write-choice.same-length t) (write-choice.returns t))
     (Î» t. write-expression-lts.spec (write-expression-claims t) (write-expression-at t) write-expression-reads.Post
-    (write-expression.returns t) (write-expression.operand-copied-requires t) (write-expression.own-at-requires t) (write-expression.add-above t)
+    (write-expression.returns t) (write-expression.operand-copied-requires t) (write-expression.own-at-requires t) (write-expression.second-use-requires t) (write-expression.add-above t)
     (write-expression.mul-copy t) (write-expression.operand-size-requires t) (write-expression.add-h t) (write-expression.operand-size-requires-2 t)
     (write-expression.add-n t) (write-expression.operand-size-requires-3 t) (write-expression.sub-last t) (write-expression.more-requires t)
     (write-expression.more-requires-2 t) (write-expression.more-requires-3 t) (write-expression.write-expression-requires t) (write-expression.add-put-hold t)

@@ -1,42 +1,46 @@
--- The value into the place: its atom, and the place with its index above.
-use mathlib.Core.Path.{ap, ap₂, _∙_}
-use Prim.Native.Nat.{ℕ, _+_}
+-- The value of the first operand into the place, by the place.
+use mathlib.Core.Path.{sym, ap, _∙_}
+use Prim.Native.Nat.{ℕ}
 use native.Mathlib.Omega.{arith}
-use Rattle.language.specs.Trees.{Expression, Place, assign, express, none, _then_}
-use Rattle.language.specs.Decode.{placeOf, expressionAt}
-use Rattle.translation.specs.Translate.{atomOf, kernelPlace}
-use Rattle.translation.specs.TranslateBounds.{taken-most}
-use Rattle.measures.specs.MeasureLaws.{whole-asks}
+use Rattle.language.specs.Trees.{assign, Place}
+use Rattle.language.specs.Decode.{expressionAt}
+use Rattle.language.specs.Writes.{indexWrites}
+use Rattle.translation.specs.Uses.{direct}
+use Rattle.translation.specs.Translate.{atomOf}
+use Rattle.translation.specs.TranslateSize.{storeRows, copied}
+use Rattle.shapes.specs.ShapeLaws.{placed}
+use Rattle.leaves.specs.Straight.{straightCode}
 use Rattle.leaves.specs.Chain.{room-less}
 use Rattle.leaves.specs.LeafLaws.{recoded}
-use Rattle.language.specs.Writes.{indexWrites}
-use Rattle.translation.specs.HeldCode.{copied-most}
-use Rattle.leaves.specs.AtomLaws.{held-is, above-held}
 use borrow.Author.Needs.{needs}
 use Rattle.leaves.proofs.straight.put_assignment.Statement.{statement}
 use Rattle.leaves.proofs.straight.put_assignment.Tie as tie
-use Rattle.leaves.proofs.atoms.held_atom.Reads as held-atom-reads
-use Rattle.leaves.proofs.atoms.kernel_place.Reads as kernel-place-reads
-use Rattle.leaves.proofs.straight.put_assign.Reads as put-assign-reads
-use Rattle.measures.proofs.expressions.taken_at.Reads as taken-at-reads
 
-held-atom-requires : tie.Need-held-atom-requires
-held-atom-requires c κs = search needs
+place-at-requires : tie.Need-place-at-requires
+place-at-requires c κs = (c .before .pre .writing .measured .source, c .before .pre .place-inside)
 
-taken-at-requires : tie.Need-taken-at-requires
-taken-at-requires c κs = whole-asks (c .before .before .pre .writing .measured) (c .before .before .pre .value-inside)
+enum-known-shape : tie.Need-enum-known-shape
+enum-known-shape c = search needs
 
-add-above : tie.Need-add-above
-add-above c = omega (arith, c .before .before .before .before .pre .level-low, c .before .taken-at .ensures, taken-most (atomOf (expressionAt (c .before .before .before .before .args .rows .now) (c .before .before .before .before .args .value))), c .before .before .before .before .pre .copies-are, copied-most (atomOf (expressionAt (c .before .before .before .before .args .rows .now) (c .before .before .before .before .args .value))) (indexWrites (placeOf (expressionAt (c .before .before .before .before .args .rows .now) (c .before .before .before .before .args .place)))))
+put-variable-requires : tie.Need-put-variable-requires
+put-variable-requires c κs =
+    let args = c .before .before .before .before .before .before .args in
+    let asks = c .before .before .before .before .before .before .pre in
+    let found = placed (c .before .before .before .before .place-at .ensures) (c .before .before .shape .given .1) in
+    let size = ap (λ (p : Place). storeRows p (direct (expressionAt (args .rows .now) (args .value)))) (found .is) in
+    record { writing = asks .writing; low = found .onward; value-inside = asks .value-inside; level-low = asks .level-low; room = room-less _ (asks .room) (omega (arith, size)) }
 
-add-above-2 : tie.Need-add-above-2
-add-above-2 c = omega (arith, c .before .before .before .before .pre .level-low, c .before .taken-at .ensures, taken-most (atomOf (expressionAt (c .before .before .before .before .args .rows .now) (c .before .before .before .before .args .value))), c .before .before .before .before .pre .copies-are, copied-most (atomOf (expressionAt (c .before .before .before .before .args .rows .now) (c .before .before .before .before .args .value))) (indexWrites (placeOf (expressionAt (c .before .before .before .before .args .rows .now) (c .before .before .before .before .args .place)))))
+enum-known-shape-2 : tie.Need-enum-known-shape-2
+enum-known-shape-2 c = search needs
 
-kernel-place-requires : tie.Need-kernel-place-requires
-kernel-place-requires c κs = (c .before .before .before .before .pre .writing, c .before .before .before .before .pre .place-inside, omega (arith, c .before .before .before .before .pre .level-low, c .before .taken-at .ensures, taken-most (atomOf (expressionAt (c .before .before .before .before .args .rows .now) (c .before .before .before .before .args .value))), c .before .before .before .before .pre .copies-are, copied-most (atomOf (expressionAt (c .before .before .before .before .args .rows .now) (c .before .before .before .before .args .value))) (indexWrites (placeOf (expressionAt (c .before .before .before .before .args .rows .now) (c .before .before .before .before .args .place))))))
-
-put-assign-requires : tie.Need-put-assign-requires
-put-assign-requires c κs = (room-less _ (c .before .before .before .before .before .before .pre .room) (omega (arith, c .before .kernel-place .ensures .rows-are)), c .before .kernel-place .ensures .fits, c .before .before .before .before .held-atom .ensures .fits)
+put-element-requires : tie.Need-put-element-requires
+put-element-requires c κs =
+    let args = c .before .before .before .before .before .before .args in
+    let asks = c .before .before .before .before .before .before .pre in
+    let found = placed (c .before .before .before .before .place-at .ensures) (c .before .before .shape2 .given .1) in
+    let size = ap (λ (p : Place). storeRows p (direct (expressionAt (args .rows .now) (args .value)))) (found .is) in
+    let copies = ap (λ (p : Place). copied (atomOf (expressionAt (args .rows .now) (args .value))) (indexWrites p)) (found .is) in
+    record { writing = asks .writing; low = found .onward .0; index-inside = found .onward .1 .inside; value-inside = asks .value-inside; copies-are = asks .copies-are ∙ copies; level-low = asks .level-low; room = room-less _ (asks .room) (omega (arith, size)) }
 
 same-length : tie.Need-same-length
 same-length c = search needs
@@ -44,23 +48,28 @@ same-length c = search needs
 returns : tie.Need-returns
 returns c =
     let args = c .before .before .before .before .before .before .before .before .args in
-    let place = placeOf (expressionAt (args .rows .now) (args .place)) in
-    let value = expressionAt (args .rows .now) (args .value) in
-    let copies = c .before .before .before .before .before .before .before .before .pre .copies-are in
-    recoded _ _ _ _ _ _ (c .before .put-assign .ensures)
-    (ap₂ (λ (p : Place) (x : Expression). express (assign p x) then none)
-    (c .before .before .before .kernel-place .ensures .is ∙ ap (λ (n : ℕ). kernelPlace (args .at .store) place n) (above-held (args .at .level) (atomOf value) (indexWrites place) (c .before .before .before .before .before .taken-at .ensures) copies))
-    (held-is (indexWrites place) copies (c .before .before .before .before .before .before .held-atom .ensures)))
+    recoded _ _ _ _ _ _ (c .before .put-variable .ensures)
+    (ap (λ (p : Place). straightCode (args .at .store) (assign p (expressionAt (args .rows .now) (args .value))) (args .usage) (args .at .level)) (sym (placed (c .before .before .before .before .before .before .place-at .ensures) (c .before .before .before .before .shape .given .1) .is)))
+
+same-length-2 : tie.Need-same-length-2
+same-length-2 c = search needs
+
+returns-2 : tie.Need-returns-2
+returns-2 c =
+    let args = c .before .before .before .before .before .before .before .before .args in
+    recoded _ _ _ _ _ _ (c .before .put-element .ensures)
+    (ap (λ (p : Place). straightCode (args .at .store) (assign p (expressionAt (args .rows .now) (args .value))) (args .usage) (args .at .level)) (sym (placed (c .before .before .before .before .before .before .place-at .ensures) (c .before .before .before .before .shape2 .given .1) .is)))
 
 pub put-assignment-spec : {M : Type 1} → statement M
 put-assignment-spec =
     tie.close
     (tie.spec
-    held-atom-requires
-    taken-at-requires
-    add-above
-    add-above-2
-    kernel-place-requires
-    put-assign-requires
+    place-at-requires
+    enum-known-shape
+    put-variable-requires
+    enum-known-shape-2
+    put-element-requires
     same-length
-    returns)
+    returns
+    same-length-2
+    returns-2)

@@ -5,8 +5,10 @@ use native.Mathlib.Omega.{arith}
 use Rattle.language.specs.Trees.{Place}
 use Rattle.language.specs.Decode.{placeOf, expressionAt}
 use Rattle.translation.specs.Translate.{updateCode}
+use Rattle.translation.specs.TranslateSize.{updateRows}
 use Rattle.leaves.specs.Atoms.{atomTree}
 use Rattle.leaves.specs.Chain.{room-less}
+use Rattle.leaves.specs.AtomLaws.{update-rows}
 use Rattle.leaves.specs.LeafLaws.{recoded, place-taken-most}
 use borrow.Author.Needs.{needs}
 use Rattle.leaves.proofs.straight.put_operation.Statement.{statement}
@@ -28,7 +30,7 @@ add-above-2 : tie.Need-add-above-2
 add-above-2 c = omega (arith, c .before .before .before .before .before .pre .0 .level-low, c .place-taken .ensures, place-taken-most (placeOf (expressionAt (c .before .before .before .before .before .args .rows .now) (c .before .before .before .before .before .args .place))), c .before .before .before .before .before .pre .0 .writing .small-store)
 
 put-update-requires : tie.Need-put-update-requires
-put-update-requires c κs = (room-less _ (c .before .before .before .before .before .before .pre .0 .room) (omega (arith, c .before .before .before .kernel-place .ensures .rows-are)), c .before .before .before .kernel-place .ensures .fits, c .before .before .before .before .before .before .pre .1, omega (arith, c .before .before .before .before .before .before .pre .0 .level-low, c .before .before .before .before .before .before .pre .0 .writing .small-store), omega (arith, c .before .before .before .before .before .before .pre .0 .level-low, c .before .place-taken .ensures, place-taken-most (placeOf (expressionAt (c .before .before .before .before .before .before .args .rows .now) (c .before .before .before .before .before .before .args .place))), c .before .before .before .before .before .before .pre .0 .writing .small-store))
+put-update-requires c κs = (room-less _ (c .before .before .before .before .before .before .pre .0 .room) (omega (arith, ap (λ (p : Place). updateRows p) (c .before .before .before .kernel-place .ensures .is), update-rows (c .before .before .before .before .before .before .args .at .store) (placeOf (expressionAt (c .before .before .before .before .before .before .args .rows .now) (c .before .before .before .before .before .before .args .place))) (c .before .before .before .before .before .before .args .at .level + 1))), c .before .before .before .kernel-place .ensures .fits, c .before .before .before .before .before .before .pre .1, omega (arith, c .before .before .before .before .before .before .pre .0 .level-low, c .before .before .before .before .before .before .pre .0 .writing .small-store), omega (arith, c .before .before .before .before .before .before .pre .0 .level-low, c .before .place-taken .ensures, place-taken-most (placeOf (expressionAt (c .before .before .before .before .before .before .args .rows .now) (c .before .before .before .before .before .before .args .place))), c .before .before .before .before .before .before .pre .0 .writing .small-store))
 
 same-length : tie.Need-same-length
 same-length c = search needs

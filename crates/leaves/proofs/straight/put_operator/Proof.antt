@@ -1,6 +1,6 @@
 -- The operation of a binary operator: the right operand's atom, and the left one's above it.
 use mathlib.Core.Path.{ap, ap₂, _∙_}
-use Prim.Native.Nat.{ℕ, _+_}
+use Prim.Native.Nat.{ℕ}
 use native.Mathlib.Omega.{arith}
 use Rattle.language.specs.Trees.{Expression, binary, assign, variable, express, none, _then_}
 use Rattle.language.specs.Decode.{expressionAt}
@@ -17,7 +17,7 @@ use Rattle.leaves.proofs.straight.put_operator.Tie as tie
 use Rattle.leaves.proofs.assignments.put_binary.Reads as put-binary-reads
 use Rattle.leaves.proofs.atoms.atom_at.Reads as atom-at-reads
 use Rattle.leaves.proofs.atoms.held_atom.Reads as held-atom-reads
-use Rattle.measures.proofs.expressions.taken_at.Reads as taken-at-reads
+use Rattle.measures.proofs.holders.taken_at.Reads as taken-at-reads
 
 held-atom-requires : tie.Need-held-atom-requires
 held-atom-requires c κs = search needs
@@ -34,11 +34,11 @@ add-above-2 c = omega (arith, c .before .before .before .before .pre .level-low,
 atom-at-requires : tie.Need-atom-at-requires
 atom-at-requires c κs = (c .before .before .before .before .pre .writing, c .before .before .before .before .pre .left-inside, omega (arith, c .before .before .before .before .pre .level-low, c .before .taken-at .ensures, taken-most (atomOf (expressionAt (c .before .before .before .before .args .rows .now) (c .before .before .before .before .args .right))), c .before .before .before .before .pre .copies-are, copied-most (atomOf (expressionAt (c .before .before .before .before .args .rows .now) (c .before .before .before .before .args .right))) (writes (expressionAt (c .before .before .before .before .args .rows .now) (c .before .before .before .before .args .left)))))
 
-add-put-binary : tie.Need-add-put-binary
-add-put-binary c = search needs
+target-word-requires : tie.Need-target-word-requires
+target-word-requires c κs = (omega (arith, c .before .before .before .before .before .pre .level-low, c .before .before .before .before .before .pre .writing .small-store), c .before .before .before .before .before .pre .use-fits)
 
 put-binary-requires : tie.Need-put-binary-requires
-put-binary-requires c κs = search needs
+put-binary-requires c κs = (c .before .before .before .before .before .before .before .pre .room, c .before .target-word .ensures .fits, c .before .before .atom-at .ensures .fits, c .before .before .before .before .before .held-atom .ensures .fits)
 
 same-length : tie.Need-same-length
 same-length c = search needs
@@ -49,10 +49,10 @@ returns c =
     let left = expressionAt (args .rows .now) (args .left) in
     let right = expressionAt (args .rows .now) (args .right) in
     let copies = c .before .before .before .before .before .before .before .before .before .pre .copies-are in
-    recoded _ _ _ _ _ _ (c .before .put-binary .ensures)
-    (ap₂ (λ (x y : Expression). express (assign (variable (args .at .store + args .at .level)) (binary (args .operator) x y)) then none)
+    let value = ap₂ (binary (args .operator))
     (c .before .before .before .before .atom-at .ensures .is ∙ ap (λ (n : ℕ). atom (args .at .store) n (atomOf left)) (above-held (args .at .level) (atomOf right) (writes left) (c .before .before .before .before .before .before .taken-at .ensures) copies))
-    (held-is (writes left) copies (c .before .before .before .before .before .before .before .held-atom .ensures)))
+    (held-is (writes left) copies (c .before .before .before .before .before .before .before .held-atom .ensures)) in
+    recoded _ _ _ _ _ _ (c .before .put-binary .ensures) (ap₂ (λ (n : ℕ) (x : Expression). express (assign (variable n) x) then none) (c .before .before .before .target-word .ensures .is) value)
 
 pub put-operator-spec : {M : Type 1} → statement M
 put-operator-spec =
@@ -63,7 +63,7 @@ put-operator-spec =
     add-above
     add-above-2
     atom-at-requires
-    add-put-binary
+    target-word-requires
     put-binary-requires
     same-length
     returns)

@@ -5,7 +5,9 @@ use native.Mathlib.Omega.{arith}
 use Rattle.language.specs.Trees.{Place}
 use Rattle.language.specs.Decode.{placeOf, expressionAt}
 use Rattle.translation.specs.Translate.{postfixCode}
+use Rattle.translation.specs.TranslateSize.{postfixRows}
 use Rattle.leaves.specs.Chain.{room-less}
+use Rattle.leaves.specs.AtomLaws.{postfix-rows}
 use Rattle.leaves.specs.LeafLaws.{recoded, place-taken-most}
 use borrow.Author.Needs.{needs}
 use Rattle.leaves.proofs.straight.put_step.Statement.{statement}
@@ -27,13 +29,13 @@ add-above-2 : tie.Need-add-above-2
 add-above-2 c = omega (arith, c .before .before .before .before .before .pre .level-low, c .place-taken .ensures, place-taken-most (placeOf (expressionAt (c .before .before .before .before .before .args .rows .now) (c .before .before .before .before .before .args .place))), c .before .before .before .before .before .pre .writing .small-store)
 
 put-postfix-requires : tie.Need-put-postfix-requires
-put-postfix-requires c κs = (room-less _ (c .before .before .before .before .before .before .pre .room) (omega (arith, c .before .before .before .kernel-place .ensures .rows-are)), c .before .before .before .kernel-place .ensures .fits, omega (arith, c .before .before .before .before .before .before .pre .level-low, c .before .before .before .before .before .before .pre .writing .small-store), omega (arith, c .before .before .before .before .before .before .pre .level-low, c .before .place-taken .ensures, place-taken-most (placeOf (expressionAt (c .before .before .before .before .before .before .args .rows .now) (c .before .before .before .before .before .before .args .place))), c .before .before .before .before .before .before .pre .writing .small-store))
+put-postfix-requires c κs = (room-less _ (c .before .before .before .before .before .before .pre .room) (omega (arith, ap (λ (p : Place). postfixRows p (c .before .before .before .before .before .before .args .usage)) (c .before .before .before .kernel-place .ensures .is), postfix-rows (c .before .before .before .before .before .before .args .at .store) (placeOf (expressionAt (c .before .before .before .before .before .before .args .rows .now) (c .before .before .before .before .before .before .args .place))) (c .before .before .before .before .before .before .args .usage) (c .before .before .before .before .before .before .args .at .level + 1))), c .before .before .before .kernel-place .ensures .fits, omega (arith, c .before .before .before .before .before .before .pre .level-low, c .before .before .before .before .before .before .pre .writing .small-store), omega (arith, c .before .before .before .before .before .before .pre .level-low, c .before .place-taken .ensures, place-taken-most (placeOf (expressionAt (c .before .before .before .before .before .before .args .rows .now) (c .before .before .before .before .before .before .args .place))), c .before .before .before .before .before .before .pre .writing .small-store))
 
 same-length : tie.Need-same-length
 same-length c = search needs
 
 returns : tie.Need-returns
-returns c = recoded _ _ _ _ _ _ (c .before .put-postfix .ensures) (ap₂ (λ (q : Place) (u : ℕ). postfixCode (c .before .before .before .before .before .before .before .before .args .at .store) (c .before .before .before .before .before .before .before .before .args .operator) q (c .before .before .before .before .before .before .before .before .args .at .level) u) (c .before .before .before .before .before .kernel-place .ensures .is) (ap (λ (n : ℕ). c .before .before .before .before .before .before .before .before .args .at .level + 1 + n) (c .before .before .before .place-taken .ensures)))
+returns c = recoded _ _ _ _ _ _ (c .before .put-postfix .ensures) (ap₂ (λ (q : Place) (u : ℕ). postfixCode (c .before .before .before .before .before .before .before .before .args .at .store) (c .before .before .before .before .before .before .before .before .args .operator) q (c .before .before .before .before .before .before .before .before .args .usage) (c .before .before .before .before .before .before .before .before .args .at .level) u) (c .before .before .before .before .before .kernel-place .ensures .is) (ap (λ (n : ℕ). c .before .before .before .before .before .before .before .before .args .at .level + 1 + n) (c .before .before .before .place-taken .ensures)))
 
 pub put-step-spec : {M : Type 1} → statement M
 put-step-spec =

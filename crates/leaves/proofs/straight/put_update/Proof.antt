@@ -1,13 +1,11 @@
--- An update, by the place: two assignments in a row, or an element's update.
+-- An update, by the place: one assignment to a variable, or an element's update.
 use mathlib.Core.Path.{sym, ap, subst}
-use Prim.Native.Nat.{_+_}
 use native.Mathlib.Omega.{arith}
-use Rattle.language.specs.Trees.{_⧺_}
 use Rattle.translation.specs.Translate.{updateCode}
-use Rattle.leaves.specs.Atoms.{atomTree, placeTree, PlaceFits, indexRows}
-use Rattle.leaves.specs.Chain.{wrote-put, wrote-next, put-room, room-less}
-use Rattle.leaves.specs.LeafLaws.{recoded, copy-wrote, binary-wrote}
-use Rattle.leaves.specs.declared.Atom.the-variants.{Variable}
+use Rattle.translation.specs.TranslateSize.{updateRows}
+use Rattle.leaves.specs.Atoms.{atomTree, placeTree, PlaceFits}
+use Rattle.leaves.specs.Chain.{room-less}
+use Rattle.leaves.specs.LeafLaws.{recoded}
 use Rattle.leaves.specs.declared.KernelPlace.{KernelPlace}
 use borrow.Author.Needs.{needs}
 use Rattle.leaves.proofs.straight.put_update.Statement.{statement}
@@ -26,26 +24,7 @@ put-binary-requires : tie.Need-put-binary-requires
 put-binary-requires c κs =
     let start = c .before .before .before .before in
     let low = subst (λ (p : KernelPlace). PlaceFits p) (c .before .before .place .given .1) (start .pre .1) in
-    (room-less 6 (start .pre .0) (omega (arith, ap indexRows (c .before .before .place .given .1))), start .pre .3, low, start .pre .2)
-
-add-put-copy : tie.Need-add-put-copy
-add-put-copy c = search needs
-
-sub-put-copy : tie.Need-sub-put-copy
-sub-put-copy c = search needs
-
-part-put-copy-start : tie.Need-part-put-copy-start
-part-put-copy-start c = search needs
-
-part-put-copy-end : tie.Need-part-put-copy-end
-part-put-copy-end c = search needs
-
-put-copy-requires : tie.Need-put-copy-requires
-put-copy-requires c κs =
-    let start = c .before .before .before .before .before .before .before in
-    let low = subst (λ (p : KernelPlace). PlaceFits p) (c .before .before .before .before .before .place .given .1) (start .pre .1) in
-    let computed = binary-wrote _ _ _ _ _ (start .args .operator) (Variable (c .before .before .before .before .before .place .given .0 .0)) (start .args .operand) (c .before .before .put-binary .ensures) in
-    (put-room 4 (wrote-put computed) (start .pre .0) (omega (arith, ap indexRows (c .before .before .before .before .before .place .given .1))), low, start .pre .3)
+    (room-less 6 (start .pre .0) (omega (arith, ap (λ (p : KernelPlace). updateRows (placeTree p)) (c .before .before .place .given .1))), low, low, start .pre .2)
 
 enum-known-place-2 : tie.Need-enum-known-place-2
 enum-known-place-2 c = search needs
@@ -54,18 +33,15 @@ put-element-update-requires : tie.Need-put-element-update-requires
 put-element-update-requires c κs =
     let start = c .before .before .before .before in
     let low = subst (λ (p : KernelPlace). PlaceFits p) (c .before .before .place2 .given .1) (start .pre .1) in
-    (room-less 16 (start .pre .0) (omega (arith, ap indexRows (c .before .before .place2 .given .1))), low .0, low .1, start .pre .2, start .pre .4, start .pre .3)
+    (room-less 16 (start .pre .0) (omega (arith, ap (λ (p : KernelPlace). updateRows (placeTree p)) (c .before .before .place2 .given .1))), low .0, low .1, start .pre .2, start .pre .4, start .pre .3)
 
 same-length : tie.Need-same-length
 same-length c = search needs
 
 returns : tie.Need-returns
-unfolding _⧺_
 returns c =
-    let start = c .before .before .before .before .before .before .before .before .before in
-    let computed = binary-wrote _ _ _ _ _ (start .args .operator) (Variable (c .before .before .before .before .before .before .before .place .given .0 .0)) (start .args .operand) (c .before .before .before .before .put-binary .ensures) in
-    let copied = copy-wrote _ _ _ _ _ (Variable (start .args .store + start .args .level)) (c .before .put-copy .ensures) in
-    recoded _ _ _ _ _ _ (wrote-next computed copied .table) (ap (λ (p : KernelPlace). updateCode (start .args .store) (start .args .operator) (placeTree p) (atomTree (start .args .operand)) (start .args .level) (start .args .above)) (sym (c .before .before .before .before .before .before .before .place .given .1)))
+    let start = c .before .before .before .before .before .before in
+    recoded _ _ _ _ _ _ (c .before .put-binary .ensures) (ap (λ (p : KernelPlace). updateCode (start .args .store) (start .args .operator) (placeTree p) (atomTree (start .args .operand)) (start .args .level) (start .args .above)) (sym (c .before .before .before .before .place .given .1)))
 
 same-length-2 : tie.Need-same-length-2
 same-length-2 c = search needs
@@ -83,11 +59,6 @@ put-update-spec =
     add-old
     enum-known-place
     put-binary-requires
-    add-put-copy
-    sub-put-copy
-    part-put-copy-start
-    part-put-copy-end
-    put-copy-requires
     enum-known-place-2
     put-element-update-requires
     same-length

@@ -72,8 +72,8 @@ write-test-requires c κs =
     let past-operand-size = c .before .before .before .before .before .before .before .before .before .before .operand-size in
     let asks = start .pre .1 in
     let l1 = past-put-label .last .1 .1 .1 .0 in
-    let l2 = past-write-expression .last .1 .1 .1 .1 .1 .1 .1 .0 in
-    let kept = back-length 1 l1 l2 (past-write-expression .kept .1 .1 .1 .1 .1 .1 .1 .0) ∙ past-put-label .kept .1 .1 .1 .0 in (
+    let l2 = past-write-expression .last .1 .1 .1 .1 .1 .1 .1 .1 .0 in
+    let kept = back-length 1 l1 l2 (past-write-expression .kept .1 .1 .1 .1 .1 .1 .1 .1 .0) ∙ past-put-label .kept .1 .1 .1 .0 in (
       start .pre .0,
       record { inside = asks .after-inside; label-low = asks .label-low; room = room-behind (1 + past-operand-size .result) _ (back-in 1 l1 l2) (asks .room) kept (omega (arith, past-operand-size .ensures)) },
     )

@@ -31,7 +31,7 @@ write-expression-requires : tie.Need-write-expression-requires
 write-expression-requires c κs =
     let start = c .before .before .before .before .before in
     let asks = start .pre .1 in
-    (start .pre .0, record { inside = asks .inside; level-low = λ h. omega arith; room = room-less _ (asks .room) (test-most (partAt (start .args .rows .now) (start .args .test))) })
+    (start .pre .0, record { inside = asks .inside; level-low = λ h. omega arith; use-fits = tt; room = room-less _ (asks .room) (test-most (partAt (start .args .rows .now) (start .args .test))) })
 
 add-put-exit : tie.Need-add-put-exit
 add-put-exit c =
@@ -51,12 +51,12 @@ mul-put-exit-2 c =
 sub-put-exit : tie.Need-sub-put-exit
 sub-put-exit c =
     let start = c .before .before .before .before .before .before .before in
-    omega (arith, c .before .before .before .before .operand-size .ensures, test-most (partAt (start .args .rows .now) (start .args .test)), start .pre .1 .room .inside, c .before .write-expression .kept .1 .1 .1 .1 .1 .1 .1 .0)
+    omega (arith, c .before .before .before .before .operand-size .ensures, test-most (partAt (start .args .rows .now) (start .args .test)), start .pre .1 .room .inside, c .before .write-expression .kept .1 .1 .1 .1 .1 .1 .1 .1 .0)
 
 part-put-exit-start : tie.Need-part-put-exit-start
 part-put-exit-start c =
     let start = c .before .before .before .before .before .before .before in
-    omega (arith, c .before .before .before .before .operand-size .ensures, test-most (partAt (start .args .rows .now) (start .args .test)), start .pre .1 .room .inside, c .before .write-expression .kept .1 .1 .1 .1 .1 .1 .1 .0)
+    omega (arith, c .before .before .before .before .operand-size .ensures, test-most (partAt (start .args .rows .now) (start .args .test)), start .pre .1 .room .inside, c .before .write-expression .kept .1 .1 .1 .1 .1 .1 .1 .1 .0)
 
 part-put-exit-end : tie.Need-part-put-exit-end
 part-put-exit-end c = search needs
@@ -67,7 +67,7 @@ put-exit-requires c κs =
     let past-operand-size = c .before .before .before .before .before .operand-size in
     let past-write-expression = c .before .before .write-expression in
     let asks = start .pre .1 in (
-      room-behind (past-operand-size .result) 5 (past-write-expression .last .1 .1 .1 .1 .1 .1 .1 .0) (asks .room) (past-write-expression .kept .1 .1 .1 .1 .1 .1 .1 .0) (omega (arith, past-operand-size .ensures, test-some (start .args .rows .now) (start .args .test) (c .before .before .before .before .before .before .if1 .left))),
+      room-behind (past-operand-size .result) 5 (past-write-expression .last .1 .1 .1 .1 .1 .1 .1 .1 .0) (asks .room) (past-write-expression .kept .1 .1 .1 .1 .1 .1 .1 .1 .0) (omega (arith, past-operand-size .ensures, test-some (start .args .rows .now) (start .args .test) (c .before .before .before .before .before .before .if1 .left))),
       omega (arith, asks .label-low),
       c .before .before .before .before .atom-at .ensures .fits,
     )

@@ -1,5 +1,6 @@
 -- An expression statement: its code has no rows exactly where there is nothing to do.
 use native.Mathlib.Omega.{arith}
+use Rattle.translation.specs.declared.Use.the-variants.{Dropped as dropped}
 use Rattle.leaves.specs.Chain.{room-less}
 use Rattle.writers.proofs.StatementLaws.{part-size, express-nothing, express-something}
 use borrow.Author.Needs.{needs}
@@ -10,7 +11,7 @@ operand-size-requires : tie.Need-operand-size-requires
 operand-size-requires c κs =
     let start = c .before in
     let asks = start .pre .1 in
-    (start .pre .0 .measured, asks .inside, omega (arith, part-size (start .args .rows .now) (start .args .expression) (asks .some), asks .room .low))
+    (start .pre .0 .measured, asks .inside, omega (arith, part-size dropped (start .args .rows .now) (start .args .expression) (asks .some), asks .room .low))
 
 put-empty-requires : tie.Need-put-empty-requires
 put-empty-requires c κs = search needs
@@ -29,7 +30,7 @@ write-expression-requires c κs =
     let start = c .before .before .before .before in
     let asks = start .pre .1 in (
       start .pre .0,
-      record { inside = asks .inside; level-low = λ h. omega arith; room = room-less _ (asks .room) (omega (arith, part-size (start .args .rows .now) (start .args .expression) (asks .some))) },
+      record { inside = asks .inside; level-low = λ h. omega arith; use-fits = tt; room = room-less _ (asks .room) (omega (arith, part-size dropped (start .args .rows .now) (start .args .expression) (asks .some))) },
     )
 
 same-length-2 : tie.Need-same-length-2

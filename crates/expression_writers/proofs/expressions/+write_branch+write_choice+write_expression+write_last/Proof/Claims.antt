@@ -29,6 +29,7 @@ use Rattle.leaves.proofs.control.put_if.Reads as put-if-reads
 use Rattle.leaves.proofs.straight.put_hold.Reads as put-hold-reads
 use Rattle.leaves.proofs.straight.put_straight.Reads as put-straight-reads
 use Rattle.measures.proofs.parts.own_at.Reads as own-at-reads
+use Rattle.measures.proofs.uses.second_use.Reads as second-use-reads
 use Rattle.expression_writers.proofs.Ranks.{rank}
 
 abbrev pub μ-write-branch : Measures 3 write-branch-kinds.ps ℕ
@@ -116,6 +117,8 @@ write-expression-claims t = (
   operand-copied-reads.Learnt,
   own-at-reads.Asked,
   own-at-reads.Learnt,
+  second-use-reads.Asked,
+  second-use-reads.Learnt,
   operand-size-reads.Asked,
   operand-size-reads.Learnt,
   more-reads.Asked,

@@ -6,7 +6,7 @@ use native.Mathlib.Omega.{arith}
 use Rattle.language.specs.Decode.{partAt}
 use Rattle.measures.specs.MeasureLaws.{whole-behind}
 use Rattle.leaves.specs.LeafLaws.{recoded, nothing-wrote}
-use Rattle.expression_writers.specs.Code.{operandCode}
+use Rattle.translation.specs.Translate.{operandCode}
 use Rattle.expression_writers.proofs.Ranks.{rank-some}
 use Rattle.expression_writers.proofs.ExpressionParts.{ExpressionAsked, all-small, row-low}
 use Rattle.expression_writers.proofs.ExpressionParts.{OperandsFound, copied-most, first-inside, first-small, second-inside, second-small, held-within, operands-within, above-low, level-small, first-falls, second-falls, first-asks}
@@ -25,18 +25,18 @@ module _ (t : ℕ) where
 
   at-start : (c : Start) →
       let args = c .args in
-      ExpressionAsked (args .store) (args .rows .now) (args .table .now) (args .row) (args .level) (args .base) (args .out .now)
+      ExpressionAsked (args .store) (args .rows .now) (args .table .now) (args .row) (args .usage) (args .level) (args .base) (args .out .now)
   at-start c = record { writing = c .pre .1 .0; asks = c .pre .1 .1 }
 
   -- The row is not absent, and its operands are known.
   abbrev Found : Type 0
-  Found = lts.After-own-at (write-expression-claims t) (write-expression-at t) reads.Post
+  Found = lts.After-second-use (write-expression-claims t) (write-expression-at t) reads.Post
 
   abbrev found-start : Found → Start
-  found-start c = c .before .before .before .before
+  found-start c = c .before .before .before .before .before
 
-  at-operands : (c : Found) → OperandsFound (at-start (found-start c)) (c .before .operand-copied .result) (c .own-at .result)
-  at-operands c = record { some = omega (arith, c .before .before .if1 .left); copied-is = c .before .operand-copied .ensures; at = c .own-at .ensures }
+  at-operands : (c : Found) → OperandsFound (at-start (found-start c)) (c .before .before .operand-copied .result) (c .before .own-at .result) (c .second-use .result)
+  at-operands c = record { some = omega (arith, c .before .before .before .if1 .left); copied-is = c .before .before .operand-copied .ensures; at = c .before .own-at .ensures; passed = c .second-use .ensures }
 
   -- All sizes are known.
   abbrev Sized : Type 0
@@ -46,10 +46,10 @@ module _ (t : ℕ) where
   sized-found c = c .before .before .before .before
 
   at-sizes : (c : Sized) →
-      ExpressionSizes (at-operands (sized-found c)) (sized-found c .own-at .result .above)
+      ExpressionSizes (at-operands (sized-found c)) (sized-found c .before .own-at .result .above)
       (c .before .before .operand-size .result) (c .before .operand-size2 .result) (c .operand-size3 .result)
   at-sizes c = record {
-    above-is = sized-found c .own-at .ensures .above-is;
+    above-is = sized-found c .before .own-at .ensures .above-is;
     first-is = c .before .before .operand-size .ensures;
     second-is = c .before .operand-size2 .ensures;
     all-is = c .operand-size3 .ensures;
@@ -63,7 +63,7 @@ module _ (t : ℕ) where
   first-sized c = c .before .before .before .before .before .before
 
   at-first : (c : FirstWritten) →
-      let firstTable = c .before .write-expression .last .1 .1 .1 .1 .1 .1 .1 .0 in
+      let firstTable = c .before .write-expression .last .1 .1 .1 .1 .1 .1 .1 .1 .0 in
       FirstOperand (at-sizes (first-sized c)) (c .before .before .before .more3 .result) firstTable
   at-first c = record { table-is = c .before .write-expression .ensures }
 
@@ -89,7 +89,7 @@ module _ (t : ℕ) where
 
   at-second : (c : SecondWritten) →
       let written = second-hold c in
-      let secondWords = c .before .write-expression2 .last .1 .1 .1 .1 .1 .1 .1 .0 in
+      let secondWords = c .before .write-expression2 .last .1 .1 .1 .1 .1 .1 .1 .1 .0 in
       SecondOperand (at-hold written) (hold-first written .before .before .before .before .before .more .result) secondWords
   at-second c = record { more-is = hold-first (second-hold c) .before .before .before .before .more2 .ensures; table-is = c .before .write-expression2 .ensures }
 
@@ -103,7 +103,7 @@ module _ (t : ℕ) where
   at-last : (c : LastWritten) →
       let written = last-second c in
       let follows = found-start (sized-found (first-sized (hold-first (second-hold written)))) .args .follows in
-      let lastWords = c .before .write-last .last .1 .1 .1 .1 .1 .1 .1 .0 in
+      let lastWords = c .before .write-last .last .1 .1 .1 .1 .1 .1 .1 .1 .0 in
       LastPart (at-second written) follows lastWords
   at-last c =
       let past-more = hold-first (second-hold (last-second c)) .before .before .before .before .before .more in
@@ -115,7 +115,7 @@ module _ (t : ℕ) where
   returns c =
       let args = c .before .before .args in
       recoded _ _ _ _ _ _ (nothing-wrote (args .follows) (args .base) _)
-      (ap (λ r. operandCode (args .store) (partAt (args .rows .now) r) (args .level)) (sym (c .if1 .taken)))
+      (ap (λ r. operandCode (args .store) (partAt (args .rows .now) r) (args .usage) (args .level)) (sym (c .if1 .taken)))
 
   -- ---- the operands and the sizes
 
@@ -129,10 +129,13 @@ module _ (t : ℕ) where
       let asked = at-start (c .before .before .before) in
       (whole-behind (asked .writing .measured) _, asked .asks .inside, c .operand-copied .ensures)
 
+  pub second-use-requires : lts.Need-second-use-requires (write-expression-claims t) (write-expression-at t) reads.Post
+  second-use-requires c κs = tt
+
   pub add-above : lts.Need-add-above (write-expression-claims t) (write-expression-at t) reads.Post
   add-above c =
       let found = c .before in
-      omega (arith, above-low (at-operands found) (found .own-at .ensures .above-is), row-low (at-start (found-start found)))
+      omega (arith, above-low (at-operands found) (found .before .own-at .ensures .above-is), row-low (at-start (found-start found)))
 
   pub mul-copy : lts.Need-mul-copy (write-expression-claims t) (write-expression-at t) reads.Post
   mul-copy c = omega (arith, copied-most (at-operands (c .before)))

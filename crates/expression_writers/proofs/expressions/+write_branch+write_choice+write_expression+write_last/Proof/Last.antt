@@ -35,7 +35,7 @@ module _ (t : ℕ) where
       let asks = start .pre .1 .1 in
       let fit = branches-fit (chosen (past-choice-at .ensures) (known .choice .given .1)) in (
         choice-falls (start .args .rows .now) (start .args .row) (fit .true-later) (fit .false-later) (asks .inside) measure,
-        ((writing, fit .test-fits, fit .true-fits, fit .false-fits), room-less _ (asks .room) (omega (arith, fit .rows-are))),
+        ((writing, fit .test-fits, fit .true-fits, fit .false-fits), room-less _ (asks .room) (omega (arith, fit .rows-are (start .args .usage)))),
       )
 
   -- ---- straight code
@@ -57,7 +57,7 @@ module _ (t : ℕ) where
   returns c =
       let known = c .before .before .before .before in
       let past-choice-at = known .before .before .choice-at in
-      recoded _ _ _ _ _ _ (c .before .write-choice .ensures) (sym (chosen (past-choice-at .ensures) (known .choice .given .1) .is))
+      recoded _ _ _ _ _ _ (c .before .write-choice .ensures) (sym (chosen (past-choice-at .ensures) (known .choice .given .1) .is (known .before .before .before .before .args .usage)))
 
   pub same-length-2 : lts.Need-same-length-2 (write-last-claims t) (write-last-at t) reads.Post
   same-length-2 c = search needs
@@ -66,4 +66,4 @@ module _ (t : ℕ) where
   returns-2 c =
       let told = c .before .before .before in
       let past-choice-at = told .before .before .choice-at in
-      recoded _ _ _ _ _ _ (c .before .put-straight .ensures) (sym (chosen (past-choice-at .ensures) (told .enum-told .given .1) .is))
+      recoded _ _ _ _ _ _ (c .before .put-straight .ensures) (sym (chosen (past-choice-at .ensures) (told .enum-told .given .1) .is (told .before .before .before .before .args .usage)))

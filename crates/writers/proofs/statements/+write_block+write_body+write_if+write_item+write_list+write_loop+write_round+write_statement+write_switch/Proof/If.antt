@@ -3,6 +3,7 @@ use borrow.Author.Needs.{needs}
 use mathlib.Core.Path.{_∙_}
 use Prim.Native.Nat.{ℕ, _+_}
 use native.Mathlib.Omega.{arith}
+use Rattle.translation.specs.declared.Use.the-variants.{Wanted as wanted}
 use Rattle.writers.specs.Code.{exitsOf}
 use Rattle.leaves.specs.Chain.{Reach, back-in, room-less}
 use Rattle.leaves.proofs.Words.{pick-most}
@@ -17,7 +18,7 @@ operand-size-requires t c κs =
     let start = c .before in
     let asks = start .pre .1 .1 in
     let args = start .args in
-    let test-size = part-size (args .rows .now) (args .test) (asks .test-some) in
+    let test-size = part-size wanted (args .rows .now) (args .test) (asks .test-some) in
     (start .pre .1 .0 .measured, asks .test-inside, omega (arith, test-size, asks .room .low))
 
 pub add-n : (t : ℕ) → lts.Need-add-n (write-if-claims t) (write-if-at t) reads.Post
@@ -25,7 +26,7 @@ add-n t c =
     let start = c .before .before in
     let asks = start .pre .1 .1 in
     let args = start .args in
-    let test-size = part-size (args .rows .now) (args .test) (asks .test-some) in
+    let test-size = part-size wanted (args .rows .now) (args .test) (asks .test-some) in
     let past-operand-size = c .operand-size in
     omega (arith, asks .room .low, asks .labels-low, test-size, past-operand-size .ensures)
 
@@ -34,7 +35,7 @@ add-m t c =
     let start = c .before .before in
     let asks = start .pre .1 .1 in
     let args = start .args in
-    let test-size = part-size (args .rows .now) (args .test) (asks .test-some) in
+    let test-size = part-size wanted (args .rows .now) (args .test) (asks .test-some) in
     let past-operand-size = c .operand-size in
     omega (arith, asks .room .low, asks .labels-low, test-size, past-operand-size .ensures)
 
@@ -49,7 +50,7 @@ add-m-2 t c =
     let start = c .before .before .before in
     let asks = start .pre .1 .1 in
     let args = start .args in
-    let test-size = part-size (args .rows .now) (args .test) (asks .test-some) in
+    let test-size = part-size wanted (args .rows .now) (args .test) (asks .test-some) in
     let past-operand-size = c .before .operand-size in
     let past-statement-size = c .statement-size in
     omega (arith, asks .room .low, asks .labels-low, test-size, past-operand-size .ensures, past-statement-size .ensures)
@@ -59,7 +60,7 @@ add-end t c =
     let start = c .before .before .before in
     let asks = start .pre .1 .1 in
     let args = start .args in
-    let test-size = part-size (args .rows .now) (args .test) (asks .test-some) in
+    let test-size = part-size wanted (args .rows .now) (args .test) (asks .test-some) in
     let past-operand-size = c .before .operand-size in
     let past-statement-size = c .statement-size in
     omega (arith, asks .room .low, asks .labels-low, test-size, past-operand-size .ensures, past-statement-size .ensures)
@@ -75,7 +76,7 @@ add-end-2 t c =
     let start = c .before .before .before .before in
     let asks = start .pre .1 .1 in
     let args = start .args in
-    let test-size = part-size (args .rows .now) (args .test) (asks .test-some) in
+    let test-size = part-size wanted (args .rows .now) (args .test) (asks .test-some) in
     let past-operand-size = c .before .before .operand-size in
     let past-statement-size = c .before .statement-size in
     let past-body-size = c .body-size in
@@ -98,7 +99,7 @@ add-other t c =
     let start = c .before .before .before .before .before .before in
     let asks = start .pre .1 .1 in
     let args = start .args in
-    let test-size = part-size (args .rows .now) (args .test) (asks .test-some) in
+    let test-size = part-size wanted (args .rows .now) (args .test) (asks .test-some) in
     let past-operand-size = c .before .before .before .before .operand-size in
     let past-statement-size = c .before .before .before .statement-size in
     let past-body-size = c .before .before .body-size in
@@ -110,15 +111,15 @@ write-expression-requires t c κs =
     let start = c .before .before .before .before .before .before .before in
     let asks = start .pre .1 .1 in
     let args = start .args in
-    let test-size = part-size (args .rows .now) (args .test) (asks .test-some) in
-    (start .pre .1 .0, record { inside = asks .test-inside; level-low = λ h. omega arith; room = room-less _ (asks .room) (omega (arith, test-size)) })
+    let test-size = part-size wanted (args .rows .now) (args .test) (asks .test-some) in
+    (start .pre .1 .0, record { inside = asks .test-inside; level-low = λ h. omega arith; use-fits = tt; room = room-less _ (asks .room) (omega (arith, test-size)) })
 
 pub add-put-if : (t : ℕ) → lts.Need-add-put-if (write-if-claims t) (write-if-at t) reads.Post
 add-put-if t c =
     let start = c .before .before .before .before .before .before .before .before .before in
     let asks = start .pre .1 .1 in
     let args = start .args in
-    let test-size = part-size (args .rows .now) (args .test) (asks .test-some) in
+    let test-size = part-size wanted (args .rows .now) (args .test) (asks .test-some) in
     let past-operand-size = c .before .before .before .before .before .before .before .operand-size in
     let past-statement-size = c .before .before .before .before .before .before .statement-size in
     let past-body-size = c .before .before .before .before .before .body-size in
@@ -130,7 +131,7 @@ add-put-if-2 t c =
     let start = c .before .before .before .before .before .before .before .before .before in
     let asks = start .pre .1 .1 in
     let args = start .args in
-    let test-size = part-size (args .rows .now) (args .test) (asks .test-some) in
+    let test-size = part-size wanted (args .rows .now) (args .test) (asks .test-some) in
     let past-operand-size = c .before .before .before .before .before .before .before .operand-size in
     let past-statement-size = c .before .before .before .before .before .before .statement-size in
     let past-body-size = c .before .before .before .before .before .body-size in
@@ -142,7 +143,7 @@ add-behind t c =
     let start = c .before .before .before .before .before .before .before .before .before in
     let asks = start .pre .1 .1 in
     let args = start .args in
-    let test-size = part-size (args .rows .now) (args .test) (asks .test-some) in
+    let test-size = part-size wanted (args .rows .now) (args .test) (asks .test-some) in
     let past-operand-size = c .before .before .before .before .before .before .before .operand-size in
     let past-statement-size = c .before .before .before .before .before .before .statement-size in
     let past-body-size = c .before .before .before .before .before .body-size in
@@ -158,15 +159,15 @@ put-if-reach : (t : ℕ) (c : lts.After-behind (write-if-claims t) (write-if-at 
     let start = c .before .before .before .before .before .before .before .before .before .before in
     let args = start .args in
     let past-write-expression = c .before .before .write-expression in
-    let test-table = past-write-expression .last .1 .1 .1 .1 .1 .1 .1 .0 in
+    let test-table = past-write-expression .last .1 .1 .1 .1 .1 .1 .1 .1 .0 in
     Reach test-rows (args .base) test-table
 put-if-reach t c =
     let start = c .before .before .before .before .before .before .before .before .before .before in
     let asks = start .pre .1 .1 in
     let args = start .args in
-    let test-size = part-size (args .rows .now) (args .test) (asks .test-some) in
+    let test-size = part-size wanted (args .rows .now) (args .test) (asks .test-some) in
     let past-write-expression = c .before .before .write-expression in
-    let test-kept = past-write-expression .kept .1 .1 .1 .1 .1 .1 .1 .0 in
+    let test-kept = past-write-expression .kept .1 .1 .1 .1 .1 .1 .1 .1 .0 in
     let past-operand-size = c .before .before .before .before .before .before .before .before .operand-size in
     let past-statement-size = c .before .before .before .before .before .before .before .statement-size in
     let past-body-size = c .before .before .before .before .before .before .body-size in
@@ -192,12 +193,12 @@ put-if-requires t c κs =
     let past-operand-size = c .before .before .before .before .before .before .before .before .before .operand-size in
     let test-rows = past-operand-size .result in
     let past-write-expression = c .before .before .before .write-expression in
-    let test-table = past-write-expression .last .1 .1 .1 .1 .1 .1 .1 .0 in
+    let test-table = past-write-expression .last .1 .1 .1 .1 .1 .1 .1 .1 .0 in
     let start = c .before .before .before .before .before .before .before .before .before .before .before in
     let asks = start .pre .1 .1 in
-    let test-kept = past-write-expression .kept .1 .1 .1 .1 .1 .1 .1 .0 in
+    let test-kept = past-write-expression .kept .1 .1 .1 .1 .1 .1 .1 .1 .0 in
     let args = start .args in
-    let test-size = part-size (args .rows .now) (args .test) (asks .test-some) in
+    let test-size = part-size wanted (args .rows .now) (args .test) (asks .test-some) in
     let past-statement-size = c .before .before .before .before .before .before .before .before .statement-size in
     let no-at = test-rows + 2 + 1 + past-statement-size .result in
     let past-behind = c .before .behind in
@@ -216,7 +217,7 @@ write-body-reach : (t : ℕ) (c : lts.After-out2 (write-if-claims t) (write-if-a
     let start = c .before .before .before .before .before .before .before .before .before .before .before .before .before in
     let args = start .args in
     let past-write-expression = c .before .before .before .before .before .write-expression in
-    let test-table = past-write-expression .last .1 .1 .1 .1 .1 .1 .1 .0 in
+    let test-table = past-write-expression .last .1 .1 .1 .1 .1 .1 .1 .1 .0 in
     let past-put-if = c .before .put-if in
     let head-rows = past-put-if .last .1 .1 .1 .1 .0 in
     let head-table = back-in test-rows test-table head-rows in
@@ -225,12 +226,12 @@ write-body-reach t c =
     let start = c .before .before .before .before .before .before .before .before .before .before .before .before .before in
     let asks = start .pre .1 .1 in
     let args = start .args in
-    let test-size = part-size (args .rows .now) (args .test) (asks .test-some) in
+    let test-size = part-size wanted (args .rows .now) (args .test) (asks .test-some) in
     let past-write-expression = c .before .before .before .before .before .write-expression in
-    let test-kept = past-write-expression .kept .1 .1 .1 .1 .1 .1 .1 .0 in
+    let test-kept = past-write-expression .kept .1 .1 .1 .1 .1 .1 .1 .1 .0 in
     let past-operand-size = c .before .before .before .before .before .before .before .before .before .before .before .operand-size in
     let test-rows = past-operand-size .result in
-    let test-table = past-write-expression .last .1 .1 .1 .1 .1 .1 .1 .0 in
+    let test-table = past-write-expression .last .1 .1 .1 .1 .1 .1 .1 .1 .0 in
     let past-put-if = c .before .put-if in
     let head-rows = past-put-if .last .1 .1 .1 .1 .0 in
     let head-kept = back-length test-rows test-table head-rows (past-put-if .kept .1 .1 .1 .1 .0) in
@@ -265,13 +266,13 @@ write-body-requires t c κs =
     let test-rows = past-operand-size .result in
     let yes-at = test-rows + 2 in
     let past-write-expression = c .before .before .before .before .before .before .write-expression in
-    let test-table = past-write-expression .last .1 .1 .1 .1 .1 .1 .1 .0 in
+    let test-table = past-write-expression .last .1 .1 .1 .1 .1 .1 .1 .1 .0 in
     let past-put-if = c .before .before .put-if in
     let head-rows = past-put-if .last .1 .1 .1 .1 .0 in
     let head-table = back-in test-rows test-table head-rows in
     let head-kept = back-length test-rows test-table head-rows (past-put-if .kept .1 .1 .1 .1 .0) in
-    let test-kept = past-write-expression .kept .1 .1 .1 .1 .1 .1 .1 .0 in
-    let test-size = part-size (args .rows .now) (args .test) (asks .test-some) in
+    let test-kept = past-write-expression .kept .1 .1 .1 .1 .1 .1 .1 .1 .0 in
+    let test-size = part-size wanted (args .rows .now) (args .test) (asks .test-some) in
     let size = body-some (args .rows .now) (args .yes) (asks .true-some) in (
       omega (arith, start .pre .0),
       (
@@ -294,7 +295,7 @@ write-body-2-reach : (t : ℕ) (c : lts.After-out3 (write-if-claims t) (write-if
     let args = start .args in
     let yes-at = test-rows + 2 in
     let past-write-expression = c .before .before .before .before .before .before .before .before .write-expression in
-    let test-table = past-write-expression .last .1 .1 .1 .1 .1 .1 .1 .0 in
+    let test-table = past-write-expression .last .1 .1 .1 .1 .1 .1 .1 .1 .0 in
     let past-put-if = c .before .before .before .before .put-if in
     let head-rows = past-put-if .last .1 .1 .1 .1 .0 in
     let head-table = back-in test-rows test-table head-rows in
@@ -306,12 +307,12 @@ write-body-2-reach t c =
     let start = c .before .before .before .before .before .before .before .before .before .before .before .before .before .before .before .before in
     let asks = start .pre .1 .1 in
     let args = start .args in
-    let test-size = part-size (args .rows .now) (args .test) (asks .test-some) in
+    let test-size = part-size wanted (args .rows .now) (args .test) (asks .test-some) in
     let past-write-expression = c .before .before .before .before .before .before .before .before .write-expression in
-    let test-kept = past-write-expression .kept .1 .1 .1 .1 .1 .1 .1 .0 in
+    let test-kept = past-write-expression .kept .1 .1 .1 .1 .1 .1 .1 .1 .0 in
     let past-operand-size = c .before .before .before .before .before .before .before .before .before .before .before .before .before .before .operand-size in
     let test-rows = past-operand-size .result in
-    let test-table = past-write-expression .last .1 .1 .1 .1 .1 .1 .1 .0 in
+    let test-table = past-write-expression .last .1 .1 .1 .1 .1 .1 .1 .1 .0 in
     let past-put-if = c .before .before .before .before .put-if in
     let head-rows = past-put-if .last .1 .1 .1 .1 .0 in
     let head-kept = back-length test-rows test-table head-rows (past-put-if .kept .1 .1 .1 .1 .0) in
@@ -352,7 +353,7 @@ write-body-requires-2 t c κs =
     let no-at = test-rows + 2 + 1 + past-statement-size .result in
     let yes-at = test-rows + 2 in
     let past-write-expression = c .before .before .before .before .before .before .before .before .before .write-expression in
-    let test-table = past-write-expression .last .1 .1 .1 .1 .1 .1 .1 .0 in
+    let test-table = past-write-expression .last .1 .1 .1 .1 .1 .1 .1 .1 .0 in
     let past-put-if = c .before .before .before .before .before .put-if in
     let head-rows = past-put-if .last .1 .1 .1 .1 .0 in
     let head-table = back-in test-rows test-table head-rows in
@@ -361,9 +362,9 @@ write-body-requires-2 t c κs =
     let yes-table = back-in yes-at head-table yes-rows in
     let yes-kept = back-length yes-at head-table yes-rows (past-write-body .kept .1 .1 .1 .1 .1 .1 .1 .0) in
     let head-kept = back-length test-rows test-table head-rows (past-put-if .kept .1 .1 .1 .1 .0) in
-    let test-kept = past-write-expression .kept .1 .1 .1 .1 .1 .1 .1 .0 in
+    let test-kept = past-write-expression .kept .1 .1 .1 .1 .1 .1 .1 .1 .0 in
     let args = start .args in
-    let test-size = part-size (args .rows .now) (args .test) (asks .test-some) in
+    let test-size = part-size wanted (args .rows .now) (args .test) (asks .test-some) in
     let past-statement-labels = c .before .before .before .before .before .before .before .before .before .before .before .statement-labels in (
       omega (arith, start .pre .0),
       (
@@ -385,7 +386,7 @@ same-length t c =
     let no-at = test-rows + 2 + 1 + past-statement-size .result in
     let yes-at = test-rows + 2 in
     let past-write-expression = c .before .before .before .before .before .before .before .before .before .before .before .write-expression in
-    let test-table = past-write-expression .last .1 .1 .1 .1 .1 .1 .1 .0 in
+    let test-table = past-write-expression .last .1 .1 .1 .1 .1 .1 .1 .1 .0 in
     let past-put-if = c .before .before .before .before .before .before .before .put-if in
     let head-rows = past-put-if .last .1 .1 .1 .1 .0 in
     let head-table = back-in test-rows test-table head-rows in
@@ -397,7 +398,7 @@ same-length t c =
     let no-kept = back-length no-at yes-table no-rows (past-write-body2 .kept .1 .1 .1 .1 .1 .1 .1 .0) in
     let yes-kept = back-length yes-at head-table yes-rows (past-write-body .kept .1 .1 .1 .1 .1 .1 .1 .0) in
     let head-kept = back-length test-rows test-table head-rows (past-put-if .kept .1 .1 .1 .1 .0) in
-    let test-kept = past-write-expression .kept .1 .1 .1 .1 .1 .1 .1 .0 in
+    let test-kept = past-write-expression .kept .1 .1 .1 .1 .1 .1 .1 .1 .0 in
     no-kept ∙ yes-kept ∙ head-kept ∙ test-kept
 
 pub returns : (t : ℕ) → lts.Need-returns (write-if-claims t) (write-if-at t) reads.Post

@@ -46,7 +46,7 @@ write-expression-requires t c κs =
     let start = c .before .before .before .before in
     let fits = start .pre .1 .1 in
     let room = start .pre .1 .2 in
-    (start .pre .1 .0, record { inside = fits .first-inside; level-low = λ h. omega arith; room = room-less _ room (omega arith) })
+    (start .pre .1 .0, record { inside = fits .first-inside; level-low = λ h. omega arith; use-fits = tt; room = room-less _ room (omega arith) })
 
 put-loop-reach : (t : ℕ) (c : lts.After-out (write-loop-claims t) (write-loop-at t) reads.Post) →
     let past-operand-size = c .before .before .before .before .operand-size in
@@ -54,13 +54,13 @@ put-loop-reach : (t : ℕ) (c : lts.After-out (write-loop-claims t) (write-loop-
     let start = c .before .before .before .before .before .before in
     let args = start .args in
     let past-write-expression = c .before .write-expression in
-    let first-table = past-write-expression .last .1 .1 .1 .1 .1 .1 .1 .0 in
+    let first-table = past-write-expression .last .1 .1 .1 .1 .1 .1 .1 .1 .0 in
     Reach first-rows (args .base) first-table
 put-loop-reach t c =
     let start = c .before .before .before .before .before .before in
     let room = start .pre .1 .2 in
     let past-write-expression = c .before .write-expression in
-    let first-kept = past-write-expression .kept .1 .1 .1 .1 .1 .1 .1 .0 in
+    let first-kept = past-write-expression .kept .1 .1 .1 .1 .1 .1 .1 .1 .0 in
     let past-operand-size = c .before .before .before .before .operand-size in
     let past-round-size = c .before .before .before .round-size in
     record { inside = omega (arith, room .inside, past-operand-size .ensures, past-round-size .ensures, first-kept); low = omega (arith, room .low, past-operand-size .ensures, past-round-size .ensures) }
@@ -88,10 +88,10 @@ put-loop-requires t c κs =
     let past-operand-size = c .before .before .before .before .before .operand-size in
     let first-rows = past-operand-size .result in
     let past-write-expression = c .before .before .write-expression in
-    let first-table = past-write-expression .last .1 .1 .1 .1 .1 .1 .1 .0 in
+    let first-table = past-write-expression .last .1 .1 .1 .1 .1 .1 .1 .1 .0 in
     let start = c .before .before .before .before .before .before .before in
     let room = start .pre .1 .2 in
-    let first-kept = past-write-expression .kept .1 .1 .1 .1 .1 .1 .1 .0 in
+    let first-kept = past-write-expression .kept .1 .1 .1 .1 .1 .1 .1 .1 .0 in
     let past-round-size = c .before .before .before .before .round-size in
     (room-behind first-rows 3 first-table room first-kept (omega (arith, past-operand-size .ensures)), omega (arith, past-round-size .ensures, room .low))
 
@@ -102,7 +102,7 @@ write-round-reach : (t : ℕ) (c : lts.After-out2 (write-loop-claims t) (write-l
     let start = c .before .before .before .before .before .before .before .before .before in
     let args = start .args in
     let past-write-expression = c .before .before .before .before .write-expression in
-    let first-table = past-write-expression .last .1 .1 .1 .1 .1 .1 .1 .0 in
+    let first-table = past-write-expression .last .1 .1 .1 .1 .1 .1 .1 .1 .0 in
     let past-put-loop = c .before .put-loop in
     let head-rows = past-put-loop .last .1 .1 .0 in
     let head-table = back-in first-rows first-table head-rows in
@@ -111,10 +111,10 @@ write-round-reach t c =
     let start = c .before .before .before .before .before .before .before .before .before in
     let room = start .pre .1 .2 in
     let past-write-expression = c .before .before .before .before .write-expression in
-    let first-kept = past-write-expression .kept .1 .1 .1 .1 .1 .1 .1 .0 in
+    let first-kept = past-write-expression .kept .1 .1 .1 .1 .1 .1 .1 .1 .0 in
     let past-operand-size = c .before .before .before .before .before .before .before .operand-size in
     let first-rows = past-operand-size .result in
-    let first-table = past-write-expression .last .1 .1 .1 .1 .1 .1 .1 .0 in
+    let first-table = past-write-expression .last .1 .1 .1 .1 .1 .1 .1 .1 .0 in
     let past-put-loop = c .before .put-loop in
     let head-rows = past-put-loop .last .1 .1 .0 in
     let head-kept = back-length first-rows first-table head-rows (past-put-loop .kept .1 .1 .0) in
@@ -147,13 +147,13 @@ write-round-requires t c κs =
     let first-rows = past-operand-size .result in
     let round-at = first-rows + 3 in
     let past-write-expression = c .before .before .before .before .before .write-expression in
-    let first-table = past-write-expression .last .1 .1 .1 .1 .1 .1 .1 .0 in
+    let first-table = past-write-expression .last .1 .1 .1 .1 .1 .1 .1 .1 .0 in
     let past-put-loop = c .before .before .put-loop in
     let head-rows = past-put-loop .last .1 .1 .0 in
     let head-table = back-in first-rows first-table head-rows in
     let room = start .pre .1 .2 in
     let head-kept = back-length first-rows first-table head-rows (past-put-loop .kept .1 .1 .0) in
-    let first-kept = past-write-expression .kept .1 .1 .1 .1 .1 .1 .1 .0 in
+    let first-kept = past-write-expression .kept .1 .1 .1 .1 .1 .1 .1 .1 .0 in
     (omega (arith, start .pre .0), (start .pre .1 .0, fits, room-behind round-at _ head-table room (head-kept ∙ first-kept) (omega (arith, past-operand-size .ensures))))
 
 put-label-reach : (t : ℕ) (c : lts.After-out3 (write-loop-claims t) (write-loop-at t) reads.Post) →
@@ -165,7 +165,7 @@ put-label-reach : (t : ℕ) (c : lts.After-out3 (write-loop-claims t) (write-loo
     let args = start .args in
     let round-at = first-rows + 3 in
     let past-write-expression = c .before .before .before .before .before .before .before .write-expression in
-    let first-table = past-write-expression .last .1 .1 .1 .1 .1 .1 .1 .0 in
+    let first-table = past-write-expression .last .1 .1 .1 .1 .1 .1 .1 .1 .0 in
     let past-put-loop = c .before .before .before .before .put-loop in
     let head-rows = past-put-loop .last .1 .1 .0 in
     let head-table = back-in first-rows first-table head-rows in
@@ -177,10 +177,10 @@ put-label-reach t c =
     let start = c .before .before .before .before .before .before .before .before .before .before .before .before in
     let room = start .pre .1 .2 in
     let past-write-expression = c .before .before .before .before .before .before .before .write-expression in
-    let first-kept = past-write-expression .kept .1 .1 .1 .1 .1 .1 .1 .0 in
+    let first-kept = past-write-expression .kept .1 .1 .1 .1 .1 .1 .1 .1 .0 in
     let past-operand-size = c .before .before .before .before .before .before .before .before .before .before .operand-size in
     let first-rows = past-operand-size .result in
-    let first-table = past-write-expression .last .1 .1 .1 .1 .1 .1 .1 .0 in
+    let first-table = past-write-expression .last .1 .1 .1 .1 .1 .1 .1 .1 .0 in
     let past-put-loop = c .before .before .before .before .put-loop in
     let head-rows = past-put-loop .last .1 .1 .0 in
     let head-kept = back-length first-rows first-table head-rows (past-put-loop .kept .1 .1 .0) in
@@ -218,7 +218,7 @@ put-label-requires t c κs =
     let label-at = first-rows + 3 + past-round-size .result in
     let round-at = first-rows + 3 in
     let past-write-expression = c .before .before .before .before .before .before .before .before .write-expression in
-    let first-table = past-write-expression .last .1 .1 .1 .1 .1 .1 .1 .0 in
+    let first-table = past-write-expression .last .1 .1 .1 .1 .1 .1 .1 .1 .0 in
     let past-put-loop = c .before .before .before .before .before .put-loop in
     let head-rows = past-put-loop .last .1 .1 .0 in
     let head-table = back-in first-rows first-table head-rows in
@@ -229,7 +229,7 @@ put-label-requires t c κs =
     let room = start .pre .1 .2 in
     let round-kept = back-length round-at head-table round-rows (past-write-round .kept .1 .1 .1 .1 .1 .1 .0) in
     let head-kept = back-length first-rows first-table head-rows (past-put-loop .kept .1 .1 .0) in
-    let first-kept = past-write-expression .kept .1 .1 .1 .1 .1 .1 .1 .0 in
+    let first-kept = past-write-expression .kept .1 .1 .1 .1 .1 .1 .1 .1 .0 in
     let fits = start .pre .1 .1 in
     (room-behind label-at 1 round-table room (round-kept ∙ head-kept ∙ first-kept) (omega (arith, past-operand-size .ensures, past-round-size .ensures)), omega (arith, fits .labels-low))
 
@@ -241,7 +241,7 @@ same-length t c =
     let label-at = first-rows + 3 + past-round-size .result in
     let round-at = first-rows + 3 in
     let past-write-expression = c .before .before .before .before .before .before .before .before .before .before .write-expression in
-    let first-table = past-write-expression .last .1 .1 .1 .1 .1 .1 .1 .0 in
+    let first-table = past-write-expression .last .1 .1 .1 .1 .1 .1 .1 .1 .0 in
     let past-put-loop = c .before .before .before .before .before .before .before .put-loop in
     let head-rows = past-put-loop .last .1 .1 .0 in
     let head-table = back-in first-rows first-table head-rows in
@@ -253,7 +253,7 @@ same-length t c =
     let label-kept = back-length label-at round-table label-rows (past-put-label .kept .1 .1 .1 .0) in
     let round-kept = back-length round-at head-table round-rows (past-write-round .kept .1 .1 .1 .1 .1 .1 .0) in
     let head-kept = back-length first-rows first-table head-rows (past-put-loop .kept .1 .1 .0) in
-    let first-kept = past-write-expression .kept .1 .1 .1 .1 .1 .1 .1 .0 in
+    let first-kept = past-write-expression .kept .1 .1 .1 .1 .1 .1 .1 .1 .0 in
     label-kept ∙ round-kept ∙ head-kept ∙ first-kept
 
 pub returns : (t : ℕ) → lts.Need-returns (write-loop-claims t) (write-loop-at t) reads.Post

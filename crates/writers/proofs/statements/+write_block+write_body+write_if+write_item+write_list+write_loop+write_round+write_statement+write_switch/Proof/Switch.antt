@@ -2,6 +2,7 @@
 use mathlib.Core.Path.{_∙_}
 use Prim.Native.Nat.{ℕ, _+_, _*_}
 use native.Mathlib.Omega.{arith}
+use Rattle.translation.specs.declared.Use.the-variants.{Wanted as wanted}
 use Rattle.language.specs.Decode.{expressionAt, listAt}
 use Rattle.translation.specs.Translate.{atomOf}
 use Rattle.writers.specs.Code.{exitsOf}
@@ -19,7 +20,7 @@ operand-size-requires t c κs =
     let start = c .before in
     let asks = start .pre .1 .1 in
     let args = start .args in
-    let selector-size = part-size (args .rows .now) (args .selector) (asks .selector-some) in
+    let selector-size = part-size wanted (args .rows .now) (args .selector) (asks .selector-some) in
     (start .pre .1 .0 .measured, asks .selector-inside, omega (arith, selector-size, asks .room .low))
 
 pub list-cases-requires : (t : ℕ) → lts.Need-list-cases-requires (write-switch-claims t) (write-switch-at t) reads.Post
@@ -33,7 +34,7 @@ mul-n t c =
     let start = c .before .before .before in
     let asks = start .pre .1 .1 in
     let args = start .args in
-    let selector-size = part-size (args .rows .now) (args .selector) (asks .selector-some) in
+    let selector-size = part-size wanted (args .rows .now) (args .selector) (asks .selector-some) in
     let past-operand-size = c .before .operand-size in
     let past-list-cases = c .list-cases in
     omega (arith, asks .room .low, asks .labels-low, selector-size, past-operand-size .ensures, past-list-cases .ensures)
@@ -43,7 +44,7 @@ add-n t c =
     let start = c .before .before .before in
     let asks = start .pre .1 .1 in
     let args = start .args in
-    let selector-size = part-size (args .rows .now) (args .selector) (asks .selector-some) in
+    let selector-size = part-size wanted (args .rows .now) (args .selector) (asks .selector-some) in
     let past-operand-size = c .before .operand-size in
     let past-list-cases = c .list-cases in
     omega (arith, asks .room .low, asks .labels-low, selector-size, past-operand-size .ensures, past-list-cases .ensures)
@@ -53,7 +54,7 @@ add-i t c =
     let start = c .before .before .before in
     let asks = start .pre .1 .1 in
     let args = start .args in
-    let selector-size = part-size (args .rows .now) (args .selector) (asks .selector-some) in
+    let selector-size = part-size wanted (args .rows .now) (args .selector) (asks .selector-some) in
     let past-operand-size = c .before .operand-size in
     let past-list-cases = c .list-cases in
     omega (arith, asks .room .low, asks .labels-low, selector-size, past-operand-size .ensures, past-list-cases .ensures)
@@ -69,7 +70,7 @@ add-m t c =
     let start = c .before .before .before .before in
     let asks = start .pre .1 .1 in
     let args = start .args in
-    let selector-size = part-size (args .rows .now) (args .selector) (asks .selector-some) in
+    let selector-size = part-size wanted (args .rows .now) (args .selector) (asks .selector-some) in
     let past-operand-size = c .before .before .operand-size in
     let past-list-cases = c .before .list-cases in
     let past-list-size = c .list-size in
@@ -93,8 +94,8 @@ write-expression-requires t c κs =
     let start = c .before .before .before .before .before .before .before in
     let asks = start .pre .1 .1 in
     let args = start .args in
-    let selector-size = part-size (args .rows .now) (args .selector) (asks .selector-some) in
-    (start .pre .1 .0, record { inside = asks .selector-inside; level-low = λ h. omega arith; room = room-less _ (asks .room) (omega (arith, selector-size)) })
+    let selector-size = part-size wanted (args .rows .now) (args .selector) (asks .selector-some) in
+    (start .pre .1 .0, record { inside = asks .selector-inside; level-low = λ h. omega arith; use-fits = tt; room = room-less _ (asks .room) (omega (arith, selector-size)) })
 
 write-cases-reach : (t : ℕ) (c : lts.After-out (write-switch-claims t) (write-switch-at t) reads.Post) →
     let past-operand-size = c .before .before .before .before .before .before .before .operand-size in
@@ -102,15 +103,15 @@ write-cases-reach : (t : ℕ) (c : lts.After-out (write-switch-claims t) (write-
     let start = c .before .before .before .before .before .before .before .before .before in
     let args = start .args in
     let past-write-expression = c .before .write-expression in
-    let selector-table = past-write-expression .last .1 .1 .1 .1 .1 .1 .1 .0 in
+    let selector-table = past-write-expression .last .1 .1 .1 .1 .1 .1 .1 .1 .0 in
     Reach selector-rows (args .base) selector-table
 write-cases-reach t c =
     let start = c .before .before .before .before .before .before .before .before .before in
     let asks = start .pre .1 .1 in
     let args = start .args in
-    let selector-size = part-size (args .rows .now) (args .selector) (asks .selector-some) in
+    let selector-size = part-size wanted (args .rows .now) (args .selector) (asks .selector-some) in
     let past-write-expression = c .before .write-expression in
-    let selector-kept = past-write-expression .kept .1 .1 .1 .1 .1 .1 .1 .0 in
+    let selector-kept = past-write-expression .kept .1 .1 .1 .1 .1 .1 .1 .1 .0 in
     let past-operand-size = c .before .before .before .before .before .before .before .operand-size in
     let past-list-cases = c .before .before .before .before .before .before .list-cases in
     let past-list-size = c .before .before .before .before .before .list-size in
@@ -145,9 +146,9 @@ write-cases-requires t c κs =
     let past-operand-size = c .before .before .before .before .before .before .before .before .operand-size in
     let selector-rows = past-operand-size .result in
     let past-write-expression = c .before .before .write-expression in
-    let selector-table = past-write-expression .last .1 .1 .1 .1 .1 .1 .1 .0 in
-    let selector-kept = past-write-expression .kept .1 .1 .1 .1 .1 .1 .1 .0 in
-    let selector-size = part-size (args .rows .now) (args .selector) (asks .selector-some) in
+    let selector-table = past-write-expression .last .1 .1 .1 .1 .1 .1 .1 .1 .0 in
+    let selector-kept = past-write-expression .kept .1 .1 .1 .1 .1 .1 .1 .1 .0 in
+    let selector-size = part-size wanted (args .rows .now) (args .selector) (asks .selector-some) in
     let past-atom-at = c .before .before .before .before .before .atom-at in
     let past-taken-at = c .before .before .before .before .taken-at in (
       start .pre .1 .0 .measured,
@@ -165,7 +166,7 @@ add-default-label t c =
     let start = c .before .before .before .before .before .before .before .before .before .before .before .before in
     let asks = start .pre .1 .1 in
     let args = start .args in
-    let selector-size = part-size (args .rows .now) (args .selector) (asks .selector-some) in
+    let selector-size = part-size wanted (args .rows .now) (args .selector) (asks .selector-some) in
     let past-operand-size = c .before .before .before .before .before .before .before .before .before .before .operand-size in
     let past-list-cases = c .before .before .before .before .before .before .before .before .before .list-cases in
     let past-list-size = c .before .before .before .before .before .before .before .before .list-size in
@@ -185,7 +186,7 @@ put-goto-reach : (t : ℕ) (c : lts.After-default-label (write-switch-claims t) 
     let start = c .before .before .before .before .before .before .before .before .before .before .before .before .before in
     let args = start .args in
     let past-write-expression = c .before .before .before .before .before .write-expression in
-    let selector-table = past-write-expression .last .1 .1 .1 .1 .1 .1 .1 .0 in
+    let selector-table = past-write-expression .last .1 .1 .1 .1 .1 .1 .1 .1 .0 in
     let past-write-cases = c .before .before .write-cases in
     let tests-rows = past-write-cases .last .1 .1 .1 .1 .1 .1 .1 .1 .0 in
     let tests-table = back-in selector-rows selector-table tests-rows in
@@ -194,12 +195,12 @@ put-goto-reach t c =
     let start = c .before .before .before .before .before .before .before .before .before .before .before .before .before in
     let asks = start .pre .1 .1 in
     let args = start .args in
-    let selector-size = part-size (args .rows .now) (args .selector) (asks .selector-some) in
+    let selector-size = part-size wanted (args .rows .now) (args .selector) (asks .selector-some) in
     let past-write-expression = c .before .before .before .before .before .write-expression in
-    let selector-kept = past-write-expression .kept .1 .1 .1 .1 .1 .1 .1 .0 in
+    let selector-kept = past-write-expression .kept .1 .1 .1 .1 .1 .1 .1 .1 .0 in
     let past-operand-size = c .before .before .before .before .before .before .before .before .before .before .before .operand-size in
     let selector-rows = past-operand-size .result in
-    let selector-table = past-write-expression .last .1 .1 .1 .1 .1 .1 .1 .0 in
+    let selector-table = past-write-expression .last .1 .1 .1 .1 .1 .1 .1 .1 .0 in
     let past-write-cases = c .before .before .write-cases in
     let tests-rows = past-write-cases .last .1 .1 .1 .1 .1 .1 .1 .1 .0 in
     let tests-kept = back-length selector-rows selector-table tests-rows (past-write-cases .kept .1 .1 .1 .1 .1 .1 .1 .1 .0) in
@@ -235,13 +236,13 @@ put-goto-requires t c κs =
     let past-list-cases = c .before .before .before .before .before .before .before .before .before .before .before .list-cases in
     let jump-at = selector-rows + 11 * past-list-cases .result in
     let past-write-expression = c .before .before .before .before .before .before .write-expression in
-    let selector-table = past-write-expression .last .1 .1 .1 .1 .1 .1 .1 .0 in
+    let selector-table = past-write-expression .last .1 .1 .1 .1 .1 .1 .1 .1 .0 in
     let past-write-cases = c .before .before .before .write-cases in
     let tests-rows = past-write-cases .last .1 .1 .1 .1 .1 .1 .1 .1 .0 in
     let tests-table = back-in selector-rows selector-table tests-rows in
     let tests-kept = back-length selector-rows selector-table tests-rows (past-write-cases .kept .1 .1 .1 .1 .1 .1 .1 .1 .0) in
-    let selector-kept = past-write-expression .kept .1 .1 .1 .1 .1 .1 .1 .0 in
-    let selector-size = part-size (args .rows .now) (args .selector) (asks .selector-some) in
+    let selector-kept = past-write-expression .kept .1 .1 .1 .1 .1 .1 .1 .1 .0 in
+    let selector-size = part-size wanted (args .rows .now) (args .selector) (asks .selector-some) in
     let past-default-label = c .before .default-label in
     let low = default-low (listAt (args .rows .now) (args .list)) (args .label + 1) (args .label) (omega (arith, asks .labels-low)) (omega (arith, asks .labels-low)) in
     (room-behind jump-at 1 tests-table (asks .room) (tests-kept ∙ selector-kept) (omega (arith, selector-size, past-operand-size .ensures, past-list-cases .ensures)), omega (arith, low, past-default-label .ensures))
@@ -261,7 +262,7 @@ write-list-reach : (t : ℕ) (c : lts.After-out3 (write-switch-claims t) (write-
     let args = start .args in
     let jump-at = selector-rows + 11 * past-list-cases .result in
     let past-write-expression = c .before .before .before .before .before .before .before .before .write-expression in
-    let selector-table = past-write-expression .last .1 .1 .1 .1 .1 .1 .1 .0 in
+    let selector-table = past-write-expression .last .1 .1 .1 .1 .1 .1 .1 .1 .0 in
     let past-write-cases = c .before .before .before .before .before .write-cases in
     let tests-rows = past-write-cases .last .1 .1 .1 .1 .1 .1 .1 .1 .0 in
     let tests-table = back-in selector-rows selector-table tests-rows in
@@ -273,12 +274,12 @@ write-list-reach t c =
     let start = c .before .before .before .before .before .before .before .before .before .before .before .before .before .before .before .before in
     let asks = start .pre .1 .1 in
     let args = start .args in
-    let selector-size = part-size (args .rows .now) (args .selector) (asks .selector-some) in
+    let selector-size = part-size wanted (args .rows .now) (args .selector) (asks .selector-some) in
     let past-write-expression = c .before .before .before .before .before .before .before .before .write-expression in
-    let selector-kept = past-write-expression .kept .1 .1 .1 .1 .1 .1 .1 .0 in
+    let selector-kept = past-write-expression .kept .1 .1 .1 .1 .1 .1 .1 .1 .0 in
     let past-operand-size = c .before .before .before .before .before .before .before .before .before .before .before .before .before .before .operand-size in
     let selector-rows = past-operand-size .result in
-    let selector-table = past-write-expression .last .1 .1 .1 .1 .1 .1 .1 .0 in
+    let selector-table = past-write-expression .last .1 .1 .1 .1 .1 .1 .1 .1 .0 in
     let past-write-cases = c .before .before .before .before .before .write-cases in
     let tests-rows = past-write-cases .last .1 .1 .1 .1 .1 .1 .1 .1 .0 in
     let tests-kept = back-length selector-rows selector-table tests-rows (past-write-cases .kept .1 .1 .1 .1 .1 .1 .1 .1 .0) in
@@ -319,7 +320,7 @@ write-list-requires t c κs =
     let items-at = selector-rows + 11 * past-list-cases .result + 1 in
     let jump-at = selector-rows + 11 * past-list-cases .result in
     let past-write-expression = c .before .before .before .before .before .before .before .before .before .write-expression in
-    let selector-table = past-write-expression .last .1 .1 .1 .1 .1 .1 .1 .0 in
+    let selector-table = past-write-expression .last .1 .1 .1 .1 .1 .1 .1 .1 .0 in
     let past-write-cases = c .before .before .before .before .before .before .write-cases in
     let tests-rows = past-write-cases .last .1 .1 .1 .1 .1 .1 .1 .1 .0 in
     let tests-table = back-in selector-rows selector-table tests-rows in
@@ -328,9 +329,9 @@ write-list-requires t c κs =
     let jump-table = back-in jump-at tests-table jump-rows in
     let jump-kept = back-length jump-at tests-table jump-rows (past-put-goto .kept .1 .1 .1 .0) in
     let tests-kept = back-length selector-rows selector-table tests-rows (past-write-cases .kept .1 .1 .1 .1 .1 .1 .1 .1 .0) in
-    let selector-kept = past-write-expression .kept .1 .1 .1 .1 .1 .1 .1 .0 in
+    let selector-kept = past-write-expression .kept .1 .1 .1 .1 .1 .1 .1 .1 .0 in
     let args = start .args in
-    let selector-size = part-size (args .rows .now) (args .selector) (asks .selector-some) in (
+    let selector-size = part-size wanted (args .rows .now) (args .selector) (asks .selector-some) in (
       omega (arith, start .pre .0),
       (
         start .pre .1 .0,
@@ -354,7 +355,7 @@ put-label-reach : (t : ℕ) (c : lts.After-out4 (write-switch-claims t) (write-s
     let items-at = selector-rows + 11 * past-list-cases .result + 1 in
     let jump-at = selector-rows + 11 * past-list-cases .result in
     let past-write-expression = c .before .before .before .before .before .before .before .before .before .before .before .write-expression in
-    let selector-table = past-write-expression .last .1 .1 .1 .1 .1 .1 .1 .0 in
+    let selector-table = past-write-expression .last .1 .1 .1 .1 .1 .1 .1 .1 .0 in
     let past-write-cases = c .before .before .before .before .before .before .before .before .write-cases in
     let tests-rows = past-write-cases .last .1 .1 .1 .1 .1 .1 .1 .1 .0 in
     let tests-table = back-in selector-rows selector-table tests-rows in
@@ -369,12 +370,12 @@ put-label-reach t c =
     let start = c .before .before .before .before .before .before .before .before .before .before .before .before .before .before .before .before .before .before .before in
     let asks = start .pre .1 .1 in
     let args = start .args in
-    let selector-size = part-size (args .rows .now) (args .selector) (asks .selector-some) in
+    let selector-size = part-size wanted (args .rows .now) (args .selector) (asks .selector-some) in
     let past-write-expression = c .before .before .before .before .before .before .before .before .before .before .before .write-expression in
-    let selector-kept = past-write-expression .kept .1 .1 .1 .1 .1 .1 .1 .0 in
+    let selector-kept = past-write-expression .kept .1 .1 .1 .1 .1 .1 .1 .1 .0 in
     let past-operand-size = c .before .before .before .before .before .before .before .before .before .before .before .before .before .before .before .before .before .operand-size in
     let selector-rows = past-operand-size .result in
-    let selector-table = past-write-expression .last .1 .1 .1 .1 .1 .1 .1 .0 in
+    let selector-table = past-write-expression .last .1 .1 .1 .1 .1 .1 .1 .1 .0 in
     let past-write-cases = c .before .before .before .before .before .before .before .before .write-cases in
     let tests-rows = past-write-cases .last .1 .1 .1 .1 .1 .1 .1 .1 .0 in
     let tests-kept = back-length selector-rows selector-table tests-rows (past-write-cases .kept .1 .1 .1 .1 .1 .1 .1 .1 .0) in
@@ -420,7 +421,7 @@ put-label-requires t c κs =
     let items-at = selector-rows + 11 * past-list-cases .result + 1 in
     let jump-at = selector-rows + 11 * past-list-cases .result in
     let past-write-expression = c .before .before .before .before .before .before .before .before .before .before .before .before .write-expression in
-    let selector-table = past-write-expression .last .1 .1 .1 .1 .1 .1 .1 .0 in
+    let selector-table = past-write-expression .last .1 .1 .1 .1 .1 .1 .1 .1 .0 in
     let past-write-cases = c .before .before .before .before .before .before .before .before .before .write-cases in
     let tests-rows = past-write-cases .last .1 .1 .1 .1 .1 .1 .1 .1 .0 in
     let tests-table = back-in selector-rows selector-table tests-rows in
@@ -435,9 +436,9 @@ put-label-requires t c κs =
     let items-kept = back-length items-at jump-table items-rows (past-write-list .kept .1 .1 .1 .1 .1 .1 .1 .1 .0) in
     let jump-kept = back-length jump-at tests-table jump-rows (past-put-goto .kept .1 .1 .1 .0) in
     let tests-kept = back-length selector-rows selector-table tests-rows (past-write-cases .kept .1 .1 .1 .1 .1 .1 .1 .1 .0) in
-    let selector-kept = past-write-expression .kept .1 .1 .1 .1 .1 .1 .1 .0 in
+    let selector-kept = past-write-expression .kept .1 .1 .1 .1 .1 .1 .1 .1 .0 in
     let args = start .args in
-    let selector-size = part-size (args .rows .now) (args .selector) (asks .selector-some) in
+    let selector-size = part-size wanted (args .rows .now) (args .selector) (asks .selector-some) in
     (room-behind label-at 1 items-table (asks .room) (items-kept ∙ jump-kept ∙ tests-kept ∙ selector-kept) (omega (arith, selector-size, past-operand-size .ensures, past-list-cases .ensures, past-list-size .ensures)), omega (arith, asks .labels-low))
 
 pub same-length : (t : ℕ) → lts.Need-same-length (write-switch-claims t) (write-switch-at t) reads.Post
@@ -450,7 +451,7 @@ same-length t c =
     let items-at = selector-rows + 11 * past-list-cases .result + 1 in
     let jump-at = selector-rows + 11 * past-list-cases .result in
     let past-write-expression = c .before .before .before .before .before .before .before .before .before .before .before .before .before .before .write-expression in
-    let selector-table = past-write-expression .last .1 .1 .1 .1 .1 .1 .1 .0 in
+    let selector-table = past-write-expression .last .1 .1 .1 .1 .1 .1 .1 .1 .0 in
     let past-write-cases = c .before .before .before .before .before .before .before .before .before .before .before .write-cases in
     let tests-rows = past-write-cases .last .1 .1 .1 .1 .1 .1 .1 .1 .0 in
     let tests-table = back-in selector-rows selector-table tests-rows in
@@ -466,7 +467,7 @@ same-length t c =
     let items-kept = back-length items-at jump-table items-rows (past-write-list .kept .1 .1 .1 .1 .1 .1 .1 .1 .0) in
     let jump-kept = back-length jump-at tests-table jump-rows (past-put-goto .kept .1 .1 .1 .0) in
     let tests-kept = back-length selector-rows selector-table tests-rows (past-write-cases .kept .1 .1 .1 .1 .1 .1 .1 .1 .0) in
-    let selector-kept = past-write-expression .kept .1 .1 .1 .1 .1 .1 .1 .0 in
+    let selector-kept = past-write-expression .kept .1 .1 .1 .1 .1 .1 .1 .1 .0 in
     label-kept ∙ items-kept ∙ jump-kept ∙ tests-kept ∙ selector-kept
 
 pub returns : (t : ℕ) → lts.Need-returns (write-switch-claims t) (write-switch-at t) reads.Post

@@ -281,10 +281,6 @@ module _ (rows : List ℤ) where
   for-size first test action body = omega arith
 
   module _ (S : ℕ) where
-    part-code : (p : Part) → operandCode S p 0 ≡ partCode S p
-    part-code absent = refl
-    part-code (present e) = refl
-
     test-code : (p : Part) (number : ℕ) (rest : Items) → testCode S p number none ⧺ rest ≡ testCode S p number rest
     unfolding _⧺_
     test-code absent number rest = refl
@@ -306,7 +302,7 @@ module _ (rows : List ℤ) where
     unfolding statementCode _⧺_
     for-code first test action body x number =
         let B = statementCode S (statementAt rows body) (exits number (number + 1)) (number + 2) in
-        let step : operandCode S (partAt rows action) 0 ⧺ none ≡ partCode S (partAt rows action) = append-none (operandCode S (partAt rows action) 0) ∙ part-code (partAt rows action) in
-        ap₂ (λ (f r : Items). f ⧺ loopCode S r number) (part-code (partAt rows first))
-        (test-code (partAt rows test) number (B ⧺ label (number + 1) here (operandCode S (partAt rows action) 0 ⧺ none))
+        let step = append-none (partCode S (partAt rows action)) in
+        ap (λ (r : Items). partCode S (partAt rows first) ⧺ loopCode S r number)
+        (test-code (partAt rows test) number (B ⧺ label (number + 1) here (partCode S (partAt rows action) ⧺ none))
         ∙ ap (λ (a : Items). testCode S (partAt rows test) number (B ⧺ label (number + 1) here a)) step)

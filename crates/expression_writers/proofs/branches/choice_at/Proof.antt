@@ -102,10 +102,10 @@ atom-at-requires-7 c κs =
     (asked .writing, shape .onward .2 .inside, omega (arith, level-small asked))
 
 returns : tie.Need-returns
-returns c = straight _ _ _ _ (expressed (c .before .before .expression-at .ensures) (c .enum-told .given .1)) refl
+returns c = straight _ _ _ _ (expressed (c .before .before .expression-at .ensures) (c .enum-told .given .1)) (λ u. refl)
 
 returns-2 : tie.Need-returns-2
-returns-2 c = straight _ _ _ _ (expressed (c .before .before .expression-at .ensures) (c .enum-told2 .given .1)) refl
+returns-2 c = straight _ _ _ _ (expressed (c .before .before .expression-at .ensures) (c .enum-told2 .given .1)) (λ u. refl)
 
 returns-3 : tie.Need-returns-3
 returns-3 c = straight-operation _ _ _ _ (expressed (c .before .before .expression-at .ensures) (c .enum-told3 .given .1))

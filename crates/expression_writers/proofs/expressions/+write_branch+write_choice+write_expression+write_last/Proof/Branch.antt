@@ -58,7 +58,7 @@ module _ (t : ℕ) where
   coded-headed c = c .before .before .before .before
 
   at-code : (c : Coded) →
-      let code = c .before .write-expression .last .1 .1 .1 .1 .1 .1 .1 .0 in
+      let code = c .before .write-expression .last .1 .1 .1 .1 .1 .1 .1 .1 .0 in
       BranchCode (at-row (coded-headed c)) (c .before .before .before .more2 .result) code
   at-code c = record { more-is = c .before .before .before .more2 .ensures; table-is = c .before .write-expression .ensures }
 

@@ -40,6 +40,7 @@ ghost use Rattle.language.specs.Decode.{expressionAt, ifOf, statementAt, itemsA
 ghost use Rattle.language.specs.Trees.{block, none, _then_, switch};
 ghost use Rattle.leaves.specs.Asks.{Writing};
 ghost use Rattle.leaves.specs.Room.{Room};
+ghost use Rattle.translation.specs.declared.Use.the-variants.{Dropped as dropped};
 ghost use Rattle.translation.specs.Translate.{expressionCode, orEmpty, statementCode, itemsCode};
 ghost use Rattle.words.specs.Over.{over};
 ghost use Rattle.writers.specs.Asks.{BodyAsks, IfAsks, StatementAsks, ListAsks, BlockAsks, ItemAsks, ExpressAsks, SwitchAsks, roundSize, loopSize, LoopFits};
@@ -57,7 +58,7 @@ fn write_express(
     out: &mut [i32],
 )
     requires { ⌜ Writing (now rows) (now table) store × ExpressAsks (now rows) expression base (length (now out)) ⌝ }
-    ensures { λ _. ⌜ now (out .exit) ≡ over (emitItems follows (orEmpty store (expressionCode store (expressionAt (now (rows .entry)) expression) 0)) base) (now (out .entry)) ⌝ }
+    ensures { λ _. ⌜ now (out .exit) ≡ over (emitItems follows (orEmpty store (expressionCode store (expressionAt (now (rows .entry)) expression) dropped 0)) base) (now (out .entry)) ⌝ }
 {
     let n = operand_size(rows, table, expression, Use::Dropped);
     if n == 0 {

@@ -44,7 +44,7 @@ part-write-expression-end : tie.Need-part-write-expression-end
 part-write-expression-end c = search needs
 
 write-expression-requires : tie.Need-write-expression-requires
-write-expression-requires c κs = search needs
+write-expression-requires c κs = (search needs, record { inside = search needs; level-low = λ h. omega arith; use-fits = tt; room = search needs })
 
 add-write-test : tie.Need-add-write-test
 add-write-test c = search needs

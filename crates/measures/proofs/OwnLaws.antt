@@ -111,9 +111,21 @@ module _ {rows : List ℤ} {row : ℕ} where
       → above ≡ aboveFirst e → ((u : Use) → n ≡ ownRows e u) → ((u : Use) → levels ≡ ownLevels e u) → plainAtom (expressionAt rows value) ≡ atomOf e → value < rowCount rows
       → {o : Own} → o ≡ plainOwn a b c d above n levels value → OwnAt rows row o
   own-plain a b c d above n levels value is pa pb pc pd f s ea en el ev iv h = own-by is (record {
-    first = pa; second = pb; third = pc; fourth = pd; first-use = f; first-fits = tt; second-use = s; above-is = ea;
-    rows-are = en wanted; levels-are = el wanted; dropped-rows-are = en dropped; dropped-levels-are = el dropped; stored-levels-are = el (stored 0);
-    value-is = ev; value-inside = iv;
+    first = pa;
+    second = pb;
+    third = pc;
+    fourth = pd;
+    first-use = f;
+    first-fits = tt;
+    second-use = s;
+    above-is = ea;
+    rows-are = en wanted;
+    levels-are = el wanted;
+    dropped-rows-are = en dropped;
+    dropped-levels-are = el dropped;
+    stored-levels-are = el (stored 0);
+    value-is = ev;
+    value-inside = iv;
   }) h
 
   -- an element or an operation
@@ -122,9 +134,21 @@ module _ {rows : List ℤ} {row : ℕ} where
       → above ≡ aboveFirst e → ((u : Use) → n ≡ ownRows e u) → ((u : Use) → resultLevels u ≡ ownLevels e u) → plainAtom e ≡ atomOf e
       → {o : Own} → o ≡ resultOwn a b above n row → OwnAt rows row o
   own-result a b above n is inside pa pb pc pd f s ea en el ev h = own-by is (record {
-    first = pa; second = pb; third = pc; fourth = pd; first-use = f; first-fits = tt; second-use = s; above-is = ea;
-    rows-are = en wanted; levels-are = el wanted; dropped-rows-are = en dropped; dropped-levels-are = el dropped; stored-levels-are = el (stored 0);
-    value-is = ap plainAtom is ∙ ev; value-inside = inside;
+    first = pa;
+    second = pb;
+    third = pc;
+    fourth = pd;
+    first-use = f;
+    first-fits = tt;
+    second-use = s;
+    above-is = ea;
+    rows-are = en wanted;
+    levels-are = el wanted;
+    dropped-rows-are = en dropped;
+    dropped-levels-are = el dropped;
+    stored-levels-are = el (stored 0);
+    value-is = ap plainAtom is ∙ ev;
+    value-inside = inside;
   }) h
 
   module _ (inside : row < rowCount rows) where
@@ -193,9 +217,21 @@ module _ {rows : List ℤ} {row : ℕ} where
     pub own-step-variable : {place i : ℕ} {o : Own} → PostfixAt rows row place → PlaceAt rows place (Variable i) → o ≡ stepOwn row → OwnAt rows row o
     unfolding atomOf
     own-step-variable f g h = let is = postfix-tree f g in own-by is (record {
-      first = nothing rows row; second = nothing rows row; third = nothing rows row; fourth = nothing rows row; first-use = refl; first-fits = tt; second-use = λ u. refl; above-is = refl;
-      rows-are = refl; levels-are = refl; dropped-rows-are = refl; dropped-levels-are = refl; stored-levels-are = refl;
-      value-is = ap plainAtom is; value-inside = inside;
+      first = nothing rows row;
+      second = nothing rows row;
+      third = nothing rows row;
+      fourth = nothing rows row;
+      first-use = refl;
+      first-fits = tt;
+      second-use = λ u. refl;
+      above-is = refl;
+      rows-are = refl;
+      levels-are = refl;
+      dropped-rows-are = refl;
+      dropped-levels-are = refl;
+      stored-levels-are = refl;
+      value-is = ap plainAtom is;
+      value-inside = inside;
     }) h
 
     pub own-step-element : {place array index t : ℕ} {o : Own} → PostfixAt rows row place → PlaceAt rows place (Element array index) → t ≡ taken (atomOf (expressionAt rows index)) → o ≡ plainOwn 0 index 0 0 1 16 (2 + t) row → OwnAt rows row o
@@ -216,9 +252,21 @@ module _ {rows : List ℤ} {row : ℕ} where
     own-comma {a} {b} f h =
         let found = value-of (f .onward .1) refl in
         own-by (f .is) (record {
-          first = some rows row (f .onward .0); second = some rows row (f .onward .1); third = nothing rows row; fourth = nothing rows row; first-use = refl; first-fits = tt; second-use = λ u. refl; above-is = refl;
-          rows-are = refl; levels-are = refl; dropped-rows-are = refl; dropped-levels-are = refl; stored-levels-are = refl;
-          value-is = found .0; value-inside = found .1;
+          first = some rows row (f .onward .0);
+          second = some rows row (f .onward .1);
+          third = nothing rows row;
+          fourth = nothing rows row;
+          first-use = refl;
+          first-fits = tt;
+          second-use = λ u. refl;
+          above-is = refl;
+          rows-are = refl;
+          levels-are = refl;
+          dropped-rows-are = refl;
+          dropped-levels-are = refl;
+          stored-levels-are = refl;
+          value-is = found .0;
+          value-inside = found .1;
         }) h
 
     -- an assignment to an element: its value comes from its own row, where it was copied, or from where its right side's comes from
@@ -267,10 +315,21 @@ module _ {rows : List ℤ} {table : List ℕ} {row i v : ℕ} (asks : StoreAsks 
       let e = expressionAt rows v in
       let same : (u : Use) → n ≡ ownRows (assign (variable i) e) u = λ u. en ∙ sym (store-rows i e u) in
       own-by (asks .is) (record {
-        first = some rows row (asks .onward); second = nothing rows row; third = nothing rows row; fourth = nothing rows row; first-use = refl; first-fits = asks .low; second-use = λ u. refl;
+        first = some rows row (asks .onward);
+        second = nothing rows row;
+        third = nothing rows row;
+        fourth = nothing rows row;
+        first-use = refl;
+        first-fits = asks .low;
+        second-use = λ u. refl;
         above-is = ea ∙ ap taken (sym (held-variable (pick (direct e) (word i) (atomOf e)) i));
-        rows-are = same wanted; levels-are = refl; dropped-rows-are = same dropped; dropped-levels-are = refl; stored-levels-are = refl;
-        value-is = ev ∙ sym (landed-atom i e); value-inside = iv;
+        rows-are = same wanted;
+        levels-are = refl;
+        dropped-rows-are = same dropped;
+        dropped-levels-are = refl;
+        stored-levels-are = refl;
+        value-is = ev ∙ sym (landed-atom i e);
+        value-inside = iv;
       }) h
 
   -- what goes straight into the variable

@@ -54,17 +54,7 @@ pub fn write_test(
     }
     let n = operand_size(rows, table, test, Use::Wanted);
     let atom = atom_at(rows, table, store, test, 0);
-    write_expression(
-        rows,
-        table,
-        store,
-        test,
-        Use::Wanted,
-        0,
-        base,
-        true,
-        out,
-    );
+    write_expression(rows, table, store, test, Use::Wanted, 0, base, true, out);
     put_exit(atom, label, base + n, follows, &mut out[6 * n..]);
 }
 

@@ -30,8 +30,8 @@ use shapes::Item;
 use shapes::StatementShape;
 use shapes::rows::item_at;
 use shapes::rows::statement_at;
-use words::table::number_at;
 use translation::Use;
+use words::table::number_at;
 ghost use mathlib.Core.Path.{_≡_};
 ghost use mathlib.Core.Bool.{false};
 ghost use lib.ListN.{length};
@@ -212,17 +212,7 @@ fn write_if(
     let end = m + 1 + body_size(rows, table, no);
     let atom = atom_at(rows, table, store, test, 0);
     let other = label + statement_labels(rows, table, yes);
-    write_expression(
-        rows,
-        table,
-        store,
-        test,
-        Use::Wanted,
-        0,
-        base,
-        true,
-        out,
-    );
+    write_expression(rows, table, store, test, Use::Wanted, 0, base, true, out);
     put_if(
         atom,
         base + k,
@@ -305,17 +295,7 @@ fn write_loop(
     let n = k + 3;
     let round = round_size(rows, table, parts);
     let m = n + round;
-    write_expression(
-        rows,
-        table,
-        store,
-        first,
-        Use::Dropped,
-        0,
-        base,
-        true,
-        out,
-    );
+    write_expression(rows, table, store, first, Use::Dropped, 0, base, true, out);
     put_loop(base + k, round, &mut out[6 * k..]);
     write_round(
         rows,

@@ -23,7 +23,7 @@ use Rattle.translation.specs.HeldCode.{holdBy}
 use Rattle.measures.specs.Parts.{firstOperand, aboveFirst, firstCopied, secondUse, usePassed, UseFits, OwnAt}
 use Rattle.measures.specs.MeasureLaws.{passed-fits, size-parts, first-copied-most, own-copies}
 use Rattle.measures.specs.declared.Own.{Own}
-use Rattle.measures.proofs.OwnLaws.{above-most}
+use Rattle.measures.proofs.ExpressionLaws.{above-most}
 use Rattle.leaves.specs.Room.{Room, moreRows}
 use Rattle.leaves.specs.Straight.{lastSize}
 use Rattle.leaves.specs.Asks.{Writing, LastAsks}

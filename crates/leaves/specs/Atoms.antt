@@ -1,6 +1,6 @@
 -- Atoms: the kernel's atoms and places, as the code holds them.
 use mathlib.Core.List.{List}
-use Prim.Native.Nat.{ℕ, _<_}
+use Prim.Native.Nat.{_<_}
 use lib.IntN.{ℤ, pos}
 use Rattle.language.specs.Trees.{Expression, constant, read, Place, variable, element}
 use Rattle.emission.specs.Emission.{rowOf}

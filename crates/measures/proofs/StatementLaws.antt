@@ -22,7 +22,7 @@ use Rattle.measures.specs.Measures.{limited, pastLabels, defaultPlace, r
 use Rattle.measures.specs.declared.StatementMeasures.{StatementMeasures}
 use Rattle.measures.specs.declared.ListMeasures.{ListMeasures}
 use Rattle.measures.specs.MeasureLaws.{part-rows, part-levels, list-rows, list-levels, list-labels, list-cases, list-default, body-rows, body-levels, body-labels}
-use Rattle.measures.proofs.OwnLaws.{limited-max, limited-twice}
+use Rattle.measures.proofs.ExpressionLaws.{limited-max, limited-twice}
 
 small : (n : ℕ) → n ≤ 2 → n ≡ limited n
 unfolding limited

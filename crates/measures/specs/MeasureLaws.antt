@@ -12,16 +12,16 @@ use Rattle.language.specs.Decode.{expressionAt, statementAt, listAt, partAt}
 use Rattle.translation.specs.Uses.{direct}
 use Rattle.translation.specs.declared.Use.{Use}
 use Rattle.translation.specs.declared.Use.the-variants.{Dropped as dropped, Wanted as wanted, Stored as stored}
-use Rattle.translation.specs.Translate.{Atom, top, held, landed, atomOf, taken, labels, itemsLabels, expressionLevels, operandLevels, statementLevels, itemsLevels}
+use Rattle.translation.specs.Translate.{Atom, top, held, landed, atomOf, labels, itemsLabels, expressionLevels, operandLevels, statementLevels, itemsLevels}
 use Rattle.language.specs.Writes.{writes, indexWrites}
 use Rattle.translation.specs.HeldCode.{copied-most, held-variable}
-use Rattle.translation.specs.TranslateSize.{copied, holdRows, ownRows, expressionSize, operandSize, statementSize, itemsSize, cases}
+use Rattle.translation.specs.TranslateSize.{copied, ownRows, expressionSize, operandSize, statementSize, itemsSize, cases}
 use Rattle.shapes.specs.Shapes.{choiceTree, Onward, OptionalOnward}
 use Rattle.shapes.specs.Source.{Source}
 use Rattle.shapes.specs.declared.ChoiceShape.{ChoiceShape}
 use Rattle.shapes.specs.declared.ChoiceShape.the-variants.{And, Or, Conditional}
 use Rattle.measures.specs.Parts.{firstOperand, secondOperand, thirdOperand, fourthOperand, aboveFirst, firstCopied, plainAtom, firstUse, secondUse, ownLevels, usePassed, UseFits}
-use Rattle.measures.specs.Measures.{limited, defaultPlace, width, rowsSlot, levelsSlot, valueSlot, statementRowsSlot, statementLevelsSlot, statementLabelsSlot, listRowsSlot, listLevelsSlot, listLabelsSlot, listCasesSlot, listDefaultSlot, copiedSlot, rowsFor, levelsFor, slot, slotAt, LinkMeasured, MeasuredRow, MeasuredFrom, Measured}
+use Rattle.measures.specs.Measures.{limited, defaultPlace, width, valueSlot, statementRowsSlot, statementLevelsSlot, statementLabelsSlot, listRowsSlot, listLevelsSlot, listLabelsSlot, listCasesSlot, listDefaultSlot, copiedSlot, rowsFor, levelsFor, slot, slotAt, LinkMeasured, MeasuredRow, MeasuredFrom, Measured}
 
 -- ---- sums that are cut off
 

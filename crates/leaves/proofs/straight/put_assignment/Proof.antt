@@ -1,6 +1,5 @@
 -- The value of the first operand into the place, by the place.
 use mathlib.Core.Path.{sym, ap, _∙_}
-use Prim.Native.Nat.{ℕ}
 use native.Mathlib.Omega.{arith}
 use Rattle.language.specs.Trees.{assign, Place}
 use Rattle.language.specs.Decode.{expressionAt}

@@ -1,13 +1,10 @@
 -- Whether a value is copied, by what holds it.
-use mathlib.Core.Path.{ap, _∙_}
-use native.Mathlib.Omega.{arith}
-use Rattle.measures.proofs.OwnLaws.{held-as}
+use mathlib.Core.Path.{_∙_}
+use Rattle.measures.proofs.HolderLaws.{held-as}
 use Rattle.measures.proofs.WriteLaws.{copied-number, copied-variable, copied-temporary}
 use borrow.Author.Needs.{needs}
 use Rattle.measures.proofs.copies.copied_over.Statement.{statement}
 use Rattle.measures.proofs.copies.copied_over.Tie as tie
-use Rattle.measures.proofs.copies.copied_over.Reads as reads
-use Rattle.measures.proofs.copies.copied_over.Lts as lts
 use Rattle.measures.proofs.copies.written.Reads as written-reads
 use Rattle.measures.proofs.holders.holder_at.Reads as holder-at-reads
 

@@ -5,12 +5,10 @@ use native.Mathlib.Omega.{arith}
 use Rattle.language.specs.Decode.{expressionAt}
 use Rattle.measures.specs.Measures.{limited, levelsSlot}
 use Rattle.measures.specs.MeasureLaws.{slot-asks}
-use Rattle.measures.proofs.OwnLaws.{levels-of, above-most}
+use Rattle.measures.proofs.ExpressionLaws.{levels-of, above-most}
 use borrow.Author.Needs.{needs}
 use Rattle.measures.proofs.expressions.expression_levels.Statement.{statement}
 use Rattle.measures.proofs.expressions.expression_levels.Tie as tie
-use Rattle.measures.proofs.expressions.expression_levels.Reads as reads
-use Rattle.measures.proofs.expressions.expression_levels.Lts as lts
 use Rattle.measures.proofs.table.larger.Reads as larger-reads
 use Rattle.measures.proofs.table.limited.Reads as limited-reads
 use Rattle.measures.proofs.table.measure_at.Reads as measure-at-reads

@@ -4,12 +4,10 @@ use native.Mathlib.Omega.{arith}
 use Rattle.language.specs.Decode.{expressionAt}
 use Rattle.measures.specs.Measures.{rowsSlot}
 use Rattle.measures.specs.MeasureLaws.{slot-asks}
-use Rattle.measures.proofs.OwnLaws.{rows-of, own-most, own-rows-by}
+use Rattle.measures.proofs.ExpressionLaws.{rows-of, own-most, own-rows-by}
 use borrow.Author.Needs.{needs}
 use Rattle.measures.proofs.expressions.expression_rows.Statement.{statement}
 use Rattle.measures.proofs.expressions.expression_rows.Tie as tie
-use Rattle.measures.proofs.expressions.expression_rows.Reads as reads
-use Rattle.measures.proofs.expressions.expression_rows.Lts as lts
 use Rattle.measures.proofs.table.limited.Reads as limited-reads
 use Rattle.measures.proofs.table.measure_at.Reads as measure-at-reads
 use Rattle.measures.proofs.uses.rows_by.Reads as rows-by-reads

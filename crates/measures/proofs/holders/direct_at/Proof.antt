@@ -3,12 +3,10 @@ use mathlib.Core.Path.{refl, ap, _∙_}
 use Rattle.shapes.specs.ShapeLaws.{expressed}
 use Rattle.shapes.specs.declared.ExpressionShape.the-variants.{Read}
 use Rattle.translation.specs.Uses.{direct}
-use Rattle.measures.proofs.OwnLaws.{direct-shape, operation-direct, choice-direct}
+use Rattle.measures.proofs.HolderLaws.{direct-shape, operation-direct, choice-direct}
 use borrow.Author.Needs.{needs}
 use Rattle.measures.proofs.holders.direct_at.Statement.{statement}
 use Rattle.measures.proofs.holders.direct_at.Tie as tie
-use Rattle.measures.proofs.holders.direct_at.Reads as reads
-use Rattle.measures.proofs.holders.direct_at.Lts as lts
 use Rattle.measures.proofs.holders.direct_operation.Reads as direct-operation-reads
 use Rattle.shapes.proofs.rows.expression_at.Reads as expression-at-reads
 

@@ -1,10 +1,8 @@
 -- What holds a value: by the row that it comes from.
-use Rattle.measures.proofs.OwnLaws.{held-same}
+use Rattle.measures.proofs.HolderLaws.{held-same}
 use borrow.Author.Needs.{needs}
 use Rattle.measures.proofs.holders.holder_at.Statement.{statement}
 use Rattle.measures.proofs.holders.holder_at.Tie as tie
-use Rattle.measures.proofs.holders.holder_at.Reads as reads
-use Rattle.measures.proofs.holders.holder_at.Lts as lts
 use Rattle.measures.proofs.holders.plain_holder.Reads as plain-holder-reads
 
 mul-plain-holder : tie.Need-mul-plain-holder

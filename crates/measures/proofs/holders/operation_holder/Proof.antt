@@ -2,12 +2,10 @@
 use mathlib.Core.Path.{refl, ap}
 use Rattle.shapes.specs.ShapeLaws.{expressed}
 use Rattle.shapes.specs.declared.ExpressionShape.the-variants.{Operation}
-use Rattle.measures.proofs.OwnLaws.{plain-holds, top-holds}
+use Rattle.measures.proofs.HolderLaws.{plain-holds, top-holds}
 use borrow.Author.Needs.{needs}
 use Rattle.measures.proofs.holders.operation_holder.Statement.{statement}
 use Rattle.measures.proofs.holders.operation_holder.Tie as tie
-use Rattle.measures.proofs.holders.operation_holder.Reads as reads
-use Rattle.measures.proofs.holders.operation_holder.Lts as lts
 use Rattle.measures.proofs.holders.updated_holder.Reads as updated-holder-reads
 
 enum-told : tie.Need-enum-told

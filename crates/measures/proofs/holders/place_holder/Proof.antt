@@ -4,8 +4,6 @@ use Rattle.measures.specs.Parts.{placeHolder}
 use borrow.Author.Needs.{needs}
 use Rattle.measures.proofs.holders.place_holder.Statement.{statement}
 use Rattle.measures.proofs.holders.place_holder.Tie as tie
-use Rattle.measures.proofs.holders.place_holder.Reads as reads
-use Rattle.measures.proofs.holders.place_holder.Lts as lts
 
 enum-known-place : tie.Need-enum-known-place
 enum-known-place c = search needs

@@ -1,14 +1,11 @@
 -- What holds the value that comes from a row, by its shape.
-use mathlib.Core.Path.{refl, ap}
 use mir.Facts.{toZ-ofZ}
 use mir.Syntax.{w32}
 use Rattle.shapes.specs.ShapeLaws.{expressed}
-use Rattle.measures.proofs.OwnLaws.{held-as, plain-holds, place-holds, choice-holds, number-holds}
+use Rattle.measures.proofs.HolderLaws.{plain-holds, place-holds, choice-holds, number-holds}
 use borrow.Author.Needs.{needs}
 use Rattle.measures.proofs.holders.plain_holder.Statement.{statement}
 use Rattle.measures.proofs.holders.plain_holder.Tie as tie
-use Rattle.measures.proofs.holders.plain_holder.Reads as reads
-use Rattle.measures.proofs.holders.plain_holder.Lts as lts
 use Rattle.measures.proofs.holders.operation_holder.Reads as operation-holder-reads
 use Rattle.measures.proofs.holders.place_holder.Reads as place-holder-reads
 use Rattle.shapes.proofs.rows.expression_at.Reads as expression-at-reads

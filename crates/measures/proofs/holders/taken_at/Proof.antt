@@ -1,12 +1,10 @@
 -- Whether a value takes a temporary: by what holds it.
 use mathlib.Core.Path.{ap}
 use Rattle.translation.specs.Translate.{taken}
-use Rattle.measures.proofs.OwnLaws.{held-as}
+use Rattle.measures.proofs.HolderLaws.{held-as}
 use borrow.Author.Needs.{needs}
 use Rattle.measures.proofs.holders.taken_at.Statement.{statement}
 use Rattle.measures.proofs.holders.taken_at.Tie as tie
-use Rattle.measures.proofs.holders.taken_at.Reads as reads
-use Rattle.measures.proofs.holders.taken_at.Lts as lts
 use Rattle.measures.proofs.holders.holder_at.Reads as holder-at-reads
 
 holder-at-requires : tie.Need-holder-at-requires

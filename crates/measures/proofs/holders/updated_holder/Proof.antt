@@ -1,10 +1,8 @@
 -- What holds the new value of a place.
-use Rattle.measures.proofs.OwnLaws.{updated-holds}
+use Rattle.measures.proofs.HolderLaws.{updated-holds}
 use borrow.Author.Needs.{needs}
 use Rattle.measures.proofs.holders.updated_holder.Statement.{statement}
 use Rattle.measures.proofs.holders.updated_holder.Tie as tie
-use Rattle.measures.proofs.holders.updated_holder.Reads as reads
-use Rattle.measures.proofs.holders.updated_holder.Lts as lts
 use Rattle.measures.proofs.holders.place_holder.Reads as place-holder-reads
 use Rattle.shapes.proofs.rows.place_at.Reads as place-at-reads
 

@@ -9,8 +9,6 @@ use Rattle.measures.proofs.OwnLaws.{own-assign, store-asks}
 use borrow.Author.Needs.{needs}
 use Rattle.measures.proofs.parts.own_assign.Statement.{statement}
 use Rattle.measures.proofs.parts.own_assign.Tie as tie
-use Rattle.measures.proofs.parts.own_assign.Reads as reads
-use Rattle.measures.proofs.parts.own_assign.Lts as lts
 use Rattle.measures.proofs.holders.taken_at.Reads as taken-at-reads
 use Rattle.measures.proofs.parts.own.Reads as own-reads
 use Rattle.measures.proofs.parts.own_store.Reads as own-store-reads

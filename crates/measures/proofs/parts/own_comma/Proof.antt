@@ -5,8 +5,6 @@ use Rattle.measures.specs.Parts.{commaOwn}
 use Rattle.measures.specs.Measures.{valueSlot}
 use Rattle.measures.proofs.parts.own_comma.Statement.{statement}
 use Rattle.measures.proofs.parts.own_comma.Tie as tie
-use Rattle.measures.proofs.parts.own_comma.Reads as reads
-use Rattle.measures.proofs.parts.own_comma.Lts as lts
 use Rattle.measures.proofs.table.measure_at.Reads as measure-at-reads
 
 measure-at-requires : tie.Need-measure-at-requires

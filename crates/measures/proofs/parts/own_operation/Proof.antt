@@ -11,8 +11,6 @@ use Rattle.measures.proofs.OwnLaws.{own-minus, own-not, own-binary, own
 use borrow.Author.Needs.{needs}
 use Rattle.measures.proofs.parts.own_operation.Statement.{statement}
 use Rattle.measures.proofs.parts.own_operation.Tie as tie
-use Rattle.measures.proofs.parts.own_operation.Reads as reads
-use Rattle.measures.proofs.parts.own_operation.Lts as lts
 use Rattle.measures.proofs.holders.taken_at.Reads as taken-at-reads
 use Rattle.measures.proofs.parts.own.Reads as own-reads
 use Rattle.measures.proofs.parts.own_assign.Reads as own-assign-reads

@@ -9,8 +9,6 @@ use Rattle.measures.proofs.OwnLaws.{own-step-variable, own-step-element
 use borrow.Author.Needs.{needs}
 use Rattle.measures.proofs.parts.own_postfix.Statement.{statement}
 use Rattle.measures.proofs.parts.own_postfix.Tie as tie
-use Rattle.measures.proofs.parts.own_postfix.Reads as reads
-use Rattle.measures.proofs.parts.own_postfix.Lts as lts
 use Rattle.measures.proofs.holders.taken_at.Reads as taken-at-reads
 use Rattle.measures.proofs.parts.own.Reads as own-reads
 use Rattle.measures.proofs.parts.own_step.Reads as own-step-reads

@@ -6,8 +6,6 @@ use Rattle.measures.proofs.OwnLaws.{own-variable, own-element}
 use borrow.Author.Needs.{needs}
 use Rattle.measures.proofs.parts.own_read.Statement.{statement}
 use Rattle.measures.proofs.parts.own_read.Tie as tie
-use Rattle.measures.proofs.parts.own_read.Reads as reads
-use Rattle.measures.proofs.parts.own_read.Lts as lts
 use Rattle.measures.proofs.parts.own.Reads as own-reads
 use Rattle.measures.proofs.parts.result.Reads as result-reads
 

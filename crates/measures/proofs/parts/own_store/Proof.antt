@@ -8,8 +8,6 @@ use Rattle.measures.proofs.OwnLaws.{own-straight, own-moved}
 use borrow.Author.Needs.{needs}
 use Rattle.measures.proofs.parts.own_store.Statement.{statement}
 use Rattle.measures.proofs.parts.own_store.Tie as tie
-use Rattle.measures.proofs.parts.own_store.Reads as reads
-use Rattle.measures.proofs.parts.own_store.Lts as lts
 use Rattle.measures.proofs.holders.direct_at.Reads as direct-at-reads
 use Rattle.measures.proofs.holders.taken_at.Reads as taken-at-reads
 use Rattle.measures.proofs.parts.stored.Reads as stored-reads

@@ -90,7 +90,7 @@ abbrev pub final : {A : Type 0} → Result A → State
 final (ok a σ) = σ
 final (stopped why σ) = σ
 
--- "A run ends plainly, spent, or with a fault of one of three sorts."
+-- "A run ends plainly, spent, or with a fault", of one of four sorts.
 abbrev pub endingOf : {A : Type 0} → Result A → Ending
 endingOf (ok a σ) = Plain
 endingOf (stopped spent σ) = Spent

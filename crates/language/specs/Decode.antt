@@ -8,11 +8,12 @@ use Rattle.words.specs.Word.{natural, pick}
 use Rattle.words.specs.Table.{rowCount, wordAt}
 use Rattle.words.specs.Kinds.{kindAt}
 use Rattle.words.specs.declared.Kind.{Kind}
-use Rattle.words.specs.declared.Kind.the-variants.{OfExpression, OfStatement, OfMark, Other}
+use Rattle.words.specs.declared.Kind.the-variants.{OfExpression, OfStatement, OfMark, OfMember, Other}
 use Rattle.words.specs.declared.ExpressionKind.the-variants.{Constant, Variable, Element, Minus, Not, Binary, And, Or, Conditional, Comma, Assign, Compound, Prefix, Postfix}
-use Rattle.words.specs.declared.StatementKind.the-variants.{Empty, Express, Block, If, While, Do, For, Switch, Break, Continue, Goto}
+use Rattle.words.specs.declared.StatementKind.the-variants.{Empty, Express, Block, If, While, Do, For, Switch, Break, Continue, Goto, GuardedIf, GuardedDo, Abort}
 use Rattle.words.specs.declared.MarkKind.the-variants.{Case, Default, Label}
-use Rattle.language.specs.Trees.{Expression, constant, read, minus, not, binary, and, or, comma, conditional, assign, compound, prefix, postfix, Place, variable, element, Part, absent, present, case, default, label, Statement, empty, express, block, ifThen, ifElse, while, doWhile, for, switch, break, continue, goto, Items, none, _then_, _here_}
+use Rattle.words.specs.declared.MemberKind.the-variants.{Arm}
+use Rattle.language.specs.Trees.{Expression, constant, read, minus, not, binary, and, or, comma, conditional, assign, compound, prefix, postfix, Place, variable, element, Part, absent, present, case, default, label, Statement, empty, express, block, ifThen, ifElse, while, doWhile, for, switch, break, continue, goto, guardedIf, guardedDo, abort, Arms, noArm, arm, Items, none, _then_, _here_}
 
 -- "A link is a row number greater than the row's own": the tree at such a link, else `other`.
 abbrev pub later : {A : Type 0} → A → ℕ → (ℕ → A) → ℕ → A
@@ -51,6 +52,7 @@ expressionOf (OfExpression (Prefix o)) word tree = prefix o (placeOf (tree (natu
 expressionOf (OfExpression (Postfix o)) word tree = postfix o (placeOf (tree (natural (word 1))))
 expressionOf (OfStatement kind) word tree = constant (pos 0)
 expressionOf (OfMark kind) word tree = constant (pos 0)
+expressionOf (OfMember kind) word tree = constant (pos 0)
 expressionOf Other word tree = constant (pos 0)
 
 -- Links lead to later rows, so as many links as there are rows are enough.
@@ -71,23 +73,27 @@ abbrev pub ifOf : ℕ → Expression → Statement → Statement → Statement
 ifOf zero e onTrue onFalse = ifThen e onTrue
 ifOf (suc link) e onTrue onFalse = ifElse e onTrue onFalse
 
--- The statement of a row; `expression l`, `statement l` and `items l` are the trees at link l.
-unfoldable pub statementOf : Kind → (ℕ → ℤ) → (ℕ → Expression) → (ℕ → Statement) → (ℕ → Items) → Statement
-statementOf (OfExpression kind) word expression statement items = empty
-statementOf (OfStatement Empty) word expression statement items = empty
-statementOf (OfStatement Express) word expression statement items = express (expression (natural (word 1)))
-statementOf (OfStatement Block) word expression statement items = block (items (natural (word 1)))
-statementOf (OfStatement If) word expression statement items = ifOf (natural (word 3)) (expression (natural (word 1))) (statement (natural (word 2))) (statement (natural (word 3)))
-statementOf (OfStatement While) word expression statement items = while (expression (natural (word 1))) (statement (natural (word 2)))
-statementOf (OfStatement Do) word expression statement items = doWhile (statement (natural (word 1))) (expression (natural (word 2)))
-statementOf (OfStatement For) word expression statement items =
+-- The statement of a row; `expression l`, `statement l`, `items l` and `arms l` are the trees at link l.
+unfoldable pub statementOf : Kind → (ℕ → ℤ) → (ℕ → Expression) → (ℕ → Statement) → (ℕ → Items) → (ℕ → Arms) → Statement
+statementOf (OfExpression kind) word expression statement items arms = empty
+statementOf (OfStatement Empty) word expression statement items arms = empty
+statementOf (OfStatement Express) word expression statement items arms = express (expression (natural (word 1)))
+statementOf (OfStatement Block) word expression statement items arms = block (items (natural (word 1)))
+statementOf (OfStatement If) word expression statement items arms = ifOf (natural (word 3)) (expression (natural (word 1))) (statement (natural (word 2))) (statement (natural (word 3)))
+statementOf (OfStatement While) word expression statement items arms = while (expression (natural (word 1))) (statement (natural (word 2)))
+statementOf (OfStatement Do) word expression statement items arms = doWhile (statement (natural (word 1))) (expression (natural (word 2)))
+statementOf (OfStatement For) word expression statement items arms =
     for (partOf (natural (word 1)) (expression (natural (word 1)))) (partOf (natural (word 2)) (expression (natural (word 2)))) (partOf (natural (word 3)) (expression (natural (word 3)))) (statement (natural (word 4)))
-statementOf (OfStatement Switch) word expression statement items = switch (expression (natural (word 1))) (items (natural (word 2)))
-statementOf (OfStatement Break) word expression statement items = break
-statementOf (OfStatement Continue) word expression statement items = continue
-statementOf (OfStatement Goto) word expression statement items = goto (natural (word 1))
-statementOf (OfMark kind) word expression statement items = empty
-statementOf Other word expression statement items = empty
+statementOf (OfStatement Switch) word expression statement items arms = switch (expression (natural (word 1))) (items (natural (word 2)))
+statementOf (OfStatement Break) word expression statement items arms = break
+statementOf (OfStatement Continue) word expression statement items arms = continue
+statementOf (OfStatement Goto) word expression statement items arms = goto (natural (word 1))
+statementOf (OfStatement GuardedIf) word expression statement items arms = guardedIf (arms (natural (word 1)))
+statementOf (OfStatement GuardedDo) word expression statement items arms = guardedDo (arms (natural (word 1)))
+statementOf (OfStatement Abort) word expression statement items arms = abort
+statementOf (OfMark kind) word expression statement items arms = empty
+statementOf (OfMember kind) word expression statement items arms = empty
+statementOf Other word expression statement items arms = empty
 
 -- The list from a row on: its mark or its statement, and then the items behind it.
 unfoldable pub itemsOf : Kind → (ℕ → ℤ) → Statement → Items → Items
@@ -96,28 +102,42 @@ itemsOf (OfStatement kind) word statement items = statement then items
 itemsOf (OfMark Case) word statement items = case (word 1) here items
 itemsOf (OfMark Default) word statement items = default here items
 itemsOf (OfMark Label) word statement items = label (natural (word 1)) here items
+itemsOf (OfMember kind) word statement items = statement then items
 itemsOf Other word statement items = none
 
--- What stands at a row: a statement; and the list from the row on.
+-- The arms from a row on: its guard and its block, and then the arms behind it.
+unfoldable pub armsOf : Kind → Expression → Statement → Arms → Arms
+armsOf (OfExpression kind) guard body arms = noArm
+armsOf (OfStatement kind) guard body arms = noArm
+armsOf (OfMark kind) guard body arms = noArm
+armsOf (OfMember Arm) guard body arms = arm guard body arms
+armsOf Other guard body arms = noArm
+
+-- What stands at a row: a statement; the list from the row on; and the arms from the row on.
 pub record RowTrees : Type 0 where
   pub statement : Statement
   pub items : Items
+  pub arms : Arms
 
-unfoldable pub treesOf : Kind → (ℕ → ℤ) → (ℕ → Expression) → (ℕ → Statement) → (ℕ → Items) → RowTrees
-treesOf kind word expression statement items =
-    let own = statementOf kind word expression statement items in
-    record { statement = own; items = itemsOf kind word own (items (natural (word 5))) }
+unfoldable pub treesOf : Kind → (ℕ → ℤ) → (ℕ → Expression) → (ℕ → Statement) → (ℕ → Items) → (ℕ → Arms) → RowTrees
+treesOf kind word expression statement items arms =
+    let own = statementOf kind word expression statement items arms in
+    record { statement = own; items = itemsOf kind word own (items (natural (word 5))); arms = armsOf kind (expression (natural (word 1))) (statement (natural (word 2))) (arms (natural (word 5))) }
 
 unfoldable pub treesBy : ℕ → List ℤ → ℕ → RowTrees
-treesBy zero rows row = record { statement = empty; items = none }
+treesBy zero rows row = record { statement = empty; items = none; arms = noArm }
 treesBy (suc links) rows row =
-    treesOf (kindAt rows row) (wordAt rows row) (later (constant (pos 0)) row (expressionAt rows)) (later empty row (λ l. (treesBy links rows l) .statement)) (later none row (λ l. (treesBy links rows l) .items))
+    treesOf (kindAt rows row) (wordAt rows row) (later (constant (pos 0)) row (expressionAt rows))
+    (later empty row (λ l. (treesBy links rows l) .statement)) (later none row (λ l. (treesBy links rows l) .items)) (later noArm row (λ l. (treesBy links rows l) .arms))
 
 unfoldable pub statementAt : List ℤ → ℕ → Statement
 statementAt rows row = (treesBy (rowCount rows) rows row) .statement
 
 unfoldable pub itemsAt : List ℤ → ℕ → Items
 itemsAt rows row = (treesBy (rowCount rows) rows row) .items
+
+unfoldable pub armsAt : List ℤ → ℕ → Arms
+armsAt rows row = (treesBy (rowCount rows) rows row) .arms
 
 -- The program that a table holds: "Row 0 is a block".
 unfoldable pub decode : List ℤ → Statement
@@ -133,6 +153,11 @@ Forward row l = 0 < l → row < l
 abbrev pub listAt : List ℤ → ℕ → Items
 listAt rows zero = none
 listAt rows (suc l) = itemsAt rows (suc l)
+
+-- The arms that begin at a link; 0 is no arm.
+abbrev pub armListAt : List ℤ → ℕ → Arms
+armListAt rows zero = noArm
+armListAt rows (suc l) = armsAt rows (suc l)
 
 -- The part of a for at a link; 0 is absent.
 abbrev pub partAt : List ℤ → ℕ → Part

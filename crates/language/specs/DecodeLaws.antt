@@ -13,12 +13,13 @@ use Rattle.words.specs.Table.{rowCount, Whole, wordAt, numberAt}
 use Rattle.words.specs.Kinds.{kinds, kindIn, kindOf, kindAt, isExpressionKind, isStatementKind}
 use Rattle.words.specs.declared.Operator.{Operator}
 use Rattle.words.specs.declared.Kind.{Kind}
-use Rattle.words.specs.declared.Kind.the-variants.{OfExpression, OfStatement, OfMark, Other}
+use Rattle.words.specs.declared.Kind.the-variants.{OfExpression, OfStatement, OfMark, OfMember, Other}
 use Rattle.words.specs.declared.ExpressionKind.the-variants.{Constant, Variable, Element, Minus, Not, Binary, And, Or, Conditional, Comma, Assign, Compound, Prefix, Postfix}
-use Rattle.words.specs.declared.StatementKind.the-variants.{Empty, Express, Block, If, While, Do, For, Switch, Break, Continue, Goto}
+use Rattle.words.specs.declared.StatementKind.the-variants.{Empty, Express, Block, If, While, Do, For, Switch, Break, Continue, Goto, GuardedIf, GuardedDo, Abort}
 use Rattle.words.specs.declared.MarkKind.the-variants.{Case, Default, Label}
-use Rattle.language.specs.Trees.{Expression, constant, read, minus, not, binary, and, or, comma, conditional, assign, compound, prefix, postfix, variable, element, present, case, default, label, Statement, empty, express, block, ifThen, ifElse, while, doWhile, for, switch, break, continue, goto, Items, none, _then_, _here_}
-use Rattle.language.specs.Decode.{later, placeOf, expressionOf, expressionBy, expressionAt, partOf, ifOf, statementOf, itemsOf, treesOf, treesBy, statementAt, itemsAt, Forward, listAt, partAt}
+use Rattle.words.specs.declared.MemberKind.the-variants.{Arm}
+use Rattle.language.specs.Trees.{Expression, constant, read, minus, not, binary, and, or, comma, conditional, assign, compound, prefix, postfix, variable, element, present, case, default, label, Statement, empty, express, block, ifThen, ifElse, while, doWhile, for, switch, break, continue, goto, guardedIf, guardedDo, abort, Arms, noArm, arm, Items, none, _then_, _here_}
+use Rattle.language.specs.Decode.{later, placeOf, expressionOf, expressionBy, expressionAt, partOf, ifOf, statementOf, itemsOf, armsOf, treesOf, treesBy, statementAt, itemsAt, armsAt, Forward, listAt, armListAt, partAt}
 
 later-same : {A : Type 0} (other : A) (row : ℕ) (f g : ℕ → A) → ((l : ℕ) → row < l → f l ≡ g l) → (l : ℕ) → later other row f l ≡ later other row g l
 later-same {A} other row f g h l = by (ltb row l) refl
@@ -37,21 +38,24 @@ unfolding expressionOf
 no-expression-of (OfExpression k) word tree e = absurd (true≢false e)
 no-expression-of (OfStatement k) word tree e = refl
 no-expression-of (OfMark k) word tree e = refl
+no-expression-of (OfMember k) word tree e = refl
 no-expression-of Other word tree e = refl
 
-no-statement-of : (k : Kind) (word : ℕ → ℤ) (expression : ℕ → Expression) (statement : ℕ → Statement) (items : ℕ → Items) → isStatementKind k ≡ false
-    → statementOf k word expression statement items ≡ empty
+no-statement-of : (k : Kind) (word : ℕ → ℤ) (expression : ℕ → Expression) (statement : ℕ → Statement) (items : ℕ → Items) (arms : ℕ → Arms) → isStatementKind k ≡ false
+    → statementOf k word expression statement items arms ≡ empty
 unfolding statementOf
-no-statement-of (OfExpression k) word expression statement items e = refl
-no-statement-of (OfStatement k) word expression statement items e = absurd (true≢false e)
-no-statement-of (OfMark k) word expression statement items e = refl
-no-statement-of Other word expression statement items e = refl
+no-statement-of (OfExpression k) word expression statement items arms e = refl
+no-statement-of (OfStatement k) word expression statement items arms e = absurd (true≢false e)
+no-statement-of (OfMark k) word expression statement items arms e = refl
+no-statement-of (OfMember k) word expression statement items arms e = refl
+no-statement-of Other word expression statement items arms e = refl
 
 items-statement : (k : Kind) (word : ℕ → ℤ) (s : Statement) (is : Items) → isStatementKind k ≡ true → itemsOf k word s is ≡ s then is
 unfolding itemsOf
 items-statement (OfExpression k) word s is e = refl
 items-statement (OfStatement k) word s is e = refl
 items-statement (OfMark k) word s is e = absurd (false≢true e)
+items-statement (OfMember k) word s is e = absurd (false≢true e)
 items-statement Other word s is e = absurd (false≢true e)
 
 if-some : (l : ℕ) (e : Expression) (s t : Statement) → 0 < l → ifOf l e s t ≡ ifElse e s t
@@ -77,26 +81,27 @@ module _ (rows : List ℤ) (whole : Whole rows) where
       (fun-ext (later-same (constant (pos 0)) row (expressionBy k rows) (expressionBy n rows) (λ l h. expression-same k n l (omega arith) (omega arith))))
 
   trees-same : (k n row : ℕ) → rowCount rows ≤ row + k → rowCount rows ≤ row + n → treesBy k rows row ≡ treesBy n rows row
-  unfolding treesBy treesOf statementOf itemsOf
+  unfolding treesBy treesOf statementOf itemsOf armsOf
   trees-same zero zero row p q = refl
   trees-same zero (suc n) row p q = rw (kind-beyond row (omega arith))
   trees-same (suc k) zero row p q = rw (kind-beyond row (omega arith))
   trees-same (suc k) (suc n) row p q =
-      ap₂ (treesOf (kindAt rows row) (wordAt rows row) (later (constant (pos 0)) row (expressionAt rows)))
+      ap₃ (treesOf (kindAt rows row) (wordAt rows row) (later (constant (pos 0)) row (expressionAt rows)))
       (fun-ext (later-same empty row (λ l. (treesBy k rows l) .statement) (λ l. (treesBy n rows l) .statement) (λ l h. ap (λ t. t .statement) (trees-same k n l (omega arith) (omega arith)))))
       (fun-ext (later-same none row (λ l. (treesBy k rows l) .items) (λ l. (treesBy n rows l) .items) (λ l h. ap (λ t. t .items) (trees-same k n l (omega arith) (omega arith)))))
+      (fun-ext (later-same noArm row (λ l. (treesBy k rows l) .arms) (λ l. (treesBy n rows l) .arms) (λ l h. ap (λ t. t .arms) (trees-same k n l (omega arith) (omega arith)))))
 
   -- One row's expression, from those at its links.
   pub expression-at : (row : ℕ) → expressionAt rows row ≡ expressionOf (kindAt rows row) (wordAt rows row) (later (constant (pos 0)) row (expressionAt rows))
   unfolding expressionAt expressionBy
   expression-at row = expression-same (rowCount rows) (suc (rowCount rows)) row (omega arith) (omega arith)
 
-  trees-at : (row : ℕ) → treesBy (rowCount rows) rows row ≡ treesOf (kindAt rows row) (wordAt rows row) (later (constant (pos 0)) row (expressionAt rows)) (later empty row (statementAt rows)) (later none row (itemsAt rows))
-  unfolding treesBy statementAt itemsAt
+  trees-at : (row : ℕ) → treesBy (rowCount rows) rows row ≡ treesOf (kindAt rows row) (wordAt rows row) (later (constant (pos 0)) row (expressionAt rows)) (later empty row (statementAt rows)) (later none row (itemsAt rows)) (later noArm row (armsAt rows))
+  unfolding treesBy statementAt itemsAt armsAt
   trees-at row = trees-same (rowCount rows) (suc (rowCount rows)) row (omega arith) (omega arith)
 
   -- One row's statement, and the list from it on.
-  pub statement-at : (row : ℕ) → statementAt rows row ≡ statementOf (kindAt rows row) (wordAt rows row) (later (constant (pos 0)) row (expressionAt rows)) (later empty row (statementAt rows)) (later none row (itemsAt rows))
+  pub statement-at : (row : ℕ) → statementAt rows row ≡ statementOf (kindAt rows row) (wordAt rows row) (later (constant (pos 0)) row (expressionAt rows)) (later empty row (statementAt rows)) (later none row (itemsAt rows)) (later noArm row (armsAt rows))
   unfolding treesOf statementAt
   statement-at row = ap (λ t. t .statement) (trees-at row)
 
@@ -104,10 +109,18 @@ module _ (rows : List ℤ) (whole : Whole rows) where
   unfolding treesOf itemsAt numberAt
   items-at row = ap (λ t. t .items) (trees-at row) ∙ ap (λ s. itemsOf (kindAt rows row) (wordAt rows row) s (later none row (itemsAt rows) (natural (wordAt rows row 5)))) (sym (statement-at row))
 
+  arms-at : (row : ℕ) → armsAt rows row ≡ armsOf (kindAt rows row) (later (constant (pos 0)) row (expressionAt rows) (numberAt rows row 1)) (later empty row (statementAt rows) (numberAt rows row 2)) (later noArm row (armsAt rows) (numberAt rows row 5))
+  unfolding treesOf armsAt numberAt
+  arms-at row = ap (λ t. t .arms) (trees-at row)
+
   -- A link is absent or leads to a later row.
   pub later-list : (row l : ℕ) → Forward row l → later none row (itemsAt rows) l ≡ listAt rows l
   later-list row zero p = rw (le-ltb row 0 (omega arith))
   later-list row (suc l) p = rw (lt-ltb row (suc l) (p (omega arith)))
+
+  later-arms : (row l : ℕ) → Forward row l → later noArm row (armsAt rows) l ≡ armListAt rows l
+  later-arms row zero p = rw (le-ltb row 0 (omega arith))
+  later-arms row (suc l) p = rw (lt-ltb row (suc l) (p (omega arith)))
 
   later-part : (row l : ℕ) → Forward row l → partOf l (later (constant (pos 0)) row (expressionAt rows) l) ≡ partAt rows l
   later-part row zero p = refl
@@ -191,13 +204,13 @@ module _ (rows : List ℤ) (whole : Whole rows) where
     unfolding expressionOf numberAt
     at-postfix o k p = rw (expression-at row, k, lt-ltb row a p)
 
-    -- ---- kinds 40 to 53
+    -- ---- kinds 40 to 57
 
     abbrev s-at : ℕ → Statement
     s-at l = statementAt rows l
 
     pub at-no-statement : isStatementKind (kindAt rows row) ≡ false → statementAt rows row ≡ empty
-    at-no-statement k = statement-at row ∙ no-statement-of (kindAt rows row) (wordAt rows row) _ _ _ k
+    at-no-statement k = statement-at row ∙ no-statement-of (kindAt rows row) (wordAt rows row) _ _ _ _ k
 
     pub at-empty : kindAt rows row ≡ OfStatement Empty → statementAt rows row ≡ empty
     unfolding statementOf
@@ -248,6 +261,18 @@ module _ (rows : List ℤ) (whole : Whole rows) where
     unfolding statementOf numberAt
     at-goto k = rw (statement-at row, k)
 
+    pub at-guardedIf : kindAt rows row ≡ OfStatement GuardedIf → Forward row a → statementAt rows row ≡ guardedIf (armListAt rows a)
+    unfolding statementOf numberAt
+    at-guardedIf k p = rw (statement-at row, k) (ap guardedIf (later-arms row a p))
+
+    pub at-guardedDo : kindAt rows row ≡ OfStatement GuardedDo → Forward row a → statementAt rows row ≡ guardedDo (armListAt rows a)
+    unfolding statementOf numberAt
+    at-guardedDo k p = rw (statement-at row, k) (ap guardedDo (later-arms row a p))
+
+    pub at-abort : kindAt rows row ≡ OfStatement Abort → statementAt rows row ≡ abort
+    unfolding statementOf
+    at-abort k = rw (statement-at row, k)
+
     -- ---- items: a statement or a mark, and the list behind it
 
     abbrev behind : ℕ
@@ -270,3 +295,9 @@ module _ (rows : List ℤ) (whole : Whole rows) where
     pub at-label : kindAt rows row ≡ OfMark Label → Forward row behind → itemsAt rows row ≡ label a here listAt rows behind
     unfolding itemsOf numberAt
     at-label k p = rw (items-at row, k) (ap (λ l. label a here l) (later-list row behind p))
+
+    -- ---- arms: a guard and a block, and the arms behind them
+
+    pub at-arm : kindAt rows row ≡ OfMember Arm → row < a → row < b → Forward row behind → armsAt rows row ≡ arm (e-at a) (s-at b) (armListAt rows behind)
+    unfolding armsOf
+    at-arm k p q r = rw (arms-at row, k, lt-ltb row a p, lt-ltb row b q) (ap (arm (e-at a) (s-at b)) (later-arms row behind r))

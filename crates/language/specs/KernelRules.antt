@@ -1,7 +1,7 @@
--- Rules in kernel form: temporaries, goto and label, and the count of what a jump passes over. Their table.
+-- Rules in kernel form: temporaries, goto and label, abort, and the count of what a jump passes over. Their table.
 use mathlib.Core.List.{List, [], _∷_, _++_}
 use lib.IntN.{pos}
-use Rattle.words.specs.declared.FaultSort.the-variants.{Index}
+use Rattle.words.specs.declared.FaultSort.the-variants.{Index, Guard}
 use Rattle.words.specs.declared.Ending.the-variants.{Plain, Spent, Fault}
 use Rattle.language.specs.Rule.{Rule, row, constant}
 
@@ -208,6 +208,43 @@ kernel-spent = record {
   comes-to = record { ending = Spent; count = 9; store = [] };
 }
 
+-- v0 = 1; { abort; } v0 = 2;
+abbrev pub abort-fails : Rule
+abort-fails = record {
+  header = pos 1 ∷ pos 0 ∷ [];
+  rows = row 42 1 0 0 0 0
+      ++ row 41 2 0 0 0 5
+      ++ row 21 3 4 0 0 0
+      ++ row 2 0 0 0 0 0
+      ++ constant (pos 1)
+      ++ row 42 6 0 0 0 7
+      ++ row 57 0 0 0 0 0
+      ++ row 41 8 0 0 0 0
+      ++ row 21 9 10 0 0 0
+      ++ row 2 0 0 0 0 0
+      ++ constant (pos 2);
+  store = pos 0 ∷ [];
+  budget = 100;
+  comes-to = record { ending = Fault Guard; count = 7; store = pos 1 ∷ [] };
+}
+
+-- goto 0; abort; label 0: v0 = 1;
+abbrev pub goto-passes-abort : Rule
+goto-passes-abort = record {
+  header = pos 1 ∷ pos 0 ∷ [];
+  rows = row 42 1 0 0 0 0
+      ++ row 52 0 0 0 0 2
+      ++ row 57 0 0 0 0 3
+      ++ row 53 0 0 0 0 4
+      ++ row 41 5 0 0 0 0
+      ++ row 21 6 7 0 0 0
+      ++ row 2 0 0 0 0 0
+      ++ constant (pos 1);
+  store = pos 0 ∷ [];
+  budget = 100;
+  comes-to = record { ending = Plain; count = 7; store = pos 1 ∷ [] };
+}
+
 abbrev pub kernelTable : List Rule
 kernelTable =
     temporaries ∷
@@ -219,4 +256,6 @@ kernelTable =
     goto-in-while ∷
     kernel-index ∷
     kernel-spent ∷
+    abort-fails ∷
+    goto-passes-abort ∷
     []

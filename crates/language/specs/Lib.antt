@@ -1,11 +1,11 @@
 -- The language of both forms: document 01's kinds as trees, and what they do. A line of comment for each file.
 
 -- ---- definitions
--- Trees: expressions, places, statements, items.
+-- Trees: expressions, places, statements, arms, items.
 pub mod Trees
 -- Decode: the tree that rows hold.
 pub mod Decode
--- Meaning: what trees do, one clause a kind, under the sentence of document 01 that it states.
+-- Meaning: what trees do, one clause a kind, under the sentence of the papers that it states.
 pub mod Meaning
 -- Programs: the items of a table of rows, and its run.
 pub mod Program
@@ -19,6 +19,7 @@ pub mod ComparisonRules
 pub mod ExpressionRules
 pub mod StatementRules
 pub mod LoopRules
+pub mod GuardedRules
 pub mod KernelRules
 pub mod Rules
 -- Write sets: which variables an expression can write.

@@ -1,4 +1,4 @@
--- Meaning: what trees do, one clause a kind, under the sentence of document 01 ("How a run goes") that it states; in brackets the
+-- Meaning: what trees do, one clause a kind, under the sentence of document 01 ("How a run goes"), or of document 02, that it states; in brackets the
 -- rules of Preprint 97. "One step is counted each time a row is entered, places, labels and the mark a switch goes to included".
 use mathlib.Core.Bool.{Bool, true, false}
 use Prim.Native.Nat.{ℕ}
@@ -7,8 +7,9 @@ use Rattle.words.specs.Word.{pick}
 use Rattle.words.specs.Layout.{Layout, arrayBase, arrayLength}
 use Rattle.words.specs.Arithmetic.{isTrue, truth, logicalNot, apply, minus as minusWord, element as elementWord}
 use Rattle.words.specs.declared.Operator.{Operator}
-use Rattle.computation.specs.Computation.{Turn, again, leave, Computation, ret, _>>=_, _>>_, step, load, save, loop, settle}
-use Rattle.language.specs.Trees.{Expression, constant, read, minus, not, binary, and, or, comma, conditional, assign, compound, prefix, postfix, Place, variable, element, Part, absent, present, Mark, case, default, label, Statement, empty, express, block, ifThen, ifElse, while, doWhile, for, switch, break, continue, goto, Items, none, _then_, _here_, sameMark, has}
+use Rattle.words.specs.declared.FaultSort.the-variants.{Guard}
+use Rattle.computation.specs.Computation.{Turn, again, leave, Computation, ret, _>>=_, _>>_, step, load, save, fail, loop, settle}
+use Rattle.language.specs.Trees.{Expression, constant, read, minus, not, binary, and, or, comma, conditional, assign, compound, prefix, postfix, Place, variable, element, Part, absent, present, Mark, case, default, label, Statement, empty, express, block, ifThen, ifElse, while, doWhile, for, switch, break, continue, goto, guardedIf, guardedDo, abort, Arms, noArm, arm, Items, none, _then_, _here_, sameMark, has}
 
 -- Entering a row is one step; what follows is m.
 abbrev pub enter : {A : Type 0} → Computation A → Computation A
@@ -144,6 +145,30 @@ afterBody rest continuing = rest
 afterBody rest breaking = ret (leave next)
 afterBody rest (seeking m) = ret (leave (seeking m))
 
+-- What the arms of a guarded statement come to: no guard was true, or a block ran and ended with this signal.
+pub data Choice : Type 0 where
+  noneTrue : Choice
+  ran : Signal → Choice
+
+-- "Guarded if with no true guard gives a fourth fault".
+abbrev pub afterChoice : Choice → Computation Signal
+afterChoice noneTrue = fail Guard
+afterChoice (ran signal) = ret signal
+
+-- "Guarded do then begins again at its arms, and ends when no guard is true." "Neither form counts as a loop for break and continue."
+abbrev pub afterArms : Choice → Turn Signal
+afterArms noneTrue = leave next
+afterArms (ran next) = again
+afterArms (ran breaking) = leave breaking
+afterArms (ran continuing) = leave continuing
+afterArms (ran (seeking m)) = leave (seeking m)
+
+-- What follows the entry of an arm's row: its guard, then its block or the arms behind it.
+abbrev pub tryArm : Computation ℤ → Computation Signal → Computation Choice → Computation Choice
+tryArm guard body rest = do
+  v ← guard
+  ifTrue v (do signal ← body; ret (ran signal)) rest
+
 -- What follows a loop's test.
 abbrev pub afterTest : Computation (Turn Signal) → ℤ → Computation (Turn Signal)
 afterTest rest v = ifTrue v rest (ret (leave next))
@@ -196,6 +221,25 @@ module _ (L : Layout) where
     perform continue = ret continuing
     -- "Goto: the run goes on at its label, in the first list outward that has it; items between are passed over."
     perform (goto l) = ret (seeking (label l))
+    -- "Arms are entered from the first until a guard is true; its block runs."
+    perform (guardedIf arms) = do
+      choice ← choose arms
+      afterChoice choice
+    perform (guardedDo arms) = choiceRounds arms
+    -- "As does the kernel's new kind 57 (abort, no fields)."
+    perform abort = fail Guard
+
+    -- The arms from one on. The guards behind a true one are not worked out; what false guards stored stays.
+    pub choose : Arms → Computation Choice
+    choose noArm = ret noneTrue
+    choose (arm guard body arms) = enter (tryArm (value L guard) (enter (perform body)) (choose arms))
+
+    -- The rounds of a guarded do: its own row is entered once. A round begins by entering the first arm's row; the loop counts that step.
+    pub choiceRounds : Arms → Computation Signal
+    choiceRounds noArm = ret next
+    choiceRounds (arm guard body arms) = loop do
+      choice ← tryArm (value L guard) (enter (perform body)) (choose arms)
+      ret (afterArms choice)
 
     -- The rest of a list, after an item that ended with this signal. "Its search and rows passed over count nothing."
     pub items : Items → Signal → Computation Signal

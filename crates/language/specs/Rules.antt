@@ -9,6 +9,7 @@ use Rattle.language.specs.ComparisonRules.{less, greater, less-or-equal,
 use Rattle.language.specs.ExpressionRules.{and-is-truth, and-right-false, or-stops, or-both-false, conditional-true, conditional-false, comma-left-first, assign-gives-value, second-array, second-array-length, index-assigns, compound-gives-new-value, compound-operators, compound-value-first, compound-reads-after-index, compound-overflows, prefix-gives-new-value, prefix-index-once, prefix-overflows, postfix-gives-old-value, postfix-index-once, postfix-overflows}
 use Rattle.language.specs.StatementRules.{no-items, empty-and-blocks, if-true, if-false, if-else-true, if-else-false, switch-without-match, switch-ends-by-itself, switch-without-items, switch-without-marks, break-passes-marks, default-last, negative-case, selector-once, marks-of-inner-switch, break-leaves-inner-switch, break-in-block}
 use Rattle.language.specs.LoopRules.{while-never, while-rounds, continue-in-while, break-in-while, break-leaves-inner-loop, do-once, do-rounds, break-in-do, continue-stays-in-inner-loop, continue-leaves-switch, for-without-parts, for-without-test, for-without-step, for-never, break-passes-step, continue-without-test, while-spent, for-spent}
+use Rattle.language.specs.GuardedRules.{first-true-guard, second-guard-true, false-guard-stores, no-guard-true, guarded-if-without-arms, guarded-do-without-arms, guarded-do-never, greatest-common-divisor, guarded-do-from-its-first-arm, break-through-guarded-if, break-through-guarded-do, continue-through-guarded-if, continue-through-guarded-do, break-leaves-switch-around-guards, guard-faults, guard-faults-in-a-later-round, guarded-if-fails-in-guarded-do, guarded-do-spent}
 
 abbrev pub starredRules : List Rule
 starredRules =
@@ -151,5 +152,27 @@ loopRules =
     for-spent ∷
     []
 
+abbrev pub guardedRules : List Rule
+guardedRules =
+    first-true-guard ∷
+    second-guard-true ∷
+    false-guard-stores ∷
+    no-guard-true ∷
+    guarded-if-without-arms ∷
+    guarded-do-without-arms ∷
+    guarded-do-never ∷
+    greatest-common-divisor ∷
+    guarded-do-from-its-first-arm ∷
+    break-through-guarded-if ∷
+    break-through-guarded-do ∷
+    continue-through-guarded-if ∷
+    continue-through-guarded-do ∷
+    break-leaves-switch-around-guards ∷
+    guard-faults ∷
+    guard-faults-in-a-later-round ∷
+    guarded-if-fails-in-guarded-do ∷
+    guarded-do-spent ∷
+    []
+
 abbrev pub table : List Rule
-table = starredRules ++ (surprisingOrders ++ (arithmeticRules ++ (comparisonRules ++ (expressionRules ++ (statementRules ++ (loopRules))))))
+table = starredRules ++ (surprisingOrders ++ (arithmeticRules ++ (comparisonRules ++ (expressionRules ++ (statementRules ++ (loopRules ++ guardedRules))))))

@@ -10,7 +10,7 @@ use Rattle.words.specs.declared.Form.{Form}
 use Rattle.words.specs.declared.Form.the-variants.{Source, Kernel}
 use Rattle.computation.specs.Run.{run}
 use Rattle.language.specs.Trees.{sameMark, has}
-use Rattle.language.specs.Decode.{expressionOf, expressionBy, expressionAt, statementOf, itemsOf, treesOf, treesBy, statementAt, itemsAt, decode}
+use Rattle.language.specs.Decode.{expressionOf, expressionBy, expressionAt, statementOf, itemsOf, armsOf, treesOf, treesBy, statementAt, itemsAt, decode}
 use Rattle.language.specs.Meaning.{evaluate, perform}
 use Rattle.language.specs.Program.{Finished, programOf, runUnder, runProgram}
 use Rattle.language.specs.Rule.{Rule}
@@ -29,5 +29,5 @@ pub record RulesHold : Type 0 where
   pub kernel : map (runs Kernel) kernelTable ≡ map expected kernelTable
 
 pub rules-hold : RulesHold
-unfolding isWord sameWord natural wordAt numberAt kinds kindIn kindOf kindAt layoutOf sum arrayLength arrayBase inWord isTrue bit truth logicalNot minus dividing remainderBy apply element run sameMark has expressionOf expressionBy expressionAt statementOf itemsOf treesOf treesBy statementAt itemsAt decode evaluate perform programOf runUnder runProgram
+unfolding isWord sameWord natural wordAt numberAt kinds kindIn kindOf kindAt layoutOf sum arrayLength arrayBase inWord isTrue bit truth logicalNot minus dividing remainderBy apply element run sameMark has expressionOf expressionBy expressionAt statementOf itemsOf armsOf treesOf treesBy statementAt itemsAt decode evaluate perform programOf runUnder runProgram
 rules-hold = record { source = refl; kernel = refl }

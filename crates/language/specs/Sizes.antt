@@ -1,6 +1,6 @@
 -- Sizes: the rows and the depth of a tree. "Row 0 has 1, a row has its owner's plus 1, items of one list share theirs."
 use Prim.Native.Nat.{ℕ, _+_, max}
-use Rattle.language.specs.Trees.{Expression, constant, read, minus, not, binary, and, or, comma, conditional, assign, compound, prefix, postfix, Place, variable, element, Part, absent, present, Statement, empty, express, block, ifThen, ifElse, while, doWhile, for, switch, break, continue, goto, Items, none, _then_, _here_}
+use Rattle.language.specs.Trees.{Expression, constant, read, minus, not, binary, and, or, comma, conditional, assign, compound, prefix, postfix, Place, variable, element, Part, absent, present, Statement, empty, express, block, ifThen, ifElse, while, doWhile, for, switch, break, continue, goto, guardedIf, guardedDo, abort, Arms, noArm, arm, Items, none, _then_, _here_}
 
 unfoldable mutual
   pub expressionRows : Expression → ℕ
@@ -40,6 +40,13 @@ unfoldable mutual
   statementRows break = 1
   statementRows continue = 1
   statementRows (goto l) = 1
+  statementRows (guardedIf arms) = 1 + armsRows arms
+  statementRows (guardedDo arms) = 1 + armsRows arms
+  statementRows abort = 1
+
+  pub armsRows : Arms → ℕ
+  armsRows noArm = 0
+  armsRows (arm guard body arms) = 1 + expressionRows guard + statementRows body + armsRows arms
 
   pub itemsRows : Items → ℕ
   itemsRows none = 0
@@ -84,6 +91,14 @@ unfoldable mutual
   statementDepth break = 1
   statementDepth continue = 1
   statementDepth (goto l) = 1
+  statementDepth (guardedIf arms) = 1 + armsDepth arms
+  statementDepth (guardedDo arms) = 1 + armsDepth arms
+  statementDepth abort = 1
+
+  -- Arms share their depth, as items do.
+  pub armsDepth : Arms → ℕ
+  armsDepth noArm = 0
+  armsDepth (arm guard body arms) = max (1 + max (expressionDepth guard) (statementDepth body)) (armsDepth arms)
 
   pub itemsDepth : Items → ℕ
   itemsDepth none = 0

@@ -7,9 +7,10 @@ use Prim.Native.Nat.{ℕ, _<_, _≤_}
 use lib.IntN.{ℤ}
 use lib.ListN.{length}
 use Rattle.words.specs.Table.{rowCount, Whole, numberAt}
-use Rattle.words.specs.Kinds.{kindAt, unused, variable, array, place, isLink, isRequired, sortIn, isPlaceKind}
+use Rattle.words.specs.Kinds.{kindAt, unused, variable, array, place, optionalArm, isLink, isRequired, sortIn, isPlaceKind}
 use Rattle.words.specs.Layout.{Layout, storeSize}
-use Rattle.words.specs.declared.Kind.the-variants.{Other}
+use Rattle.words.specs.declared.Kind.the-variants.{OfMember, Other}
+use Rattle.words.specs.declared.MemberKind.the-variants.{Arm}
 
 -- `rows` is the table, L the layout, `words` the number of words in the store.
 module _ (rows : List ℤ) (L : Layout) (words : ℕ) where
@@ -25,6 +26,10 @@ module _ (rows : List ℤ) (L : Layout) (words : ℕ) where
   abbrev pub PlaceLink : ℕ → ℕ → Type 0
   PlaceLink row field = Link row field × (isPlaceKind (kindAt rows (numberAt rows row field)) ≡ true)
 
+  -- The field links an arm, or is 0.
+  abbrev pub ArmLink : ℕ → ℕ → Type 0
+  ArmLink row field = 0 < numberAt rows row field → Link row field × (kindAt rows (numberAt rows row field) ≡ OfMember Arm)
+
   -- What a field holds, by its sort.
   pub record SoundField (row field sort : ℕ) : Type 0 where
     pub unused-zero : sort ≡ unused → numberAt rows row field ≡ 0
@@ -33,6 +38,7 @@ module _ (rows : List ℤ) (L : Layout) (words : ℕ) where
     pub present : isRequired sort ≡ true → 0 < numberAt rows row field
     pub forward : isLink sort ≡ true → OptionalLink row field
     pub at-place : sort ≡ place → isPlaceKind (kindAt rows (numberAt rows row field)) ≡ true
+    pub at-arm : sort ≡ optionalArm → 0 < numberAt rows row field → kindAt rows (numberAt rows row field) ≡ OfMember Arm
 
   pub record Sound : Type 0 where
     pub whole : Whole rows

@@ -7,12 +7,13 @@ use native.Mathlib.Omega.{arith}
 use lib.IntN.{ℤ}
 use lib.ListN.{length}
 use Rattle.words.specs.Table.{rowCount, numberAt}
-use Rattle.words.specs.Kinds.{kindAt, unused, variable, array, place, isLink, isRequired, kindRow, sortIn}
+use Rattle.words.specs.Kinds.{kindAt, unused, variable, array, place, optionalArm, isLink, isRequired, kindRow, memberFields, sortIn}
 use Rattle.words.specs.KindLaws.{required-link}
 use Rattle.words.specs.Layout.{Layout}
 use Rattle.words.specs.declared.Kind.{Kind}
-use Rattle.words.specs.declared.Kind.the-variants.{OfExpression, OfStatement, OfMark, Other}
-use Rattle.language.specs.Sound.{Link, OptionalLink, PlaceLink, SoundField, Sound}
+use Rattle.words.specs.declared.Kind.the-variants.{OfExpression, OfStatement, OfMark, OfMember, Other}
+use Rattle.words.specs.declared.MemberKind.the-variants.{Arm}
+use Rattle.language.specs.Sound.{Link, OptionalLink, PlaceLink, ArmLink, SoundField, Sound}
 
 module _ {rows : List ℤ} {L : Layout} {words : ℕ} (sound : Sound rows L words) {row : ℕ} (inside : row < rowCount rows) where
   module _ {kind : Kind} (k : kindAt rows row ≡ kind) where
@@ -30,9 +31,13 @@ module _ {rows : List ℤ} {L : Layout} {words : ℕ} (sound : Sound rows L word
     unfolding isRequired
     place-link-of field p q r = (link-of field p q (rw r), field-of field p q .at-place r)
 
+    pub arm-link-of : (field : ℕ) → 1 ≤ field → field < 6 → sortIn kind field ≡ optionalArm → ArmLink rows L words row field
+    unfolding isLink
+    arm-link-of field p q r some = (optional-link-of field p q (rw r) some, field-of field p q .at-arm r some)
+
   -- Next leads to a later row of the table, or is 0.
   pub behind : OptionalLink rows L words row 5
-  unfolding sortIn kindRow isLink
+  unfolding sortIn kindRow memberFields isLink
   behind = go (kindAt rows row) refl
     where
       none : numberAt rows row 5 ≡ 0 → OptionalLink rows L words row 5
@@ -42,4 +47,5 @@ module _ {rows : List ℤ} {L : Layout} {words : ℕ} (sound : Sound rows L word
       go (OfExpression kind) k = none (field-of k 5 (omega arith) (omega arith) .unused-zero refl)
       go (OfStatement kind) k = optional-link-of k 5 (omega arith) (omega arith) refl
       go (OfMark kind) k = optional-link-of k 5 (omega arith) (omega arith) refl
+      go (OfMember Arm) k = optional-link-of k 5 (omega arith) (omega arith) refl
       go Other k = absurd (sound .known row inside k)

@@ -1,4 +1,4 @@
--- Trees: expressions, places, statements, items. One language of trees for source and kernel, as document 01 has one table of
+-- Trees: expressions, places, statements, arms, items. One language of trees for source and kernel, as document 01 has one table of
 -- kinds and one section on how a run goes. Kinds that differ in an operator are one constructor.
 use mathlib.Core.Bool.{Bool, true, false, _||_}
 use Prim.Native.Nat.{ℕ}
@@ -37,7 +37,7 @@ pub data Mark : Type 0 where
   label : ℕ → Mark
 
 mutual
-  -- Kinds 40 to 52, without the marks.
+  -- Kinds 40 to 57, without the marks and the arm.
   pub data Statement : Type 0 where
     empty : Statement
     express : Expression → Statement
@@ -50,6 +50,13 @@ mutual
     switch : Expression → Items → Statement
     break continue : Statement
     goto : ℕ → Statement
+    guardedIf guardedDo : Arms → Statement
+    abort : Statement
+
+  -- Kind 56, and "next the next arm": a guard and a block each.
+  pub data Arms : Type 0 where
+    noArm : Arms
+    arm : Expression → Statement → Arms → Arms
 
   -- "Items of a block or switch are linked by next."
   pub data Items : Type 0 where

@@ -5,7 +5,7 @@ use mathlib.Core.Bool.{Bool, true, false}
 use Prim.Native.Nat.{ℕ, _<_}
 use lib.ListN.{length}
 use Rattle.words.specs.Layout.{Layout}
-use Rattle.language.specs.Trees.{Expression, constant, read, minus, not, binary, and, or, comma, conditional, assign, compound, prefix, postfix, Place, variable, element, Part, absent, present, Mark, case, default, label, Statement, empty, express, block, ifThen, ifElse, while, doWhile, for, switch, break, continue, goto, Items, none, _then_, _here_}
+use Rattle.language.specs.Trees.{Expression, constant, read, minus, not, binary, and, or, comma, conditional, assign, compound, prefix, postfix, Place, variable, element, Part, absent, present, Mark, case, default, label, Statement, empty, express, block, ifThen, ifElse, while, doWhile, for, switch, break, continue, goto, guardedIf, guardedDo, abort, Arms, noArm, arm, Items, none, _then_, _here_}
 
 -- Every variable that a tree names satisfies Names, and every array is below `arrays`.
 module _ (Names : ℕ → Type 0) (arrays : ℕ) where
@@ -47,6 +47,13 @@ module _ (Names : ℕ → Type 0) (arrays : ℕ) where
     NamedStatement break = Unit {0}
     NamedStatement continue = Unit {0}
     NamedStatement (goto l) = Unit {0}
+    NamedStatement (guardedIf arms) = NamedArms arms
+    NamedStatement (guardedDo arms) = NamedArms arms
+    NamedStatement abort = Unit {0}
+
+    pub NamedArms : Arms → Type 0
+    NamedArms noArm = Unit {0}
+    NamedArms (arm guard body arms) = NamedExpression guard × NamedStatement body × NamedArms arms
 
     pub NamedItems : Items → Type 0
     NamedItems none = Unit {0}
@@ -59,8 +66,8 @@ markAllowed inSwitch (case v) = inSwitch
 markAllowed inSwitch default = inSwitch
 markAllowed inSwitch (label l) = false
 
--- "A case or default is an item of a switch's own list. Break stands inside a loop or switch, continue inside a loop." No goto:
--- the source has none. `mayBreak` and `mayContinue` say what stands around the tree.
+-- "A case or default is an item of a switch's own list. Break stands inside a loop or switch, continue inside a loop." No goto and
+-- no abort: the source has none. `mayBreak` and `mayContinue` say what stands around the tree.
 unfoldable mutual
   pub Placed : Bool → Bool → Statement → Type 0
   Placed mayBreak mayContinue empty = Unit {0}
@@ -75,6 +82,14 @@ unfoldable mutual
   Placed mayBreak mayContinue break = mayBreak ≡ true
   Placed mayBreak mayContinue continue = mayContinue ≡ true
   Placed mayBreak mayContinue (goto l) = ⊥
+  Placed mayBreak mayContinue (guardedIf arms) = PlacedArms mayBreak mayContinue arms
+  Placed mayBreak mayContinue (guardedDo arms) = PlacedArms mayBreak mayContinue arms
+  Placed mayBreak mayContinue abort = ⊥
+
+  -- "Neither form counts as a loop for break and continue."
+  pub PlacedArms : Bool → Bool → Arms → Type 0
+  PlacedArms mayBreak mayContinue noArm = Unit {0}
+  PlacedArms mayBreak mayContinue (arm guard body arms) = Placed mayBreak mayContinue body × PlacedArms mayBreak mayContinue arms
 
   -- The items of a list, which is a switch's own or not.
   pub PlacedItems : Bool → Bool → Bool → Items → Type 0

@@ -5,7 +5,7 @@ use native.Mathlib.Omega.{arith}
 use lib.ListN.{length}
 use Rattle.words.specs.Answers.{faultNumber, faultNumbered, faultName, endingName}
 use Rattle.words.specs.declared.FaultSort.{FaultSort}
-use Rattle.words.specs.declared.FaultSort.the-variants.{Overflow, ZeroDivisor, Index}
+use Rattle.words.specs.declared.FaultSort.the-variants.{Overflow, ZeroDivisor, Index, Guard}
 use Rattle.words.specs.declared.Ending.{Ending}
 use Rattle.words.specs.declared.Ending.the-variants.{Plain, Spent, Fault}
 
@@ -20,6 +20,7 @@ unfolding faultNumbered
 faults-apart Overflow = record { no-other = omega arith; small = omega arith; again = refl; short = omega arith }
 faults-apart ZeroDivisor = record { no-other = omega arith; small = omega arith; again = refl; short = omega arith }
 faults-apart Index = record { no-other = omega arith; small = omega arith; again = refl; short = omega arith }
+faults-apart Guard = record { no-other = omega arith; small = omega arith; again = refl; short = omega arith }
 
 pub names-short : (ending : Ending) → length (endingName ending) ≤ 8
 names-short Plain = omega arith

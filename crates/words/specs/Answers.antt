@@ -1,4 +1,4 @@
--- Answers: document 01's numbers and words for each case of an enum.
+-- Answers: the papers' numbers and words for each case of an enum.
 use mathlib.Core.List.{List, [], _∷_}
 use mathlib.Core.Path.{_≡_}
 use Prim.Native.Nat.{ℕ}
@@ -8,7 +8,7 @@ use lib.ListN.{length, take}
 use Rattle.words.specs.Word.{pick}
 use Rattle.words.specs.Arithmetic.{Outcome, value, fault}
 use Rattle.words.specs.declared.FaultSort.{FaultSort}
-use Rattle.words.specs.declared.FaultSort.the-variants.{Overflow, ZeroDivisor, Index}
+use Rattle.words.specs.declared.FaultSort.the-variants.{Overflow, ZeroDivisor, Index, Guard}
 use Rattle.words.specs.declared.Ending.{Ending}
 use Rattle.words.specs.declared.Ending.the-variants.{Plain, Spent, Fault}
 use Rattle.words.specs.declared.Name.{Name}
@@ -26,8 +26,8 @@ abbrev pub located : Located → Outcome ℕ
 located (At position) = value position
 located Outside = fault Index
 
--- "A run ends plainly, spent, or with a fault of one of three sorts." Each ending has a number, in the answers of the library and of
--- the machine, and a word: "Output: form, ending (ended, spent, overflow, zero, index)", as bytes.
+-- "A run ends plainly, spent, or with a fault", of one of four sorts. Each ending has a number, in the answers of the library and of
+-- the machine, and a word: "Output: form, ending (ended, spent, overflow, zero, index)", "a fourth fault, printed `guard`", as bytes.
 pub record Told : Type 0 where
   pub number : ℕ
   pub name : List ℕ
@@ -36,6 +36,7 @@ abbrev pub faultTold : FaultSort → Told
 faultTold Overflow = record { number = 2; name = 111 ∷ 118 ∷ 101 ∷ 114 ∷ 102 ∷ 108 ∷ 111 ∷ 119 ∷ [] }
 faultTold ZeroDivisor = record { number = 3; name = 122 ∷ 101 ∷ 114 ∷ 111 ∷ [] }
 faultTold Index = record { number = 4; name = 105 ∷ 110 ∷ 100 ∷ 101 ∷ 120 ∷ [] }
+faultTold Guard = record { number = 5; name = 103 ∷ 117 ∷ 97 ∷ 114 ∷ 100 ∷ [] }
 
 abbrev pub endingTold : Ending → Told
 endingTold Plain = record { number = 0; name = 101 ∷ 110 ∷ 100 ∷ 101 ∷ 100 ∷ [] }
@@ -60,7 +61,7 @@ faultAmong [] number = Index
 faultAmong (sort ∷ sorts) number = pick (eqb number (faultNumber sort)) sort (faultAmong sorts number)
 
 abbrev pub otherFaults : List FaultSort
-otherFaults = Overflow ∷ ZeroDivisor ∷ []
+otherFaults = Overflow ∷ ZeroDivisor ∷ Guard ∷ []
 
 unfoldable pub faultNumbered : ℕ → FaultSort
 faultNumbered number = faultAmong otherFaults number

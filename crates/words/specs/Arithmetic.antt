@@ -10,7 +10,7 @@ use Rattle.words.specs.declared.FaultSort.the-variants.{Overflow, ZeroDi
 use Rattle.words.specs.declared.Operator.{Operator}
 use Rattle.words.specs.declared.Operator.the-variants.{Add, Subtract, Multiply, Divide, Remainder, Less, Greater, LessOrEqual, GreaterOrEqual, Equal, NotEqual}
 
--- What an operation gives: a value, or one of the three faults.
+-- What an operation gives: a value, or a fault.
 pub data Outcome (A : Type 0) : Type 0 where
   value : A → Outcome A
   fault : FaultSort → Outcome A

@@ -9,13 +9,14 @@ use lib.IntN.{ℤ}
 use borrow.Author.Tests.{eqb-true, eqb-false, leb-true}
 use Rattle.words.specs.Word.{pick}
 use Rattle.words.specs.Table.{numberAt}
-use Rattle.words.specs.Kinds.{kinds, kindIn, kindOf, kindAt, operators, operatorOf, isExpressionKind, isStatementKind, between, expression, place, branch, isLink, isRequired, kindRow, expressionFields, statementFields, markFields, sortIn, isPlaceKind}
+use Rattle.words.specs.Kinds.{kinds, kindIn, kindOf, kindAt, operators, operatorOf, isExpressionKind, isStatementKind, between, expression, place, branch, bodyBlock, armRow, isLink, isRequired, kindRow, expressionFields, statementFields, markFields, memberFields, sortIn, isPlaceKind}
 use Rattle.words.specs.Laws.{both, by-cases}
 use Rattle.words.specs.declared.Operator.{Operator}
 use Rattle.words.specs.declared.Kind.{Kind}
-use Rattle.words.specs.declared.Kind.the-variants.{OfExpression, OfStatement, OfMark, Other}
+use Rattle.words.specs.declared.Kind.the-variants.{OfExpression, OfStatement, OfMark, OfMember, Other}
 use Rattle.words.specs.declared.MarkKind.{MarkKind}
 use Rattle.words.specs.declared.MarkKind.the-variants.{Case, Default, Label}
+use Rattle.words.specs.declared.MemberKind.the-variants.{Arm}
 use Rattle.words.specs.declared.ExpressionKind.the-variants.{Binary, Compound, Prefix, Postfix}
 
 -- A test that every line of the table passes.
@@ -41,13 +42,17 @@ pub required-link : (sort : ℕ) → isRequired sort ≡ true → isLink sort �
 unfolding isRequired isLink
 required-link sort r = by (eqb sort expression) refl r
   where
-    by : (t : Bool) → eqb sort expression ≡ t → (t || (eqb sort place || eqb sort branch)) ≡ true → isLink sort ≡ true
+    by : (t : Bool) → eqb sort expression ≡ t → (t || (eqb sort place || (eqb sort branch || eqb sort bodyBlock))) ≡ true → isLink sort ≡ true
     by true e r = rw (eqb-true sort expression e)
     by false e r = by-place (eqb sort place) refl r
       where
-        by-place : (t : Bool) → eqb sort place ≡ t → (t || eqb sort branch) ≡ true → isLink sort ≡ true
+        by-place : (t : Bool) → eqb sort place ≡ t → (t || (eqb sort branch || eqb sort bodyBlock)) ≡ true → isLink sort ≡ true
         by-place true e r = rw (eqb-true sort place e)
-        by-place false e r = rw (eqb-true sort branch r)
+        by-place false e r = by-branch (eqb sort branch) refl r
+          where
+            by-branch : (t : Bool) → eqb sort branch ≡ t → (t || eqb sort bodyBlock) ≡ true → isLink sort ≡ true
+            by-branch true e r = rw (eqb-true sort branch e)
+            by-branch false e r = rw (eqb-true sort bodyBlock r)
 
 -- ---- the kind of a row, from its number
 
@@ -69,20 +74,36 @@ unfolding everyLine kinds
 no-expression number beyond =
     by-cases (isExpressionKind (kindOf number)) (λ e. absurd (beyond (between-both 1 30 number (numbers-of isExpressionKind (between 1 30) refl refl number e)))) (λ e. e)
 
-pub no-statement : (number : ℕ) → ((40 ≤ number) × (number ≤ 47) → ⊥) → ((50 ≤ number) × (number ≤ 52) → ⊥) → isStatementKind (kindOf number) ≡ false
+-- The numbers of statements, marks apart.
+abbrev statementNumbers : ℕ → Bool
+statementNumbers n = between 40 47 n || (between 50 52 n || (between 54 55 n || eqb n 57))
+
+pub no-statement : (number : ℕ) → ((40 ≤ number) × (number ≤ 47) → ⊥) → ((50 ≤ number) × (number ≤ 52) → ⊥) → ((54 ≤ number) × (number ≤ 55) → ⊥) → (number ≡ 57 → ⊥)
+    → isStatementKind (kindOf number) ≡ false
 unfolding everyLine kinds
-no-statement number beyond behind =
+no-statement number plain jumps guarded aborting =
     by-cases (isStatementKind (kindOf number))
-    (λ e. let inside = numbers-of isStatementKind (λ n. between 40 47 n || between 50 52 n) refl refl number e in
-    by-cases (between 40 47 number) (λ t. absurd (beyond (between-both 40 47 number t))) (λ t. absurd (behind (between-both 50 52 number (rw t at inside)))))
+    (λ e. let inside = numbers-of isStatementKind statementNumbers refl refl number e in
+    by-cases (between 40 47 number) (λ t. absurd (plain (between-both 40 47 number t)))
+    (λ t. by-cases (between 50 52 number) (λ u. absurd (jumps (between-both 50 52 number u)))
+    (λ u. by-cases (between 54 55 number) (λ v. absurd (guarded (between-both 54 55 number v)))
+    (λ v. absurd (aborting (eqb-true number 57 (rw (t, u, v) at inside)))))))
     (λ e. e)
 
 -- A place is a variable or an element.
 pub place-cases : {A : Type 0} (number : ℕ) → isPlaceKind (kindOf number) ≡ true → (number ≡ 2 → A) → (number ≡ 3 → A) → A
-unfolding everyLine kinds isPlaceKind sortIn kindRow expressionFields statementFields markFields
+unfolding everyLine kinds isPlaceKind sortIn kindRow expressionFields statementFields markFields memberFields
 place-cases number e f g =
     let inside = between-both 2 3 number (numbers-of isPlaceKind (between 2 3) refl refl number e) in
     by-cases (eqb number 2) (λ t. f (eqb-true number 2 t)) (λ t. g (omega (arith, eqb-false number 2 t, inside .0, inside .1)))
+
+-- An arm's row is of the kind of arms.
+abbrev ownArm : ℕ → Kind → Bool
+ownArm number kind = pick (eqb (sortIn kind 0) armRow) (eqb number 56) true
+
+pub arm-kind : (number : ℕ) → eqb (sortIn (kindOf number) 0) armRow ≡ true → kindOf number ≡ OfMember Arm
+unfolding everyLine kinds kindOf kindIn sortIn kindRow expressionFields statementFields markFields memberFields
+arm-kind number e = rw (eqb-true number 56 (rw e at (every-number ownArm refl (λ n. refl) number)))
 
 -- The number of a mark.
 abbrev pub markNumber : MarkKind → ℕ
@@ -94,6 +115,7 @@ abbrev ownNumber : ℕ → Kind → Bool
 ownNumber number (OfExpression kind) = true
 ownNumber number (OfStatement kind) = true
 ownNumber number (OfMark kind) = eqb number (markNumber kind)
+ownNumber number (OfMember kind) = true
 ownNumber number Other = true
 
 pub mark-number : (number : ℕ) {kind : MarkKind} → kindOf number ≡ OfMark kind → number ≡ markNumber kind

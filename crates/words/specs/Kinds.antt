@@ -1,4 +1,4 @@
--- Kinds: document 01's table of kinds. First the numbers, then what a row of each kind is, what its fields hold, and in which forms the
+-- Kinds: the table of kinds of documents 01 and 02. First the numbers, then what a row of each kind is, what its fields hold, and in which forms the
 -- kind stands.
 use mathlib.Core.Bool.{Bool, true, false, _&&_, _||_}
 use mathlib.Core.List.{List, [], _∷_}
@@ -15,11 +15,13 @@ use Rattle.words.specs.declared.Operator.the-variants.{Add, Subtract, Mu
 use Rattle.words.specs.declared.ExpressionKind.{ExpressionKind}
 use Rattle.words.specs.declared.StatementKind.{StatementKind}
 use Rattle.words.specs.declared.MarkKind.{MarkKind}
+use Rattle.words.specs.declared.MemberKind.{MemberKind}
 use Rattle.words.specs.declared.ExpressionKind.the-variants.{Constant, Variable, Element, Minus, Not, Binary, And, Or, Conditional, Comma, Assign, Compound, Prefix, Postfix}
-use Rattle.words.specs.declared.StatementKind.the-variants.{Empty, Express, Block, If, While, Do, For, Switch, Break, Continue, Goto}
+use Rattle.words.specs.declared.StatementKind.the-variants.{Empty, Express, Block, If, While, Do, For, Switch, Break, Continue, Goto, GuardedIf, GuardedDo, Abort}
 use Rattle.words.specs.declared.MarkKind.the-variants.{Case, Default, Label}
+use Rattle.words.specs.declared.MemberKind.the-variants.{Arm}
 use Rattle.words.specs.declared.Kind.{Kind}
-use Rattle.words.specs.declared.Kind.the-variants.{OfExpression, OfStatement, OfMark, Other}
+use Rattle.words.specs.declared.Kind.the-variants.{OfExpression, OfStatement, OfMark, OfMember, Other}
 
 -- ---- numbers
 
@@ -69,6 +71,10 @@ kinds =
     (51, OfStatement Continue) ∷  -- continue
     (52, OfStatement Goto) ∷  -- goto
     (53, OfMark Label) ∷  -- label
+    (54, OfStatement GuardedIf) ∷  -- guarded if
+    (55, OfStatement GuardedDo) ∷  -- guarded do
+    (56, OfMember Arm) ∷  -- arm
+    (57, OfStatement Abort) ∷  -- abort
     []
 
 unfoldable pub kindIn : List (ℕ × Kind) → ℕ → Kind
@@ -95,6 +101,7 @@ abbrev pub isExpressionKind : Kind → Bool
 isExpressionKind (OfExpression kind) = true
 isExpressionKind (OfStatement kind) = false
 isExpressionKind (OfMark kind) = false
+isExpressionKind (OfMember kind) = false
 isExpressionKind Other = false
 
 -- The kinds of statements, marks apart.
@@ -102,6 +109,7 @@ abbrev pub isStatementKind : Kind → Bool
 isStatementKind (OfExpression kind) = false
 isStatementKind (OfStatement kind) = true
 isStatementKind (OfMark kind) = false
+isStatementKind (OfMember kind) = false
 isStatementKind Other = false
 
 -- ---- sorts: what a field holds, and what a row is
@@ -122,7 +130,8 @@ array = 3
 abbrev pub label : ℕ
 label = 4
 
--- Links. Optional ones "may be 0". A branch or body has next 0; an item is the first of a list, or the next.
+-- Links. Optional ones "may be 0". A branch or body has next 0, and so has the block of an arm; an item is the first of a list, or the
+-- next, and so is an arm.
 abbrev pub expression : ℕ
 expression = 5
 
@@ -141,15 +150,24 @@ optionalBranch = 9
 abbrev pub optionalItem : ℕ
 optionalItem = 10
 
+abbrev pub bodyBlock : ℕ
+bodyBlock = 11
+
+abbrev pub optionalArm : ℕ
+optionalArm = 12
+
 -- What a row is.
 abbrev pub expressionRow : ℕ
-expressionRow = 11
+expressionRow = 13
 
 abbrev pub placeRow : ℕ
-placeRow = 12
+placeRow = 14
 
 abbrev pub statementRow : ℕ
-statementRow = 13
+statementRow = 15
+
+abbrev pub armRow : ℕ
+armRow = 16
 
 abbrev pub noKind : ℕ
 noKind = 0
@@ -158,11 +176,11 @@ abbrev pub between : ℕ → ℕ → ℕ → Bool
 between least most number = leb least number && leb number most
 
 unfoldable pub isLink : ℕ → Bool
-isLink sort = between expression optionalItem sort
+isLink sort = between expression optionalArm sort
 
 -- Links that must not be absent.
 unfoldable pub isRequired : ℕ → Bool
-isRequired sort = eqb sort expression || (eqb sort place || eqb sort branch)
+isRequired sort = eqb sort expression || (eqb sort place || (eqb sort branch || eqb sort bodyBlock))
 
 -- ---- rows
 
@@ -233,7 +251,8 @@ expressionFields (Compound operator) = computing place expression unused inSourc
 expressionFields (Prefix operator) = computing place unused unused inSource  -- 27 ++e, 28 −−e: a place
 expressionFields (Postfix operator) = computing place unused unused inSource  -- 29 e++, 30 e−−: a place
 
--- "52 goto, 53 label (kernel only)".
+-- "52 goto, 53 label (kernel only)". "Kind 54 (guarded if) and 55 (guarded do), each with a the first arm or 0"; "the kernel's new kind 57 (abort, no
+-- fields)".
 unfoldable pub statementFields : StatementKind → StatementRow
 statementFields Empty = stating unused unused unused unused inBoth  -- 40 empty: none
 statementFields Express = stating expression unused unused unused inBoth  -- 41 expression statement: a
@@ -246,11 +265,18 @@ statementFields Switch = stating expression optionalItem unused unused inSource 
 statementFields Break = stating unused unused unused unused inSource  -- 50 break: none
 statementFields Continue = stating unused unused unused unused inSource  -- 51 continue: none
 statementFields Goto = stating label unused unused unused inKernel  -- 52 goto: a label number
+statementFields GuardedIf = stating optionalArm unused unused unused inSource  -- 54 guarded if: a first arm or 0
+statementFields GuardedDo = stating optionalArm unused unused unused inSource  -- 55 guarded do: a first arm or 0
+statementFields Abort = stating unused unused unused unused inKernel  -- 57 abort: none
 
 unfoldable pub markFields : MarkKind → StatementRow
 markFields Case = stating value unused unused unused inSource  -- 48 case: a value
 markFields Default = stating unused unused unused unused inSource  -- 49 default: none
 markFields Label = stating label unused unused unused inKernel  -- 53 label: a label number
+
+-- "Kind 56 (arm): a guard, b block, next the next arm."
+unfoldable pub memberFields : MemberKind → KindRow
+memberFields Arm = record { what = armRow; a = expression; b = bodyBlock; c = unused; d = unused; next = optionalArm; forms = inSource }  -- 56 arm: a guard, b block, next arm or 0
 
 abbrev pub itemRow : StatementRow → KindRow
 itemRow r = record { what = statementRow; a = r .a; b = r .b; c = r .c; d = r .d; next = optionalItem; forms = r .forms }
@@ -262,6 +288,7 @@ unfoldable pub kindRow : Kind → KindRow
 kindRow (OfExpression kind) = operandRow (expressionFields kind)
 kindRow (OfStatement kind) = itemRow (statementFields kind)
 kindRow (OfMark kind) = itemRow (markFields kind)
+kindRow (OfMember kind) = memberFields kind
 kindRow Other = record { what = noKind; a = unused; b = unused; c = unused; d = unused; next = unused; forms = inNeither }
 
 -- ---- what the table says of a kind

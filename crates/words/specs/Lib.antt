@@ -7,7 +7,7 @@ pub mod Word
 pub mod Table
 -- Forms and layouts: the limits of both forms, the header, the store.
 pub mod Layout
--- Kinds: document 01's table of kinds: numbers, sorts of fields, forms.
+-- Kinds: the table of kinds of documents 01 and 02: numbers, sorts of fields, forms.
 pub mod Kinds
 -- Searches: the lowest number, or the lowest row, with a property.
 pub mod Search
@@ -17,7 +17,7 @@ pub mod Links
 pub mod Arithmetic
 -- Over: what stands in a table or a buffer after values were written from its start.
 pub mod Over
--- Answers: document 01's numbers and words for each case of an enum.
+-- Answers: the papers' numbers and words for each case of an enum.
 pub mod Answers
 -- Numbers: an entry's answer in document 01's numbers.
 pub mod Numbers

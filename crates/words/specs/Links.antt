@@ -7,7 +7,7 @@ use lib.Dec.{eqb}
 use lib.IntN.{ℤ}
 use Rattle.words.specs.Word.{pick}
 use Rattle.words.specs.Table.{numberAt}
-use Rattle.words.specs.Kinds.{expression, optionalExpression, place, optionalItem, expressionRow, placeRow, statementRow, between, isLink, sortAt}
+use Rattle.words.specs.Kinds.{expression, optionalExpression, place, optionalItem, bodyBlock, optionalArm, expressionRow, placeRow, statementRow, armRow, between, isLink, sortAt}
 use Rattle.words.specs.Search.{lowest}
 use Rattle.words.specs.declared.Found.{Found}
 use Rattle.words.specs.declared.Found.the-variants.{At, Nothing}
@@ -23,17 +23,24 @@ isPlace rows row = eqb (sortAt rows row 0) placeRow
 unfoldable pub isStatement : List ℤ → ℕ → Bool
 isStatement rows row = eqb (sortAt rows row 0) statementRow
 
+unfoldable pub isBlock : List ℤ → ℕ → Bool
+isBlock rows row = eqb (numberAt rows row 0) 42
+
+unfoldable pub isArm : List ℤ → ℕ → Bool
+isArm rows row = eqb (sortAt rows row 0) armRow
+
 -- The row that a field links; "0 means absent".
 unfoldable pub link : List ℤ → ℕ → ℕ → ℕ
 link rows row field = pick (isLink (sortAt rows row field)) (numberAt rows row field) 0
 
--- A row is of the sort that a link asks for; "a branch or body" has next 0.
+-- A row is of the sort that a link asks for; "a branch or body" has next 0. "An arm elsewhere, or another kind among arms, gets 4."
 unfoldable pub fits : List ℤ → ℕ → ℕ → Bool
 fits rows sort row =
     pick (eqb sort expression || eqb sort optionalExpression) (isExpression rows row)
     (pick (eqb sort place) (isPlace rows row)
     (pick (eqb sort optionalItem) (isStatement rows row)
-    (isStatement rows row && eqb (numberAt rows row 5) 0)))
+    (pick (eqb sort optionalArm) (isArm rows row)
+    (pick (eqb sort bodyBlock) (isBlock rows row) (isStatement rows row) && eqb (numberAt rows row 5) 0))))
 
 -- ---- along the links
 

@@ -12,6 +12,7 @@ pub fn fault_number(sort: FaultSort) -> u32
         FaultSort::Overflow => 2,
         FaultSort::ZeroDivisor => 3,
         FaultSort::Index => 4,
+        FaultSort::Guard => 5,
     }
 }
 
@@ -22,6 +23,7 @@ pub fn fault_numbered(number: u64) -> FaultSort
     match number {
         2 => FaultSort::Overflow,
         3 => FaultSort::ZeroDivisor,
+        5 => FaultSort::Guard,
         _ => FaultSort::Index,
     }
 }
@@ -40,6 +42,10 @@ pub fn fault_name(sort: FaultSort) -> Name
         },
         FaultSort::Index => Name {
             bytes: *b"index   ",
+            size: 5,
+        },
+        FaultSort::Guard => Name {
+            bytes: *b"guard   ",
             size: 5,
         },
     }

@@ -2,6 +2,7 @@
 use super::ExpressionKind;
 use super::Kind;
 use super::MarkKind;
+use super::MemberKind;
 use super::Operator;
 use super::StatementKind;
 use super::table::number_at;
@@ -59,6 +60,10 @@ pub fn kind_of(number: usize) -> Kind
         51 => Kind::OfStatement(StatementKind::Continue),
         52 => Kind::OfStatement(StatementKind::Goto),
         53 => Kind::OfMark(MarkKind::Label),
+        54 => Kind::OfStatement(StatementKind::GuardedIf),
+        55 => Kind::OfStatement(StatementKind::GuardedDo),
+        56 => Kind::OfMember(MemberKind::Arm),
+        57 => Kind::OfStatement(StatementKind::Abort),
         _ => Kind::Other,
     }
 }

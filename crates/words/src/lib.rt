@@ -23,14 +23,15 @@ pub enum Verdict {
     Refused(Refusal),
 }
 
-// "A fault of one of three sorts".
+// Document 01's "fault of one of three sorts", and document 02's fourth: no guard was true.
 pub enum FaultSort {
     Overflow,
     ZeroDivisor,
     Index,
+    Guard,
 }
 
-// "A run ends plainly, spent, or with a fault of one of three sorts."
+// "A run ends plainly, spent, or with a fault", of one of four sorts.
 pub enum Ending {
     Plain,
     Spent,
@@ -101,6 +102,9 @@ pub enum StatementKind {
     Break,
     Continue,
     Goto,
+    GuardedIf,
+    GuardedDo,
+    Abort,
 }
 
 // Statements that a jump can go to.
@@ -110,11 +114,17 @@ pub enum MarkKind {
     Label,
 }
 
+// Rows of a list that is no list of items: they are neither expressions nor statements.
+pub enum MemberKind {
+    Arm,
+}
+
 // The kinds of rows, in groups: a function that says something of one group has one case for each other group.
 pub enum Kind {
     OfExpression(ExpressionKind),
     OfStatement(StatementKind),
     OfMark(MarkKind),
+    OfMember(MemberKind),
     Other,
 }
 

@@ -30,4 +30,4 @@ rest known r = none-of otherFaults _ known r .0
 
 pub fault-numbered-spec : {M : Type 1} → statement M
 unfolding faultNumbered
-fault-numbered-spec = tie.close (tie.spec (λ c. arm 2 (c .match .keys1)) (λ c. arm 3 (c .match .keys2)) (λ c. rest _ (c .match .rest)))
+fault-numbered-spec = tie.close (tie.spec (λ c. arm 2 (c .match .keys1)) (λ c. arm 3 (c .match .keys2)) (λ c. arm 5 (c .match .keys3)) (λ c. rest _ (c .match .rest)))

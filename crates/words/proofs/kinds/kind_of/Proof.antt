@@ -74,4 +74,8 @@ kind-of-spec =
     (λ c. arm _ 51 (c .match .keys42))
     (λ c. arm _ 52 (c .match .keys43))
     (λ c. arm _ 53 (c .match .keys44))
+    (λ c. arm _ 54 (c .match .keys45))
+    (λ c. arm _ 55 (c .match .keys46))
+    (λ c. arm _ 56 (c .match .keys47))
+    (λ c. arm _ 57 (c .match .keys48))
     (λ c. sym (no-line kinds _ _ (c .match .rest) .0)))

@@ -109,7 +109,7 @@ module _ (rows : List ℤ) (whole : Whole rows) where
   unfolding treesOf itemsAt numberAt
   items-at row = ap (λ t. t .items) (trees-at row) ∙ ap (λ s. itemsOf (kindAt rows row) (wordAt rows row) s (later none row (itemsAt rows) (natural (wordAt rows row 5)))) (sym (statement-at row))
 
-  arms-at : (row : ℕ) → armsAt rows row ≡ armsOf (kindAt rows row) (later (constant (pos 0)) row (expressionAt rows) (numberAt rows row 1)) (later empty row (statementAt rows) (numberAt rows row 2)) (later noArm row (armsAt rows) (numberAt rows row 5))
+  pub arms-at : (row : ℕ) → armsAt rows row ≡ armsOf (kindAt rows row) (later (constant (pos 0)) row (expressionAt rows) (numberAt rows row 1)) (later empty row (statementAt rows) (numberAt rows row 2)) (later noArm row (armsAt rows) (numberAt rows row 5))
   unfolding treesOf armsAt numberAt
   arms-at row = ap (λ t. t .arms) (trees-at row)
 

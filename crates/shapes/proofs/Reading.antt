@@ -10,14 +10,18 @@ use Rattle.words.specs.declared.Kind.{Kind}
 use Rattle.words.specs.declared.ExpressionKind.{ExpressionKind}
 use Rattle.words.specs.declared.StatementKind.{StatementKind}
 use Rattle.words.specs.declared.MarkKind.{MarkKind}
-use Rattle.shapes.specs.Shapes.{expressionShape, statementShape, markShape, expressionAs, statementAs, markAs, shapeAs, shapeAt, expressionIn, placeIn, statementIn, itemIn, StatementAt, ItemAt}
+use Rattle.words.specs.declared.MemberKind.{MemberKind}
+use Rattle.words.specs.declared.MemberKind.the-variants.{Arm}
+use Rattle.shapes.specs.Shapes.{expressionShape, statementShape, markShape, expressionAs, statementAs, markAs, memberAs, shapeAs, shapeAt, expressionIn, placeIn, statementIn, itemIn, armIn, StatementAt, ItemAt, ArmAt}
 use Rattle.shapes.specs.Source.{Source, PlaceAt, ExpressionAt}
-use Rattle.shapes.specs.ShapeLaws.{expression-found, statement-found, item-found, place-in}
+use Rattle.shapes.specs.ShapeLaws.{expression-found, statement-found, item-found, arm-found, place-in}
 use Rattle.shapes.specs.declared.PlaceShape.{PlaceShape}
 use Rattle.shapes.specs.declared.ExpressionShape.{ExpressionShape}
 use Rattle.shapes.specs.declared.StatementShape.{StatementShape}
 use Rattle.shapes.specs.declared.Shape.{Shape}
+use Rattle.shapes.specs.declared.Shape.the-variants.{OfArm}
 use Rattle.shapes.specs.declared.Item.{Item}
+use Rattle.shapes.specs.declared.ArmShape.{ArmShape}
 
 -- ---- the shape of a row, from the kind and the fields that were read
 
@@ -33,6 +37,10 @@ module _ (rows : List ℤ) (row : ℕ) where
   pub mark-arm : {kind k : MarkKind} (v : ℤ) (a : ℕ) → kind ≡ k → v ≡ wordAt rows row 1 → a ≡ numberAt rows row 1 → markShape k v a ≡ markAs rows row kind
   mark-arm v a e ev ea = rw (ev, ea) (ap (λ (x : MarkKind). markAs rows row x) (sym e))
 
+  pub member-arm : (kind : MemberKind) (a b : ℕ) → a ≡ numberAt rows row 1 → b ≡ numberAt rows row 2 → OfArm a b ≡ memberAs rows row kind
+  unfolding memberAs
+  member-arm Arm a b ea eb = rw (ea, eb)
+
   pub shape-arm : {kind k : Kind} → kind ≡ kindAt rows row → kind ≡ k → shapeAs rows row k ≡ shapeAt rows row
   unfolding shapeAt
   shape-arm e g = ap (λ (x : Kind). shapeAs rows row x) (sym g ∙ e)
@@ -46,6 +54,9 @@ module _ {rows : List ℤ} {row : ℕ} (source : Source rows) (inside : row < ro
 
   pub item-read : {shape : Shape} {i : Item} → shape ≡ shapeAt rows row → i ≡ itemIn shape → ItemAt rows row (numberAt rows row 5) i
   item-read {shape} {i} h g = subst (λ (x : Item). ItemAt rows row (numberAt rows row 5) x) (sym (g ∙ ap itemIn h)) (item-found (source .sound) inside)
+
+  pub arm-read : {shape : Shape} {i : ArmShape} → shape ≡ shapeAt rows row → i ≡ armIn shape → ArmAt rows row (numberAt rows row 5) i
+  arm-read {shape} {i} h g = subst (λ (x : ArmShape). ArmAt rows row (numberAt rows row 5) x) (sym (g ∙ ap armIn h)) (arm-found (source .sound) inside)
 
 pub place-read : {rows : List ℤ} {row : ℕ} {e : ExpressionShape} {p : PlaceShape} → ExpressionAt rows row e → p ≡ placeIn e → PlaceAt rows row p
 place-read {rows} {row} {e} found g = subst (λ (x : PlaceShape). PlaceAt rows row x) (sym g) (place-in e (omega arith) found)

@@ -7,22 +7,23 @@ use native.Mathlib.Omega.{arith}
 use lib.IntN.{ℤ, pos}
 use lib.ListN.{length}
 use Rattle.words.specs.Table.{rowCount, Whole, wordAt, numberAt}
-use Rattle.words.specs.Kinds.{kindAt, variable, array, isLink, isRequired, expressionFields, statementFields, kindRow, sortIn}
+use Rattle.words.specs.Kinds.{kindAt, variable, array, isLink, isRequired, expressionFields, statementFields, memberFields, kindRow, sortIn}
 use Rattle.words.specs.Layout.{Layout}
 use Rattle.words.specs.declared.Kind.{Kind}
 use Rattle.words.specs.declared.Kind.the-variants as group
 use Rattle.words.specs.declared.ExpressionKind.{ExpressionKind}
 use Rattle.words.specs.declared.ExpressionKind.the-variants.{Constant, Variable, Element, Minus, Not, Binary, And, Or, Conditional, Comma, Assign, Compound, Prefix, Postfix}
 use Rattle.words.specs.declared.StatementKind.{StatementKind}
-use Rattle.words.specs.declared.StatementKind.the-variants.{Empty, Express, Block, If, While, Do, For, Switch, Break, Continue, Goto}
+use Rattle.words.specs.declared.StatementKind.the-variants.{Empty, Express, Block, If, While, Do, For, Switch, Break, Continue, Goto, GuardedIf, GuardedDo, Abort}
 use Rattle.words.specs.declared.MarkKind.{MarkKind}
 use Rattle.words.specs.declared.MarkKind.the-variants.{Case, Default, Label}
+use Rattle.words.specs.declared.MemberKind.the-variants.{Arm}
 use Rattle.language.specs.Trees.{variable as variableTree, Statement, _then_}
-use Rattle.language.specs.Decode.{Forward, placeOf, expressionOf, statementOf, itemsOf, statementAt}
-use Rattle.language.specs.DecodeLaws.{expression-at, statement-at, at-constant, at-variable, at-element, at-minus, at-not, at-binary, at-and, at-or, at-comma, at-conditional, at-assign, at-compound, at-prefix, at-postfix, at-empty, at-express, at-block, at-ifThen, at-ifElse, at-while, at-doWhile, at-for, at-switch, at-break, at-continue, at-goto, at-item, at-case, at-default, at-label, items-at, later-list}
+use Rattle.language.specs.Decode.{Forward, placeOf, expressionOf, statementOf, itemsOf, armsOf, statementAt}
+use Rattle.language.specs.DecodeLaws.{expression-at, statement-at, at-constant, at-variable, at-element, at-minus, at-not, at-binary, at-and, at-or, at-comma, at-conditional, at-assign, at-compound, at-prefix, at-postfix, at-empty, at-express, at-block, at-ifThen, at-ifElse, at-while, at-doWhile, at-for, at-switch, at-break, at-continue, at-goto, at-guardedIf, at-guardedDo, at-abort, at-item, at-case, at-default, at-label, at-arm, items-at, arms-at, later-list}
 use Rattle.language.specs.Sound.{Link, OptionalLink, Sound}
 use Rattle.language.specs.SoundLaws.{field-of, link-of, optional-link-of, behind}
-use Rattle.shapes.specs.Shapes.{expressionAs, statementAs, markAs, shapeAs, shapeAt, expressionIn, placeIn, statementIn, itemIn, Onward, OptionalOnward, operationTree, choiceTree, statementTree, PlaceWithin, ExpressionWithin, StatementAt, ItemAt}
+use Rattle.shapes.specs.Shapes.{expressionAs, statementAs, markAs, memberAs, shapeAs, shapeAt, expressionIn, placeIn, statementIn, itemIn, armIn, Onward, OptionalOnward, operationTree, choiceTree, statementTree, PlaceWithin, ExpressionWithin, StatementAt, ItemAt, ArmAt}
 use Rattle.shapes.specs.declared.PlaceShape.{PlaceShape}
 use Rattle.shapes.specs.declared.OperationShape.{OperationShape}
 use Rattle.shapes.specs.declared.OperationShape.the-variants as operation
@@ -35,6 +36,7 @@ use Rattle.shapes.specs.declared.StatementShape.the-variants as statemen
 use Rattle.shapes.specs.declared.MarkShape.{MarkShape}
 use Rattle.shapes.specs.declared.Item.{Item}
 use Rattle.shapes.specs.declared.Item.the-variants as item
+use Rattle.shapes.specs.declared.ArmShape.{ArmShape}
 
 module _ {rows : List ℤ} {L : Layout} {words : ℕ} (sound : Sound rows L words) {row : ℕ} (inside : row < rowCount rows) where
   whole : Whole rows
@@ -110,13 +112,14 @@ module _ {rows : List ℤ} {L : Layout} {words : ℕ} (sound : Sound rows L word
 
     -- What a row is as an expression; the constant 0 where it is none.
     pub expression-found : E (expressionIn (shapeAt rows row))
-    unfolding shapeAt expressionOf
+    unfolding shapeAt memberAs expressionOf
     expression-found = go (kindAt rows row) refl
       where
         go : (kind : Kind) → kindAt rows row ≡ kind → E (expressionIn (shapeAs rows row kind))
         go (group.OfExpression kind) k = expression-of kind k
         go (group.OfStatement kind) k = record { is = rw (expression-at rows whole row, k); onward = tt }
         go (group.OfMark kind) k = record { is = rw (expression-at rows whole row, k); onward = tt }
+        go (group.OfMember Arm) k = record { is = rw (expression-at rows whole row, k); onward = tt }
         go group.Other k = record { is = rw (expression-at rows whole row, k); onward = tt }
 
   -- ---- statements
@@ -160,16 +163,20 @@ module _ {rows : List ℤ} {L : Layout} {words : ℕ} (sound : Sound rows L word
   statement-of Break k = record { is = at-break rows whole row k; onward = tt }
   statement-of Continue k = record { is = at-continue rows whole row k; onward = tt }
   statement-of Goto k = record { is = at-goto rows whole row k; onward = tt }
+  statement-of GuardedIf k = let a = optional-link k 1 (omega arith) (omega arith) refl in record { is = at-guardedIf rows whole row k (forward 1 a); onward = a }
+  statement-of GuardedDo k = let a = optional-link k 1 (omega arith) (omega arith) refl in record { is = at-guardedDo rows whole row k (forward 1 a); onward = a }
+  statement-of Abort k = record { is = at-abort rows whole row k; onward = tt }
 
   -- What a row is as a statement; empty where it is none.
   pub statement-found : StatementAt rows row (statementIn (shapeAt rows row))
-  unfolding shapeAt statementOf
+  unfolding shapeAt memberAs statementOf
   statement-found = go (kindAt rows row) refl
     where
       go : (kind : Kind) → kindAt rows row ≡ kind → StatementAt rows row (statementIn (shapeAs rows row kind))
       go (group.OfExpression kind) k = record { is = rw (statement-at rows whole row, k); onward = tt }
       go (group.OfStatement kind) k = statement-of kind k
       go (group.OfMark kind) k = record { is = rw (statement-at rows whole row, k); onward = tt }
+      go (group.OfMember Arm) k = record { is = rw (statement-at rows whole row, k); onward = tt }
       go group.Other k = record { is = rw (statement-at rows whole row, k); onward = tt }
 
   -- ---- items
@@ -181,14 +188,32 @@ module _ {rows : List ℤ} {L : Layout} {words : ℕ} (sound : Sound rows L word
 
   -- What a row is as an item: a mark, or else its statement.
   pub item-found : ItemAt rows row (f 5) (itemIn (shapeAt rows row))
-  unfolding shapeAt itemsOf
+  unfolding shapeAt memberAs itemsOf
   item-found = go (kindAt rows row) refl
     where
       go : (kind : Kind) → kindAt rows row ≡ kind → ItemAt rows row (f 5) (itemIn (shapeAs rows row kind))
       go (group.OfExpression kind) k = record { is = rw (items-at rows whole row, k) (ap (λ l. statementAt rows row then l) (later-list rows whole row (f 5) (forward 5 next))); onward = next }
       go (group.OfStatement kind) k = record { is = at-item rows whole row (rw k) (forward 5 next); onward = next }
       go (group.OfMark kind) k = mark-of kind k
+      go (group.OfMember Arm) k = record { is = rw (items-at rows whole row, k) (ap (λ l. statementAt rows row then l) (later-list rows whole row (f 5) (forward 5 next))); onward = next }
       go group.Other k = absurd (sound .known row inside k)
+
+  -- ---- arms
+
+  -- What a row is among arms; none where it is no arm.
+  pub arm-found : ArmAt rows row (f 5) (armIn (shapeAt rows row))
+  unfolding shapeAt memberAs armsOf sortIn kindRow memberFields isRequired
+  arm-found = go (kindAt rows row) refl
+    where
+      go : (kind : Kind) → kindAt rows row ≡ kind → ArmAt rows row (f 5) (armIn (shapeAs rows row kind))
+      go (group.OfExpression kind) k = record { is = rw (arms-at rows whole row, k); onward = tt; behind = next }
+      go (group.OfStatement kind) k = record { is = rw (arms-at rows whole row, k); onward = tt; behind = next }
+      go (group.OfMark kind) k = record { is = rw (arms-at rows whole row, k); onward = tt; behind = next }
+      go (group.OfMember Arm) k =
+          let a = required k 1 (omega arith) (omega arith) refl in
+          let b = required k 2 (omega arith) (omega arith) refl in
+          record { is = at-arm rows whole row k (a .later) (b .later) (forward 5 next); onward = (a, b); behind = next }
+      go group.Other k = record { is = rw (arms-at rows whole row, k); onward = tt; behind = next }
 
 -- ---- places
 
@@ -227,6 +252,9 @@ stated {rows} {row} found e = subst (λ (s : StatementShape). StatementAt rows r
 
 pub itemed : {rows : List ℤ} {row next : ℕ} {i j : Item} → ItemAt rows row next i → i ≡ j → ItemAt rows row next j
 itemed {rows} {row} {next} found e = subst (λ (i : Item). ItemAt rows row next i) e found
+
+pub armed : {rows : List ℤ} {row next : ℕ} {i j : ArmShape} → ArmAt rows row next i → i ≡ j → ArmAt rows row next j
+armed {rows} {row} {next} found e = subst (λ (i : ArmShape). ArmAt rows row next i) e found
 
 -- the row behind, as the code has it
 pub at-next : {rows : List ℤ} {row next read : ℕ} {i : Item} → read ≡ next → ItemAt rows row next i → ItemAt rows row read i

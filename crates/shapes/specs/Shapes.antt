@@ -14,8 +14,10 @@ use Rattle.words.specs.declared.StatementKind.{StatementKind}
 use Rattle.words.specs.declared.StatementKind.the-variants as statement
 use Rattle.words.specs.declared.MarkKind.{MarkKind}
 use Rattle.words.specs.declared.MarkKind.the-variants as mark
-use Rattle.language.specs.Trees.{Expression, constant, read, minus, not, binary, and, or, comma, conditional, assign, compound, prefix, postfix, Place, variable, element, Mark as MarkTree, case, default, label, Statement, empty, express, block, while, doWhile, for, switch, break, continue, goto, Items, _then_, _here_}
-use Rattle.language.specs.Decode.{placeOf, expressionAt, ifOf, statementAt, itemsAt, listAt, partAt}
+use Rattle.words.specs.declared.MemberKind.{MemberKind}
+use Rattle.words.specs.declared.MemberKind.the-variants as member
+use Rattle.language.specs.Trees.{Expression, constant, read, minus, not, binary, and, or, comma, conditional, assign, compound, prefix, postfix, Place, variable, element, Mark as MarkTree, case, default, label, Statement, empty, express, block, while, doWhile, for, switch, break, continue, goto, guardedIf, guardedDo, abort, Arms, noArm, arm, Items, _then_, _here_}
+use Rattle.language.specs.Decode.{placeOf, expressionAt, ifOf, statementAt, itemsAt, armsAt, listAt, armListAt, partAt}
 use Rattle.shapes.specs.declared.PlaceShape.{PlaceShape}
 use Rattle.shapes.specs.declared.PlaceShape.the-variants.{Variable, Element}
 use Rattle.shapes.specs.declared.OperationShape.{OperationShape}
@@ -25,13 +27,15 @@ use Rattle.shapes.specs.declared.ChoiceShape.the-variants.{And, Or, Cond
 use Rattle.shapes.specs.declared.ExpressionShape.{ExpressionShape}
 use Rattle.shapes.specs.declared.ExpressionShape.the-variants.{Number, Read, Operation, Choice}
 use Rattle.shapes.specs.declared.StatementShape.{StatementShape}
-use Rattle.shapes.specs.declared.StatementShape.the-variants.{Empty, Express, Block, If, While, Do, For, Switch, Break, Continue, Goto}
+use Rattle.shapes.specs.declared.StatementShape.the-variants.{Empty, Express, Block, If, While, Do, For, Switch, Break, Continue, Goto, GuardedIf, GuardedDo, Abort}
 use Rattle.shapes.specs.declared.MarkShape.{MarkShape}
 use Rattle.shapes.specs.declared.MarkShape.the-variants.{Case, Default, Label}
 use Rattle.shapes.specs.declared.Shape.{Shape}
-use Rattle.shapes.specs.declared.Shape.the-variants.{OfExpression, OfStatement, OfMark, Other}
+use Rattle.shapes.specs.declared.Shape.the-variants.{OfExpression, OfStatement, OfMark, OfArm, Other}
 use Rattle.shapes.specs.declared.Item.{Item}
 use Rattle.shapes.specs.declared.Item.the-variants.{Statement as StatementItem, Mark}
+use Rattle.shapes.specs.declared.ArmShape.{ArmShape}
+use Rattle.shapes.specs.declared.ArmShape.the-variants.{Arm, NoArm}
 
 -- ---- the shape of a row of a kind; v, a, b, c, d are its fields, v the word of a
 
@@ -63,11 +67,17 @@ statementShape statement.Switch a b c d = Switch a b
 statementShape statement.Break a b c d = Break
 statementShape statement.Continue a b c d = Continue
 statementShape statement.Goto a b c d = Goto a
+statementShape statement.GuardedIf a b c d = GuardedIf a
+statementShape statement.GuardedDo a b c d = GuardedDo a
+statementShape statement.Abort a b c d = Abort
 
 abbrev pub markShape : MarkKind → ℤ → ℕ → MarkShape
 markShape mark.Case v a = Case v
 markShape mark.Default v a = Default
 markShape mark.Label v a = Label a
+
+abbrev pub memberShape : MemberKind → ℕ → ℕ → Shape
+memberShape member.Arm a b = OfArm a b
 
 -- The same at a row of a table.
 module _ (rows : List ℤ) (row : ℕ) where
@@ -80,21 +90,26 @@ module _ (rows : List ℤ) (row : ℕ) where
   abbrev pub markAs : MarkKind → MarkShape
   markAs kind = markShape kind (wordAt rows row 1) (numberAt rows row 1)
 
+  unfoldable pub memberAs : MemberKind → Shape
+  memberAs kind = memberShape kind (numberAt rows row 1) (numberAt rows row 2)
+
   abbrev pub shapeAs : Kind → Shape
   shapeAs (group.OfExpression kind) = OfExpression (expressionAs kind)
   shapeAs (group.OfStatement kind) = OfStatement (statementAs kind)
   shapeAs (group.OfMark kind) = OfMark (markAs kind)
+  shapeAs (group.OfMember kind) = memberAs kind
   shapeAs group.Other = Other
 
   unfoldable pub shapeAt : Shape
   shapeAt = shapeAs (kindAt rows row)
 
--- ---- what a shape is as an expression, a place, a statement, an item
+-- ---- what a shape is as an expression, a place, a statement, an item, an arm
 
 abbrev pub expressionIn : Shape → ExpressionShape
 expressionIn (OfExpression e) = e
 expressionIn (OfStatement s) = Number (pos 0)
 expressionIn (OfMark m) = Number (pos 0)
+expressionIn (OfArm guard body) = Number (pos 0)
 expressionIn Other = Number (pos 0)
 
 abbrev pub placeIn : ExpressionShape → PlaceShape
@@ -107,13 +122,22 @@ abbrev pub statementIn : Shape → StatementShape
 statementIn (OfExpression e) = Empty
 statementIn (OfStatement s) = s
 statementIn (OfMark m) = Empty
+statementIn (OfArm guard body) = Empty
 statementIn Other = Empty
 
 abbrev pub itemIn : Shape → Item
 itemIn (OfExpression e) = StatementItem
 itemIn (OfStatement s) = StatementItem
 itemIn (OfMark m) = Mark m
+itemIn (OfArm guard body) = StatementItem
 itemIn Other = StatementItem
+
+abbrev pub armIn : Shape → ArmShape
+armIn (OfExpression e) = NoArm
+armIn (OfStatement s) = NoArm
+armIn (OfMark m) = NoArm
+armIn (OfArm guard body) = Arm guard body
+armIn Other = NoArm
 
 -- ---- links
 
@@ -166,6 +190,9 @@ module _ (rows : List ℤ) where
   statementTree Break = break
   statementTree Continue = continue
   statementTree (Goto l) = goto l
+  statementTree (GuardedIf arms) = guardedIf (armListAt rows arms)
+  statementTree (GuardedDo arms) = guardedDo (armListAt rows arms)
+  statementTree Abort = abort
 
   abbrev pub markTree : MarkShape → MarkTree
   markTree (Case v) = case v
@@ -176,6 +203,11 @@ module _ (rows : List ℤ) where
   abbrev pub itemTree : Item → Statement → Items → Items
   itemTree StatementItem own behind = own then behind
   itemTree (Mark m) own behind = markTree m here behind
+
+  -- The arms from an arm on, with the arms behind it.
+  abbrev pub armTree : ArmShape → Arms → Arms
+  armTree (Arm guard body) behind = arm (expressionAt rows guard) (statementAt rows body) behind
+  armTree NoArm behind = noArm
 
   module _ (row : ℕ) where
     -- ---- the links lead on
@@ -218,6 +250,13 @@ module _ (rows : List ℤ) where
     StatementOnward Break = Unit {0}
     StatementOnward Continue = Unit {0}
     StatementOnward (Goto l) = Unit {0}
+    StatementOnward (GuardedIf arms) = OptionalOnward rows row arms
+    StatementOnward (GuardedDo arms) = OptionalOnward rows row arms
+    StatementOnward Abort = Unit {0}
+
+    abbrev pub ArmOnward : ArmShape → Type 0
+    ArmOnward (Arm guard body) = Onward rows row guard × Onward rows row body
+    ArmOnward NoArm = Unit {0}
 
     -- ---- what stands at a row
 
@@ -237,3 +276,8 @@ module _ (rows : List ℤ) where
     pub record ItemAt (next : ℕ) (item : Item) : Type 0 where
       pub is : itemsAt rows row ≡ itemTree item (statementAt rows row) (listAt rows next)
       pub onward : OptionalOnward rows row next
+
+    pub record ArmAt (next : ℕ) (shape : ArmShape) : Type 0 where
+      pub is : armsAt rows row ≡ armTree shape (armListAt rows next)
+      pub onward : ArmOnward shape
+      pub behind : OptionalOnward rows row next

@@ -4,16 +4,18 @@ use super::ExpressionShape;
 use super::MarkShape;
 use super::OperationShape;
 use super::PlaceShape;
+use super::Shape;
 use super::StatementShape;
 use words::ExpressionKind;
 use words::MarkKind;
+use words::MemberKind;
 use words::StatementKind;
 use words::table::number_at;
 use words::table::word_at;
 ghost use mathlib.Core.Path.{_≡_};
 ghost use Prim.Native.Nat.{_+_, _*_, _<_};
 ghost use lib.ListN.{length};
-ghost use Rattle.shapes.specs.Shapes.{expressionAs, statementAs, markAs};
+ghost use Rattle.shapes.specs.Shapes.{expressionAs, statementAs, markAs, memberAs};
 
 pub fn expression_shape(rows: &[i32], row: usize, kind: ExpressionKind) -> ExpressionShape
     requires { ⌜ 6 * row + 5 < length (now rows) ⌝ }
@@ -68,6 +70,9 @@ pub fn statement_shape(rows: &[i32], row: usize, kind: StatementKind) -> Stateme
         StatementKind::Break => StatementShape::Break,
         StatementKind::Continue => StatementShape::Continue,
         StatementKind::Goto => StatementShape::Goto(a),
+        StatementKind::GuardedIf => StatementShape::GuardedIf(a),
+        StatementKind::GuardedDo => StatementShape::GuardedDo(a),
+        StatementKind::Abort => StatementShape::Abort,
     }
 }
 
@@ -80,5 +85,16 @@ pub fn mark_shape(rows: &[i32], row: usize, kind: MarkKind) -> MarkShape
         MarkKind::Case => MarkShape::Case(word_at(rows, row, 1)),
         MarkKind::Default => MarkShape::Default,
         MarkKind::Label => MarkShape::Label(a),
+    }
+}
+
+pub fn member_shape(rows: &[i32], row: usize, kind: MemberKind) -> Shape
+    requires { ⌜ 6 * row + 5 < length (now rows) ⌝ }
+    ensures { λ r. ⌜ r ≡ memberAs (now (rows .entry)) row kind ⌝ }
+{
+    let a = number_at(rows, row, 1);
+    let b = number_at(rows, row, 2);
+    match kind {
+        MemberKind::Arm => Shape::OfArm(a, b),
     }
 }

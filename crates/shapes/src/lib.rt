@@ -3,7 +3,7 @@
 use words::Operator;
 
 pub mod kinds; // kinds.rt: the shape of a row of a kind
-pub mod rows; // rows.rt: the shape of the row, as an expression, a place, a statement or an item
+pub mod rows; // rows.rt: the shape of the row, as an expression, a place, a statement, an item or an arm
 
 // A place: the number of a variable; or the number of an array and the row of the index.
 pub enum PlaceShape {
@@ -50,6 +50,9 @@ pub enum StatementShape {
     Break,
     Continue,
     Goto(usize),
+    GuardedIf(usize),
+    GuardedDo(usize),
+    Abort,
 }
 
 pub enum MarkShape {
@@ -58,11 +61,12 @@ pub enum MarkShape {
     Label(usize),
 }
 
-// What stands at a row, by the group of its kind.
+// What stands at a row, by the group of its kind; an arm with the rows of its guard and of its block.
 pub enum Shape {
     OfExpression(ExpressionShape),
     OfStatement(StatementShape),
     OfMark(MarkShape),
+    OfArm(usize, usize),
     Other,
 }
 
@@ -70,4 +74,10 @@ pub enum Shape {
 pub enum Item {
     Statement,
     Mark(MarkShape),
+}
+
+// What a row is among arms: the rows of its guard and of its block.
+pub enum ArmShape {
+    Arm(usize, usize),
+    NoArm,
 }

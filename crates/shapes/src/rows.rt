@@ -1,4 +1,6 @@
-// What stands at a row. A row of another group counts as the constant 0, as an empty statement, and as a statement among the items.
+// What stands at a row. A row of another group counts as the constant 0, as an empty statement, as a statement among the items, and ends
+// the arms.
+use super::ArmShape;
 use super::ExpressionShape;
 use super::Item;
 use super::PlaceShape;
@@ -6,6 +8,7 @@ use super::Shape;
 use super::StatementShape;
 use super::kinds::expression_shape;
 use super::kinds::mark_shape;
+use super::kinds::member_shape;
 use super::kinds::statement_shape;
 use words::Kind;
 use words::kinds::kind_at;
@@ -14,7 +17,7 @@ ghost use Prim.Native.Nat.{_+_, _*_, _<_};
 ghost use lib.ListN.{length};
 ghost use Rattle.words.specs.Table.{rowCount, numberAt};
 ghost use Rattle.shapes.specs.Source.{Source, PlaceAt, ExpressionAt};
-ghost use Rattle.shapes.specs.Shapes.{shapeAt, expressionIn, placeIn, statementIn, itemIn, StatementAt, ItemAt};
+ghost use Rattle.shapes.specs.Shapes.{shapeAt, expressionIn, placeIn, statementIn, itemIn, armIn, StatementAt, ItemAt, ArmAt};
 
 pub fn shape_at(rows: &[i32], row: usize) -> Shape
     requires { ⌜ 6 * row + 5 < length (now rows) ⌝ }
@@ -25,6 +28,7 @@ pub fn shape_at(rows: &[i32], row: usize) -> Shape
         Kind::OfExpression(kind) => Shape::OfExpression(expression_shape(rows, row, kind)),
         Kind::OfStatement(kind) => Shape::OfStatement(statement_shape(rows, row, kind)),
         Kind::OfMark(kind) => Shape::OfMark(mark_shape(rows, row, kind)),
+        Kind::OfMember(kind) => member_shape(rows, row, kind),
         Kind::Other => Shape::Other,
     }
 }
@@ -36,6 +40,7 @@ fn expression_of(shape: Shape) -> ExpressionShape
         Shape::OfExpression(expression) => expression,
         Shape::OfStatement(_) => ExpressionShape::Number(0),
         Shape::OfMark(_) => ExpressionShape::Number(0),
+        Shape::OfArm(_, _) => ExpressionShape::Number(0),
         Shape::Other => ExpressionShape::Number(0),
     }
 }
@@ -59,6 +64,7 @@ fn statement_of(shape: Shape) -> StatementShape
         Shape::OfExpression(_) => StatementShape::Empty,
         Shape::OfStatement(statement) => statement,
         Shape::OfMark(_) => StatementShape::Empty,
+        Shape::OfArm(_, _) => StatementShape::Empty,
         Shape::Other => StatementShape::Empty,
     }
 }
@@ -70,7 +76,20 @@ fn item_of(shape: Shape) -> Item
         Shape::OfExpression(_) => Item::Statement,
         Shape::OfStatement(_) => Item::Statement,
         Shape::OfMark(mark) => Item::Mark(mark),
+        Shape::OfArm(_, _) => Item::Statement,
         Shape::Other => Item::Statement,
+    }
+}
+
+fn arm_of(shape: Shape) -> ArmShape
+    ensures { λ r. ⌜ r ≡ armIn shape ⌝ }
+{
+    match shape {
+        Shape::OfExpression(_) => ArmShape::NoArm,
+        Shape::OfStatement(_) => ArmShape::NoArm,
+        Shape::OfMark(_) => ArmShape::NoArm,
+        Shape::OfArm(guard, body) => ArmShape::Arm(guard, body),
+        Shape::Other => ArmShape::NoArm,
     }
 }
 
@@ -100,4 +119,11 @@ pub fn item_at(rows: &[i32], row: usize) -> Item
     ensures { λ r. ⌜ ItemAt (now (rows .entry)) row (numberAt (now (rows .entry)) row 5) r ⌝ }
 {
     item_of(shape_at(rows, row))
+}
+
+pub fn arm_at(rows: &[i32], row: usize) -> ArmShape
+    requires { ⌜ Source (now rows) × (row < rowCount (now rows)) ⌝ }
+    ensures { λ r. ⌜ ArmAt (now (rows .entry)) row (numberAt (now (rows .entry)) row 5) r ⌝ }
+{
+    arm_of(shape_at(rows, row))
 }

@@ -49,6 +49,15 @@ enum-told-10 c = search needs
 enum-told-11 : tie.Need-enum-told-11
 enum-told-11 c = search needs
 
+enum-told-12 : tie.Need-enum-told-12
+enum-told-12 c = search needs
+
+enum-told-13 : tie.Need-enum-told-13
+enum-told-13 c = search needs
+
+enum-told-14 : tie.Need-enum-told-14
+enum-told-14 c = search needs
+
 returns : tie.Need-returns
 returns c = statement-arm _ _ _ _ _ _ (c .enum-told .given .1) (c .before .before .before .before .before .number-at .ensures) (c .before .before .before .before .number-at2 .ensures) (c .before .before .before .number-at3 .ensures) (c .before .before .number-at4 .ensures)
 
@@ -82,6 +91,15 @@ returns-10 c = statement-arm _ _ _ _ _ _ (c .enum-told10 .given .1) (c .before .
 returns-11 : tie.Need-returns-11
 returns-11 c = statement-arm _ _ _ _ _ _ (c .enum-told11 .given .1) (c .before .before .before .before .before .number-at .ensures) (c .before .before .before .before .number-at2 .ensures) (c .before .before .before .number-at3 .ensures) (c .before .before .number-at4 .ensures)
 
+returns-12 : tie.Need-returns-12
+returns-12 c = statement-arm _ _ _ _ _ _ (c .enum-told12 .given .1) (c .before .before .before .before .before .number-at .ensures) (c .before .before .before .before .number-at2 .ensures) (c .before .before .before .number-at3 .ensures) (c .before .before .number-at4 .ensures)
+
+returns-13 : tie.Need-returns-13
+returns-13 c = statement-arm _ _ _ _ _ _ (c .enum-told13 .given .1) (c .before .before .before .before .before .number-at .ensures) (c .before .before .before .before .number-at2 .ensures) (c .before .before .before .number-at3 .ensures) (c .before .before .number-at4 .ensures)
+
+returns-14 : tie.Need-returns-14
+returns-14 c = statement-arm _ _ _ _ _ _ (c .enum-told14 .given .1) (c .before .before .before .before .before .number-at .ensures) (c .before .before .before .before .number-at2 .ensures) (c .before .before .before .number-at3 .ensures) (c .before .before .number-at4 .ensures)
+
 pub statement-shape-spec : {M : Type 1} → statement M
 statement-shape-spec =
     tie.close
@@ -101,6 +119,9 @@ statement-shape-spec =
     enum-told-9
     enum-told-10
     enum-told-11
+    enum-told-12
+    enum-told-13
+    enum-told-14
     returns
     returns-2
     returns-3
@@ -111,4 +132,7 @@ statement-shape-spec =
     returns-8
     returns-9
     returns-10
-    returns-11)
+    returns-11
+    returns-12
+    returns-13
+    returns-14)

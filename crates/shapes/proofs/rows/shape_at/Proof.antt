@@ -27,6 +27,12 @@ enum-known-kind-3 c = search needs
 mark-shape-requires : tie.Need-mark-shape-requires
 mark-shape-requires c κs = search needs
 
+enum-known-kind-4 : tie.Need-enum-known-kind-4
+enum-known-kind-4 c = search needs
+
+member-shape-requires : tie.Need-member-shape-requires
+member-shape-requires c κs = search needs
+
 enum-told : tie.Need-enum-told
 enum-told c = search needs
 
@@ -40,7 +46,10 @@ returns-3 : tie.Need-returns-3
 returns-3 c = ap OfMark (c .mark-shape .ensures) ∙ shape-arm _ _ (c .before .before .before .before .kind-at .ensures) (c .before .before .kind3 .given .1)
 
 returns-4 : tie.Need-returns-4
-returns-4 c = shape-arm _ _ (c .before .before .kind-at .ensures) (c .enum-told .given .1)
+returns-4 c = c .member-shape .ensures ∙ shape-arm _ _ (c .before .before .before .before .kind-at .ensures) (c .before .before .kind4 .given .1)
+
+returns-5 : tie.Need-returns-5
+returns-5 c = shape-arm _ _ (c .before .before .kind-at .ensures) (c .enum-told .given .1)
 
 pub shape-at-spec : {M : Type 1} → statement M
 shape-at-spec =
@@ -53,8 +62,11 @@ shape-at-spec =
     statement-shape-requires
     enum-known-kind-3
     mark-shape-requires
+    enum-known-kind-4
+    member-shape-requires
     enum-told
     returns
     returns-2
     returns-3
-    returns-4)
+    returns-4
+    returns-5)

@@ -4,7 +4,7 @@ use mathlib.Core.Bool.{Bool, true, not, _&&_}
 use Prim.Native.Nat.{ℕ, _+_, _*_}
 use lib.Dec.{leb}
 use Rattle.words.specs.Word.{pick}
-use Rattle.language.specs.Trees.{Expression, constant, read, minus, not as notTrue, binary, and, or, comma, conditional, assign, compound, prefix, postfix, Place, variable, element, Part, absent, present, Statement, empty, express, block, ifThen, ifElse, while, doWhile, for, switch, break, continue, goto, Items, none, _then_, _here_}
+use Rattle.language.specs.Trees.{Expression, constant, read, minus, not as notTrue, binary, and, or, comma, conditional, assign, compound, prefix, postfix, Place, variable, element, Part, absent, present, Statement, empty, express, block, ifThen, ifElse, while, doWhile, for, switch, break, continue, goto, guardedIf, guardedDo, abort, Arms, noArm, arm, Items, none, _then_, _here_}
 use Rattle.language.specs.Writes.{writes, indexWrites}
 use Rattle.translation.specs.Uses.{useFor, passedOn, direct}
 use Rattle.translation.specs.declared.Use.{Use}
@@ -69,6 +69,13 @@ module _ (S : ℕ) where
     statementCopies break = 0
     statementCopies continue = 0
     statementCopies (goto l) = 0
+    statementCopies (guardedIf arms) = armsCopies arms
+    statementCopies (guardedDo arms) = armsCopies arms
+    statementCopies abort = 0
+
+    pub armsCopies : Arms → ℕ
+    armsCopies noArm = 0
+    armsCopies (arm e s arms) = statementCopies s + armsCopies arms
 
     pub copies : Items → ℕ
     copies none = 0
@@ -188,6 +195,13 @@ module _ (own : Expression → Use → ℕ) where
     statementTotal break = 0
     statementTotal continue = 0
     statementTotal (goto l) = 0
+    statementTotal (guardedIf arms) = armsTotal arms
+    statementTotal (guardedDo arms) = armsTotal arms
+    statementTotal abort = 0
+
+    pub armsTotal : Arms → ℕ
+    armsTotal noArm = 0
+    armsTotal (arm e s arms) = expressionTotal e wanted + statementTotal s + armsTotal arms
 
     pub total : Items → ℕ
     total none = 0

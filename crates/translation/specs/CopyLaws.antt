@@ -11,18 +11,18 @@ use Rattle.words.specs.Word.{pick}
 use Rattle.words.specs.Layout.{Layout, storeSize}
 use Rattle.words.specs.Laws.{by-cases}
 use Rattle.words.specs.declared.Operator.{Operator}
-use Rattle.language.specs.Trees.{Expression, constant, read, minus, not as notTrue, binary, and, or, comma, conditional, assign, compound, prefix, postfix, Place, variable, element, Part, absent, present, case, default, label, Statement, empty, express, block, ifThen, ifElse, while, doWhile, for, switch, break, continue, goto, Items, none, _then_, _here_, _⧺_}
+use Rattle.language.specs.Trees.{Expression, constant, read, minus, not as notTrue, binary, and, or, comma, conditional, assign, compound, prefix, postfix, Place, variable, element, Part, absent, present, case, default, label, Statement, empty, express, block, ifThen, ifElse, while, doWhile, for, switch, break, continue, goto, guardedIf, guardedDo, abort, Arms, noArm, arm, Items, none, _then_, _here_, _⧺_}
 use Rattle.language.specs.WellFormed.{NamedExpression, NamedPlace, NamedStatement, SourceTree}
 use Rattle.language.specs.Writes.{writes, indexWrites}
 use Rattle.translation.specs.Uses.{useFor, passedOn, direct}
 use Rattle.translation.specs.declared.Use.{Use}
 use Rattle.translation.specs.declared.Use.the-variants.{Dropped as dropped, Wanted as wanted, Stored as stored}
-use Rattle.translation.specs.Translate.{Atom, number, word, top, held, landed, updated, atomOf, taken, placeTaken, atom, temporary, copyCode, moveCode, readCode, storeCode, kernelPlace, updateCode, stepCode, postfixCode, expressionCode, indexCode, partCode, orEmpty, testCode, caseTests, labels, Exits, exits, statementCode, itemsCode, translate}
+use Rattle.translation.specs.Translate.{Atom, number, word, top, held, landed, updated, atomOf, taken, placeTaken, atom, temporary, copyCode, moveCode, readCode, storeCode, kernelPlace, updateCode, stepCode, postfixCode, expressionCode, indexCode, partCode, orEmpty, testCode, caseTests, labels, Exits, exits, roundsCode, statementCode, armsCode, itemsCode, translate}
 use Rattle.translation.specs.HeldCode.{holdCode, held-variable}
 use Rattle.translation.specs.TranslateSize.{copied}
 use Rattle.translation.specs.ExpressionPreserves.{InRange, PlaceInRange}
-use Rattle.translation.specs.StatementPreserves.{PartInRange, StatementInRange, ItemsInRange}
-use Rattle.translation.specs.Copies.{isVariable, isTemporary, copies, rewritten, waiting, oldUsed, ownCopies, ownResults, expressionTotal, indexTotal, partTotal, testTotal, statementTotal, total}
+use Rattle.translation.specs.StatementPreserves.{PartInRange, StatementInRange, ArmsInRange, ItemsInRange}
+use Rattle.translation.specs.Copies.{isVariable, isTemporary, copies, rewritten, waiting, oldUsed, ownCopies, ownResults, expressionTotal, indexTotal, partTotal, testTotal, statementTotal, armsTotal, total}
 
 -- ---- which values wait
 
@@ -182,6 +182,11 @@ module _ (L : Layout) (S : ℕ) (inside : L .variables ≤ S) where
   copies-cases x u (default here is) l = copies-cases x u is (l + 1)
   copies-cases x u (label k here is) l = copies-cases x u is (l + 1)
 
+  copies-rounds : (arms : Arms) (xs : Items) (l : ℕ) → copies S xs ≡ armsTotal ownCopies arms + armsTotal ownResults arms → copies S (roundsCode S arms xs l) ≡ armsTotal ownCopies arms + armsTotal ownResults arms
+  unfolding copies statementTotal
+  copies-rounds noArm xs l h = refl
+  copies-rounds (arm e s arms) xs l h = simp copies-append (omega arith)
+
   mutual
     unfolding statementCode copies statementTotal NamedStatement
 
@@ -202,6 +207,13 @@ module _ (L : Layout) (S : ℕ) (inside : L .variables ≤ S) where
     copies-statement break x l n = refl
     copies-statement continue x l n = refl
     copies-statement (goto k) x l n = refl
+    copies-statement (guardedIf arms) x l n = simp copies-append (omega (arith, copies-arms arms x l (l + 1) n))
+    copies-statement (guardedDo arms) x l n = copies-rounds arms (armsCode S arms x (l + 1) (l + 2)) l (copies-arms arms x (l + 1) (l + 2) n)
+    copies-statement abort x l n = refl
+
+    copies-arms : (arms : Arms) (x : Exits) (out l : ℕ) → ArmsInRange L arms → copies S (armsCode S arms x out l) ≡ armsTotal ownCopies arms + armsTotal ownResults arms
+    copies-arms noArm x out l n = refl
+    copies-arms (arm e s arms) x out l n = simp copies-append (omega (arith, copies-expression e wanted 0 (n .0), copies-statement s x l (n .1), copies-arms arms x out (l + labels s) (n .2)))
 
     copies-items : (is : Items) (x : Exits) (l : ℕ) → ItemsInRange L is → copies S (itemsCode S is x l) ≡ total ownCopies is + total ownResults is
     copies-items none x l n = refl

@@ -1,4 +1,4 @@
--- Kernel form: what document 01's section of that name asks of a tree.
+-- Kernel form: what document 01's section of that name, and document 02 for abort, ask of a tree.
 use mathlib.Core.Path.{_≡_}
 use mathlib.Core.Bool.{true}
 use Prim.Native.Nat.{ℕ, _+_, _<_, _≤_}
@@ -8,7 +8,7 @@ use lib.ListN.{length}
 use Rattle.words.specs.Word.{pick}
 use Rattle.words.specs.Layout.{Layout, storeSize}
 use Rattle.words.specs.declared.Operator.{Operator}
-use Rattle.language.specs.Trees.{Expression, constant, read, minus, binary, assign, variable, element, Mark, case, default, label, has, Statement, empty, express, block, ifThen, ifElse, while, doWhile, for, switch, break, continue, goto, Items, none, _then_, _here_, _⧺_}
+use Rattle.language.specs.Trees.{Expression, constant, read, minus, binary, assign, variable, element, Mark, case, default, label, has, Statement, empty, express, block, ifThen, ifElse, while, doWhile, for, switch, break, continue, goto, guardedIf, guardedDo, abort, Arms, noArm, arm, Items, none, _then_, _here_, _⧺_}
 use Rattle.language.specs.Sizes.{statementRows, statementDepth}
 use Rattle.language.specs.WellFormed.{NamedItems}
 
@@ -32,7 +32,7 @@ isLabelNumber l = l < 40980
 
 mutual
   -- "Statements: empty; block; if with an atom and two blocks; while with an atom and a block; goto; label; and an expression statement
-  -- that assigns." The items `ahead` stand behind the statement in its list, and behind that list's owner in the lists around: "a
+  -- that assigns"; and "the kernel's new kind 57 (abort, no fields)". The items `ahead` stand behind the statement in its list, and behind that list's owner in the lists around: "a
   -- goto's label is a later item of a list that encloses it". "Kinds not named in this paragraph are not in the kernel language."
   pub data KernelStatement : Items → Statement → Type 0 where
     kernel-empty : {ahead : Items} → KernelStatement ahead empty
@@ -41,6 +41,7 @@ mutual
     kernel-if : {ahead onTrue onFalse : Items} {e : Expression} → IsAtom e → KernelItems ahead onTrue → KernelItems ahead onFalse → KernelStatement ahead (ifElse e (block onTrue) (block onFalse))
     kernel-while : {ahead body : Items} {e : Expression} → IsAtom e → KernelItems ahead body → KernelStatement ahead (while e (block body))
     kernel-goto : {ahead : Items} {l : ℕ} → isLabelNumber l → has (label l) ahead ≡ true → KernelStatement ahead (goto l)
+    kernel-abort : {ahead : Items} → KernelStatement ahead abort
 
   pub data KernelItems : Items → Items → Type 0 where
     kernel-none : {ahead : Items} → KernelItems ahead none
@@ -67,6 +68,13 @@ unfoldable mutual
   statementTimes j break = 0
   statementTimes j continue = 0
   statementTimes j (goto l) = 0
+  statementTimes j (guardedIf arms) = armsTimes j arms
+  statementTimes j (guardedDo arms) = armsTimes j arms
+  statementTimes j abort = 0
+
+  pub armsTimes : ℕ → Arms → ℕ
+  armsTimes j noArm = 0
+  armsTimes j (arm e s arms) = statementTimes j s + armsTimes j arms
 
   pub itemsTimes : ℕ → Items → ℕ
   itemsTimes j none = 0

@@ -30,6 +30,8 @@ pub mod ExpressionPreserves
 pub mod PassedCode
 -- A statement and its code go alike: a rule a kind.
 pub mod StatementRules
+-- Guarded statements and their code go alike.
+pub mod GuardedRules
 -- Every statement and its code go alike.
 pub mod StatementPreserves
 -- The rows of the code are those that the sizes count.

@@ -8,13 +8,13 @@ use borrow.Author.Tests.{ne-eqb}
 use Rattle.words.specs.Laws.{by-cases, neither}
 use Rattle.words.specs.declared.Operator.{Operator}
 use Rattle.computation.specs.Run.{State, Result}
-use Rattle.language.specs.Trees.{Expression, constant, read, minus, not, binary, and, or, comma, conditional, assign, compound, prefix, postfix, Place, variable, element, Part, absent, present, Mark, case, default, label, sameMark, has, Statement, empty, express, block, ifThen, ifElse, while, doWhile, for, switch, break, continue, goto, Items, none, _then_, _here_, _⧺_}
+use Rattle.language.specs.Trees.{Expression, constant, read, minus, not, binary, and, or, comma, conditional, assign, compound, prefix, postfix, Place, variable, element, Part, absent, present, Mark, case, default, label, sameMark, has, Statement, empty, express, block, ifThen, ifElse, while, doWhile, for, switch, break, continue, goto, guardedIf, guardedDo, abort, Arms, noArm, arm, Items, none, _then_, _here_, _⧺_}
 use Rattle.language.specs.Meaning.{Signal, seeking, items}
 use Rattle.language.specs.Writes.{writes, indexWrites}
 use Rattle.translation.specs.Uses.{useFor, passedOn, direct}
 use Rattle.translation.specs.declared.Use.{Use}
 use Rattle.translation.specs.declared.Use.the-variants.{Dropped as dropped, Wanted as wanted, Stored as stored}
-use Rattle.translation.specs.Translate.{Atom, number, word, top, held, landed, taken, copyCode, readCode, storeCode, atomOf, kernelPlace, updateCode, stepCode, postfixCode, expressionCode, indexCode, partCode, orEmpty, caseTests, labels, itemsLabels, labelOf, Exits, exits, statementCode, itemsCode}
+use Rattle.translation.specs.Translate.{Atom, number, word, top, held, landed, taken, copyCode, readCode, storeCode, atomOf, kernelPlace, updateCode, stepCode, postfixCode, expressionCode, indexCode, partCode, orEmpty, caseTests, labels, itemsLabels, labelOf, Exits, exits, roundsLabels, armsLabels, roundsCode, statementCode, armsCode, itemsCode}
 use Rattle.translation.specs.HeldCode.{holdCode, hold-either, store-either}
 use Rattle.translation.specs.RunThen.{runThen}
 use Rattle.translation.specs.Related.{Frame}
@@ -140,6 +140,11 @@ pub apart-above : (l n j : ℕ) → l + n ≤ j → Apart l n j
 apart-above l n j h i a b e = omega arith
 
 module _ (S : ℕ) where
+  own-rounds : (arms : Arms) (xs : Items) (l n j : ℕ) → Apart l (roundsLabels arms + n) j → has (label j) (roundsCode S arms xs l) ≡ false
+  unfolding has
+  own-rounds noArm xs l n j h = refl
+  own-rounds (arm e s arms) xs l n j h = has-other j l none (h l (omega arith) (omega arith)) refl
+
   mutual
     unfolding has statementCode labels
 
@@ -158,6 +163,14 @@ module _ (S : ℕ) where
     own-labels break x l j h = refl
     own-labels continue x l j h = refl
     own-labels (goto k) x l j h = refl
+    own-labels (guardedIf arms) x l j h = simp (has-append, plain-arms arms x l (l + 1) (label j)) (has-other j l none (h l (omega arith) (omega arith)) refl)
+    own-labels (guardedDo arms) x l j h = own-rounds arms (armsCode S arms x (l + 1) (l + 2)) l (armsLabels arms) j h
+    own-labels abort x l j h = refl
+
+    -- The code of arms has no mark.
+    pub plain-arms : (arms : Arms) (x : Exits) (out l : ℕ) (m : Mark) → has m (armsCode S arms x out l) ≡ false
+    plain-arms noArm x out l m = refl
+    plain-arms (arm e s arms) x out l m = simp (has-append, plain-expression S e wanted 0, plain-arms arms x out (l + labels s) m)
 
     own-items : (is : Items) (x : Exits) (l j : ℕ) → Apart l (itemsLabels is) j → has (label j) (itemsCode S is x l) ≡ false
     own-items none x l j h = refl

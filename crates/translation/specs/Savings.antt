@@ -6,13 +6,13 @@ use mathlib.Core.Bool.{Bool, true, false}
 use Prim.Native.Nat.{ℕ, _+_, _*_, _-_, _≤_, max}
 use native.Mathlib.Omega.{arith}
 use Rattle.words.specs.Word.{pick}
-use Rattle.language.specs.Trees.{Expression, constant, read, minus, not, binary, and, or, comma, conditional, assign, compound, prefix, postfix, Place, variable, element, Part, absent, present, Statement, empty, express, block, ifThen, ifElse, while, doWhile, for, switch, break, continue, goto, Items, none, _then_, _here_}
+use Rattle.language.specs.Trees.{Expression, constant, read, minus, not, binary, and, or, comma, conditional, assign, compound, prefix, postfix, Place, variable, element, Part, absent, present, Statement, empty, express, block, ifThen, ifElse, while, doWhile, for, switch, break, continue, goto, guardedIf, guardedDo, abort, Arms, noArm, arm, Items, none, _then_, _here_}
 use Rattle.language.specs.Writes.{writes, indexWrites}
 use Rattle.translation.specs.Uses.{useFor, passedOn, direct}
 use Rattle.translation.specs.declared.Use.{Use}
 use Rattle.translation.specs.declared.Use.the-variants.{Dropped as dropped, Wanted as wanted, Stored as stored}
-use Rattle.translation.specs.Translate.{Atom, number, word, top, held, landed, updated, taken, atomOf, resultLevels, oldLevels, expressionLevels, indexLevels, updateLevels, postfixLevels, partLevels, testLevels, statementLevels, itemsLevels, temporaries}
-use Rattle.translation.specs.TranslateSize.{indexRows, copyRows, holdRows, storeRows, updateRows, stepRows, postfixRows, expressionSize, indexSize, partSize, testSize, cases, statementSize, itemsSize}
+use Rattle.translation.specs.Translate.{Atom, number, word, top, held, landed, updated, taken, atomOf, resultLevels, oldLevels, expressionLevels, indexLevels, updateLevels, postfixLevels, partLevels, testLevels, statementLevels, armsLevels, itemsLevels, temporaries}
+use Rattle.translation.specs.TranslateSize.{indexRows, copyRows, holdRows, storeRows, updateRows, stepRows, postfixRows, expressionSize, indexSize, partSize, testSize, cases, roundsRows, statementSize, armsSize, itemsSize}
 use Rattle.translation.specs.HeldCode.{held-variable}
 use Rattle.translation.specs.TranslateBounds.{taken-most}
 
@@ -96,6 +96,13 @@ unfoldable mutual
   throughStatement break = 1
   throughStatement continue = 1
   throughStatement (goto l) = 1
+  throughStatement (guardedIf arms) = 2 + throughArms arms
+  throughStatement (guardedDo arms) = roundsRows arms + throughArms arms
+  throughStatement abort = 1
+
+  pub throughArms : Arms → ℕ
+  throughArms noArm = 0
+  throughArms (arm e s arms) = 5 + throughSize e + throughStatement s + throughArms arms
 
   pub throughItems : Items → ℕ
   throughItems none = 0
@@ -116,6 +123,13 @@ unfoldable mutual
   throughStatementLevels break = 0
   throughStatementLevels continue = 0
   throughStatementLevels (goto l) = 0
+  throughStatementLevels (guardedIf arms) = throughArmsLevels arms
+  throughStatementLevels (guardedDo arms) = throughArmsLevels arms
+  throughStatementLevels abort = 0
+
+  pub throughArmsLevels : Arms → ℕ
+  throughArmsLevels noArm = 0
+  throughArmsLevels (arm e s arms) = max (throughLevels e) (max (throughStatementLevels s) (throughArmsLevels arms))
 
   pub throughItemsLevels : Items → ℕ
   throughItemsLevels none = 0
@@ -286,6 +300,13 @@ mutual
   statement-rows break = omega arith
   statement-rows continue = omega arith
   statement-rows (goto l) = omega arith
+  statement-rows (guardedIf arms) = omega (arith, arms-rows arms)
+  statement-rows (guardedDo arms) = omega (arith, arms-rows arms)
+  statement-rows abort = omega arith
+
+  arms-rows : (arms : Arms) → armsSize arms ≤ throughArms arms
+  arms-rows noArm = omega arith
+  arms-rows (arm e s arms) = omega (arith, less-rows e wanted, statement-rows s, arms-rows arms)
 
   -- No program gets more rows.
   pub fewer-rows : (is : Items) → itemsSize is ≤ throughItems is
@@ -363,6 +384,13 @@ mutual
   statement-less break = omega arith
   statement-less continue = omega arith
   statement-less (goto l) = omega arith
+  statement-less (guardedIf arms) = arms-less arms
+  statement-less (guardedDo arms) = arms-less arms
+  statement-less abort = omega arith
+
+  arms-less : (arms : Arms) → armsLevels arms ≤ throughArmsLevels arms
+  arms-less noArm = omega arith
+  arms-less (arm e s arms) = omega (arith, less-levels e wanted, statement-less s, arms-less arms)
 
   items-less : (is : Items) → itemsLevels is ≤ throughItemsLevels is
   items-less none = omega arith

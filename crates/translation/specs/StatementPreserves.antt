@@ -7,16 +7,21 @@ use lib.ListN.{length}
 use Rattle.words.specs.Layout.{Layout}
 use Rattle.computation.specs.Computation.{Computation, ret, _>>_, again}
 use Rattle.computation.specs.Run.{State}
-use Rattle.language.specs.Trees.{Expression, Part, absent, present, label, has, Statement, empty, express, block, ifThen, ifElse, while, doWhile, for, switch, break, continue, goto, Items, none, _then_, _here_, _⧺_}
-use Rattle.language.specs.Meaning.{Signal, enter, valueOf, rounds, perform}
-use Rattle.language.specs.WellFormed.{NamedPart, NamedStatement, NamedItems, Placed, PlacedItems}
+use Rattle.language.specs.Trees.{Expression, Part, absent, present, label, has, Statement, empty, express, block, ifThen, ifElse, while, doWhile, for, switch, break, continue, goto, guardedIf, guardedDo, abort, Arms, noArm, arm, Items, none, _then_, _here_, _⧺_}
+use Rattle.language.specs.Meaning.{Signal, enter, valueOf, rounds, perform, choose, choiceRounds}
+use Rattle.language.specs.WellFormed.{NamedPart, NamedStatement, NamedArms, NamedItems, Placed, PlacedArms, PlacedItems}
 use Rattle.translation.specs.declared.Use.the-variants.{Wanted as wanted}
-use Rattle.translation.specs.Translate.{partCode, testCode, loopCode, labels, Exits, exits, statementCode, itemsCode, partLevels, expressionLevels, statementLevels, itemsLevels}
-use Rattle.translation.specs.TranslateSize.{expressionSize, partSize, cases, statementSize, itemsSize}
+use Rattle.translation.specs.Translate.{partCode, testCode, loopCode, labels, Exits, exits, roundsCode, statementCode, armsCode, itemsCode, partLevels, expressionLevels, statementLevels, armsLevels, itemsLevels}
+use Rattle.translation.specs.TranslateSize.{expressionSize, partSize, cases, roundsRows, statementSize, armsSize, itemsSize}
 use Rattle.translation.specs.Related.{Frame}
-use Rattle.translation.specs.PassedCode.{plain-expression, plain-part, apart-below, own-labels}
+use Rattle.translation.specs.PassedCode.{plain-expression, plain-part, plain-arms, apart-below, own-labels}
 use Rattle.translation.specs.ExpressionPreserves.{InRange, own-size, wanted-goes, value-goes, dropped-goes}
 use Rattle.translation.specs.StatementRules.{Below, Runs, RunsOn, Turns, Drops, drops-absent, drops-present, turns-action, turns-again, turns-test, turns-body, pay-statement, runs-empty, runs-express, runs-block, runs-ifThen, runs-ifElse, runs-break, runs-continue, runs-loop, runs-after, runs-none, runs-then, runs-here, runs-switch}
+use Rattle.translation.specs.GuardedRules.{Chooses, chooses-none, chooses-enter, chooses-arm, runs-guardedIf, runs-guardedDo}
+
+abbrev roundsSteps : Arms → ℕ
+roundsSteps noArm = 1
+roundsSteps (arm e s arms) = 2
 
 -- The kernel steps that a statement's own row has to pay.
 abbrev ownSteps : Statement → ℕ
@@ -32,6 +37,13 @@ ownSteps (switch e is) = 11 * cases is + 2
 ownSteps break = 1
 ownSteps continue = 1
 ownSteps (goto l) = 1
+ownSteps (guardedIf arms) = 1
+ownSteps (guardedDo arms) = roundsSteps arms
+ownSteps abort = 1
+
+own-rounds : (arms : Arms) → roundsSteps arms ≤ roundsRows arms
+own-rounds noArm = omega arith
+own-rounds (arm e s arms) = omega arith
 
 own-statement : (s : Statement) → ownSteps s ≤ statementSize s
 unfolding statementSize
@@ -47,6 +59,9 @@ own-statement (switch e is) = omega arith
 own-statement break = omega arith
 own-statement continue = omega arith
 own-statement (goto l) = omega arith
+own-statement (guardedIf arms) = omega arith
+own-statement (guardedDo arms) = omega (arith, own-rounds arms)
+own-statement abort = omega arith
 
 -- The numbers of a source tree are in range.
 abbrev pub PartInRange : Layout → Part → Type 0
@@ -54,6 +69,9 @@ PartInRange L p = NamedPart (λ i. i < L .variables) (length (L .lengths)) p
 
 abbrev pub StatementInRange : Layout → Statement → Type 0
 StatementInRange L s = NamedStatement (λ i. i < L .variables) (length (L .lengths)) s
+
+abbrev pub ArmsInRange : Layout → Arms → Type 0
+ArmsInRange L arms = NamedArms (λ i. i < L .variables) (length (L .lengths)) arms
 
 abbrev pub ItemsInRange : Layout → Items → Type 0
 ItemsInRange L is = NamedItems (λ i. i < L .variables) (length (L .lengths)) is
@@ -106,6 +124,21 @@ module _ (fr : Frame) {C D : Type 0} {R : C → D → State → State → Type 0
     statement-runs break x l b c u h p n r = runs-break fr
     statement-runs continue x l b c u h p n r = runs-continue fr
     statement-runs (goto k) x l b c u h p n r = absurd p
+    statement-runs (guardedIf arms) x l b c u h p n r = runs-guardedIf fr u (arms-choose arms x l (l + 1) b c (omega arith) h p n (omega arith))
+    statement-runs (guardedDo arms) x l b c u h p n r = rounds-run arms x l b c u h p n r
+    statement-runs abort x l b c u h p n r = absurd p
+
+    arms-choose : (arms : Arms) (x : Exits) (out l : ℕ) (mayBreak mayContinue : Bool) → Below x l → ArmsInRange (fr .layout) arms → PlacedArms mayBreak mayContinue arms → armsLevels arms ≤ fr .temporaries → armsSize arms ≤ fr .rate
+        → Chooses fr R 0 x out (choose (fr .layout) arms) (armsCode (fr .words) arms x out l)
+    arms-choose noArm x out l b c u h p n r = chooses-none fr
+    arms-choose (arm e s arms) x out l b c u h p n r = chooses-enter fr (omega arith) (chooses-arm fr (plain-arms (fr .words) arms x out (l + labels s)) (value-goes fr e refl (h .0) (omega arith) (omega arith))
+        (pay-statement fr (omega (arith, own-statement s)) (statement-runs s x l b c u (h .1) (p .0) (omega arith) (omega arith))) (arms-choose arms x out (l + labels s) b c (omega arith) (h .2) (p .1) (omega arith) (omega arith)))
+
+    rounds-run : (arms : Arms) (x : Exits) (l : ℕ) (mayBreak mayContinue : Bool) → Below x l → ArmsInRange (fr .layout) arms → PlacedArms mayBreak mayContinue arms → armsLevels arms ≤ fr .temporaries → roundsRows arms + armsSize arms ≤ fr .rate
+        → Runs fr R (roundsSteps arms) x (choiceRounds (fr .layout) arms) (roundsCode (fr .words) arms (armsCode (fr .words) arms x (l + 1) (l + 2)) l)
+    rounds-run noArm x l b c u h p n r = runs-empty fr
+    rounds-run (arm e s arms) x l b c u h p n r = runs-guardedDo fr (omega arith) u (chooses-arm fr (plain-arms (fr .words) arms x (l + 1) (l + 2 + labels s)) (value-goes fr e refl (h .0) (omega arith) (omega arith))
+        (pay-statement fr (omega (arith, own-statement s)) (statement-runs s x (l + 2) b c (omega arith) (h .1) (p .0) (omega arith) (omega arith))) (arms-choose arms x (l + 1) (l + 2 + labels s) b c (omega arith) (h .2) (p .1) (omega arith) (omega arith)))
 
     pub items-run : (is : Items) (x : Exits) (l : ℕ) (inSwitch mayBreak mayContinue : Bool) → Below x l → ItemsInRange (fr .layout) is → PlacedItems inSwitch mayBreak mayContinue is → itemsLevels is ≤ fr .temporaries → itemsSize is ≤ fr .rate
         → RunsOn fr R x l is (itemsCode (fr .words) is x l)

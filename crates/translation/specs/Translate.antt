@@ -8,7 +8,7 @@ use Rattle.words.specs.Word.{pick}
 use Rattle.words.specs.Layout.{Layout, storeSize}
 use Rattle.words.specs.declared.Operator.{Operator}
 use Rattle.words.specs.declared.Operator.the-variants.{Equal, NotEqual}
-use Rattle.language.specs.Trees.{Expression, constant, read, minus, not, binary, and, or, comma, conditional, assign, compound, prefix, postfix, Place, variable, element, Part, absent, present, Mark, case, default, label, sameMark, Statement, empty, express, block, ifThen, ifElse, while, doWhile, for, switch, break, continue, goto, Items, none, _then_, _here_, _⧺_}
+use Rattle.language.specs.Trees.{Expression, constant, read, minus, not, binary, and, or, comma, conditional, assign, compound, prefix, postfix, Place, variable, element, Part, absent, present, Mark, case, default, label, sameMark, Statement, empty, express, block, ifThen, ifElse, while, doWhile, for, switch, break, continue, goto, guardedIf, guardedDo, abort, Arms, noArm, arm, Items, none, _then_, _here_, _⧺_}
 use Rattle.language.specs.Writes.{writes, indexWrites}
 use Rattle.translation.specs.Uses.{useFor, passedOn, direct}
 use Rattle.translation.specs.declared.Use.{Use}
@@ -68,8 +68,13 @@ placeTaken (element array e) = taken (atomOf e)
 
 -- ---- labels
 
--- How many labels a statement takes, from its first label on: a loop one behind it and one for continue, a switch one behind it, a
--- mark its own.
+-- The own labels of a guarded do: one behind its loop and one at the end of a round. Without arms there is no loop.
+abbrev pub roundsLabels : Arms → ℕ
+roundsLabels noArm = 0
+roundsLabels (arm e s arms) = 2
+
+-- How many labels a statement takes, from its first label on: a loop one behind it and one for continue, a switch and a guarded if one behind
+-- it, a mark its own.
 unfoldable mutual
   pub labels : Statement → ℕ
   labels empty = 0
@@ -84,6 +89,13 @@ unfoldable mutual
   labels break = 0
   labels continue = 0
   labels (goto l) = 0
+  labels (guardedIf arms) = 1 + armsLabels arms
+  labels (guardedDo arms) = roundsLabels arms + armsLabels arms
+  labels abort = 0
+
+  pub armsLabels : Arms → ℕ
+  armsLabels noArm = 0
+  armsLabels (arm e s arms) = labels s + armsLabels arms
 
   pub itemsLabels : Items → ℕ
   itemsLabels none = 0
@@ -246,6 +258,15 @@ module _ (S : ℕ) where
   caseTests x u (default here is) l = caseTests x u is (l + 1)
   caseTests x u (label k here is) l = caseTests x u is (l + 1)
 
+  -- An arm: its guard; where that is true its block, and on to the label `out`; else the rest.
+  abbrev pub armCode : Expression → Items → ℕ → Items → Items
+  armCode e body out rest = expressionCode e wanted 0 ⧺ choosing (atom 0 (atomOf e)) (body ⧺ goto out then none) none rest
+
+  -- The rounds of a guarded do, around the code of its arms: label l behind the loop, label l + 1 at the end of a round, where arms go on.
+  abbrev pub roundsCode : Arms → Items → ℕ → Items
+  roundsCode noArm code l = empty then none
+  roundsCode (arm e s arms) code l = loopCode (code ⧺ goto l then label (l + 1) here none) l
+
   unfoldable mutual
     -- A statement whose labels begin at l.
     pub statementCode : Statement → Exits → ℕ → Items
@@ -266,6 +287,17 @@ module _ (S : ℕ) where
     statementCode continue x l = goto (x .onContinue) then none
     -- the source has no goto
     statementCode (goto k) x l = empty then none
+    -- label l behind the arms, which end in abort: no guard was true
+    statementCode (guardedIf arms) x l = armsCode arms x l (l + 1) ⧺ abort then label l here none
+    statementCode (guardedDo arms) x l = roundsCode arms (armsCode arms x (l + 1) (l + 2)) l
+    -- nor abort
+    statementCode abort x l = empty then none
+
+    -- Arms whose labels begin at l, one behind the other, so that the code of many is no deeper than that of one; after its block an arm goes to
+    -- the label `out`.
+    pub armsCode : Arms → Exits → ℕ → ℕ → Items
+    armsCode noArm x out l = none
+    armsCode (arm e s arms) x out l = armCode e (statementCode s x l) out (armsCode arms x out (l + labels s))
 
     pub itemsCode : Items → Exits → ℕ → Items
     itemsCode none x l = none
@@ -351,6 +383,13 @@ unfoldable mutual
   statementLevels break = 0
   statementLevels continue = 0
   statementLevels (goto l) = 0
+  statementLevels (guardedIf arms) = armsLevels arms
+  statementLevels (guardedDo arms) = armsLevels arms
+  statementLevels abort = 0
+
+  pub armsLevels : Arms → ℕ
+  armsLevels noArm = 0
+  armsLevels (arm e s arms) = max (expressionLevels e wanted) (max (statementLevels s) (armsLevels arms))
 
   pub itemsLevels : Items → ℕ
   itemsLevels none = 0

@@ -5,15 +5,15 @@ use Prim.Native.Nat.{ℕ, _+_, _*_, _≤_}
 use native.Mathlib.Omega.{arith}
 use Rattle.words.specs.Layout.{Layout}
 use Rattle.words.specs.Laws.{by-cases}
-use Rattle.language.specs.Trees.{Expression, constant, read, minus, not, binary, and, or, comma, conditional, assign, compound, prefix, postfix, Place, variable, element, Part, absent, present, case, default, label, Statement, empty, express, block, ifThen, ifElse, while, doWhile, for, switch, break, continue, goto, Items, none, _then_, _here_}
+use Rattle.language.specs.Trees.{Expression, constant, read, minus, not, binary, and, or, comma, conditional, assign, compound, prefix, postfix, Place, variable, element, Part, absent, present, case, default, label, Statement, empty, express, block, ifThen, ifElse, while, doWhile, for, switch, break, continue, goto, guardedIf, guardedDo, abort, Arms, noArm, arm, Items, none, _then_, _here_}
 use Rattle.language.specs.Writes.{writes, indexWrites}
-use Rattle.language.specs.Sizes.{expressionRows, placeRows, partRows, statementRows, itemsRows}
+use Rattle.language.specs.Sizes.{expressionRows, placeRows, partRows, statementRows, armsRows, itemsRows}
 use Rattle.translation.specs.Uses.{useFor, passedOn, direct}
 use Rattle.translation.specs.declared.Use.{Use}
 use Rattle.translation.specs.declared.Use.the-variants.{Dropped as dropped, Wanted as wanted, Stored as stored}
-use Rattle.translation.specs.Translate.{Atom, number, word, top, held, landed, updated, taken, atomOf, labels, itemsLabels, translate, resultLevels, readLevels, oldLevels, expressionLevels, indexLevels, updateLevels, postfixLevels, partLevels, testLevels, statementLevels, itemsLevels, temporaries}
+use Rattle.translation.specs.Translate.{Atom, number, word, top, held, landed, updated, taken, atomOf, roundsLabels, labels, armsLabels, itemsLabels, translate, resultLevels, readLevels, oldLevels, expressionLevels, indexLevels, updateLevels, postfixLevels, partLevels, testLevels, statementLevels, armsLevels, itemsLevels, temporaries}
 use Rattle.translation.specs.TranslateRows.{translation-rows}
-use Rattle.translation.specs.TranslateSize.{indexRows, copyRows, holdRows, storeRows, updateRows, stepRows, postfixRows, expressionSize, indexSize, partSize, testSize, cases, statementSize, itemsSize}
+use Rattle.translation.specs.TranslateSize.{indexRows, copyRows, holdRows, storeRows, updateRows, stepRows, postfixRows, expressionSize, indexSize, partSize, testSize, cases, roundsRows, statementSize, armsSize, itemsSize}
 
 pub copy-most : (h : Atom) → copyRows h ≤ 4
 copy-most (number v) = omega arith
@@ -107,6 +107,10 @@ test-most : (p : Part) → testSize p ≤ 20 * partRows p + 5
 test-most absent = omega arith
 test-most (present e) = omega (arith, expression-most e wanted)
 
+rounds-most : (arms : Arms) → roundsRows arms ≤ 6
+rounds-most noArm = omega arith
+rounds-most (arm e s arms) = omega arith
+
 mutual
   unfolding statementSize statementRows
 
@@ -123,6 +127,13 @@ mutual
   statement-most break = omega arith
   statement-most continue = omega arith
   statement-most (goto l) = omega arith
+  statement-most (guardedIf arms) = omega (arith, arms-most arms)
+  statement-most (guardedDo arms) = omega (arith, rounds-most arms, arms-most arms)
+  statement-most abort = omega arith
+
+  arms-most : (arms : Arms) → armsSize arms ≤ 20 * armsRows arms
+  arms-most noArm = omega arith
+  arms-most (arm e s arms) = omega (arith, expression-most e wanted, statement-most s, arms-most arms)
 
   -- with the tests that the cases bring
   items-most : (is : Items) → itemsSize is + 11 * cases is ≤ 20 * itemsRows is
@@ -207,6 +218,13 @@ mutual
   statement-levels-most break = omega arith
   statement-levels-most continue = omega arith
   statement-levels-most (goto l) = omega arith
+  statement-levels-most (guardedIf arms) = omega (arith, arms-levels-most arms)
+  statement-levels-most (guardedDo arms) = omega (arith, arms-levels-most arms)
+  statement-levels-most abort = omega arith
+
+  arms-levels-most : (arms : Arms) → armsLevels arms ≤ armsRows arms
+  arms-levels-most noArm = omega arith
+  arms-levels-most (arm e s arms) = omega (arith, levels-most e wanted, statement-levels-most s, arms-levels-most arms)
 
   items-levels-most : (is : Items) → itemsLevels is ≤ itemsRows is
   items-levels-most none = omega arith
@@ -253,6 +271,10 @@ temporaries-bound program = omega (arith, items-levels-most program)
 
 -- ---- labels
 
+rounds-labels-most : (arms : Arms) → roundsLabels arms ≤ 2
+rounds-labels-most noArm = omega arith
+rounds-labels-most (arm e s arms) = omega arith
+
 mutual
   unfolding labels statementRows
 
@@ -269,6 +291,13 @@ mutual
   labels-most break = omega arith
   labels-most continue = omega arith
   labels-most (goto l) = omega arith
+  labels-most (guardedIf arms) = omega (arith, arms-labels-most arms)
+  labels-most (guardedDo arms) = omega (arith, rounds-labels-most arms, arms-labels-most arms)
+  labels-most abort = omega arith
+
+  arms-labels-most : (arms : Arms) → armsLabels arms ≤ 2 * armsRows arms
+  arms-labels-most noArm = omega arith
+  arms-labels-most (arm e s arms) = omega (arith, labels-most s, arms-labels-most arms)
 
   items-labels-most : (is : Items) → itemsLabels is ≤ 2 * itemsRows is
   items-labels-most none = omega arith

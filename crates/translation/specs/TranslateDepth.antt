@@ -6,14 +6,14 @@ use native.Mathlib.Omega.{arith}
 use lib.IntN.{pos}
 use Rattle.words.specs.Layout.{Layout, storeSize}
 use Rattle.words.specs.declared.Operator.{Operator}
-use Rattle.language.specs.Trees.{Expression, constant, read, minus, not, binary, and, or, comma, conditional, assign, compound, prefix, postfix, Place, variable, element, Part, absent, present, Mark, case, default, label, Statement, empty, express, block, ifThen, ifElse, while, doWhile, for, switch, break, continue, goto, Items, none, _then_, _here_, _⧺_}
+use Rattle.language.specs.Trees.{Expression, constant, read, minus, not, binary, and, or, comma, conditional, assign, compound, prefix, postfix, Place, variable, element, Part, absent, present, Mark, case, default, label, Statement, empty, express, block, ifThen, ifElse, while, doWhile, for, switch, break, continue, goto, guardedIf, guardedDo, abort, Arms, noArm, arm, Items, none, _then_, _here_, _⧺_}
 use Rattle.language.specs.Writes.{writes, indexWrites}
-use Rattle.language.specs.Sizes.{expressionDepth, placeDepth, partDepth, statementDepth, itemsDepth}
+use Rattle.language.specs.Sizes.{expressionDepth, placeDepth, partDepth, statementDepth, armsDepth, itemsDepth}
 use Rattle.translation.specs.HeldCode.{holdCode, hold-either, store-either}
 use Rattle.translation.specs.Uses.{useFor, passedOn, direct}
 use Rattle.translation.specs.declared.Use.{Use}
 use Rattle.translation.specs.declared.Use.the-variants.{Dropped as dropped, Wanted as wanted, Stored as stored}
-use Rattle.translation.specs.Translate.{Atom, number, word, top, held, landed, taken, placeTaken, atomOf, atom, copyCode, readCode, storeCode, kernelPlace, updateCode, stepCode, postfixCode, expressionCode, indexCode, partCode, orEmpty, testCode, loopCode, caseTests, labels, Exits, exits, statementCode, itemsCode, translate}
+use Rattle.translation.specs.Translate.{Atom, number, word, top, held, landed, taken, placeTaken, atomOf, atom, copyCode, readCode, storeCode, kernelPlace, updateCode, stepCode, postfixCode, expressionCode, indexCode, partCode, orEmpty, testCode, loopCode, caseTests, labels, Exits, exits, roundsCode, statementCode, armsCode, itemsCode, translate}
 
 -- A bound on the depth of a list. (A record, so that the list is determined.)
 record Deep (d : ℕ) (xs : Items) : Type 0 where
@@ -35,6 +35,10 @@ deep-append {d} {xs} {ys} h k = record { most = joined xs (h .most) }
 deep-label : {d : ℕ} {m : Mark} {is : Items} → 1 ≤ d → Deep d is → Deep d (m here is)
 unfolding itemsDepth
 deep-label h k = record { most = omega (arith, k .most) }
+
+deep-abort : {d : ℕ} {is : Items} → 1 ≤ d → Deep d is → Deep d (abort then is)
+unfolding itemsDepth
+deep-abort h k = record { most = omega (arith, k .most) }
 
 deep-goto : {d l : ℕ} {is : Items} → 1 ≤ d → Deep d is → Deep d (goto l then is)
 unfolding itemsDepth
@@ -181,6 +185,11 @@ module _ (S : ℕ) where
   unfolding itemsDepth expressionDepth
   deep-loop b l h k = record { most = omega (arith, k .most) }
 
+  deep-rounds : {xs : Items} (arms : Arms) (l b d : ℕ) → 1 ≤ b → b + 2 ≤ d → Deep b xs → Deep d (roundsCode S arms xs l)
+  unfolding itemsDepth
+  deep-rounds noArm l b d h le k = record { most = omega arith }
+  deep-rounds (arm e s arms) l b d h le k = deep-loop b l le (deep-append k (deep-goto h (deep-label h deep-none)))
+
   mutual
     unfolding itemsDepth statementCode
 
@@ -202,6 +211,14 @@ module _ (S : ℕ) where
     deep-statement break x l d h = deep-goto (omega arith) deep-none
     deep-statement continue x l d h = deep-goto (omega arith) deep-none
     deep-statement (goto k) x l d h = record { most = omega arith }
+    deep-statement (guardedIf arms) x l d h = deep-append (deep-arms arms x l (l + 1) d (omega arith)) (deep-abort (omega arith) (deep-label (omega arith) deep-none))
+    deep-statement (guardedDo arms) x l d h = deep-rounds arms l (armsDepth arms * 2 + 2) d (omega arith) (omega arith) (deep-arms arms x (l + 1) (l + 2) _ (omega arith))
+    deep-statement abort x l d h = record { most = omega arith }
+
+    deep-arms : (arms : Arms) (x : Exits) (out l d : ℕ) → armsDepth arms * 2 + 2 ≤ d → Deep d (armsCode S arms x out l)
+    deep-arms noArm x out l d h = deep-none
+    deep-arms (arm e s arms) x out l d h = deep-append (deep-expression e wanted 0 d (omega arith)) (deep-if (statementDepth s * 2 + 2) (depth-atom 0 (atomOf e)) (omega arith)
+        (deep-append (deep-statement s x l _ (omega arith)) (deep-goto (omega arith) deep-none)) deep-none (deep-arms arms x out (l + labels s) d (omega arith)))
 
     deep-items : (is : Items) (x : Exits) (l d : ℕ) → itemsDepth is * 2 + 2 ≤ d → Deep d (itemsCode S is x l)
     deep-items none x l d h = deep-none

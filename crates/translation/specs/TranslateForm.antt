@@ -7,16 +7,16 @@ use native.Mathlib.Omega.{arith}
 use borrow.Author.Tests.{eq-eqb}
 use Rattle.words.specs.Laws.{by-cases}
 use Rattle.words.specs.declared.Operator.{Operator}
-use Rattle.language.specs.Trees.{Expression, constant, read, minus, not, binary, and, or, comma, conditional, assign, compound, prefix, postfix, Place, variable, element, Part, absent, present, Mark, case, default, label, sameMark, has, Statement, empty, express, block, ifThen, ifElse, while, doWhile, for, switch, break, continue, goto, Items, none, _then_, _here_, _⧺_}
-use Rattle.language.specs.WellFormed.{Placed, PlacedItems}
+use Rattle.language.specs.Trees.{Expression, constant, read, minus, not, binary, and, or, comma, conditional, assign, compound, prefix, postfix, Place, variable, element, Part, absent, present, Mark, case, default, label, sameMark, has, Statement, empty, express, block, ifThen, ifElse, while, doWhile, for, switch, break, continue, goto, guardedIf, guardedDo, abort, Arms, noArm, arm, Items, none, _then_, _here_, _⧺_}
+use Rattle.language.specs.WellFormed.{Placed, PlacedArms, PlacedItems}
 use Rattle.language.specs.TreeLaws.{append-append, has-next, has-left, has-right}
 use Rattle.language.specs.Writes.{writes, indexWrites}
 use Rattle.translation.specs.HeldCode.{holdCode, hold-either, store-either}
 use Rattle.translation.specs.Uses.{useFor, passedOn, direct}
 use Rattle.translation.specs.declared.Use.{Use}
 use Rattle.translation.specs.declared.Use.the-variants.{Dropped as dropped, Wanted as wanted, Stored as stored}
-use Rattle.translation.specs.Translate.{Atom, number, word, top, held, landed, taken, placeTaken, atomOf, atom, copyCode, readCode, storeCode, kernelPlace, updateCode, stepCode, postfixCode, expressionCode, indexCode, partCode, orEmpty, testCode, loopCode, caseTests, labels, itemsLabels, labelOf, Exits, exits, statementCode, itemsCode}
-use Rattle.translation.specs.KernelForm.{IsAtom, constant-atom, variable-atom, Assigns, assigns-atom, assigns-minus, assigns-operation, assigns-element, assigns-to-element, isLabelNumber, KernelStatement, kernel-empty, kernel-assign, kernel-block, kernel-if, kernel-while, kernel-goto, KernelItems, kernel-none, kernel-then, kernel-label}
+use Rattle.translation.specs.Translate.{Atom, number, word, top, held, landed, taken, placeTaken, atomOf, atom, copyCode, readCode, storeCode, kernelPlace, updateCode, stepCode, postfixCode, expressionCode, indexCode, partCode, orEmpty, testCode, loopCode, caseTests, labels, itemsLabels, labelOf, Exits, exits, armCode, roundsLabels, armsLabels, roundsCode, statementCode, armsCode, itemsCode}
+use Rattle.translation.specs.KernelForm.{IsAtom, constant-atom, variable-atom, Assigns, assigns-atom, assigns-minus, assigns-operation, assigns-element, assigns-to-element, isLabelNumber, KernelStatement, kernel-empty, kernel-assign, kernel-block, kernel-if, kernel-while, kernel-goto, kernel-abort, KernelItems, kernel-none, kernel-then, kernel-label}
 use Rattle.translation.specs.PassedCode.{label-absent}
 use Rattle.translation.specs.StatementRules.{Below}
 
@@ -190,6 +190,31 @@ module _ (S : ℕ) where
       (λ m q. has-left m (itemsCode S is y (l + 1) ⧺ label l here none) r (has-left m (itemsCode S is y (l + 1)) _ q)))
       (kernel-then (kernel-goto (label-most default is (l + 1) l b (omega arith)) (has-default is y l r)) (append r (itemsCode S is y (l + 1)) (label l here none) h (kernel-label {l = l} (omega arith) kernel-none))))
 
+  -- ---- guarded statements
+
+  has-after : (m : Mark) (s : Statement) (xs : Items) → has m xs ≡ true → has m (s then xs) ≡ true
+  unfolding has
+  has-after m s xs e = e
+
+  form-arm : (e : Expression) (body rest : Items) (out : ℕ) (r : Items) → isLabelNumber out → has (label out) (rest ⧺ r) ≡ true → KernelItems (goto out then rest ⧺ r) body → KernelItems r rest → KernelItems r (armCode S e body out rest)
+  unfolding _⧺_
+  form-arm e body rest out r q t h k = append r (expressionCode S e wanted 0) _ (form-expression e wanted 0 _) (kernel-then (kernel-if (form-atom 0 (atomOf e))
+      (append (rest ⧺ r) body (goto out then none) h (kernel-then (kernel-goto q t) kernel-none)) kernel-none) k)
+
+  -- What stands ahead of the arms of a guarded do.
+  abbrev aheadOfArms : ℕ → Items → Items
+  aheadOfArms l r = goto l then label (l + 1) here label l here r
+
+  -- A label behind the guarded do stands ahead of its arms.
+  has-ahead : (j l : ℕ) (r : Items) → has (label j) r ≡ true → has (label j) (aheadOfArms l r) ≡ true
+  has-ahead j l r h = has-after (label j) (goto l) (label (l + 1) here label l here r) (has-next (label j) (label (l + 1)) (label l here r) (has-next (label j) (label l) r h))
+
+  form-guarded : (arms : Arms) (xs : Items) (l : ℕ) (r : Items) → l + (roundsLabels arms + armsLabels arms) ≤ 40980 → (l + 2 + armsLabels arms ≤ 40980 → KernelItems (aheadOfArms l r) xs) → KernelItems r (roundsCode S arms xs l)
+  unfolding _⧺_
+  form-guarded noArm xs l r b h = kernel-then kernel-empty kernel-none
+  form-guarded (arm e s arms) xs l r b h = form-loop (xs ⧺ goto l then label (l + 1) here none) l r (omega arith) (append (label l here r) xs (goto l then label (l + 1) here none) (h (omega arith))
+      (kernel-then (kernel-goto {l = l} (omega arith) (has-next (label l) (label (l + 1)) (label l here r) (has-here l r))) (kernel-label {l = l + 1} (omega arith) kernel-none)))
+
   -- ---- statements
 
   mutual
@@ -214,6 +239,26 @@ module _ (S : ℕ) where
     form-statement break x l r b c h u n o k = kernel-then (kernel-goto {l = x .onBreak} (omega arith) (o h)) kernel-none
     form-statement continue x l r b c h u n o k = kernel-then (kernel-goto {l = x .onContinue} (omega arith) (k h)) kernel-none
     form-statement (goto j) x l r b c h u n o k = absurd h
+    form-statement (guardedIf arms) x l r b c h u n o k =
+        let behind : Items = label l here r in
+        append r (armsCode S arms x l (l + 1)) _ (form-arms arms x l (l + 1) _ b c h (omega arith) (omega arith) (omega arith) (has-after (label l) abort behind (has-here l r))
+        (λ q. has-after (label (x .onBreak)) abort behind (has-next (label (x .onBreak)) (label l) r (o q))) (λ q. has-after (label (x .onContinue)) abort behind (has-next (label (x .onContinue)) (label l) r (k q))))
+        (kernel-then kernel-abort (kernel-label {l = l} (omega arith) kernel-none))
+    form-statement (guardedDo arms) x l r b c h u n o k = form-guarded arms (armsCode S arms x (l + 1) (l + 2)) l r n
+        (λ m. form-arms arms x (l + 1) (l + 2) (aheadOfArms l r) b c h (omega arith) m (omega arith) (has-after (label (l + 1)) (goto l) (label (l + 1) here label l here r) (has-here (l + 1) (label l here r)))
+        (λ q. has-ahead (x .onBreak) l r (o q)) (λ q. has-ahead (x .onContinue) l r (k q)))
+    form-statement abort x l r b c h u n o k = absurd h
+
+    -- The label `out` stands ahead of the arms.
+    form-arms : (arms : Arms) (x : Exits) (out l : ℕ) (r : Items) (b c : Bool) → PlacedArms b c arms → Below x l → l + armsLabels arms ≤ 40980 → isLabelNumber out → has (label out) r ≡ true
+        → (b ≡ true → has (label (x .onBreak)) r ≡ true) → (c ≡ true → has (label (x .onContinue)) r ≡ true) → KernelItems r (armsCode S arms x out l)
+    form-arms noArm x out l r b c h u n q t o k = kernel-none
+    form-arms (arm e s arms) x out l r b c h u n q t o k =
+        let rest = armsCode S arms x out (l + labels s) in
+        let through : ((m : Mark) → has m r ≡ true → has m (goto out then rest ⧺ r) ≡ true) = λ m z. has-after m (goto out) (rest ⧺ r) (has-right m rest r z) in
+        form-arm e (statementCode S s x l) rest out r q (has-right (label out) rest r t)
+        (form-statement s x l _ b c (h .0) u (omega arith) (λ z. through (label (x .onBreak)) (o z)) (λ z. through (label (x .onContinue)) (k z)))
+        (form-arms arms x out (l + labels s) r b c (h .1) (omega arith) (omega arith) q t o k)
 
     pub form-items : (is : Items) (x : Exits) (l : ℕ) (r : Items) (s b c : Bool) → PlacedItems s b c is → Below x l → l + itemsLabels is ≤ 40980
         → (b ≡ true → has (label (x .onBreak)) r ≡ true) → (c ≡ true → has (label (x .onContinue)) r ≡ true) → KernelItems r (itemsCode S is x l)

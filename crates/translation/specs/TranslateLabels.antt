@@ -10,12 +10,12 @@ use lib.IntN.{pos}
 use Rattle.words.specs.Word.{pick}
 use Rattle.words.specs.Laws.{by-cases}
 use Rattle.words.specs.declared.Operator.{Operator}
-use Rattle.language.specs.Trees.{Expression, constant, read, minus, not, binary, and, or, comma, conditional, assign, compound, prefix, postfix, Place, variable, element, Part, absent, present, case, default, label, Statement, empty, express, block, ifThen, ifElse, while, doWhile, for, switch, break, continue, goto, Items, none, _then_, _here_, _⧺_}
+use Rattle.language.specs.Trees.{Expression, constant, read, minus, not, binary, and, or, comma, conditional, assign, compound, prefix, postfix, Place, variable, element, Part, absent, present, case, default, label, Statement, empty, express, block, ifThen, ifElse, while, doWhile, for, switch, break, continue, goto, guardedIf, guardedDo, abort, Arms, noArm, arm, Items, none, _then_, _here_, _⧺_}
 use Rattle.language.specs.Writes.{writes, indexWrites}
 use Rattle.translation.specs.Uses.{useFor, passedOn, direct}
 use Rattle.translation.specs.declared.Use.{Use}
 use Rattle.translation.specs.declared.Use.the-variants.{Dropped as dropped, Wanted as wanted, Stored as stored}
-use Rattle.translation.specs.Translate.{Atom, number, word, top, held, landed, taken, placeTaken, atomOf, atom, copyCode, readCode, storeCode, kernelPlace, updateCode, stepCode, postfixCode, expressionCode, indexCode, partCode, orEmpty, testCode, caseTests, labels, itemsLabels, Exits, exits, statementCode, itemsCode}
+use Rattle.translation.specs.Translate.{Atom, number, word, top, held, landed, taken, placeTaken, atomOf, atom, copyCode, readCode, storeCode, kernelPlace, updateCode, stepCode, postfixCode, expressionCode, indexCode, partCode, orEmpty, testCode, caseTests, labels, itemsLabels, Exits, exits, roundsLabels, armsLabels, roundsCode, statementCode, armsCode, itemsCode}
 use Rattle.translation.specs.HeldCode.{holdCode, hold-either, store-either}
 use Rattle.translation.specs.KernelForm.{markTimes, itemsTimes}
 
@@ -127,6 +127,12 @@ module _ (S j : ℕ) where
   times-cases x u (default here is) l = times-cases x u is (l + 1)
   times-cases x u (label k here is) l = times-cases x u is (l + 1)
 
+  once-rounds : (arms : Arms) (xs : Items) (l e : ℕ) → l + (roundsLabels arms + armsLabels arms) ≡ e → (l + 2 + armsLabels arms ≡ e → itemsTimes j xs + under j (l + 2) ≡ under j e)
+      → itemsTimes j (roundsCode S arms xs l) + under j l ≡ under j e
+  unfolding itemsTimes labels
+  once-rounds noArm xs l e q h = let z : l ≡ e = omega arith in rw z (omega arith)
+  once-rounds (arm d s arms) xs l e q h = simp times-append (omega (arith, under-two j l, h (omega arith)))
+
   mutual
     unfolding itemsTimes statementCode labels
 
@@ -144,6 +150,13 @@ module _ (S j : ℕ) where
     once break x l e q = let z : l ≡ e = omega arith in rw z (omega arith)
     once continue x l e q = let z : l ≡ e = omega arith in rw z (omega arith)
     once (goto k) x l e q = let z : l ≡ e = omega arith in rw z (omega arith)
+    once (guardedIf arms) x l e q = simp times-append (omega (arith, under-next j l, once-arms arms x l (l + 1) e (omega arith)))
+    once (guardedDo arms) x l e q = once-rounds arms (armsCode S arms x (l + 1) (l + 2)) l e q (λ m. once-arms arms x (l + 1) (l + 2) e m)
+    once abort x l e q = let z : l ≡ e = omega arith in rw z (omega arith)
+
+    once-arms : (arms : Arms) (x : Exits) (out l e : ℕ) → l + armsLabels arms ≡ e → itemsTimes j (armsCode S arms x out l) + under j l ≡ under j e
+    once-arms noArm x out l e q = let z : l ≡ e = omega arith in rw z (omega arith)
+    once-arms (arm d s arms) x out l e q = simp times-append (omega (arith, times-expression d wanted 0, once s x l (l + labels s) refl, once-arms arms x out (l + labels s) e (omega arith)))
 
     once-items : (is : Items) (x : Exits) (l e : ℕ) → l + itemsLabels is ≡ e → itemsTimes j (itemsCode S is x l) + under j l ≡ under j e
     once-items none x l e q = let z : l ≡ e = omega arith in rw z (omega arith)

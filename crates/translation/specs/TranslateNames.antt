@@ -6,15 +6,15 @@ use native.Mathlib.Omega.{arith}
 use Rattle.words.specs.Word.{pick}
 use Rattle.words.specs.declared.Operator.{Operator}
 use Rattle.words.specs.declared.Operator.the-variants.{Add}
-use Rattle.language.specs.Trees.{Expression, constant, read, minus, not, binary, and, or, comma, conditional, assign, compound, prefix, postfix, Place, variable, element, Part, absent, present, case, default, label, Statement, empty, express, block, ifThen, ifElse, while, doWhile, for, switch, break, continue, goto, Items, none, _then_, _here_, _⧺_}
-use Rattle.language.specs.WellFormed.{NamedExpression, NamedPlace, NamedPart, NamedStatement, NamedItems}
+use Rattle.language.specs.Trees.{Expression, constant, read, minus, not, binary, and, or, comma, conditional, assign, compound, prefix, postfix, Place, variable, element, Part, absent, present, case, default, label, Statement, empty, express, block, ifThen, ifElse, while, doWhile, for, switch, break, continue, goto, guardedIf, guardedDo, abort, Arms, noArm, arm, Items, none, _then_, _here_, _⧺_}
+use Rattle.language.specs.WellFormed.{NamedExpression, NamedPlace, NamedPart, NamedStatement, NamedArms, NamedItems}
 use Rattle.language.specs.Writes.{writes, indexWrites}
 use Rattle.translation.specs.HeldCode.{holdCode, held-either, held-variable, store-either}
 use Rattle.translation.specs.TranslateBounds.{taken-most, taken-level}
 use Rattle.translation.specs.Uses.{useFor, passedOn, direct}
 use Rattle.translation.specs.declared.Use.{Use}
 use Rattle.translation.specs.declared.Use.the-variants.{Dropped as dropped, Wanted as wanted, Stored as stored}
-use Rattle.translation.specs.Translate.{Atom, number, word, top, held, landed, updated, taken, placeTaken, atomOf, atom, target, copyCode, moveCode, readCode, storeCode, kernelPlace, updateCode, stepCode, postfixCode, expressionCode, indexCode, partCode, orEmpty, testCode, loopCode, caseTests, labels, Exits, exits, statementCode, itemsCode, resultLevels, oldLevels, expressionLevels, indexLevels, updateLevels, postfixLevels, partLevels, testLevels, statementLevels, itemsLevels}
+use Rattle.translation.specs.Translate.{Atom, number, word, top, held, landed, updated, taken, placeTaken, atomOf, atom, target, copyCode, moveCode, readCode, storeCode, kernelPlace, updateCode, stepCode, postfixCode, expressionCode, indexCode, partCode, orEmpty, testCode, loopCode, caseTests, labels, Exits, exits, roundsCode, statementCode, armsCode, itemsCode, resultLevels, oldLevels, expressionLevels, indexLevels, updateLevels, postfixLevels, partLevels, testLevels, statementLevels, armsLevels, itemsLevels}
 
 -- The level of the value of a compound: its own, or one that the result needs too.
 compound-level : (p : Place) (e : Expression) → taken (held (atomOf e) (indexWrites p)) ≤ expressionLevels (compound Add p e) wanted
@@ -260,6 +260,11 @@ module _ (Names : ℕ → Type 0) (arrays : ℕ) where
     unfolding NamedExpression NamedItems
     named-do e l body h n b = ((tt, named-append body (label (l + 1) here testCode S (present e) l none) b (named-test (present e) l none h n tt)), tt)
 
+    named-guarded : (arms : Arms) (l : ℕ) (xs : Items) → NamedItems Names arrays xs → NamedItems Names arrays (roundsCode S arms xs l)
+    unfolding NamedExpression NamedItems
+    named-guarded noArm l xs h = (tt, tt)
+    named-guarded (arm e s arms) l xs h = ((tt, named-append xs (goto l then label (l + 1) here none) h (tt, tt)), tt)
+
     mutual
       unfolding NamedStatement statementLevels statementCode
 
@@ -280,6 +285,14 @@ module _ (Names : ℕ → Type 0) (arrays : ℕ) where
       named-statement break x l h n = (tt, tt)
       named-statement continue x l h n = (tt, tt)
       named-statement (goto k) x l h n = (tt, tt)
+      named-statement (guardedIf arms) x l h n = named-append (armsCode S arms x l (l + 1)) _ (named-arms arms x l (l + 1) h n) (tt, tt)
+      named-statement (guardedDo arms) x l h n = named-guarded arms l (armsCode S arms x (l + 1) (l + 2)) (named-arms arms x (l + 1) (l + 2) h n)
+      named-statement abort x l h n = (tt, tt)
+
+      named-arms : (arms : Arms) (x : Exits) (out l : ℕ) → NamedArms Names arrays arms → armsLevels arms ≤ T → NamedItems Names arrays (armsCode S arms x out l)
+      named-arms noArm x out l h n = tt
+      named-arms (arm e s arms) x out l h n = named-append (expressionCode S e wanted 0) _ (named-expression e wanted 0 (h .0) tt (omega arith))
+          ((named-atom 0 (atomOf e) (atom-named e (h .0)) (omega (arith, taken-level e)), named-append (statementCode S s x l) _ (named-statement s x l (h .1) (omega arith)) (tt, tt), tt), named-arms arms x out (l + labels s) (h .2) (omega arith))
 
       pub named-items : (is : Items) (x : Exits) (l : ℕ) → NamedItems Names arrays is → itemsLevels is ≤ T → NamedItems Names arrays (itemsCode S is x l)
       named-items none x l h n = tt
@@ -331,6 +344,13 @@ module _ (Names More : ℕ → Type 0) (arrays : ℕ) (more : (i : ℕ) → Name
     more-statement break h = tt
     more-statement continue h = tt
     more-statement (goto l) h = tt
+    more-statement (guardedIf arms) h = more-arms arms h
+    more-statement (guardedDo arms) h = more-arms arms h
+    more-statement abort h = tt
+
+    more-arms : (arms : Arms) → NamedArms Names arrays arms → NamedArms More arrays arms
+    more-arms noArm h = tt
+    more-arms (arm e s arms) h = (more-expression e (h .0), more-statement s (h .1), more-arms arms (h .2))
 
     -- A tree whose names have a property has them with every weaker one.
     pub more-names : (is : Items) → NamedItems Names arrays is → NamedItems More arrays is

@@ -8,16 +8,16 @@ use lib.IntN.{pos}
 use Rattle.words.specs.Word.{pick}
 use Rattle.words.specs.Layout.{Layout, storeSize}
 use Rattle.words.specs.declared.Operator.{Operator}
-use Rattle.language.specs.Trees.{Expression, constant, read, minus, not, binary, and, or, comma, conditional, assign, compound, prefix, postfix, Place, variable, element, Part, absent, present, case, default, label, Statement, empty, express, block, ifThen, ifElse, while, doWhile, for, switch, break, continue, goto, Items, none, _then_, _here_, _⧺_}
+use Rattle.language.specs.Trees.{Expression, constant, read, minus, not, binary, and, or, comma, conditional, assign, compound, prefix, postfix, Place, variable, element, Part, absent, present, case, default, label, Statement, empty, express, block, ifThen, ifElse, while, doWhile, for, switch, break, continue, goto, guardedIf, guardedDo, abort, Arms, noArm, arm, Items, none, _then_, _here_, _⧺_}
 use Rattle.language.specs.Sizes.{expressionRows, statementRows, itemsRows}
 use Rattle.language.specs.TreeLaws.{statement-some}
 use Rattle.language.specs.Writes.{writes, indexWrites}
 use Rattle.translation.specs.Uses.{useFor, passedOn, direct}
 use Rattle.translation.specs.declared.Use.{Use}
 use Rattle.translation.specs.declared.Use.the-variants.{Dropped as dropped, Wanted as wanted, Stored as stored}
-use Rattle.translation.specs.Translate.{Atom, number, word, top, held, landed, atomOf, taken, placeTaken, atom, copyCode, moveCode, readCode, storeCode, kernelPlace, updateCode, stepCode, postfixCode, expressionCode, indexCode, partCode, orEmpty, testCode, caseTests, labels, Exits, exits, statementCode, itemsCode, translate}
+use Rattle.translation.specs.Translate.{Atom, number, word, top, held, landed, atomOf, taken, placeTaken, atom, copyCode, moveCode, readCode, storeCode, kernelPlace, updateCode, stepCode, postfixCode, expressionCode, indexCode, partCode, orEmpty, testCode, caseTests, labels, Exits, exits, roundsCode, statementCode, armsCode, itemsCode, translate}
 use Rattle.translation.specs.HeldCode.{holdCode}
-use Rattle.translation.specs.TranslateSize.{indexRows, copyRows, holdRows, storeRows, updateRows, stepRows, postfixRows, expressionSize, indexSize, partSize, testSize, cases, statementSize, itemsSize}
+use Rattle.translation.specs.TranslateSize.{indexRows, copyRows, holdRows, storeRows, updateRows, stepRows, postfixRows, expressionSize, indexSize, partSize, testSize, cases, roundsRows, statementSize, armsSize, itemsSize}
 
 pub rows-append : (xs ys : Items) → itemsRows (xs ⧺ ys) ≡ itemsRows xs + itemsRows ys
 unfolding itemsRows _⧺_
@@ -121,6 +121,11 @@ module _ (S : ℕ) where
   rows-cases t u h (default here is) l = rows-cases t u h is (l + 1)
   rows-cases t u h (label k here is) l = rows-cases t u h is (l + 1)
 
+  pub rows-rounds : (arms : Arms) (xs : Items) (l : ℕ) → itemsRows xs ≡ armsSize arms → itemsRows (roundsCode S arms xs l) ≡ roundsRows arms + armsSize arms
+  unfolding statementSize itemsRows expressionRows
+  rows-rounds noArm xs l e = refl
+  rows-rounds (arm d s arms) xs l e = simp rows-append (omega arith)
+
   mutual
     unfolding statementSize statementCode itemsRows expressionRows
 
@@ -137,6 +142,13 @@ module _ (S : ℕ) where
     rows-statement break x l = refl
     rows-statement continue x l = refl
     rows-statement (goto k) x l = refl
+    rows-statement (guardedIf arms) x l = simp rows-append (omega (arith, rows-arms arms x l (l + 1)))
+    rows-statement (guardedDo arms) x l = rows-rounds arms (armsCode S arms x (l + 1) (l + 2)) l (rows-arms arms x (l + 1) (l + 2))
+    rows-statement abort x l = refl
+
+    pub rows-arms : (arms : Arms) (x : Exits) (out l : ℕ) → itemsRows (armsCode S arms x out l) ≡ armsSize arms
+    rows-arms noArm x out l = refl
+    rows-arms (arm e s arms) x out l = simp (rows-append, rows-atom) (omega (arith, rows-expression e wanted 0, rows-statement s x l, rows-arms arms x out (l + labels s)))
 
     pub rows-items : (is : Items) (x : Exits) (l : ℕ) → itemsRows (itemsCode S is x l) ≡ itemsSize is
     rows-items none x l = refl

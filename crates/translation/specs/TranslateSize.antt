@@ -2,7 +2,7 @@
 use mathlib.Core.Bool.{Bool}
 use Prim.Native.Nat.{ℕ, _+_, _*_, _-_, max}
 use Rattle.words.specs.Word.{pick}
-use Rattle.language.specs.Trees.{Expression, constant, read, minus, not, binary, and, or, comma, conditional, assign, compound, prefix, postfix, Place, variable, element, Part, absent, present, case, default, label, Statement, empty, express, block, ifThen, ifElse, while, doWhile, for, switch, break, continue, goto, Items, none, _then_, _here_}
+use Rattle.language.specs.Trees.{Expression, constant, read, minus, not, binary, and, or, comma, conditional, assign, compound, prefix, postfix, Place, variable, element, Part, absent, present, case, default, label, Statement, empty, express, block, ifThen, ifElse, while, doWhile, for, switch, break, continue, goto, guardedIf, guardedDo, abort, Arms, noArm, arm, Items, none, _then_, _here_}
 use Rattle.language.specs.Writes.{writes, indexWrites}
 use Rattle.translation.specs.Uses.{useFor, passedOn, direct}
 use Rattle.translation.specs.declared.Use.{Use}
@@ -103,6 +103,11 @@ cases (case v here is) = 1 + cases is
 cases (default here is) = cases is
 cases (label l here is) = cases is
 
+-- The own rows of a guarded do: the loop, its test and block, a goto and two labels; without arms an empty statement.
+abbrev pub roundsRows : Arms → ℕ
+roundsRows noArm = 1
+roundsRows (arm e s arms) = 6
+
 unfoldable mutual
   pub statementSize : Statement → ℕ
   statementSize empty = 1
@@ -117,6 +122,14 @@ unfoldable mutual
   statementSize break = 1
   statementSize continue = 1
   statementSize (goto l) = 1
+  statementSize (guardedIf arms) = 2 + armsSize arms
+  statementSize (guardedDo arms) = roundsRows arms + armsSize arms
+  statementSize abort = 1
+
+  -- An arm brings an if with its atom and two blocks, and a goto.
+  pub armsSize : Arms → ℕ
+  armsSize noArm = 0
+  armsSize (arm e s arms) = 5 + expressionSize e wanted + statementSize s + armsSize arms
 
   pub itemsSize : Items → ℕ
   itemsSize none = 0

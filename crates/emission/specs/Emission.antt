@@ -7,7 +7,7 @@ use lib.IntN.{ℤ, pos}
 use Rattle.words.specs.Word.{pick}
 use Rattle.words.specs.declared.Operator.{Operator}
 use Rattle.words.specs.declared.Operator.the-variants.{Add, Subtract, Multiply, Divide, Remainder, Less, Greater, LessOrEqual, GreaterOrEqual, Equal, NotEqual}
-use Rattle.language.specs.Trees.{Expression, constant, read, minus, not, binary, and, or, comma, conditional, assign, compound, prefix, postfix, Place, variable, element, Part, absent, present, Mark, case, default, label, Statement, empty, express, block, ifThen, ifElse, while, doWhile, for, switch, break, continue, goto, Items, none, _then_, _here_}
+use Rattle.language.specs.Trees.{Expression, constant, read, minus, not, binary, and, or, comma, conditional, assign, compound, prefix, postfix, Place, variable, element, Part, absent, present, Mark, case, default, label, Statement, empty, express, block, ifThen, ifElse, while, doWhile, for, switch, break, continue, goto, guardedIf, guardedDo, abort, Arms, noArm, arm, Items, none, _then_, _here_}
 use Rattle.language.specs.Sizes.{expressionRows, placeRows, partRows, statementRows}
 
 -- "kind, a, b, c, d, next"; a is a value or a number, the others are numbers.
@@ -74,6 +74,11 @@ emitMark (case v) next = rowOf 48 v 0 0 0 next
 emitMark default next = rowOf 49 (pos 0) 0 0 0 next
 emitMark (label l) next = rowOf 53 (pos l) 0 0 0 next
 
+-- The link to arms that would begin at `base`.
+abbrev pub armsLink : Arms → ℕ → ℕ
+armsLink noArm base = 0
+armsLink (arm e s arms) base = base
+
 unfoldable mutual
   -- The rows of a statement, from the row `base` on; `next` is its own next field.
   pub emitStatement : Statement → ℕ → ℕ → List ℤ
@@ -98,6 +103,16 @@ unfoldable mutual
   emitStatement break base next = rowOf 50 (pos 0) 0 0 0 next
   emitStatement continue base next = rowOf 51 (pos 0) 0 0 0 next
   emitStatement (goto l) base next = rowOf 52 (pos l) 0 0 0 next
+  emitStatement (guardedIf arms) base next = rowOf 54 (pos (armsLink arms (base + 1))) 0 0 0 next ++ emitArms arms (base + 1)
+  emitStatement (guardedDo arms) base next = rowOf 55 (pos (armsLink arms (base + 1))) 0 0 0 next ++ emitArms arms (base + 1)
+  emitStatement abort base next = rowOf 57 (pos 0) 0 0 0 next
+
+  -- The rows of arms, from the row `base` on.
+  pub emitArms : Arms → ℕ → List ℤ
+  emitArms noArm base = []
+  emitArms (arm e s arms) base =
+      rowOf 56 (pos (base + 1)) (base + 1 + expressionRows e) 0 0 (armsLink arms (base + 1 + expressionRows e + statementRows s))
+      ++ emitExpression e (base + 1) ++ emitStatement s (base + 1 + expressionRows e) 0 ++ emitArms arms (base + 1 + expressionRows e + statementRows s)
 
   -- The rows of a list, or of a part of one, from the row `base` on. The next field of an item is the row behind it.
   pub emitItems : Bool → Items → ℕ → List ℤ

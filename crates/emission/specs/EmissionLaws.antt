@@ -5,9 +5,9 @@ use mathlib.Core.List.{_++_, append-assoc}
 use Prim.Native.Nat.{ℕ, _+_, _*_}
 use native.Mathlib.Omega.{arith}
 use lib.ListN.{length, length-append}
-use Rattle.language.specs.Trees.{Expression, constant, read, minus, not, binary, and, or, comma, conditional, assign, compound, prefix, postfix, Place, variable, element, Part, absent, present, Mark, case, default, label, Statement, empty, express, block, ifThen, ifElse, while, doWhile, for, switch, break, continue, goto, Items, none, _then_, _here_, _⧺_}
-use Rattle.language.specs.Sizes.{expressionRows, placeRows, partRows, statementRows, itemsRows}
-use Rattle.emission.specs.Emission.{emitExpression, emitPlace, emitPart, listLink, emitMark, emitStatement, emitItems, emit}
+use Rattle.language.specs.Trees.{Expression, constant, read, minus, not, binary, and, or, comma, conditional, assign, compound, prefix, postfix, Place, variable, element, Part, absent, present, Mark, case, default, label, Statement, empty, express, block, ifThen, ifElse, while, doWhile, for, switch, break, continue, goto, guardedIf, guardedDo, abort, Arms, noArm, arm, Items, none, _then_, _here_, _⧺_}
+use Rattle.language.specs.Sizes.{expressionRows, placeRows, partRows, statementRows, armsRows, itemsRows}
+use Rattle.emission.specs.Emission.{emitExpression, emitPlace, emitPart, listLink, emitMark, emitStatement, emitArms, emitItems, emit}
 
 -- Whether items stand behind a list that is followed by another.
 abbrev pub orMore : Bool → Items → Bool
@@ -96,6 +96,14 @@ mutual
   length-statement break base next = refl
   length-statement continue base next = refl
   length-statement (goto l) base next = refl
+  length-statement (guardedIf arms) base next = omega (arith, length-arms arms (base + 1))
+  length-statement (guardedDo arms) base next = omega (arith, length-arms arms (base + 1))
+  length-statement abort base next = refl
+
+  length-arms : (arms : Arms) (base : ℕ) → length (emitArms arms base) ≡ 6 * armsRows arms
+  length-arms noArm base = refl
+  length-arms (arm e s arms) base =
+      simp length-append (omega (arith, length-expression e (base + 1), length-statement s (base + 1 + expressionRows e) 0, length-arms arms (base + 1 + expressionRows e + statementRows s)))
 
   pub length-items : (follows : Bool) (is : Items) (base : ℕ) → length (emitItems follows is base) ≡ 6 * itemsRows is
   length-items follows none base = refl

@@ -12,11 +12,11 @@ use lib.Seq.{getD-append-add}
 use Rattle.words.specs.Word.{natural}
 use Rattle.words.specs.Table.{rowCount, wordAt, numberAt}
 use Rattle.words.specs.declared.Operator.{Operator}
-use Rattle.language.specs.Trees.{Expression, constant, read, minus, binary, assign, Place, variable, element, label, Statement, empty, express, block, ifElse, while, goto, Items, none, _then_, _here_}
+use Rattle.language.specs.Trees.{Expression, constant, read, minus, binary, assign, Place, variable, element, label, Statement, empty, express, block, ifElse, while, goto, abort, Items, none, _then_, _here_}
 use Rattle.language.specs.Sizes.{expressionRows, placeRows, statementRows}
 use Rattle.emission.specs.Emission.{rowOf, operatorNumber, emitExpression, emitPlace, listLink, emitStatement, emitItems, emit}
 use Rattle.emission.specs.EmissionLaws.{length-expression, length-place, length-statement}
-use Rattle.emission.specs.KernelKinds.{ExpressionInKernel, a-constant, a-read, a-minus, a-binary, an-assign, PlaceInKernel, a-variable, an-element, StatementInKernel, an-empty, an-express, a-block, an-if, a-while, a-goto, ItemsInKernel, no-items, a-statement, a-label}
+use Rattle.emission.specs.KernelKinds.{ExpressionInKernel, a-constant, a-read, a-minus, a-binary, an-assign, PlaceInKernel, a-variable, an-element, StatementInKernel, an-empty, an-express, a-block, an-if, a-while, a-goto, an-abort, ItemsInKernel, no-items, a-statement, a-label}
 
 -- ---- the relations
 
@@ -58,6 +58,7 @@ mutual
     while-at : {e : Expression} {body : Statement} {base next : ℕ} → Row rows base 44 (base + 1) (base + 1 + expressionRows e) 0 0 next
         → EmittedExpression rows e (base + 1) → EmittedStatement rows body (base + 1 + expressionRows e) 0 → EmittedStatement rows (while e body) base next
     goto-at : {l base next : ℕ} → Row rows base 52 l 0 0 0 next → EmittedStatement rows (goto l) base next
+    abort-at : {base next : ℕ} → Row rows base 57 0 0 0 0 next → EmittedStatement rows abort base next
 
   -- The rows of a list.
   pub data EmittedItems (rows : List ℤ) : Items → ℕ → Type 0 where
@@ -178,6 +179,7 @@ mutual
       while-at (row-first 44 (pos (base + 1)) m 0 0 next (u ++ v) g)
       (emitted-expression (base + 1) k (segment-left u v rest)) (emitted-statement m 0 j (segment-right (expressionRows e) u v (length-expression e (base + 1)) rest))
   emitted-statement base next (a-goto {l}) g = goto-at (row-first 52 (pos l) 0 0 0 next [] g)
+  emitted-statement base next an-abort g = abort-at (row-first 57 (pos 0) 0 0 0 next [] g)
 
   emitted-items : {rows : List ℤ} {is : Items} (base : ℕ) → ItemsInKernel is → Segment rows base (emitItems false is base) → EmittedItems rows is base
   emitted-items base no-items g = none-at

@@ -1,9 +1,9 @@
 -- Trees of the kernel's kinds: constant, variable, element, minus, kinds 6 to 16, assign; empty, expression statement, block, if with
--- both branches, while, goto; label the only mark.
+-- both branches, while, goto, abort; label the only mark.
 use Prim.Native.Nat.{ℕ}
 use lib.IntN.{ℤ}
 use Rattle.words.specs.declared.Operator.{Operator}
-use Rattle.language.specs.Trees.{Expression, constant, read, minus, binary, assign, Place, variable, element, label, Statement, empty, express, block, ifElse, while, goto, Items, none, _then_, _here_}
+use Rattle.language.specs.Trees.{Expression, constant, read, minus, binary, assign, Place, variable, element, label, Statement, empty, express, block, ifElse, while, goto, abort, Items, none, _then_, _here_}
 
 mutual
   pub data ExpressionInKernel : Expression → Type 0 where
@@ -25,6 +25,7 @@ mutual
     an-if : {e : Expression} {onTrue onFalse : Statement} → ExpressionInKernel e → StatementInKernel onTrue → StatementInKernel onFalse → StatementInKernel (ifElse e onTrue onFalse)
     a-while : {e : Expression} {body : Statement} → ExpressionInKernel e → StatementInKernel body → StatementInKernel (while e body)
     a-goto : {l : ℕ} → StatementInKernel (goto l)
+    an-abort : StatementInKernel abort
 
   pub data ItemsInKernel : Items → Type 0 where
     no-items : ItemsInKernel none

@@ -13,17 +13,17 @@ use Rattle.words.specs.declared.Operator.the-variants.{Add, Subtract, Multiply,
 use Rattle.words.specs.declared.Kind.{Kind}
 use Rattle.words.specs.declared.Kind.the-variants.{OfExpression, OfStatement, OfMark}
 use Rattle.words.specs.declared.ExpressionKind.the-variants.{Constant, Variable, Element, Minus, Binary, Assign}
-use Rattle.words.specs.declared.StatementKind.the-variants.{Empty, Express, Block, If, While, Goto}
+use Rattle.words.specs.declared.StatementKind.the-variants.{Empty, Express, Block, If, While, Goto, Abort}
 use Rattle.words.specs.declared.MarkKind.the-variants.{Label}
 use Rattle.language.specs.Trees.{Expression, constant, read, minus, binary, assign, Place, variable, element, label, Statement, express, block, while, goto, Items, none, _then_, _here_}
 use Rattle.language.specs.Decode.{placeOf, expressionAt, statementAt, itemsAt, decode, Forward, listAt}
-use Rattle.language.specs.DecodeLaws.{at-constant, at-variable, at-element, at-minus, at-binary, at-assign, at-empty, at-express, at-block, at-ifElse, at-while, at-goto, at-item, at-label}
+use Rattle.language.specs.DecodeLaws.{at-constant, at-variable, at-element, at-minus, at-binary, at-assign, at-empty, at-express, at-block, at-ifElse, at-while, at-goto, at-abort, at-item, at-label}
 use Rattle.language.specs.Sizes.{statementRows}
 use Rattle.language.specs.TreeLaws.{statement-some}
 use Rattle.emission.specs.Emission.{operatorNumber, listLink, emit}
 use Rattle.emission.specs.EmissionLaws.{length-emit}
 use Rattle.emission.specs.KernelKinds.{StatementInKernel}
-use Rattle.emission.specs.Emitted.{Row, EmittedExpression, constant-at, read-at, minus-at, binary-at, assign-at, EmittedPlace, variable-at, element-at, EmittedStatement, empty-at, express-at, block-at, if-at, while-at, goto-at, EmittedItems, none-at, then-at, label-at, emitted}
+use Rattle.emission.specs.Emitted.{Row, EmittedExpression, constant-at, read-at, minus-at, binary-at, assign-at, EmittedPlace, variable-at, element-at, EmittedStatement, empty-at, express-at, block-at, if-at, while-at, goto-at, abort-at, EmittedItems, none-at, then-at, label-at, emitted}
 
 -- ---- links forward
 
@@ -68,6 +68,7 @@ statement-row (block-at r m) = (ap isStatementKind (row-kind (OfStatement Block)
 statement-row (if-at r m n o) = (ap isStatementKind (row-kind (OfStatement If) refl r), r .next-is)
 statement-row (while-at r m n) = (ap isStatementKind (row-kind (OfStatement While) refl r), r .next-is)
 statement-row (goto-at r) = (ap isStatementKind (row-kind (OfStatement Goto) refl r), r .next-is)
+statement-row (abort-at r) = (ap isStatementKind (row-kind (OfStatement Abort) refl r), r .next-is)
 
 module _ (rows : List ℤ) (whole : Whole rows) where
   mutual
@@ -111,6 +112,7 @@ module _ (rows : List ℤ) (whole : Whole rows) where
         at-while rows whole base (row-kind (OfStatement While) refl r) (omega (arith, r .a-is)) (omega (arith, r .b-is))
         ∙ rw (r .a-is, r .b-is) (ap₂ while (read-expression m) (read-statement n))
     read-statement (goto-at {l} {base} r) = at-goto rows whole base (row-kind (OfStatement Goto) refl r) ∙ ap goto (r .a-is)
+    read-statement (abort-at {base} r) = at-abort rows whole base (row-kind (OfStatement Abort) refl r)
 
     -- The list that begins at a list's link.
     pub read-items : {is : Items} {base : ℕ} → 0 < base → EmittedItems rows is base → listAt rows (listLink false is base) ≡ is

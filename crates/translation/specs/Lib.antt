@@ -60,5 +60,5 @@ pub mod CopyLaws
 -- No program gets more rows or temporaries by it.
 pub mod Savings
 -- ---- laws: examples
--- Document 01's program and a switch, with their translations.
+-- Document 01's program, a switch, both guarded forms, with their translations.
 pub mod WorkedExamples

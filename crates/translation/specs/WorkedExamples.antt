@@ -1,13 +1,15 @@
--- Examples: document 01's program and one of its switches, with their translations. By computation.
+-- Examples: document 01's program, one of its switches, values that go straight to their place, and both guarded forms, with their
+-- translations. By computation.
 use mathlib.Core.Path.{_≡_, refl}
 use mathlib.Core.List.{[], _∷_}
+use Prim.Native.Nat.{ℕ}
 use lib.IntN.{pos}
 use Rattle.words.specs.Word.{isWord, natural}
 use Rattle.words.specs.Layout.{Layout, sum, storeSize, arrayBase, arrayLength}
 use Rattle.words.specs.Arithmetic.{inWord, apply, element as elementWord}
-use Rattle.words.specs.declared.Operator.the-variants.{Add, Subtract, Equal}
+use Rattle.words.specs.declared.Operator.the-variants.{Add, Subtract, Greater, Equal}
 use Rattle.computation.specs.Run.{start, rounds, run, final}
-use Rattle.language.specs.Trees.{Expression, constant, read, minus, not, binary, comma, conditional, assign, compound, prefix, postfix, Place, variable, element, case, default, label, Statement, express, block, ifElse, switch, goto, Items, none, _then_, _here_, _⧺_, sameMark}
+use Rattle.language.specs.Trees.{Expression, constant, read, minus, not, binary, comma, conditional, assign, compound, prefix, postfix, Place, variable, element, case, default, label, Statement, empty, express, block, ifElse, while, switch, goto, guardedIf, guardedDo, abort, Arms, noArm, arm, Items, none, _then_, _here_, _⧺_, sameMark}
 use Rattle.language.specs.Meaning.{evaluate, perform, exec}
 use Rattle.language.specs.Writes.{writes}
 use Rattle.translation.specs.Uses.{direct}
@@ -158,3 +160,36 @@ pub indirect-translation : translate places indirect
     then none
 unfolding translate statementCode expressionCode direct atomOf writes placeTaken kernelPlace labels storeSize sum _⧺_
 indirect-translation = refl
+
+-- ---- guarded statements
+
+-- v0 > v1 -> { v0 -= v1; }, and what comes of it where the next label is L2
+abbrev reduces : ℕ → ℕ → Arms → Arms
+reduces i j arms = arm (binary Greater (read (variable i)) (read (variable j))) (block (express (compound Subtract (variable i) (read (variable j))) then none)) arms
+
+abbrev reduced : ℕ → ℕ → Items → Items
+reduced i j rest = set (variable 2) (binary Greater (read (variable i)) (read (variable j)))
+    then ifElse (read (variable 2)) (block (block (set (variable i) (binary Subtract (read (variable i)) (read (variable j))) then none) then goto 2 then none)) (block none)
+    then rest
+
+-- do v0 > v1 -> { v0 -= v1; } [] v1 > v0 -> { v1 -= v0; } od
+abbrev divisor : Items
+divisor = guardedDo (reduces 0 1 (reduces 1 0 noArm)) then none
+
+-- while (1) { t0 = v0 > v1; if (t0) { { v0 = v0 - v1; } goto L2; } else { } .. goto L1; L2: } L1:
+pub divisor-translation : translate pair divisor ≡ while (constant (pos 1)) (block (reduced 0 1 (reduced 1 0 (goto 1 then label 2 here none)))) then label 1 here none
+unfolding translate statementCode expressionCode direct atomOf writes placeTaken kernelPlace labels storeSize sum _⧺_
+divisor-translation = refl
+
+-- if v0 -> { v1 = 1; } fi: if (v0) { { v1 = 1; } goto L1; } else { } abort; L1:
+pub guarded-translation : translate pair (guardedIf (arm (read (variable 0)) (block (set (variable 1) (constant (pos 1)) then none)) noArm) then none)
+    ≡ ifElse (read (variable 0)) (block (block (set (variable 1) (constant (pos 1)) then none) then goto 1 then none)) (block none)
+    then abort
+    then label 1 here none
+unfolding translate statementCode expressionCode direct atomOf writes placeTaken kernelPlace labels storeSize sum _⧺_
+guarded-translation = refl
+
+-- Without arms there is nothing to go round.
+pub no-arms-translation : translate pair (guardedDo noArm then guardedIf noArm then none) ≡ empty then abort then label 1 here none
+unfolding translate statementCode labels storeSize sum _⧺_
+no-arms-translation = refl

@@ -13,7 +13,7 @@ use Rattle.words.specs.Table.{rowCount, numberAt}
 use Rattle.language.specs.Trees.{Expression, Place, Mark, label, sameMark, has, Statement, Items, none, _then_, _here_, _⧺_}
 use Rattle.language.specs.Sizes.{expressionRows, placeRows, statementRows, itemsRows}
 use Rattle.language.specs.TreeLaws.{statement-some}
-use Rattle.translation.specs.KernelForm.{KernelStatement, kernel-block, kernel-if, kernel-while, kernel-goto, KernelItems, kernel-then, kernel-label}
+use Rattle.translation.specs.KernelForm.{KernelStatement, kernel-block, kernel-if, kernel-while, kernel-goto, kernel-abort, KernelItems, kernel-then, kernel-label}
 use Rattle.words.specs.Kinds.{sortOf, isLink, kindOf, kindIn, kinds, sortIn, kindRow, expressionFields, statementFields, markFields}
 use Rattle.words.specs.Links.{isStatement, link}
 use Rattle.structure.specs.Structured.{Leads}
@@ -21,7 +21,7 @@ use Rattle.structure.specs.Lists.{Before, adjacent, further}
 use Rattle.kernel_check.specs.Statements.{isKernelStatement}
 use Rattle.kernel_check.specs.Legal.{Owner, part, beside, Ahead, behind, outward}
 use Rattle.emission.specs.Emission.{listLink}
-use Rattle.emission.specs.Emitted.{Row, EmittedExpression, constant-at, read-at, minus-at, binary-at, assign-at, EmittedPlace, variable-at, element-at, EmittedStatement, empty-at, express-at, block-at, if-at, while-at, goto-at, EmittedItems, none-at, then-at, label-at}
+use Rattle.emission.specs.Emitted.{Row, EmittedExpression, constant-at, read-at, minus-at, binary-at, assign-at, EmittedPlace, variable-at, element-at, EmittedStatement, empty-at, express-at, block-at, if-at, while-at, goto-at, abort-at, EmittedItems, none-at, then-at, label-at}
 use Rattle.emission.specs.ReadBack.{link-forward}
 use Rattle.emission_legal.specs.Ranges.{Each, none-of, join, first-and}
 use Rattle.emission_legal.specs.Suits.{row-link}
@@ -59,6 +59,7 @@ module _ {rows : List ℤ} where
   statement-next (if-at {base} {next} r m n o) = row-link r 5 next (r .next-is)
   statement-next (while-at {base} {next} r m n) = row-link r 5 next (r .next-is)
   statement-next (goto-at {base} {next} r) = row-link r 5 next (r .next-is)
+  statement-next (abort-at {base} {next} r) = row-link r 5 next (r .next-is)
 
   label-next : {row l next : ℕ} → Row rows row 53 l 0 0 0 next → link rows row 5 ≡ next
   unfolding sortOf kindOf kindIn kinds sortIn kindRow expressionFields statementFields markFields isLink
@@ -177,6 +178,7 @@ module _ (rows : List ℤ) where
         (join _ (base + 1) second end (formed-expression _ refl m) (formed-statement end (omega arith) n (kernel-block f) (λ l h. outward own-second (labels l h))))
     formed-statement end q (goto-at {l} {base} r) (kernel-goto b h) labels =
         first-and _ base end (λ e. record { formed = form-statement rows (kernel-goto b h) (goto-at r); ahead = λ k. rw (r .a-is) (labels l h) }) (none-of _ (base + 1) end (omega arith))
+    formed-statement end q (abort-at {base} r) f labels = first-and _ base end (λ e. no-goto r (λ k. omega arith) (form-statement rows f (abort-at r))) (none-of _ (base + 1) end (omega arith))
 
     -- The items of a list, whose owner has labels ahead of it.
     formed-items : {ahead is : Items} {base : ℕ} (owner end : ℕ) → base + itemsRows is ≡ end → EmittedItems rows is base → KernelItems ahead is → 0 < base

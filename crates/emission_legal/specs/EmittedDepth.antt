@@ -15,7 +15,7 @@ use Rattle.words.specs.Kinds.{sortOf, isLink, kindOf, kindIn, kinds, sortIn, ki
 use Rattle.words.specs.Links.{link}
 use Rattle.structure.specs.Structured.{Leads, Depth, root, owned, beside}
 use Rattle.emission.specs.Emission.{listLink}
-use Rattle.emission.specs.Emitted.{Row, EmittedExpression, constant-at, read-at, minus-at, binary-at, assign-at, EmittedPlace, variable-at, element-at, EmittedStatement, empty-at, express-at, block-at, if-at, while-at, goto-at, EmittedItems, none-at, then-at, label-at}
+use Rattle.emission.specs.Emitted.{Row, EmittedExpression, constant-at, read-at, minus-at, binary-at, assign-at, EmittedPlace, variable-at, element-at, EmittedStatement, empty-at, express-at, block-at, if-at, while-at, goto-at, abort-at, EmittedItems, none-at, then-at, label-at}
 use Rattle.emission_legal.specs.Suits.{each-link}
 use Rattle.emission_legal.specs.EmittedRows.{sort-binary}
 
@@ -79,6 +79,7 @@ module _ (rows : List ℤ) (limit : ℕ) where
     below-statement (while-at r m n) room next =
         each-link r (Below depth) (λ h. an-expression {depth = depth + 1} m (omega arith)) (λ h. a-branch (depth + 1) n (omega arith)) never never next
     below-statement (goto-at r) room next = each-link r (Below depth) never never never never next
+    below-statement (abort-at r) room next = each-link r (Below depth) never never never never next
 
   below : {row depth : ℕ} (field : ℕ) → field < 6 → Leads rows row field → Standing row depth → Standing (link rows row field) (handed field depth)
   unfolding sortOf kindOf kindIn kinds sortIn kindRow expressionFields statementFields markFields isLink
@@ -110,6 +111,7 @@ module _ (rows : List ℤ) (limit : ℕ) where
   statement-deep (if-at r m n o) = omega arith
   statement-deep (while-at r m n) = omega arith
   statement-deep (goto-at r) = omega arith
+  statement-deep (abort-at r) = omega arith
 
   within : {row depth : ℕ} → Standing row depth → depth ≤ limit
   within (an-expression m room) = omega (arith, expression-deep m)

@@ -9,10 +9,10 @@ use lib.IntN.{ℤ}
 use Rattle.words.specs.Table.{numberAt}
 use Rattle.words.specs.declared.Operator.{Operator}
 use Rattle.language.specs.Trees.{Expression, read, minus, binary, assign, Place, variable, element, Statement, block, Items}
-use Rattle.translation.specs.KernelForm.{IsAtom, constant-atom, variable-atom, Assigns, assigns-atom, assigns-minus, assigns-operation, assigns-element, assigns-to-element, KernelStatement, kernel-empty, kernel-assign, kernel-block, kernel-if, kernel-while, kernel-goto}
+use Rattle.translation.specs.KernelForm.{IsAtom, constant-atom, variable-atom, Assigns, assigns-atom, assigns-minus, assigns-operation, assigns-element, assigns-to-element, KernelStatement, kernel-empty, kernel-assign, kernel-block, kernel-if, kernel-while, kernel-goto, kernel-abort}
 use Rattle.kernel_check.specs.Statements.{isAtom, isAtomMinus, isAtomOperation, isAtomElement, fitsVariable, isAssignment, isBlock, isKernelIf, isKernelWhile, isKernelExpression, isKernelStatement}
 use Rattle.emission_legal.specs.EmittedRows.{between-binary}
-use Rattle.emission.specs.Emitted.{Row, EmittedExpression, constant-at, read-at, minus-at, binary-at, assign-at, EmittedPlace, variable-at, element-at, EmittedStatement, empty-at, express-at, block-at, if-at, while-at, goto-at}
+use Rattle.emission.specs.Emitted.{Row, EmittedExpression, constant-at, read-at, minus-at, binary-at, assign-at, EmittedPlace, variable-at, element-at, EmittedStatement, empty-at, express-at, block-at, if-at, while-at, goto-at, abort-at}
 
 -- ---- forms
 
@@ -67,6 +67,7 @@ module _ (rows : List ℤ) where
   form-statement (kernel-if h k j) (if-at r m n o) = rw (r .kind-is, r .a-is, r .b-is, r .c-is, form-atom h m, form-block (omega arith) n, form-block (omega arith) o)
   form-statement (kernel-while h k) (while-at r m n) = rw (r .kind-is, r .a-is, r .b-is, form-atom h m, form-block (omega arith) n)
   form-statement (kernel-goto b h) (goto-at r) = rw (r .kind-is)
+  form-statement kernel-abort (abort-at r) = rw (r .kind-is)
 
   pub form-label : {row l next : ℕ} → Row rows row 53 l 0 0 0 next → isKernelStatement rows row ≡ true
   unfolding isKernelStatement isKernelIf isKernelWhile

@@ -21,7 +21,7 @@ use Rattle.words.specs.Kinds.{sortOf, sortAt, kindOf, kindIn, kinds, sortIn, ki
 use Rattle.words.specs.Links.{isStatement}
 use Rattle.structure.specs.Links.{one}
 use Rattle.kernel_check.specs.Legal.{Label}
-use Rattle.emission.specs.Emitted.{Row, EmittedExpression, EmittedStatement, empty-at, express-at, block-at, if-at, while-at, goto-at, EmittedItems, none-at, then-at, label-at}
+use Rattle.emission.specs.Emitted.{Row, EmittedExpression, EmittedStatement, empty-at, express-at, block-at, if-at, while-at, goto-at, abort-at, EmittedItems, none-at, then-at, label-at}
 use Rattle.emission_legal.specs.Ranges.{Each}
 use Rattle.emission_legal.specs.EmittedAhead.{plain-expression}
 
@@ -80,6 +80,7 @@ module _ (rows : List ℤ) (l : ℕ) where
     before-statement end q (while-at {e} {body} {base} r m n) =
         omega (arith, other-row r refl, before-expression (base + 1 + expressionRows e) refl m, before-statement end (omega arith) n)
     before-statement end q (goto-at {l = k} {base} r) = let z : end ≡ base + 1 = omega arith in rw z (omega (arith, other-row r refl))
+    before-statement end q (abort-at {base} r) = let z : end ≡ base + 1 = omega arith in rw z (omega (arith, other-row r refl))
 
     before-items : {is : Items} {base : ℕ} (end : ℕ) → base + itemsRows is ≡ end → EmittedItems rows is base → labelsBefore end ≡ labelsBefore base + itemsTimes l is
     before-items end q (none-at {base}) = let z : end ≡ base = omega arith in rw z (omega arith)

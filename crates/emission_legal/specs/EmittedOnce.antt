@@ -17,7 +17,7 @@ use Rattle.words.specs.Kinds.{sortOf, isLink, kindOf, kindIn, kinds, sortIn, ki
 use Rattle.words.specs.Links.{link, target}
 use Rattle.structure.specs.Links.{one, linksAmong, linkCount}
 use Rattle.emission.specs.Emission.{listLink}
-use Rattle.emission.specs.Emitted.{Row, EmittedExpression, constant-at, read-at, minus-at, binary-at, assign-at, EmittedPlace, variable-at, element-at, EmittedStatement, empty-at, express-at, block-at, if-at, while-at, goto-at, EmittedItems, none-at, then-at, label-at}
+use Rattle.emission.specs.Emitted.{Row, EmittedExpression, constant-at, read-at, minus-at, binary-at, assign-at, EmittedPlace, variable-at, element-at, EmittedStatement, empty-at, express-at, block-at, if-at, while-at, goto-at, abort-at, EmittedItems, none-at, then-at, label-at}
 use Rattle.emission_legal.specs.Suits.{linkBy, row-link}
 use Rattle.emission_legal.specs.EmittedRows.{sort-binary}
 
@@ -124,6 +124,7 @@ module _ (rows : List ℤ) where
           let second = base + 1 + expressionRows e in
           omega (arith, row-links r, miss, step (base + 1) j, once-expression second refl m, step second j, once-statement end (omega arith) n)
       once-statement end q (goto-at {l} {base} r) = let z : end ≡ base + 1 = omega arith in rw z (omega (arith, row-links r, miss))
+      once-statement end q (abort-at {base} r) = let z : end ≡ base + 1 = omega arith in rw z (omega (arith, row-links r, miss))
 
       once-items : {is : Items} {base : ℕ} (end : ℕ) → base + itemsRows is ≡ end → EmittedItems rows is base → before end + hit (listLink false is base) j + below base j ≡ before base + below end j
       once-items end q (none-at {base}) = let z : end ≡ base = omega arith in rw z (omega (arith, miss))

@@ -21,7 +21,7 @@ use Rattle.words.specs.Links.{isExpression, isPlace, isStatement, fits}
 use Rattle.structure.specs.Fields.{numberFits}
 use Rattle.structure.specs.declared.Bounds.{Bounds}
 use Rattle.emission.specs.Emission.{operatorNumber, listLink}
-use Rattle.emission.specs.Emitted.{Row, EmittedExpression, constant-at, read-at, minus-at, binary-at, assign-at, EmittedPlace, variable-at, element-at, EmittedStatement, empty-at, express-at, block-at, if-at, while-at, goto-at, EmittedItems, none-at, then-at, label-at}
+use Rattle.emission.specs.Emitted.{Row, EmittedExpression, constant-at, read-at, minus-at, binary-at, assign-at, EmittedPlace, variable-at, element-at, EmittedStatement, empty-at, express-at, block-at, if-at, while-at, goto-at, abort-at, EmittedItems, none-at, then-at, label-at}
 use Rattle.emission.specs.ReadBack.{kind-binary}
 use Rattle.emission_legal.specs.Ranges.{Each, none-of, join, first-and}
 use Rattle.emission_legal.specs.Suits.{Suits, RowLegal, suits-unused, suits-value, suits-name, suits-link-to, suits-absent, row-legal}
@@ -84,6 +84,7 @@ module _ {rows : List ℤ} where
   first-statement (if-at r m n o) = (record { inside = r .inside; fitting = rw (row-sort r) }, r .next-is)
   first-statement (while-at r m n) = (record { inside = r .inside; fitting = rw (row-sort r) }, r .next-is)
   first-statement (goto-at r) = (record { inside = r .inside; fitting = rw (row-sort r) }, r .next-is)
+  first-statement (abort-at r) = (record { inside = r .inside; fitting = rw (row-sort r) }, r .next-is)
 
   -- A branch or body has next 0.
   first-branch : {s : Statement} {base : ℕ} → EmittedStatement rows s base 0 → First rows base branch × First rows base optionalBranch
@@ -172,6 +173,8 @@ module _ (bounds : Bounds) (rows : List ℤ) (Names : ℕ → Type 0) (arrays : 
         (join _ (base + 1) (base + 1 + expressionRows e) end (legal-expression _ refl m (k .0)) (legal-statement end (omega arith) n (suits-absent bounds rows _) (k .1) (kernel-block f)))
     legal-statement end q (goto-at {l} {base} r) next k (kernel-goto b f) =
         first-and _ base end (row-legal r refl (suits-name bounds rows base label l (omega arith) (omega arith) (labels-fit l b)) (nothing base) (nothing base) (nothing base) next) (none-of _ (base + 1) end (omega arith))
+    legal-statement end q (abort-at {base} r) next k f =
+        first-and _ base end (row-legal r refl (nothing base) (nothing base) (nothing base) (nothing base) next) (none-of _ (base + 1) end (omega arith))
 
     legal-items : {ahead is : Items} {base : ℕ} (end : ℕ) → base + itemsRows is ≡ end → EmittedItems rows is base → NamedItems Names arrays is → KernelItems ahead is → Legals base end
     legal-items end q (none-at {base}) k f = none-of _ base end (omega arith)

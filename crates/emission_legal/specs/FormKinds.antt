@@ -1,7 +1,7 @@
 -- Trees of kernel form have the kernel's kinds.
 use Rattle.language.specs.Trees.{Expression, Statement, Items}
-use Rattle.translation.specs.KernelForm.{IsAtom, constant-atom, variable-atom, Assigns, assigns-atom, assigns-minus, assigns-operation, assigns-element, assigns-to-element, KernelStatement, kernel-empty, kernel-assign, kernel-block, kernel-if, kernel-while, kernel-goto, KernelItems, kernel-none, kernel-then, kernel-label}
-use Rattle.emission.specs.KernelKinds.{ExpressionInKernel, a-constant, a-read, a-minus, a-binary, an-assign, a-variable, an-element, StatementInKernel, an-empty, an-express, a-block, an-if, a-while, a-goto, ItemsInKernel, no-items, a-statement, a-label}
+use Rattle.translation.specs.KernelForm.{IsAtom, constant-atom, variable-atom, Assigns, assigns-atom, assigns-minus, assigns-operation, assigns-element, assigns-to-element, KernelStatement, kernel-empty, kernel-assign, kernel-block, kernel-if, kernel-while, kernel-goto, kernel-abort, KernelItems, kernel-none, kernel-then, kernel-label}
+use Rattle.emission.specs.KernelKinds.{ExpressionInKernel, a-constant, a-read, a-minus, a-binary, an-assign, a-variable, an-element, StatementInKernel, an-empty, an-express, a-block, an-if, a-while, a-goto, an-abort, ItemsInKernel, no-items, a-statement, a-label}
 
 atom-kinds : {e : Expression} → IsAtom e → ExpressionInKernel e
 atom-kinds constant-atom = a-constant
@@ -22,6 +22,7 @@ mutual
   statement-kinds (kernel-if h k j) = an-if (atom-kinds h) (a-block (items-kinds k)) (a-block (items-kinds j))
   statement-kinds (kernel-while h k) = a-while (atom-kinds h) (a-block (items-kinds k))
   statement-kinds (kernel-goto n h) = a-goto
+  statement-kinds kernel-abort = an-abort
 
   pub items-kinds : {ahead is : Items} → KernelItems ahead is → ItemsInKernel is
   items-kinds kernel-none = no-items

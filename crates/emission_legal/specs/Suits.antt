@@ -103,7 +103,7 @@ module _ (bounds : Bounds) (rows : List ℤ) (row : ℕ) where
   pub suits-name : (sort number : ℕ) → variable ≤ sort → sort ≤ label → numberFits bounds sort number ≡ true → Suits bounds rows row sort number
   unfolding isRequired isLink
   suits-name sort number l m fit =
-      let required : isRequired sort ≡ false = rw (ne-eqb sort 5 (λ e. omega arith), ne-eqb sort 7 (λ e. omega arith), ne-eqb sort 8 (λ e. omega arith)) in
+      let required : isRequired sort ≡ false = rw (ne-eqb sort 5 (λ e. omega arith), ne-eqb sort 7 (λ e. omega arith), ne-eqb sort 8 (λ e. omega arith), ne-eqb sort 11 (λ e. omega arith)) in
       let linking : isLink sort ≡ false = rw (lt-leb 5 sort (omega arith)) in
       record {
         zero-where-unused = λ q. absurd (omega arith);
@@ -118,7 +118,7 @@ module _ (bounds : Bounds) (rows : List ℤ) (row : ℕ) where
   pub suits-link-to : (sort number : ℕ) → expression ≤ sort → sort ≤ optionalItem → row < number → number < rowCount rows → fits rows sort number ≡ true → Suits bounds rows row sort number
   unfolding isRequired isLink numberFits
   suits-link-to sort number l m later inside fitting =
-      let linking : isLink sort ≡ true = rw (le-leb 5 sort l, le-leb sort 10 m) in
+      let linking : isLink sort ≡ true = rw (le-leb 5 sort l, le-leb sort 12 (omega arith)) in
       record {
         zero-where-unused = λ q. absurd (omega arith);
         there-where-required = λ q. (linking, omega arith);

@@ -263,7 +263,7 @@ module _ (Names : ℕ → Type 0) (arrays : ℕ) where
     named-guarded : (arms : Arms) (l : ℕ) (xs : Items) → NamedItems Names arrays xs → NamedItems Names arrays (roundsCode S arms xs l)
     unfolding NamedExpression NamedItems
     named-guarded noArm l xs h = (tt, tt)
-    named-guarded (arm e s arms) l xs h = ((tt, named-append xs (goto l then label (l + 1) here none) h (tt, tt)), tt)
+    named-guarded (arm e s arms) l xs h = ((tt, named-append xs _ h (tt, tt)), tt)
 
     mutual
       unfolding NamedStatement statementLevels statementCode

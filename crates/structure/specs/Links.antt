@@ -29,7 +29,7 @@ loneBlock rows = eqb (numberAt rows 0 0) 42 && eqb (numberAt rows 0 5) 0
 unfoldable pub notOnce : List ℤ → ℕ → ℕ → Bool
 notOnce rows count row = pick (eqb row 0) (not (loneBlock rows)) (not (eqb count 1))
 
--- "Depth: row 0 has 1, a row has its owner's plus 1, items of one list share theirs."
+-- "Depth: row 0 has 1, a row has its owner's plus 1, items of one list share theirs." So do the arms of a list.
 unfoldable pub deeper : ℕ → ℕ → ℕ → ℕ
 deeper owner field depth = pick (eqb field 5) depth (depth + 1)
 

@@ -3,7 +3,7 @@ use mathlib.Core.Bool.{Bool, _||_}
 use mathlib.Core.List.{List, [], _∷_}
 use Prim.Native.Nat.{ℕ}
 use Rattle.words.specs.Word.{pick}
-use Rattle.words.specs.Kinds.{unused, value, variable, array, label, expression, optionalExpression, place, branch, optionalBranch, optionalItem, expressionRow, placeRow, statementRow, between, Forms, inBoth, inSource, inKernel, KindRow, kindRow}
+use Rattle.words.specs.Kinds.{unused, value, variable, array, label, expression, optionalExpression, place, branch, optionalBranch, optionalItem, bodyBlock, optionalArm, expressionRow, placeRow, statementRow, armRow, between, Forms, inBoth, inSource, inKernel, KindRow, kindRow}
 use Rattle.words.specs.declared.Kind.the-variants.{Other}
 
 -- A line is about the kinds from one number to another, and says what a, b, c and d hold.
@@ -42,24 +42,28 @@ lines =
     line 48 48 value unused unused unused ∷  -- "48 case | a value"
     line 49 49 unused unused unused unused ∷  -- "49 default | none"
     line 52 53 label unused unused unused ∷  -- "52 goto, 53 label (kernel only) | a label number"
+    line 54 55 optionalArm unused unused unused ∷  -- "kind 54 (guarded if) and 55 (guarded do), each with a the first arm or 0"
+    line 56 56 expression bodyBlock unused unused ∷  -- "kind 56 (arm): a guard, b block, next the next arm"
+    line 57 57 unused unused unused unused ∷  -- "the kernel's new kind 57 (abort, no fields)"
     []
 
--- "'Place' means a row of kind 2 or 3." "Kinds 1 to 30 are expressions, the rest statements."
+-- "'Place' means a row of kind 2 or 3." "Kinds 1 to 30 are expressions, the rest statements." "An arm elsewhere, or another kind among
+-- arms, gets 4": an arm is no statement.
 abbrev pub whatSaid : ℕ → ℕ
-whatSaid number = pick (between 2 3 number) placeRow (pick (between 1 30 number) expressionRow statementRow)
+whatSaid number = pick (between 2 3 number) placeRow (pick (between 1 30 number) expressionRow (pick (between 56 56 number) armRow statementRow))
 
--- "Items of a block or switch are linked by next. Expressions have next 0 (it counts as an unused field)".
+-- "Items of a block or switch are linked by next. Expressions have next 0 (it counts as an unused field)". Of an arm: "next the next arm".
 abbrev pub nextSaid : ℕ → ℕ
-nextSaid number = pick (between 1 30 number) unused optionalItem
+nextSaid number = pick (between 1 30 number) unused (pick (between 56 56 number) optionalArm optionalItem)
 
 -- The kinds that the paragraph on the kernel form names: constant, variable, element, minus; "kinds 6 to 16"; "assigns"; empty,
 -- expression statement, block, if, while; goto, label.
 abbrev pub inParagraph : ℕ → Bool
 inParagraph number = between 1 4 number || (between 6 16 number || (between 21 21 number || (between 40 44 number || between 52 53 number)))
 
--- "(kernel only)". "Kinds not named in this paragraph are not in the kernel language."
+-- "(kernel only)". "The kernel's new kind 57". "Kinds not named in this paragraph are not in the kernel language."
 abbrev pub formsSaid : ℕ → Forms
-formsSaid number = pick (between 52 53 number) inKernel (pick (inParagraph number) inBoth inSource)
+formsSaid number = pick (between 52 53 number || between 57 57 number) inKernel (pick (inParagraph number) inBoth inSource)
 
 abbrev pub rowSaid : ℕ → Line → KindRow
 rowSaid number l =

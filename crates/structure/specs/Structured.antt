@@ -41,7 +41,7 @@ pub record Structured (form : Form) (bounds : Bounds) (rows : List ℤ) : Type 0
   -- Every variable, array and label number names one.
   pub named : EachField rows (λ row field. numberFits bounds (sortAt rows row field) (numberAt rows row field) ≡ true)
 
--- "Depth: row 0 has 1, a row has its owner's plus 1, items of one list share theirs."
+-- "Depth: row 0 has 1, a row has its owner's plus 1, items of one list share theirs." So do the arms of a list.
 pub data Depth (rows : List ℤ) : ℕ → ℕ → Type 0 where
   root : Depth rows 0 1
   owned : {row field depth : ℕ} → field < 5 → Leads rows row field → Depth rows row depth → Depth rows (link rows row field) (depth + 1)

@@ -15,7 +15,8 @@ use Rattle.words.specs.Layout.{headerFits, countFits}
 use Rattle.words.specs.Laws.{both, rowLimit-most, countFits-facts}
 use Rattle.words.specs.declared.Form.{Form}
 use Rattle.words.specs.declared.Verdict.the-variants.{Accepted}
-use Rattle.words.specs.Kinds.{unused, variable, array, label, expression, place, branch, sortOf, sortAt, between, inLanguage, isLink, isRequired}
+use Rattle.words.specs.Kinds.{unused, variable, array, label, sortOf, sortAt, between, inLanguage, isLink, isRequired}
+use Rattle.words.specs.KindLaws.{required-link}
 use Rattle.words.specs.Links.{link, fits}
 use Rattle.words.specs.Search.{lowestRow, someField}
 use Rattle.words.specs.SearchLaws.{lowestRow-all, all-lowestRow, someField-all, all-someField}
@@ -72,16 +73,6 @@ module _ (form : Form) (rows : List ℤ) (row : ℕ) where
 
 -- ---- cause 4
 
-pub required-is-link : (sort : ℕ) → isRequired sort ≡ true → isLink sort ≡ true
-unfolding isRequired isLink
-required-is-link sort e = go (ℕ-discrete sort expression) (ℕ-discrete sort place) (ℕ-discrete sort branch)
-  where
-    go : Dec (sort ≡ expression) → Dec (sort ≡ place) → Dec (sort ≡ branch) → isLink sort ≡ true
-    go (yes p) b c = rw p
-    go (no p) (yes q) c = rw q
-    go (no p) (no q) (yes r) = rw r
-    go (no p) (no q) (no r) = absurd (true≢false (sym e ∙ rw (ne-eqb sort expression p, ne-eqb sort place q, ne-eqb sort branch r)))
-
 module _ (rows : List ℤ) (row field : ℕ) where
   -- a link that is there
   pub record Fitting : Type 0 where
@@ -115,7 +106,7 @@ module _ (rows : List ℤ) (row field : ℕ) where
   right-present : mislinked rows row field ≡ false → isRequired (sortAt rows row field) ≡ true → 0 < link rows row field
   unfolding mislinked
   right-present e r =
-      let l = required-is-link (sortAt rows row field) r in
+      let l = required-link (sortAt rows row field) r in
       rw (is-link l) (above-zero (numberAt rows row field) (λ q. true≢false (sym r ∙ (rw (l, eq-eqb _ _ q) at e))))
 
   link-right : (isRequired (sortAt rows row field) ≡ true → 0 < link rows row field) → (0 < link rows row field → Leads rows row field)

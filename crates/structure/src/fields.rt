@@ -1,6 +1,8 @@
 // The causes that lie in one field of a row: 3, 4 and 6. Each test is true where the field breaks the cause.
 use super::Bounds;
+use super::grammar::ARM;
 use super::grammar::ARRAY;
+use super::grammar::BODY_BLOCK;
 use super::grammar::ITEM;
 use super::grammar::KindTable;
 use super::grammar::LABEL;
@@ -10,6 +12,8 @@ use super::grammar::OPTIONAL;
 use super::grammar::PLACE;
 use super::grammar::VARIABLE;
 use super::grammar::in_language;
+use super::grammar::is_arm;
+use super::grammar::is_block;
 use super::grammar::is_expression;
 use super::grammar::is_link;
 use super::grammar::is_place;
@@ -25,10 +29,13 @@ use words::table::number_at;
 ghost use mathlib.Core.Path.{_≡_};
 ghost use mathlib.Core.Bool.{true};
 ghost use Prim.Native.Nat.{_+_, _*_, _<_};
+ghost use lib.Dec.{eqb};
 ghost use lib.ListN.{length};
+ghost use Rattle.words.specs.Word.{pick};
 ghost use Rattle.words.specs.Layout.{headerFits};
+ghost use Rattle.words.specs.Kinds.{bodyBlock};
 ghost use Rattle.structure.specs.Grammar.{grammar};
-ghost use Rattle.words.specs.Links.{fits as fitsOf};
+ghost use Rattle.words.specs.Links.{isStatement, isBlock, fits as fitsOf};
 ghost use Rattle.structure.specs.Fields.{foreign, leadsRight, mislinked, boundsOf, numberFits, outside};
 
 // Cause 3.
@@ -44,6 +51,17 @@ pub fn is_foreign(kinds: &KindTable, form: Form, rows: &[i32], row: usize, field
         return false;
     }
     sort_at(kinds, rows, row, field) == NONE
+}
+
+// What a branch or body may be: a statement, or a block where the sort asks for one.
+fn is_body(kinds: &KindTable, rows: &[i32], sort: u8, row: usize) -> bool
+    requires { ⌜ (6 * row < length (now rows)) × (now kinds ≡ grammar) ⌝ }
+    ensures { λ r. ⌜ r ≡ pick (eqb sort bodyBlock) (isBlock (now (rows .entry)) row) (isStatement (now (rows .entry)) row) ⌝ }
+{
+    if sort == BODY_BLOCK {
+        return is_block(rows, row);
+    }
+    is_statement(kinds, rows, row)
 }
 
 // The row is of the sort that a link asks for.
@@ -63,7 +81,10 @@ fn fits(kinds: &KindTable, rows: &[i32], sort: u8, row: usize) -> bool
     if sort == ITEM {
         return is_statement(kinds, rows, row);
     }
-    if is_statement(kinds, rows, row) {
+    if sort == ARM {
+        return is_arm(kinds, rows, row);
+    }
+    if is_body(kinds, rows, sort, row) {
         return number_at(rows, row, 5) == 0;
     }
     false

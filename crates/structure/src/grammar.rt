@@ -5,7 +5,7 @@ ghost use mathlib.Core.Path.{_≡_};
 ghost use Prim.Native.Nat.{_+_, _*_, _<_};
 ghost use lib.ListN.{length};
 ghost use Rattle.words.specs.Kinds.{sortOf, sortAt, between as betweenOf, inLanguage, isLink, isRequired};
-ghost use Rattle.words.specs.Links.{isExpression, isPlace, isStatement, link as linkOf};
+ghost use Rattle.words.specs.Links.{isExpression, isPlace, isStatement, isBlock, isArm, link as linkOf};
 ghost use Rattle.structure.specs.Grammar.{grammar, formsOf};
 
 // Fields without a link. "Values, variable, array and label numbers may be 0."
@@ -18,8 +18,8 @@ pub const VARIABLE: u8 = 2;
 pub const ARRAY: u8 = 3;
 
 pub const LABEL: u8 = 4;
-// Links. Optional ones "may be 0": an operand is an expression; a body is "a branch or body", whose next is 0; an item is the first of a
-// list, or the next, and may be 0.
+// Links. Optional ones "may be 0": an operand is an expression; a body is "a branch or body", whose next is 0, and the body of an arm is a
+// block; an item is the first of a list, or the next, and may be 0; so is an arm, in a list of arms.
 pub const OPERAND: u8 = 5;
 
 pub const OPTIONAL: u8 = 6;
@@ -31,14 +31,20 @@ pub const BODY: u8 = 8;
 pub const OPTIONAL_BODY: u8 = 9;
 
 pub const ITEM: u8 = 10;
+
+pub const BODY_BLOCK: u8 = 11;
+
+pub const ARM: u8 = 12;
 // What a row is.
 pub const NO_ROW: u8 = 0;
 
-pub const EXPRESSION: u8 = 11;
+pub const EXPRESSION: u8 = 13;
 
-pub const PLACE_ROW: u8 = 12;
+pub const PLACE_ROW: u8 = 14;
 
-pub const STATEMENT: u8 = 13;
+pub const STATEMENT: u8 = 15;
+
+pub const ARM_ROW: u8 = 16;
 // The forms that have a kind.
 pub const NEITHER: u8 = 0;
 
@@ -49,7 +55,7 @@ pub const BOTH: u8 = 2;
 pub const KERNEL: u8 = 3;
 
 // No kind has this number or a higher one.
-pub const KIND_LIMIT: usize = 54;
+pub const KIND_LIMIT: usize = 58;
 
 pub type KindTable = [[u8; 7]; KIND_LIMIT];
 
@@ -109,6 +115,10 @@ pub const KINDS: KindTable = [
     [STATEMENT, NONE, NONE, NONE, NONE, ITEM, SOURCE], // 51 continue
     [STATEMENT, LABEL, NONE, NONE, NONE, ITEM, KERNEL], // 52 goto
     [STATEMENT, LABEL, NONE, NONE, NONE, ITEM, KERNEL], // 53 label
+    [STATEMENT, ARM, NONE, NONE, NONE, ITEM, SOURCE], // 54 guarded if
+    [STATEMENT, ARM, NONE, NONE, NONE, ITEM, SOURCE], // 55 guarded do
+    [ARM_ROW, OPERAND, BODY_BLOCK, NONE, NONE, ARM, SOURCE], // 56 arm
+    [STATEMENT, NONE, NONE, NONE, NONE, ITEM, KERNEL], // 57 abort
 ];
 
 // What a field of a kind holds; for field 0, what a row of the kind is. The table is lent: borrowed where it is read, the constant would
@@ -197,11 +207,25 @@ pub fn is_statement(kinds: &KindTable, rows: &[i32], row: usize) -> bool
     sort_at(kinds, rows, row, 0) == STATEMENT
 }
 
+pub fn is_block(rows: &[i32], row: usize) -> bool
+    requires { ⌜ 6 * row < length (now rows) ⌝ }
+    ensures { λ r. ⌜ r ≡ isBlock (now (rows .entry)) row ⌝ }
+{
+    number_at(rows, row, 0) == 42
+}
+
+pub fn is_arm(kinds: &KindTable, rows: &[i32], row: usize) -> bool
+    requires { ⌜ (6 * row < length (now rows)) × (now kinds ≡ grammar) ⌝ }
+    ensures { λ r. ⌜ r ≡ isArm (now (rows .entry)) row ⌝ }
+{
+    sort_at(kinds, rows, row, 0) == ARM_ROW
+}
+
 pub fn is_link(sort: u8) -> bool
     ensures { λ r. ⌜ r ≡ isLink sort ⌝ }
 {
     if OPERAND <= sort {
-        return sort <= ITEM;
+        return sort <= ARM;
     }
     false
 }
@@ -216,7 +240,10 @@ pub fn is_required(sort: u8) -> bool
     if sort == PLACE {
         return true;
     }
-    sort == BODY
+    if sort == BODY {
+        return true;
+    }
+    sort == BODY_BLOCK
 }
 
 // The row that a field links, or 0. Most words of a table are 0, and need no look at the table of kinds.

@@ -1,4 +1,4 @@
-// What the checks of both forms share: document 01's table of kinds, and the causes 1 to 6 and 9.
+// What the checks of both forms share: the papers' table of kinds, and the causes 1 to 6 and 9.
 pub mod causes; // causes.rt: the lowest row that breaks a cause, and the causes 1 to 6 in order
 pub mod depth; // depth.rt: cause 9, by a walk down the links
 pub mod fields; // fields.rt: the causes that lie in one field of a row: 3, 4 and 6

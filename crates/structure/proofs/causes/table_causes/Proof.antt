@@ -1,13 +1,13 @@
 -- `table_causes` lends the constant table.
 use mathlib.Core.Path.{refl}
 use borrow.Author.Needs.{needs}
-use Rattle.words.specs.Kinds.{kindOf, kindIn, kinds, kindRow, expressionFields, statementFields, markFields}
+use Rattle.words.specs.Kinds.{kindOf, kindIn, kinds, kindRow, expressionFields, statementFields, markFields, memberFields}
 use Rattle.structure.specs.Grammar.{grammar}
 use Rattle.structure.proofs.causes.table_causes.Statement.{statement}
 use Rattle.structure.proofs.causes.table_causes.Tie as tie
 
 row-causes-requires : tie.Need-row-causes-requires
-unfolding grammar kindOf kindIn kinds kindRow expressionFields statementFields markFields
+unfolding grammar kindOf kindIn kinds kindRow expressionFields statementFields markFields memberFields
 row-causes-requires c κs = (c .before .before .before .pre .0, c .before .before .before .pre .1, refl)
 
 same-length : tie.Need-same-length

@@ -37,21 +37,29 @@ unfolding fits
 returns-4 c =
     rw (ne-eqb _ _ (c .before .before .before .before .if1 .left), ne-eqb _ _ (c .before .before .before .if2 .left), ne-eqb _ _ (c .before .before .if3 .left), eq-eqb _ _ (c .before .if4 .taken)) (c .is-statement .ensures)
 
-is-statement-requires-2 : tie.Need-is-statement-requires-2
-is-statement-requires-2 c κs = search needs
-
-number-at-requires : tie.Need-number-at-requires
-number-at-requires c κs = search needs
+is-arm-requires : tie.Need-is-arm-requires
+is-arm-requires c κs = search needs
 
 returns-5 : tie.Need-returns-5
 unfolding fits
 returns-5 c =
-    rw (ne-eqb _ _ (c .before .before .before .before .before .before .if1 .left), ne-eqb _ _ (c .before .before .before .before .before .if2 .left), ne-eqb _ _ (c .before .before .before .before .if3 .left), ne-eqb _ _ (c .before .before .before .if4 .left), ← c .before .before .is-statement2 .ensures, c .before .if5 .taken, ← c .number-at .ensures)
+    rw (ne-eqb _ _ (c .before .before .before .before .before .if1 .left), ne-eqb _ _ (c .before .before .before .before .if2 .left), ne-eqb _ _ (c .before .before .before .if3 .left), ne-eqb _ _ (c .before .before .if4 .left), eq-eqb _ _ (c .before .if5 .taken)) (c .is-arm .ensures)
+
+is-body-requires : tie.Need-is-body-requires
+is-body-requires c κs = search needs
+
+number-at-requires : tie.Need-number-at-requires
+number-at-requires c κs = search needs
 
 returns-6 : tie.Need-returns-6
 unfolding fits
 returns-6 c =
-    rw (ne-eqb _ _ (c .before .before .before .before .before .if1 .left), ne-eqb _ _ (c .before .before .before .before .if2 .left), ne-eqb _ _ (c .before .before .before .if3 .left), ne-eqb _ _ (c .before .before .if4 .left), ← c .before .is-statement2 .ensures, c .if5 .left)
+    rw (ne-eqb _ _ (c .before .before .before .before .before .before .before .if1 .left), ne-eqb _ _ (c .before .before .before .before .before .before .if2 .left), ne-eqb _ _ (c .before .before .before .before .before .if3 .left), ne-eqb _ _ (c .before .before .before .before .if4 .left), ne-eqb _ _ (c .before .before .before .if5 .left), ← c .before .before .is-body .ensures, c .before .if6 .taken, ← c .number-at .ensures)
+
+returns-7 : tie.Need-returns-7
+unfolding fits
+returns-7 c =
+    rw (ne-eqb _ _ (c .before .before .before .before .before .before .if1 .left), ne-eqb _ _ (c .before .before .before .before .before .if2 .left), ne-eqb _ _ (c .before .before .before .before .if3 .left), ne-eqb _ _ (c .before .before .before .if4 .left), ne-eqb _ _ (c .before .before .if5 .left), ← c .before .is-body .ensures, c .if6 .left)
 
 pub fits-spec : {M : Type 1} → statement M
 fits-spec =
@@ -65,7 +73,9 @@ fits-spec =
     returns-3
     is-statement-requires
     returns-4
-    is-statement-requires-2
-    number-at-requires
+    is-arm-requires
     returns-5
-    returns-6)
+    is-body-requires
+    number-at-requires
+    returns-6
+    returns-7)

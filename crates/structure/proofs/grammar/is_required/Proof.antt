@@ -1,4 +1,4 @@
--- `is_required` makes its definition's three tests in order.
+-- `is_required` makes its definition's four tests in order.
 use borrow.Author.Tests.{eq-eqb, ne-eqb}
 use Rattle.words.specs.Kinds.{isRequired}
 use Rattle.structure.proofs.grammar.is_required.Statement.{statement}
@@ -17,7 +17,12 @@ returns-2 c =
 returns-3 : tie.Need-returns-3
 unfolding isRequired
 returns-3 c =
-    rw (ne-eqb _ _ (c .before .if1 .left), ne-eqb _ _ (c .if2 .left))
+    rw (ne-eqb _ _ (c .before .before .if1 .left), ne-eqb _ _ (c .before .if2 .left), eq-eqb _ _ (c .if3 .taken))
+
+returns-4 : tie.Need-returns-4
+unfolding isRequired
+returns-4 c =
+    rw (ne-eqb _ _ (c .before .before .if1 .left), ne-eqb _ _ (c .before .if2 .left), ne-eqb _ _ (c .if3 .left))
 
 pub is-required-spec : {M : Type 1} → statement M
-is-required-spec = tie.close (tie.spec returns returns-2 returns-3)
+is-required-spec = tie.close (tie.spec returns returns-2 returns-3 returns-4)

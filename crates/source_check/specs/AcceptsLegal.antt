@@ -13,7 +13,7 @@ use Rattle.words.specs.Table.{rowCount, wordAt, numberAt}
 use Rattle.words.specs.Laws.{by-cases, both, natural-pos}
 use Rattle.words.specs.declared.Form.the-variants.{Source}
 use Rattle.words.specs.declared.Verdict.the-variants.{Accepted}
-use Rattle.words.specs.Kinds.{sortOf, sortAt, sortIn, kindOf, kindIn, kinds, kindRow, expressionFields, statementFields, markFields}
+use Rattle.words.specs.Kinds.{sortOf, sortAt, sortIn, kindOf, kindIn, kinds, kindRow, expressionFields, statementFields, markFields, memberFields}
 use Rattle.words.specs.SearchLaws.{lowestRow-all, all-lowestRow}
 use Rattle.structure.specs.DepthLaws.{none-deep-shallow, shallow-none-deep}
 use Rattle.structure.specs.Refusal.{at, _next_, structuralRefusal}
@@ -35,7 +35,7 @@ module _ (bounds : Bounds) (rows : List ℤ) (s : Structured Source bounds rows)
 
   -- a default's field a is unused
   default-value : (row : ℕ) → row < rowCount rows → numberAt rows row 0 ≡ 49 → wordAt rows row 1 ≡ pos 0
-  unfolding numberAt sortAt sortOf sortIn kindOf kindIn kinds kindRow expressionFields statementFields markFields
+  unfolding numberAt sortAt sortOf sortIn kindOf kindIn kinds kindRow expressionFields statementFields markFields memberFields
   default-value row n k = natural-pos (wordAt rows row 1) 0 (s .unused-zero row n 1 (omega arith) (omega arith) (rw k)) (omega arith)
 
   -- row 0 is a block, and no mark

@@ -11,7 +11,7 @@ use Rattle.words.specs.Links.{note}
 use Rattle.source_check.specs.declared.Note.{Note}
 use Rattle.source_check.specs.declared.Note.the-variants.{InLoop, InLoopOrSwitch, SwitchItem, MarkBefore}
 
--- 44 while, 45 do, 46 for.
+-- 44 while, 45 do, 46 for. Not 54 guarded if and 55 guarded do: "Neither form counts as a loop for break and continue."
 abbrev pub isLoop : ℕ → Bool
 isLoop kind = between 44 46 kind
 

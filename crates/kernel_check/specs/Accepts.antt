@@ -16,7 +16,7 @@ use Rattle.words.specs.declared.Form.the-variants.{Kernel}
 use Rattle.words.specs.declared.Verdict.the-variants.{Accepted}
 use Rattle.structure.specs.DepthLaws.{none-deep-shallow, shallow-none-deep}
 use Rattle.structure.specs.Fields.{numberFits}
-use Rattle.words.specs.Kinds.{sortOf, sortAt, isLink, sortIn, kindOf, kindIn, kinds, kindRow, expressionFields, statementFields, markFields}
+use Rattle.words.specs.Kinds.{sortOf, sortAt, isLink, sortIn, kindOf, kindIn, kinds, kindRow, expressionFields, statementFields, markFields, memberFields}
 use Rattle.words.specs.Links.{isStatement, link}
 use Rattle.structure.specs.Refusal.{at, structuralRefusal}
 use Rattle.structure.specs.RefusalLaws.{next-accepts, accepts-next, at-accepts, accepts-at}
@@ -48,7 +48,7 @@ module _ (bounds : Bounds) (rows : List ℤ) (s : Structured Kernel bounds rows)
   label-numbers row kind n k e = ltb-true _ _ (rw (k, e) at (s .named row n 1 (omega arith) (omega arith)))
 
   pub structured-labels : LabelNumbers rows
-  unfolding sortOf sortIn kindOf kindIn kinds kindRow expressionFields statementFields markFields
+  unfolding sortOf sortIn kindOf kindIn kinds kindRow expressionFields statementFields markFields memberFields
   structured-labels row n e = go (leb 52 (numberAt rows row 0)) (leb (numberAt rows row 0) 53) refl refl e (ℕ-discrete (numberAt rows row 0) 53)
     where
       go : (a b : Bool) → leb 52 (numberAt rows row 0) ≡ a → leb (numberAt rows row 0) 53 ≡ b → (a && b) ≡ true → Dec (numberAt rows row 0 ≡ 53) → numberAt rows row 1 < 40980

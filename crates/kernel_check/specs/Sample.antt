@@ -12,7 +12,7 @@ use Rattle.words.specs.declared.Verdict.{Verdict}
 use Rattle.words.specs.declared.Verdict.the-variants.{Accepted, Refused}
 use Rattle.words.specs.Links.{fits, isExpression, isPlace, isStatement, link, target, linker, received, noteBy, note}
 use Rattle.structure.specs.Fields.{foreign, leadsRight, mislinked, boundsOf, numberFits, outside}
-use Rattle.words.specs.Kinds.{sortOf, sortAt, inLanguage, isLink, isRequired, sortIn, kindOf, kindIn, kinds, kindRow, expressionFields, statementFields, markFields}
+use Rattle.words.specs.Kinds.{sortOf, sortAt, inLanguage, isLink, isRequired, sortIn, kindOf, kindIn, kinds, kindRow, expressionFields, statementFields, markFields, memberFields}
 use Rattle.structure.specs.Links.{linksAmong, linkCount, loneBlock, notOnce, deeper, depthAt, tooDeep}
 use Rattle.structure.specs.Refusal.{at, unless, _next_, rowCauses, structuralRefusal}
 use Rattle.words.specs.Search.{lowest, some, lowestRow, someField}
@@ -62,7 +62,7 @@ pub record Answers : Type 0 where
   pub label-twice : refusal header (changed 60 53) ≡ refused 13 11
 
 pub sample-answers : Answers
-unfolding natural wordAt numberAt layoutOf sum storeSize storeWords allWithin headerFits countFits foreign fits leadsRight mislinked boundsOf numberFits outside sortOf sortIn kindOf kindIn kinds kindRow expressionFields statementFields markFields sortAt inLanguage isExpression isPlace isStatement isLink isRequired link target linksAmong linkCount loneBlock notOnce linker received noteBy note deeper depthAt tooDeep at unless _next_ rowCauses structuralRefusal lowest some lowestRow someField isLabel repeatedLabel owning ownerAt labelBehind labelAhead gotoWithoutLabel labelFault kernelCauses refusal isAtom isAtomMinus isAtomOperation isAtomElement fitsVariable isAssignment isBlock isKernelIf isKernelWhile isKernelExpression isKernelStatement notKernelForm
+unfolding natural wordAt numberAt layoutOf sum storeSize storeWords allWithin headerFits countFits foreign fits leadsRight mislinked boundsOf numberFits outside sortOf sortIn kindOf kindIn kinds kindRow expressionFields statementFields markFields memberFields sortAt inLanguage isExpression isPlace isStatement isLink isRequired link target linksAmong linkCount loneBlock notOnce linker received noteBy note deeper depthAt tooDeep at unless _next_ rowCauses structuralRefusal lowest some lowestRow someField isLabel repeatedLabel owning ownerAt labelBehind labelAhead gotoWithoutLabel labelFault kernelCauses refusal isAtom isAtomMinus isAtomOperation isAtomElement fitsVariable isAssignment isBlock isKernelIf isKernelWhile isKernelExpression isKernelStatement notKernelForm
 sample-answers = record { whole = refl; variable-V = refl; no-block = refl; no-label = refl; label-twice = refl }
 
 pub sample-legal : Legal header program

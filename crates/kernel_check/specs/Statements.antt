@@ -58,7 +58,7 @@ unfoldable pub isKernelExpression : List ℤ → ℕ → Bool
 isKernelExpression rows row = eqb (numberAt rows row 0) 41 && isAssignment rows (numberAt rows row 1)
 
 -- "Statements: empty; block; if with an atom and two blocks; while with an atom and a block; goto; label; and an expression
--- statement that assigns."
+-- statement that assigns." "The kernel's new kind 57 (abort, no fields)".
 unfoldable pub isKernelStatement : List ℤ → ℕ → Bool
 isKernelStatement rows row =
     let kind = numberAt rows row 0 in
@@ -68,7 +68,8 @@ isKernelStatement rows row =
     || (isKernelWhile rows row
     || (eqb kind 52
     || (eqb kind 53
-    || isKernelExpression rows row)))))
+    || (eqb kind 57
+    || isKernelExpression rows row))))))
 
 -- Cause 12, at the "row of the statement", also where the fault lies in an expression below it.
 unfoldable pub notKernelForm : List ℤ → ℕ → Bool

@@ -181,6 +181,9 @@ fn is_kernel_statement(rows: &[i32], row: usize) -> bool
     if kind == 53 {
         return true;
     }
+    if kind == 57 {
+        return true;
+    }
     is_kernel_expression(rows, row)
 }
 

@@ -1,13 +1,13 @@
 -- `write_notes` lends the constant table.
 use mathlib.Core.Path.{refl}
 use borrow.Author.Needs.{needs}
-use Rattle.words.specs.Kinds.{kindOf, kindIn, kinds, kindRow, expressionFields, statementFields, markFields}
+use Rattle.words.specs.Kinds.{kindOf, kindIn, kinds, kindRow, expressionFields, statementFields, markFields, memberFields}
 use Rattle.structure.specs.Grammar.{grammar}
 use Rattle.kernel_check.proofs.notes.write_notes.Statement.{statement}
 use Rattle.kernel_check.proofs.notes.write_notes.Tie as tie
 
 write-notes-by-requires : tie.Need-write-notes-by-requires
-unfolding grammar kindOf kindIn kinds kindRow expressionFields statementFields markFields
+unfolding grammar kindOf kindIn kinds kindRow expressionFields statementFields markFields memberFields
 write-notes-by-requires c κs = (search needs, search needs, search needs, refl)
 
 same-length : tie.Need-same-length

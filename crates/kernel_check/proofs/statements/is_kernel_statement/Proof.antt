@@ -38,12 +38,16 @@ returns-6 : tie.Need-returns-6
 unfolding isKernelStatement
 returns-6 c = rw (← c .before .before .before .before .before .before .before .before .number-or-zero .ensures, ne-eqb _ _ (c .before .before .before .before .before .before .before .if1 .left), ne-eqb _ _ (c .before .before .before .before .before .before .if2 .left), ← c .before .before .before .before .before .is-kernel-if .ensures, c .before .before .before .before .if3 .left, ← c .before .before .before .is-kernel-while .ensures, c .before .before .if4 .left, ne-eqb _ _ (c .before .if5 .left), eq-eqb _ _ (c .if6 .taken))
 
+returns-7 : tie.Need-returns-7
+unfolding isKernelStatement
+returns-7 c = rw (← c .before .before .before .before .before .before .before .before .before .number-or-zero .ensures, ne-eqb _ _ (c .before .before .before .before .before .before .before .before .if1 .left), ne-eqb _ _ (c .before .before .before .before .before .before .before .if2 .left), ← c .before .before .before .before .before .before .is-kernel-if .ensures, c .before .before .before .before .before .if3 .left, ← c .before .before .before .before .is-kernel-while .ensures, c .before .before .before .if4 .left, ne-eqb _ _ (c .before .before .if5 .left), ne-eqb _ _ (c .before .if6 .left), eq-eqb _ _ (c .if7 .taken))
+
 is-kernel-expression-requires : tie.Need-is-kernel-expression-requires
 is-kernel-expression-requires c κs = search needs
 
-returns-7 : tie.Need-returns-7
+returns-8 : tie.Need-returns-8
 unfolding isKernelStatement
-returns-7 c = rw (← c .before .before .before .before .before .before .before .before .before .number-or-zero .ensures, ne-eqb _ _ (c .before .before .before .before .before .before .before .before .if1 .left), ne-eqb _ _ (c .before .before .before .before .before .before .before .if2 .left), ← c .before .before .before .before .before .before .is-kernel-if .ensures, c .before .before .before .before .before .if3 .left, ← c .before .before .before .before .is-kernel-while .ensures, c .before .before .before .if4 .left, ne-eqb _ _ (c .before .before .if5 .left), ne-eqb _ _ (c .before .if6 .left)) (c .is-kernel-expression .ensures)
+returns-8 c = rw (← c .before .before .before .before .before .before .before .before .before .before .number-or-zero .ensures, ne-eqb _ _ (c .before .before .before .before .before .before .before .before .before .if1 .left), ne-eqb _ _ (c .before .before .before .before .before .before .before .before .if2 .left), ← c .before .before .before .before .before .before .before .is-kernel-if .ensures, c .before .before .before .before .before .before .if3 .left, ← c .before .before .before .before .before .is-kernel-while .ensures, c .before .before .before .before .if4 .left, ne-eqb _ _ (c .before .before .before .if5 .left), ne-eqb _ _ (c .before .before .if6 .left), ne-eqb _ _ (c .before .if7 .left)) (c .is-kernel-expression .ensures)
 
 pub is-kernel-statement-spec : {M : Type 1} → statement M
 is-kernel-statement-spec =
@@ -58,5 +62,6 @@ is-kernel-statement-spec =
     returns-4
     returns-5
     returns-6
+    returns-7
     is-kernel-expression-requires
-    returns-7)
+    returns-8)

@@ -10,8 +10,8 @@ use Rattle.words.specs.Table.{rowCount}
 use Rattle.words.specs.Layout.{depthLimit}
 use Rattle.words.specs.declared.Form.{Form}
 use Rattle.language.specs.Trees.{read}
-use Rattle.language.specs.Decode.{expressionAt, statementAt, decode, listAt, partAt}
-use Rattle.language.specs.Sizes.{expressionDepth, placeDepth, partDepth, statementDepth, itemsDepth}
+use Rattle.language.specs.Decode.{expressionAt, statementAt, decode, listAt, armListAt, partAt}
+use Rattle.language.specs.Sizes.{expressionDepth, placeDepth, partDepth, statementDepth, armsDepth, itemsDepth}
 use Rattle.words.specs.Kinds.{between}
 use Rattle.words.specs.Links.{link}
 use Rattle.structure.specs.declared.Bounds.{Bounds}
@@ -20,7 +20,7 @@ use Rattle.structure.specs.StructuredLaws.{structured-tree}
 use Rattle.structure.specs.DepthLaws.{depth-inside}
 use Rattle.accepted.specs.Sorts.{between-true}
 use Rattle.accepted.specs.Expressions.{ExpressionRow, constant-row, variable-row, element-row, minus-row, not-row, binary-row, and-row, or-row, comma-row, conditional-row, assign-row, compound-row, prefix-row, postfix-row, placeAt}
-use Rattle.accepted.specs.Statements.{PartRow, absent-part, present-part, StatementRow, empty-row, express-row, block-row, ifThen-row, ifElse-row, while-row, doWhile-row, for-row, switch-row, case-row, default-row, break-row, continue-row, goto-row, label-row, ListRow, no-items, item, case-item, default-item, label-item, root-row}
+use Rattle.accepted.specs.Statements.{PartRow, absent-part, present-part, StatementRow, empty-row, express-row, block-row, ifThen-row, ifElse-row, while-row, doWhile-row, for-row, switch-row, case-row, default-row, break-row, continue-row, goto-row, label-row, guardedIf-row, guardedDo-row, abort-row, ArmsRow, no-arms, arm-row, ListRow, no-items, item, case-item, default-item, label-item, root-row}
 
 module _ (form : Form) (bounds : Bounds) (rows : List ℤ) (s : Structured form bounds rows) (shallow : Shallow form rows) where
   abbrev limit : ℕ
@@ -79,7 +79,7 @@ module _ (form : Form) (bounds : Bounds) (rows : List ℤ) (s : Structured form 
   deep-part (present-part p e x) depth h d = rw e (deep-expression x depth (d p))
 
   mutual
-    unfolding statementDepth itemsDepth
+    unfolding statementDepth armsDepth itemsDepth
 
     deep-statement : {row : ℕ} → StatementRow rows row → (depth : ℕ) → Depth rows row depth → Fits depth (statementDepth (statementAt rows row))
     deep-statement (empty-row k e) depth d = rw e (room d)
@@ -99,6 +99,14 @@ module _ (form : Form) (bounds : Bounds) (rows : List ℤ) (s : Structured form 
     deep-statement (continue-row k e) depth d = rw e (room d)
     deep-statement (goto-row k e) depth d = rw e (room d)
     deep-statement (label-row k e) depth d = rw e (room d)
+    deep-statement (guardedIf-row k e x) depth d = rw e (omega (arith, deep-arms x _ (room d) (below-any d 1 refl)))
+    deep-statement (guardedDo-row k e x) depth d = rw e (omega (arith, deep-arms x _ (room d) (below-any d 1 refl)))
+    deep-statement (abort-row k e) depth d = rw e (room d)
+
+    deep-arms : {l : ℕ} → ArmsRow rows l → (depth : ℕ) → depth ≤ limit + 1 → (0 < l → Depth rows l depth) → Fits depth (armsDepth (armListAt rows l))
+    deep-arms (no-arms z e) depth h d = rw e (omega arith)
+    deep-arms {l} (arm-row p k q r e x y z) depth h d =
+        rw e (omega (arith, deep-expression x _ (below (d p) 1 refl q), deep-statement y _ (below (d p) 2 refl r), deep-arms z depth h (next l depth (d p))))
 
     deep-list : {l : ℕ} → ListRow rows l → (depth : ℕ) → depth ≤ limit + 1 → (0 < l → Depth rows l depth) → Fits depth (itemsDepth (listAt rows l))
     deep-list (no-items z e) depth h d = rw e (omega arith)

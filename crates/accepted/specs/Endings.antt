@@ -8,9 +8,9 @@ use Rattle.words.specs.Layout.{Layout}
 use Rattle.words.specs.Arithmetic.{isTrue}
 use Rattle.computation.specs.Computation.{Turn, again, leave, Computation, ret, _>>=_, _>>_}
 use Rattle.computation.specs.Run.{State, ok, Limit, roundsFrom, run}
-use Rattle.language.specs.Trees.{Part, absent, present, Mark, case, default, sameMark, has, Statement, empty, express, block, ifThen, ifElse, while, doWhile, for, switch, break, continue, goto, Items, none, _then_, _here_}
-use Rattle.language.specs.Meaning.{Signal, next, breaking, continuing, seeking, entersStatement, entersMark, target, afterSwitch, afterBody, afterTest, enter, ifTrue, value, valueOf, evaluate, rounds, perform, items, exec}
-use Rattle.language.specs.WellFormed.{Placed, PlacedItems}
+use Rattle.language.specs.Trees.{Part, absent, present, Mark, case, default, sameMark, has, Statement, empty, express, block, ifThen, ifElse, while, doWhile, for, switch, break, continue, goto, guardedIf, guardedDo, abort, Arms, noArm, arm, Items, none, _then_, _here_}
+use Rattle.language.specs.Meaning.{Signal, next, breaking, continuing, seeking, entersStatement, entersMark, target, afterSwitch, afterBody, Choice, noneTrue, ran, afterChoice, afterArms, tryArm, afterTest, enter, ifTrue, value, valueOf, evaluate, rounds, perform, choose, choiceRounds, items, exec}
+use Rattle.language.specs.WellFormed.{Placed, PlacedArms, PlacedItems}
 use Rattle.accepted.specs.Gives.{Gives, Any, any, gives-weaker, gives-then, Leaves, gives-iterate, entered, chosen}
 
 -- How a statement may end: the next item follows, or a break or a continue where one may stand.
@@ -38,6 +38,19 @@ after-switch : {mayBreak mayContinue : Bool} {signal : Signal} → Allowed true 
 after-switch goes-on = goes-on
 after-switch (breaks e) = goes-on
 after-switch (continues e) = continues e
+
+-- What arms may come to: no guard was true, or a block ended as it may.
+abbrev Choosable : Bool → Bool → Choice → Type 0
+Choosable mayBreak mayContinue noneTrue = Unit {0}
+Choosable mayBreak mayContinue (ran signal) = Allowed mayBreak mayContinue signal
+
+-- A guarded do takes no break and no continue: it is left with either.
+after-arms : (mayBreak mayContinue : Bool) (choice : Choice) → Choosable mayBreak mayContinue choice → Leaves (Allowed mayBreak mayContinue) (afterArms choice)
+after-arms b c noneTrue allowed = goes-on
+after-arms b c (ran next) allowed = tt
+after-arms b c (ran breaking) allowed = allowed
+after-arms b c (ran continuing) allowed = allowed
+after-arms b c (ran (seeking mark)) allowed = allowed
 
 module _ (L : Layout) (limit : Limit) where
   -- ---- loops
@@ -84,6 +97,22 @@ module _ (L : Layout) (limit : Limit) where
         gives-iterate (Allowed mayBreak mayContinue) limit (roundsFrom limit σ) (run limit (body >>= λ signal. afterBody (valueOf L action >> ret again) signal))
         (body-then body (valueOf L action >> ret again) h (action-then action)) σ
 
+  -- ---- arms
+
+  after-choice : (mayBreak mayContinue : Bool) (choice : Choice) → Choosable mayBreak mayContinue choice → (σ : State) → Gives (Allowed mayBreak mayContinue) (run limit (afterChoice choice) σ)
+  unfolding run
+  after-choice b c noneTrue allowed σ = tt
+  after-choice b c (ran signal) allowed σ = allowed
+
+  -- a guard, and then its block or the arms behind it
+  tried : (mayBreak mayContinue : Bool) (guard : Computation ℤ) (body : Computation Signal) (rest : Computation Choice) → ((σ : State) → Gives (Allowed mayBreak mayContinue) (run limit body σ))
+      → ((σ : State) → Gives (Choosable mayBreak mayContinue) (run limit rest σ)) → (σ : State) → Gives (Choosable mayBreak mayContinue) (run limit (tryArm guard (enter body) rest) σ)
+  unfolding run
+  tried b c guard body rest f g σ =
+      gives-then Any (Choosable b c) (run limit guard σ) (λ v. run limit (ifTrue v (enter body >>= λ signal. ret (ran signal)) rest)) (any (run limit guard σ))
+      (λ v τ _. chosen limit (Choosable b c) (isTrue v) (enter body >>= λ signal. ret (ran signal)) rest
+      (λ ν. gives-then (Allowed b c) (Choosable b c) (run limit (enter body) ν) (λ signal ρ. ok (ran signal) ρ) (entered limit (Allowed b c) body f ν) (λ signal ρ allowed. allowed)) g τ)
+
   -- ---- lists
 
   at-statement : {is : Items} {mayBreak mayContinue : Bool} (s : Statement) {signal : Signal} → ((σ : State) → Gives (Allowed mayBreak mayContinue) (run limit (perform L s) σ))
@@ -111,7 +140,7 @@ module _ (L : Layout) (limit : Limit) where
   -- ---- statements
 
   mutual
-    unfolding run perform items Placed PlacedItems has
+    unfolding run perform choose choiceRounds items Placed PlacedArms PlacedItems has
 
     statement-ends : (s : Statement) (mayBreak mayContinue : Bool) → Placed mayBreak mayContinue s → (σ : State) → Gives (Allowed mayBreak mayContinue) (run limit (perform L s) σ)
     statement-ends empty b c p σ = goes-on
@@ -140,6 +169,24 @@ module _ (L : Layout) (limit : Limit) where
     statement-ends break b c p σ = breaks p
     statement-ends continue b c p σ = continues p
     statement-ends (goto l) b c p σ = absurd p
+    statement-ends (guardedIf arms) b c p σ =
+        gives-then (Choosable b c) (Allowed b c) (run limit (choose L arms) σ) (λ choice. run limit (afterChoice choice)) (arms-end arms b c p σ)
+        (λ choice τ allowed. after-choice b c choice allowed τ)
+    statement-ends (guardedDo arms) b c p σ = rounds-of-arms-end arms b c p σ
+    statement-ends abort b c p σ = absurd p
+
+    arms-end : (arms : Arms) (mayBreak mayContinue : Bool) → PlacedArms mayBreak mayContinue arms → (σ : State) → Gives (Choosable mayBreak mayContinue) (run limit (choose L arms) σ)
+    arms-end noArm b c p σ = tt
+    arms-end (arm guard body arms) b c p σ =
+        entered limit (Choosable b c) (tryArm (value L guard) (enter (perform L body)) (choose L arms))
+        (tried b c (value L guard) (perform L body) (choose L arms) (λ τ. statement-ends body b c (p .0) τ) (λ τ. arms-end arms b c (p .1) τ)) σ
+
+    rounds-of-arms-end : (arms : Arms) (mayBreak mayContinue : Bool) → PlacedArms mayBreak mayContinue arms → (σ : State) → Gives (Allowed mayBreak mayContinue) (run limit (choiceRounds L arms) σ)
+    rounds-of-arms-end noArm b c p σ = goes-on
+    rounds-of-arms-end (arm guard body arms) b c p σ =
+        gives-iterate (Allowed b c) limit (roundsFrom limit σ) (run limit (tryArm (value L guard) (enter (perform L body)) (choose L arms) >>= λ choice. ret (afterArms choice)))
+        (λ τ. gives-then (Choosable b c) (Left b c) (run limit (tryArm (value L guard) (enter (perform L body)) (choose L arms)) τ) (λ choice ν. ok (afterArms choice) ν)
+        (tried b c (value L guard) (perform L body) (choose L arms) (λ ν. statement-ends body b c (p .0) ν) (λ ν. arms-end arms b c (p .1) ν) τ) (λ choice ν allowed. after-arms b c choice allowed)) σ
 
     items-end : (is : Items) (inSwitch mayBreak mayContinue : Bool) → PlacedItems inSwitch mayBreak mayContinue is → (signal : Signal) → Arrives is mayBreak mayContinue signal
         → (σ : State) → Gives (Allowed mayBreak mayContinue) (run limit (items L is signal) σ)

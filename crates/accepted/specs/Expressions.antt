@@ -10,14 +10,13 @@ use lib.Dec.{eqb}
 use lib.IntN.{ℤ}
 use borrow.Author.Tests.{eqb-true}
 use Rattle.words.specs.Table.{rowCount, wordAt, numberAt, Whole}
-use Rattle.words.specs.Kinds.{kindAt, expression, place, expressionRow, placeRow, between, sortAt, isRequired, sortIn, kindRow, expressionFields, statementFields, markFields}
+use Rattle.words.specs.Kinds.{kindAt, expression, place, expressionRow, placeRow, between, sortAt, isRequired, sortIn, kindRow, expressionFields, statementFields, markFields, memberFields}
 use Rattle.words.specs.declared.Form.{Form}
 use Rattle.words.specs.declared.Operator.{Operator}
 use Rattle.words.specs.declared.Kind.{Kind}
-use Rattle.words.specs.declared.Kind.the-variants.{OfExpression, OfStatement, OfMark, Other}
+use Rattle.words.specs.declared.Kind.the-variants.{OfExpression, OfStatement, OfMark, OfMember, Other}
 use Rattle.words.specs.declared.ExpressionKind.the-variants.{Constant, Variable, Element, Minus, Not, Binary, And, Or, Conditional, Comma, Assign, Compound, Prefix, Postfix}
-use Rattle.words.specs.declared.StatementKind.the-variants.{Empty, Express, Block, If, While, Do, For, Switch, Break, Continue, Goto}
-use Rattle.words.specs.declared.MarkKind.the-variants.{Case, Default, Label}
+use Rattle.words.specs.declared.MemberKind.the-variants.{Arm}
 use Rattle.language.specs.Trees.{constant, read, minus, not, binary, and, or, comma, conditional, assign, compound, prefix, postfix, Place, variable, element}
 use Rattle.language.specs.Decode.{placeOf, expressionAt}
 use Rattle.language.specs.DecodeLaws.{at-constant, at-variable, at-element, at-minus, at-not, at-binary, at-and, at-or, at-comma, at-conditional, at-assign, at-compound, at-prefix, at-postfix}
@@ -79,7 +78,7 @@ module _ (form : Form) (bounds : Bounds) (rows : List ℤ) (s : Structured form 
 
   -- a row of a place's kind holds a place
   read-place : (row : ℕ) → row < rowCount rows → isPlace rows row ≡ true → expressionAt rows row ≡ read (placeAt rows row)
-  unfolding isPlace sortIn kindRow expressionFields statementFields markFields isRequired
+  unfolding isPlace sortIn kindRow expressionFields statementFields markFields memberFields isRequired
   read-place row inside e =
       ⊎-elim (λ k. rw (at-variable rows whole-rows row k))
       (λ k. rw (at-element rows whole-rows row k (linked form bounds rows s row inside k expression 2 refl refl .later)))
@@ -113,7 +112,7 @@ module _ (form : Form) (bounds : Bounds) (rows : List ℤ) (s : Structured form 
     reads l = read-place _ (l .leads .inside) (l .fit)
 
     expression-by : (kind : Kind) → kindAt rows row ≡ kind → between expressionRow placeRow (sortIn kind 0) ≡ true → ExpressionRow rows row
-    unfolding sortIn kindRow expressionFields statementFields markFields
+    unfolding sortIn kindRow expressionFields statementFields markFields memberFields
     expression-by (OfExpression Constant) k t = constant-row k (at-constant rows whole-rows row k)
     expression-by (OfExpression Variable) k t = variable-row k (at-variable rows whole-rows row k)
     expression-by (OfExpression Element) k t =
@@ -163,6 +162,7 @@ module _ (form : Form) (bounds : Bounds) (rows : List ℤ) (s : Structured form 
         postfix-row k (a .leads) (reads a) (rw (a .same) (at-postfix rows whole-rows row o k (a .later))) (a-place a)
     expression-by (OfStatement kind) k t = absurd (false≢true t)
     expression-by (OfMark kind) k t = absurd (false≢true t)
+    expression-by (OfMember Arm) k t = absurd (false≢true t)
     expression-by Other k t = absurd (false≢true t)
 
   expression-rows : (links row : ℕ) → rowCount rows ≤ row + links → row < rowCount rows → isExpression rows row ≡ true → ExpressionRow rows row

@@ -11,18 +11,18 @@ use lib.IntN.{ℤ}
 use lib.ListN.{length}
 use borrow.Author.Tests.{ltb-true, leb-true, eqb-true, not-true}
 use Rattle.words.specs.Table.{rowCount, numberAt}
-use Rattle.words.specs.Kinds.{kindAt, variable, array, optionalItem, sortAt, between, isLink, isRequired, sortIn, kindRow, expressionFields, statementFields, markFields}
+use Rattle.words.specs.Kinds.{kindAt, variable, array, optionalItem, sortAt, between, isLink, isRequired, sortIn, kindRow, expressionFields, statementFields, markFields, memberFields}
 use Rattle.words.specs.Layout.{layoutOf, storeSize, storeWords}
 use Rattle.words.specs.Laws.{both, either}
 use Rattle.words.specs.declared.Form.{Form}
 use Rattle.words.specs.declared.Kind.{Kind}
 use Rattle.language.specs.Decode.{Forward}
-use Rattle.words.specs.Links.{link, fits}
+use Rattle.words.specs.KindLaws.{required-link}
+use Rattle.words.specs.Links.{isStatement, link, fits}
 use Rattle.structure.specs.Fields.{numberFits}
 use Rattle.structure.specs.declared.Bounds.{Bounds}
 use Rattle.structure.specs.Structured.{Leads, Structured}
-use Rattle.structure.specs.StructuredLaws.{required-is-link}
-use Rattle.accepted.specs.Sorts.{sort-is, next-sort, between-true}
+use Rattle.accepted.specs.Sorts.{sort-is, item-next, between-true}
 
 -- The field of a kind is one of a, b, c, d and next, and its sort passes the test.
 abbrev pub holds : (ℕ → Bool) → Kind → ℕ → Bool
@@ -99,7 +99,7 @@ module _ (form : Form) (bounds : Bounds) (rows : List ℤ) (s : Structured form 
   pub linked : {kind : Kind} → kindAt rows row ≡ kind → (sort field : ℕ) → isRequired sort ≡ true → holds (eqb sort) kind field ≡ true → Linked rows row sort field
   linked k sort field e t =
       let at = tested (eqb sort) k field t in
-      let may = may-link k sort field (required-is-link sort e) t in
+      let may = may-link k sort field (required-link sort e) t in
       let some = s .present row inside field (at .first) (at .last) (rw (← eqb-true sort (sortAt rows row field) (at .passes)) e) in
       record {
         leads = may .leads some;
@@ -109,14 +109,10 @@ module _ (form : Form) (bounds : Bounds) (rows : List ℤ) (s : Structured form 
         fit = may .fit some;
       }
 
-  -- next, of every row: of an expression it counts as an unused field
-  pub next-link : MayLink rows row optionalItem 5
+  -- next, of every statement
+  pub next-link : isStatement rows row ≡ true → MayLink rows row optionalItem 5
   unfolding link isLink
-  next-link =
-      let none = s .unused-zero row inside 5 (omega arith) (omega arith) in
-      ⊎-elim (λ e. may-by optionalItem 5 (omega arith) (omega arith) (rw e (sym (none e))) (λ p. absurd (let z = none e in omega (arith, rw e at p))))
-      (λ e. may-by optionalItem 5 (omega arith) (omega arith) (rw e) (λ p. e))
-      (next-sort form rows row (s .known row inside))
+  next-link t = let e = item-next rows row t in may-by optionalItem 5 (omega arith) (omega arith) (rw e) (λ p. e)
 
   -- ---- numbers
 

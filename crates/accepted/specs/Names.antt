@@ -7,21 +7,21 @@ use native.Mathlib.Omega.{arith}
 use lib.IntN.{ℤ}
 use lib.ListN.{length}
 use Rattle.words.specs.Table.{rowCount}
-use Rattle.words.specs.Kinds.{kindRow, expressionFields, statementFields, markFields, sortIn}
+use Rattle.words.specs.Kinds.{kindRow, expressionFields, statementFields, markFields, memberFields, sortIn}
 use Rattle.words.specs.Layout.{layoutOf, storeWords}
 use Rattle.words.specs.declared.Form.{Form}
 use Rattle.words.specs.declared.Form.the-variants.{Source}
 use Rattle.language.specs.Trees.{read}
-use Rattle.language.specs.Decode.{expressionAt, statementAt, decode, listAt, partAt}
+use Rattle.language.specs.Decode.{expressionAt, statementAt, decode, listAt, armListAt, partAt}
 use Rattle.language.specs.Program.{contents}
-use Rattle.language.specs.WellFormed.{NamedExpression, NamedPlace, NamedPart, NamedStatement, NamedItems}
+use Rattle.language.specs.WellFormed.{NamedExpression, NamedPlace, NamedPart, NamedStatement, NamedArms, NamedItems}
 use Rattle.words.specs.Links.{link}
 use Rattle.structure.specs.Fields.{boundsOf}
 use Rattle.structure.specs.declared.Bounds.{Bounds}
 use Rattle.structure.specs.Structured.{Structured}
 use Rattle.accepted.specs.Fields.{NamesVariable, stays, names-variable, names-array}
 use Rattle.accepted.specs.Expressions.{ExpressionRow, constant-row, variable-row, element-row, minus-row, not-row, binary-row, and-row, or-row, comma-row, conditional-row, assign-row, compound-row, prefix-row, postfix-row, placeAt}
-use Rattle.accepted.specs.Statements.{PartRow, absent-part, present-part, StatementRow, empty-row, express-row, block-row, ifThen-row, ifElse-row, while-row, doWhile-row, for-row, switch-row, case-row, default-row, break-row, continue-row, goto-row, label-row, ListRow, no-items, item, case-item, default-item, label-item, root-inside, program-list, program-contents, program-block}
+use Rattle.accepted.specs.Statements.{PartRow, absent-part, present-part, StatementRow, empty-row, express-row, block-row, ifThen-row, ifElse-row, while-row, doWhile-row, for-row, switch-row, case-row, default-row, break-row, continue-row, goto-row, label-row, guardedIf-row, guardedDo-row, abort-row, ArmsRow, no-arms, arm-row, ListRow, no-items, item, case-item, default-item, label-item, root-inside, program-list, program-contents, program-block}
 
 -- `Names` is what variable numbers within the bounds satisfy.
 module _ (form : Form) (bounds : Bounds) (rows : List ℤ) (s : Structured form bounds rows)
@@ -35,7 +35,7 @@ module _ (form : Form) (bounds : Bounds) (rows : List ℤ) (s : Structured form 
   named-place row e n = subst (NamedExpression Names arrays) e n
 
   pub named-expression : {row : ℕ} → ExpressionRow rows row → row < rowCount rows → NamedExpression Names arrays (expressionAt rows row)
-  unfolding NamedExpression NamedPlace sortIn kindRow expressionFields statementFields markFields
+  unfolding NamedExpression NamedPlace sortIn kindRow expressionFields statementFields markFields memberFields
   named-expression (constant-row k e) inside = rw e tt
   named-expression {row} (variable-row k e) inside = rw e (names _ (names-variable form bounds rows s row inside k 1 refl))
   named-expression {row} (element-row k p e x) inside = rw e (names-array form bounds rows s row inside k 1 refl, named-expression x (p .inside))
@@ -56,7 +56,7 @@ module _ (form : Form) (bounds : Bounds) (rows : List ℤ) (s : Structured form 
   named-part (present-part p e x) inside = rw e (named-expression x (inside p))
 
   mutual
-    unfolding NamedStatement NamedItems
+    unfolding NamedStatement NamedArms NamedItems
 
     pub named-statement : {row : ℕ} → StatementRow rows row → row < rowCount rows → NamedStatement Names arrays (statementAt rows row)
     named-statement (empty-row k e) inside = rw e tt
@@ -76,6 +76,14 @@ module _ (form : Form) (bounds : Bounds) (rows : List ℤ) (s : Structured form 
     named-statement (continue-row k e) inside = rw e tt
     named-statement (goto-row k e) inside = rw e tt
     named-statement (label-row k e) inside = rw e tt
+    named-statement {row} (guardedIf-row k e x) inside = rw e (named-arms x (stays form bounds rows s row inside 1 refl))
+    named-statement {row} (guardedDo-row k e x) inside = rw e (named-arms x (stays form bounds rows s row inside 1 refl))
+    named-statement (abort-row k e) inside = rw e tt
+
+    named-arms : {l : ℕ} → ArmsRow rows l → (0 < l → l < rowCount rows) → NamedArms Names arrays (armListAt rows l)
+    named-arms (no-arms z e) inside = rw e tt
+    named-arms {l} (arm-row p k q r e x y z) inside =
+        rw e (named-expression x (q .inside), named-statement y (r .inside), named-arms z (stays form bounds rows s l (inside p) 5 refl))
 
     named-list : {l : ℕ} → ListRow rows l → (0 < l → l < rowCount rows) → NamedItems Names arrays (listAt rows l)
     named-list (no-items z e) inside = rw e tt

@@ -8,14 +8,14 @@ use Prim.Native.Nat.{ℕ, _+_, _*_, _<_}
 use native.Mathlib.Omega.{arith}
 use lib.IntN.{ℤ}
 use Rattle.words.specs.Table.{rowCount, numberAt}
-use Rattle.words.specs.Kinds.{kindAt, statementRow, standsIn, inLanguage, sortIn, kindRow, expressionFields, statementFields, markFields}
+use Rattle.words.specs.Kinds.{kindAt, statementRow, armRow, between, standsIn, inLanguage, sortIn, kindRow, expressionFields, statementFields, markFields, memberFields}
 use Rattle.words.specs.declared.Form.the-variants.{Source}
 use Rattle.words.specs.declared.Kind.{Kind}
 use Rattle.words.specs.declared.Kind.the-variants.{OfStatement}
 use Rattle.words.specs.declared.StatementKind.the-variants.{Block, Switch}
-use Rattle.language.specs.Decode.{statementAt, decode, listAt}
+use Rattle.language.specs.Decode.{statementAt, decode, listAt, armListAt}
 use Rattle.language.specs.Program.{contents}
-use Rattle.language.specs.WellFormed.{Placed, PlacedItems}
+use Rattle.language.specs.WellFormed.{Placed, PlacedArms, PlacedItems}
 use Rattle.words.specs.Links.{link}
 use Rattle.structure.specs.LinkLaws.{linker-of}
 use Rattle.structure.specs.StructuredLaws.{structured-tree}
@@ -24,9 +24,9 @@ use Rattle.structure.specs.declared.Bounds.{Bounds}
 use Rattle.structure.specs.Structured.{Leads, Structured, Tree}
 use Rattle.source_check.specs.Places.{isLoop, isLoopOrSwitch, isMark}
 use Rattle.source_check.specs.Legal.{Inside, part, along, SwitchItem, first, next, Legal}
-use Rattle.accepted.specs.Sorts.{statementNumber, number-is}
+use Rattle.accepted.specs.Sorts.{between-true, statementNumber, number-is}
 use Rattle.accepted.specs.Fields.{leads-on}
-use Rattle.accepted.specs.Statements.{StatementRow, empty-row, express-row, block-row, ifThen-row, ifElse-row, while-row, doWhile-row, for-row, switch-row, case-row, default-row, break-row, continue-row, goto-row, label-row, ListRow, no-items, item, case-item, default-item, label-item, root-inside, root-row, program-block}
+use Rattle.accepted.specs.Statements.{StatementRow, empty-row, express-row, block-row, ifThen-row, ifElse-row, while-row, doWhile-row, for-row, switch-row, case-row, default-row, break-row, continue-row, goto-row, label-row, guardedIf-row, guardedDo-row, abort-row, ArmsRow, no-arms, arm-row, ListRow, no-items, item, case-item, default-item, label-item, root-inside, root-row, program-block}
 
 -- ---- a row has one owner
 
@@ -71,9 +71,9 @@ module _ (header rows : List ℤ) (legal : Legal header rows) where
   t : Tree rows
   t = structured-tree Source bounds rows s
 
-  -- the number of a row of a statement's kind
-  number-of : {row : ℕ} {kind : Kind} → row < rowCount rows → kindAt rows row ≡ kind → sortIn kind 0 ≡ statementRow → numberAt rows row 0 ≡ statementNumber kind
-  number-of {row} inside k e = number-is rows row (ap (λ kind. sortIn kind 0) k ∙ e) ∙ ap statementNumber k
+  -- the number of a row of a statement's or an arm's kind
+  number-of : {row : ℕ} {kind : Kind} → row < rowCount rows → kindAt rows row ≡ kind → between statementRow armRow (sortIn kind 0) ≡ true → numberAt rows row 0 ≡ statementNumber kind
+  number-of {row} inside k e = number-is rows row (ap (λ kind. between statementRow armRow (sortIn kind 0)) k ∙ e) ∙ ap statementNumber k
 
   -- What the flags of `Placed` say of a row: where it stands inside such a row, the flag is set.
   abbrev Flag : (ℕ → Bool) → Bool → ℕ → Type 0
@@ -96,7 +96,7 @@ module _ (header rows : List ℤ) (legal : Legal header rows) where
     own : SwitchItem rows row → inSwitch ≡ true
 
   -- the parts of a row that is no loop and no switch
-  through : {row : ℕ} {kind : Kind} {mayBreak mayContinue : Bool} → kindAt rows row ≡ kind → sortIn kind 0 ≡ statementRow
+  through : {row : ℕ} {kind : Kind} {mayBreak mayContinue : Bool} → kindAt rows row ≡ kind → between statementRow armRow (sortIn kind 0) ≡ true
       → isLoopOrSwitch (statementNumber kind) ≡ false → isLoop (statementNumber kind) ≡ false
       → Around mayBreak mayContinue row → (field : ℕ) → field < 6 → Leads rows row field → Around mayBreak mayContinue (link rows row field)
   through {row} k e u v around field h l =
@@ -113,7 +113,7 @@ module _ (header rows : List ℤ) (legal : Legal header rows) where
 
   -- the first item of a block
   first-item : {row : ℕ} {mayBreak mayContinue : Bool} → kindAt rows row ≡ OfStatement Block → Around mayBreak mayContinue row → 0 < link rows row 1 → AroundItem false mayBreak mayContinue (link rows row 1)
-  unfolding sortIn kindRow expressionFields statementFields markFields statementNumber
+  unfolding sortIn kindRow expressionFields statementFields markFields memberFields statementNumber
   first-item {row} k around p =
       let l = leads-on Source bounds rows s _ (around .inside) 1 refl p in
       record {
@@ -123,7 +123,7 @@ module _ (header rows : List ℤ) (legal : Legal header rows) where
 
   -- the first item of a switch
   first-in-switch : {row : ℕ} {mayBreak mayContinue : Bool} → kindAt rows row ≡ OfStatement Switch → Around mayBreak mayContinue row → 0 < link rows row 2 → AroundItem true true mayContinue (link rows row 2)
-  unfolding sortIn kindRow expressionFields statementFields markFields statementNumber
+  unfolding sortIn kindRow expressionFields statementFields markFields memberFields statementNumber
   first-in-switch {row} k around p =
       let l = leads-on Source bounds rows s _ (around .inside) 2 refl p in
       record {
@@ -150,16 +150,24 @@ module _ (header rows : List ℤ) (legal : Legal header rows) where
       }
 
   -- a case or default
-  mark-allowed : {row : ℕ} {kind : Kind} {inSwitch mayBreak mayContinue : Bool} → AroundItem inSwitch mayBreak mayContinue row → kindAt rows row ≡ kind → sortIn kind 0 ≡ statementRow → isMark (statementNumber kind) ≡ true → inSwitch ≡ true
+  mark-allowed : {row : ℕ} {kind : Kind} {inSwitch mayBreak mayContinue : Bool} → AroundItem inSwitch mayBreak mayContinue row → kindAt rows row ≡ kind → between statementRow armRow (sortIn kind 0) ≡ true → isMark (statementNumber kind) ≡ true → inSwitch ≡ true
   mark-allowed {row} a k e m = let inside = a .around .inside in a .own (legal .placed row inside .mark-inside (rw (number-of inside k e) m))
 
-  -- "52 goto, 53 label (kernel only)".
+  -- the same of a link that may be absent
+  through-any : {row : ℕ} {kind : Kind} {mayBreak mayContinue : Bool} → kindAt rows row ≡ kind → between statementRow armRow (sortIn kind 0) ≡ true
+      → isLoopOrSwitch (statementNumber kind) ≡ false → isLoop (statementNumber kind) ≡ false
+      → Around mayBreak mayContinue row → (field : ℕ) → between 1 5 field ≡ true → 0 < link rows row field → Around mayBreak mayContinue (link rows row field)
+  through-any {row} k e u v around field t p =
+      let range = between-true 1 5 field t in
+      through k e u v around field (omega arith) (leads-on Source bounds rows s row (around .inside) field t p)
+
+  -- "52 goto, 53 label (kernel only)"; "the kernel's new kind 57 (abort, no fields)".
   not-in-source : {row : ℕ} {kind : Kind} → row < rowCount rows → kindAt rows row ≡ kind → standsIn (kindRow kind .forms) Source ≡ false → ⊥
   unfolding inLanguage kindAt
   not-in-source {row} inside k f = true≢false (sym (rw k at (s .known row inside)) ∙ f)
 
   mutual
-    unfolding Placed PlacedItems sortIn kindRow expressionFields statementFields markFields statementNumber inLanguage
+    unfolding Placed PlacedArms PlacedItems sortIn kindRow expressionFields statementFields markFields memberFields statementNumber inLanguage
 
     placed-statement : {row : ℕ} → StatementRow rows row → (mayBreak mayContinue : Bool) → Around mayBreak mayContinue row → Placed mayBreak mayContinue (statementAt rows row)
     placed-statement (empty-row k e) b c a = rw e tt
@@ -178,6 +186,15 @@ module _ (header rows : List ℤ) (legal : Legal header rows) where
     placed-statement {row} (continue-row k e) b c a = rw e (a .continues (legal .placed row (a .inside) .continue-inside (number-of (a .inside) k refl)))
     placed-statement (goto-row k e) b c a = absurd (not-in-source (a .inside) k refl)
     placed-statement (label-row k e) b c a = rw e tt
+    placed-statement (guardedIf-row k e x) b c a = rw e (placed-arms x b c (through-any k refl refl refl a 1 refl))
+    placed-statement (guardedDo-row k e x) b c a = rw e (placed-arms x b c (through-any k refl refl refl a 1 refl))
+    placed-statement (abort-row k e) b c a = absurd (not-in-source (a .inside) k refl)
+
+    -- what stands around a guarded statement stands around its arms' blocks
+    placed-arms : {l : ℕ} → ArmsRow rows l → (mayBreak mayContinue : Bool) → (0 < l → Around mayBreak mayContinue l) → PlacedArms mayBreak mayContinue (armListAt rows l)
+    placed-arms (no-arms z e) b c a = rw e tt
+    placed-arms (arm-row p k q r e x y z) b c a =
+        rw e (placed-statement y b c (through k refl refl refl (a p) 2 (omega arith) r), placed-arms z b c (through-any k refl refl refl (a p) 5 refl))
 
     placed-list : {l : ℕ} → ListRow rows l → (inSwitch mayBreak mayContinue : Bool) → (0 < l → AroundItem inSwitch mayBreak mayContinue l) → PlacedItems inSwitch mayBreak mayContinue (listAt rows l)
     placed-list (no-items z e) w b c a = rw e tt

@@ -1,7 +1,7 @@
 -- Rows: the tree of a structured table has as many rows as the table. Each row's tree counts its own row and what its links bring, and row 0
 -- gathers the whole table.
 use mathlib.Core.Path.{_≡_, refl, sym, ap, _∙_}
-use mathlib.Core.Bool.{Bool, true, _&&_}
+use mathlib.Core.Bool.{Bool, true, _&&_, true≢false}
 use mathlib.Core.List.{List}
 use mathlib.Core.Logic.{⊎-elim}
 use Prim.Native.Nat.{ℕ, zero, suc, _+_, _<_}
@@ -11,31 +11,37 @@ use lib.IntN.{ℤ}
 use borrow.Author.Tests.{eqb-true, ne-eqb}
 use Rattle.words.specs.Word.{pick}
 use Rattle.words.specs.Table.{rowCount, numberAt, Whole}
-use Rattle.words.specs.Kinds.{kindAt, expression, optionalExpression, place, branch, optionalBranch, optionalItem, statementRow, sortOf, sortAt, isLink, isRequired, sortIn, kindRow, expressionFields, statementFields, markFields, kinds, kindIn, kindOf}
+use Rattle.words.specs.Kinds.{kindAt, isStatementKind, expression, optionalExpression, place, branch, optionalBranch, optionalItem, bodyBlock, optionalArm, statementRow, armRow, sortAt, isLink, isRequired, sortIn, kindRow, expressionFields, statementFields, markFields, memberFields}
 use Rattle.words.specs.Laws.{both}
 use Rattle.words.specs.declared.Form.{Form}
 use Rattle.words.specs.declared.Kind.{Kind}
+use Rattle.words.specs.declared.Kind.the-variants.{OfStatement, OfMember}
+use Rattle.words.specs.declared.StatementKind.the-variants.{Block}
+use Rattle.words.specs.declared.MemberKind.the-variants.{Arm}
 use Rattle.language.specs.Trees.{read}
-use Rattle.language.specs.Decode.{expressionAt, statementOf, statementAt, itemsAt, decode, listAt, partAt}
+use Rattle.language.specs.Decode.{expressionAt, statementOf, statementAt, itemsAt, armsAt, decode, listAt, armListAt, partAt}
 use Rattle.language.specs.DecodeLaws.{statement-at, at-item, at-case, at-default, at-label, part-some}
-use Rattle.language.specs.Sizes.{expressionRows, placeRows, partRows, statementRows, itemsRows}
-use Rattle.words.specs.Links.{isExpression, isStatement, link, fits}
+use Rattle.language.specs.Sizes.{expressionRows, placeRows, partRows, statementRows, armsRows, itemsRows}
+use Rattle.words.specs.Links.{isExpression, isStatement, isBlock, isArm, link, fits}
+use Rattle.structure.specs.NoteLaws.{above-zero}
 use Rattle.structure.specs.StructuredLaws.{structured-tree}
 use Rattle.structure.specs.declared.Bounds.{Bounds}
 use Rattle.structure.specs.Structured.{Leads, Structured}
-use Rattle.accepted.specs.Sorts.{expression-or-statement, statement-kind}
+use Rattle.accepted.specs.Sorts.{expression-statement-or-arm, statement-kind, block-statement, arm-is}
 use Rattle.accepted.specs.Fields.{holds, noLink, MayLink, link-none, linked, may-link, next-link}
 use Rattle.accepted.specs.Sums.{totalFrom, along, brought, total-one, gathers}
 use Rattle.accepted.specs.Expressions.{ExpressionRow, constant-row, variable-row, element-row, minus-row, not-row, binary-row, and-row, or-row, comma-row, conditional-row, assign-row, compound-row, prefix-row, postfix-row, placeAt, whole-rows, place-expression, expression-row}
-use Rattle.accepted.specs.Statements.{StatementRow, empty-row, express-row, block-row, ifThen-row, ifElse-row, while-row, doWhile-row, for-row, switch-row, case-row, default-row, break-row, continue-row, goto-row, label-row, list-some, root-inside, statement-row}
+use Rattle.accepted.specs.Statements.{StatementRow, empty-row, express-row, block-row, ifThen-row, ifElse-row, while-row, doWhile-row, for-row, switch-row, case-row, default-row, break-row, continue-row, goto-row, label-row, guardedIf-row, guardedDo-row, abort-row, ArmsRow, no-arms, arm-row, list-some, arms-some, root-inside, root-kind, root-statement, statement-row, arms-row}
 
 unfoldable all : (ℕ → Bool) → ℕ → ℕ → Bool
 all test from zero = true
 all test from (suc count) = test from && all test (from + 1) count
 
--- The rows of the tree at a row; from a statement on, with the items behind it.
+-- The rows of the tree at a row; from a statement on, with the items behind it; from an arm on, with the arms behind it.
 unfoldable pub treeRows : List ℤ → ℕ → ℕ
-treeRows rows row = pick (isExpression rows row) (expressionRows (expressionAt rows row)) (itemsRows (itemsAt rows row))
+treeRows rows row =
+    pick (isExpression rows row) (expressionRows (expressionAt rows row))
+    (pick (isArm rows row) (armsRows (armsAt rows row)) (itemsRows (itemsAt rows row)))
 
 module _ (form : Form) (bounds : Bounds) (rows : List ℤ) (s : Structured form bounds rows) where
   whole : Whole rows
@@ -46,8 +52,12 @@ module _ (form : Form) (bounds : Bounds) (rows : List ℤ) (s : Structured form 
   expression-weight row e = rw e
 
   statement-weight : (row : ℕ) → isStatement rows row ≡ true → treeRows rows row ≡ itemsRows (itemsAt rows row)
-  unfolding treeRows isExpression isStatement
+  unfolding treeRows isExpression isStatement isArm
   statement-weight row e = rw (eqb-true (sortAt rows row 0) statementRow e)
+
+  arm-weight : (row : ℕ) → isArm rows row ≡ true → treeRows rows row ≡ armsRows (armsAt rows row)
+  unfolding treeRows isExpression isArm
+  arm-weight row e = rw (eqb-true (sortAt rows row 0) armRow e)
 
   some-link : (l : ℕ) → 0 < l → along (treeRows rows) l ≡ treeRows rows l
   unfolding along
@@ -58,7 +68,7 @@ module _ (form : Form) (bounds : Bounds) (rows : List ℤ) (s : Structured form 
       → itemsRows (itemsAt rows row) ≡ statementRows (statementAt rows row) + itemsRows (listAt rows (link rows row 5))
   unfolding isStatement itemsRows statementRows statementOf
   split-items row inside e =
-      let next = next-link form bounds rows s row inside in
+      let next = next-link form bounds rows s row inside e in
       rw (next .same)
       (⊎-elim (λ t. rw (at-item rows whole row t (next .later)))
       (⊎-elim (λ k. rw (at-case rows whole row k (next .later), statement-at rows whole row, k))
@@ -70,7 +80,7 @@ module _ (form : Form) (bounds : Bounds) (rows : List ℤ) (s : Structured form 
   lone-statement : (row : ℕ) → row < rowCount rows → isStatement rows row ≡ true → numberAt rows row 5 ≡ 0 → itemsRows (itemsAt rows row) ≡ statementRows (statementAt rows row)
   unfolding itemsRows
   lone-statement row inside e z =
-      let none : link rows row 5 ≡ 0 = next-link form bounds rows s row inside .same ∙ z in
+      let none : link rows row 5 ≡ 0 = next-link form bounds rows s row inside e .same ∙ z in
       let behind : itemsRows (listAt rows (link rows row 5)) ≡ 0 = rw none in
       omega (arith, split-items row inside e, behind)
 
@@ -100,21 +110,28 @@ module _ (form : Form) (bounds : Bounds) (rows : List ℤ) (s : Structured form 
         some-link _ (l .some) ∙ expression-weight _ (place-expression form bounds rows s _ (l .fit)) ∙ ap expressionRows i
 
     -- a branch or body has next 0
-    lone-brings : (field : ℕ) → Leads rows row field → (isStatement rows (link rows row field) && eqb (numberAt rows (link rows row field) 5) 0) ≡ true
+    lone-brings : (field : ℕ) → Leads rows row field → (isStatement rows (link rows row field) ≡ true) × (eqb (numberAt rows (link rows row field) 5) 0 ≡ true)
         → brings field ≡ statementRows (statementAt rows (link rows row field))
-    lone-brings field l lone =
-        let parts = both _ _ lone in
+    lone-brings field l parts =
         some-link _ (let later = l .later in omega arith) ∙ statement-weight _ (parts .0) ∙ lone-statement _ (l .inside) (parts .0) (eqb-true _ _ (parts .1))
 
     body-brings : {kind : Kind} → kindAt rows row ≡ kind → (field : ℕ) → holds (eqb branch) kind field ≡ true → brings field ≡ statementRows (statementAt rows (link rows row field))
     unfolding isRequired fits
-    body-brings k field t = let l = linked form bounds rows s row inside k branch field refl t in lone-brings field (l .leads) (l .fit)
+    body-brings k field t = let l = linked form bounds rows s row inside k branch field refl t in lone-brings field (l .leads) (both _ _ (l .fit))
 
     otherwise-brings : {kind : Kind} → kindAt rows row ≡ kind → (field : ℕ) → holds (eqb optionalBranch) kind field ≡ true → Leads rows row field
         → brings field ≡ statementRows (statementAt rows (link rows row field))
     unfolding isLink fits
     otherwise-brings k field t l =
-        lone-brings field l (may-link form bounds rows s row inside k optionalBranch field refl t .fit (let later = l .later in omega arith))
+        lone-brings field l (both _ _ (may-link form bounds rows s row inside k optionalBranch field refl t .fit (let later = l .later in omega arith)))
+
+    -- an arm's block has next 0
+    block-brings : {kind : Kind} → kindAt rows row ≡ kind → (field : ℕ) → holds (eqb bodyBlock) kind field ≡ true → brings field ≡ statementRows (statementAt rows (link rows row field))
+    unfolding isRequired fits
+    block-brings k field t =
+        let l = linked form bounds rows s row inside k bodyBlock field refl t in
+        let parts = both (isBlock rows (link rows row field)) _ (l .fit) in
+        lone-brings field (l .leads) (block-statement rows _ (parts .0), parts .1)
 
     part-brings : {kind : Kind} → kindAt rows row ≡ kind → (field : ℕ) → holds (eqb optionalExpression) kind field ≡ true → brings field ≡ partRows (partAt rows (link rows row field))
     unfolding isLink fits
@@ -141,6 +158,17 @@ module _ (form : Form) (bounds : Bounds) (rows : List ℤ) (s : Structured form 
     unfolding isLink
     items-bring k field t = list-brings field (may-link form bounds rows s row inside k optionalItem field refl t)
 
+    arms-bring : {kind : Kind} → kindAt rows row ≡ kind → (field : ℕ) → holds (eqb optionalArm) kind field ≡ true → brings field ≡ armsRows (armListAt rows (link rows row field))
+    unfolding armsRows isLink fits
+    arms-bring k field t = go (link rows row field) refl
+      where
+        go : (l : ℕ) → link rows row field ≡ l → brings field ≡ armsRows (armListAt rows (link rows row field))
+        go zero z = absent-brings field z ∙ (rw z)
+        go (suc l) z =
+            let p : 0 < link rows row field = omega arith in
+            let fit = may-link form bounds rows s row inside k optionalArm field refl t .fit p in
+            some-link _ p ∙ arm-weight _ fit ∙ ap armsRows (sym (arms-some rows _ p))
+
     -- fields without links bring nothing
     free : {kind : Kind} → kindAt rows row ≡ kind → (from count : ℕ) → all (holds noLink kind) from count ≡ true → totalFrom brings from count ≡ 0
     unfolding totalFrom all
@@ -152,7 +180,7 @@ module _ (form : Form) (bounds : Bounds) (rows : List ℤ) (s : Structured form 
     -- ---- a row counts itself and what its links bring
 
     expression-adds : ExpressionRow rows row → expressionRows (expressionAt rows row) ≡ 1 + totalFrom brings 1 5
-    unfolding expressionRows placeRows totalFrom all sortIn kindRow expressionFields statementFields markFields isLink
+    unfolding expressionRows placeRows totalFrom all sortIn kindRow expressionFields statementFields markFields memberFields isLink
     expression-adds (constant-row k e) = rw e (omega (arith, free k 1 5 refl))
     expression-adds (variable-row k e) = rw e (omega (arith, free k 1 5 refl))
     expression-adds (element-row k p e x) = rw e (omega (arith, none-brings k 1 refl, operand-brings k 2 refl, free k 3 3 refl))
@@ -170,7 +198,7 @@ module _ (form : Form) (bounds : Bounds) (rows : List ℤ) (s : Structured form 
     expression-adds (postfix-row k p i e x) = rw e (omega (arith, place-brings k 1 refl i, free k 2 4 refl))
 
     statement-adds : StatementRow rows row → statementRows (statementAt rows row) ≡ 1 + totalFrom brings 1 4
-    unfolding statementRows totalFrom all sortIn kindRow expressionFields statementFields markFields isLink
+    unfolding statementRows totalFrom all sortIn kindRow expressionFields statementFields markFields memberFields isLink
     statement-adds (empty-row k e) = rw e (omega (arith, free k 1 4 refl))
     statement-adds (express-row k p e x) = rw e (omega (arith, operand-brings k 1 refl, free k 2 3 refl))
     statement-adds (block-row k e x) = rw e (omega (arith, items-bring k 1 refl, free k 2 3 refl))
@@ -189,22 +217,40 @@ module _ (form : Form) (bounds : Bounds) (rows : List ℤ) (s : Structured form 
     statement-adds (continue-row k e) = rw e (omega (arith, free k 1 4 refl))
     statement-adds (goto-row k e) = rw e (omega (arith, free k 1 4 refl))
     statement-adds (label-row k e) = rw e (omega (arith, free k 1 4 refl))
+    statement-adds (guardedIf-row k e x) = rw e (omega (arith, arms-bring k 1 refl, free k 2 3 refl))
+    statement-adds (guardedDo-row k e x) = rw e (omega (arith, arms-bring k 1 refl, free k 2 3 refl))
+    statement-adds (abort-row k e) = rw e (omega (arith, free k 1 4 refl))
+
+    arms-add : ArmsRow rows row → 0 < row → armsRows (armListAt rows row) ≡ 1 + totalFrom brings 1 5
+    unfolding armsRows totalFrom all sortIn kindRow expressionFields statementFields markFields memberFields isLink
+    arms-add (no-arms z e) some = absurd (omega arith)
+    arms-add (arm-row p k q r e x y z) some = rw e (omega (arith, operand-brings k 1 refl, block-brings k 2 refl, free k 3 2 refl, arms-bring k 5 refl))
+
+    -- row 0 is a block, and no arm
+    arm-some : isArm rows row ≡ true → 0 < row
+    arm-some e = above-zero row (λ z. no-arm (sym (root-kind form bounds rows s) ∙ (rw z at (arm-is rows row e))))
+      where
+        no-arm : OfStatement Block ≡ OfMember Arm → ⊥
+        no-arm e = true≢false (ap isStatementKind e)
 
     row-adds : treeRows rows row ≡ 1 + totalFrom brings 1 5
     unfolding totalFrom
     row-adds =
         ⊎-elim (λ e. expression-weight row e ∙ expression-adds (expression-row form bounds rows s row inside e))
-        (λ e.
+        (⊎-elim (λ e.
         let own = statement-adds (statement-row form bounds rows s row inside e) in
-        let behind = list-brings 5 (next-link form bounds rows s row inside) in
+        let behind = list-brings 5 (next-link form bounds rows s row inside e) in
         omega (arith, statement-weight row e, split-items row inside e, own, behind))
-        (expression-or-statement form rows row (s .known row inside))
+        (λ e.
+        let some = arm-some e in
+        arm-weight row e ∙ ap armsRows (sym (arms-some rows row some)) ∙ arms-add (arms-row form bounds rows s row inside e some) some))
+        (expression-statement-or-arm form rows row (s .known row inside))
 
 -- "Every other row is linked exactly once": the tree has a row for each row of the table.
 pub structured-rows : (form : Form) (bounds : Bounds) (rows : List ℤ) → Structured form bounds rows → statementRows (decode rows) ≡ rowCount rows
-unfolding decode isStatement sortAt sortOf kindOf kindIn kinds sortIn kindRow statementFields
+unfolding decode
 structured-rows form bounds rows s =
     let inside = root-inside form bounds rows s in
-    let block-row : isStatement rows 0 ≡ true = rw (s .block) in
+    let root = root-statement form bounds rows s in
     let all = gathers (treeRows rows) rows (structured-tree form bounds rows s) (λ row. 1) (row-adds form bounds rows s) in
-    omega (arith, all, total-one (rowCount rows), statement-weight form bounds rows s 0 block-row, lone-statement form bounds rows s 0 inside block-row (s .lone))
+    omega (arith, all, total-one (rowCount rows), statement-weight form bounds rows s 0 root, lone-statement form bounds rows s 0 inside root (s .lone))

@@ -10,26 +10,27 @@ use lib.IntN.{ℤ}
 use borrow.Author.Tests.{leb-true, eqb-true, eq-eqb}
 use Rattle.words.specs.Word.{pick}
 use Rattle.words.specs.Table.{numberAt}
-use Rattle.words.specs.Kinds.{kinds, kindIn, kindOf, kindAt, isStatementKind, unused, optionalItem, expressionRow, placeRow, statementRow, noKind, between, kindRow, expressionFields, statementFields, markFields, sortIn, sortOf, sortAt, inLanguage}
-use Rattle.words.specs.KindLaws.{everyLine, every-number}
+use Rattle.words.specs.Kinds.{kinds, kindIn, kindOf, kindAt, isStatementKind, optionalItem, expressionRow, placeRow, statementRow, armRow, noKind, between, kindRow, expressionFields, statementFields, markFields, memberFields, sortIn, sortOf, sortAt, inLanguage}
+use Rattle.words.specs.KindLaws.{everyLine, every-number, arm-kind}
 use Rattle.words.specs.Laws.{both, either}
 use Rattle.words.specs.declared.Form.{Form}
 use Rattle.words.specs.declared.Kind.{Kind}
-use Rattle.words.specs.declared.Kind.the-variants.{OfExpression, OfStatement, OfMark, Other}
+use Rattle.words.specs.declared.Kind.the-variants.{OfExpression, OfStatement, OfMark, OfMember, Other}
 use Rattle.words.specs.declared.ExpressionKind.{ExpressionKind}
 use Rattle.words.specs.declared.ExpressionKind.the-variants.{Variable, Element}
 use Rattle.words.specs.declared.StatementKind.{StatementKind}
-use Rattle.words.specs.declared.StatementKind.the-variants.{Empty, Express, Block, If, While, Do, For, Switch, Break, Continue, Goto}
+use Rattle.words.specs.declared.StatementKind.the-variants.{Empty, Express, Block, If, While, Do, For, Switch, Break, Continue, Goto, GuardedIf, GuardedDo, Abort}
 use Rattle.words.specs.declared.MarkKind.{MarkKind}
 use Rattle.words.specs.declared.MarkKind.the-variants.{Case, Default, Label}
-use Rattle.words.specs.Links.{isExpression, isStatement}
+use Rattle.words.specs.declared.MemberKind.the-variants.{Arm}
+use Rattle.words.specs.Links.{isExpression, isStatement, isBlock, isArm}
 
 pub between-true : (least most number : ℕ) → between least most number ≡ true → (least ≤ number) × (number ≤ most)
 between-true least most number e =
     let parts = both (leb least number) (leb number most) e in
     (leb-true _ _ (parts .0), leb-true _ _ (parts .1))
 
--- ---- the number of a statement's or mark's kind
+-- ---- the number of a statement's, mark's or arm's kind
 
 unfoldable pub statementNumber : Kind → ℕ
 statementNumber (OfExpression kind) = 0
@@ -47,10 +48,14 @@ statementNumber (OfStatement Break) = 50
 statementNumber (OfStatement Continue) = 51
 statementNumber (OfStatement Goto) = 52
 statementNumber (OfMark Label) = 53
+statementNumber (OfStatement GuardedIf) = 54
+statementNumber (OfStatement GuardedDo) = 55
+statementNumber (OfMember Arm) = 56
+statementNumber (OfStatement Abort) = 57
 statementNumber Other = 0
 
 abbrev numbered : ℕ → Kind → Bool
-numbered number kind = pick (eqb (sortIn kind 0) statementRow) (eqb (statementNumber kind) number) true
+numbered number kind = pick (between statementRow armRow (sortIn kind 0)) (eqb (statementNumber kind) number) true
 
 -- ---- tests over the table
 
@@ -58,6 +63,7 @@ isOperand : Kind → Bool
 isOperand (OfExpression kind) = true
 isOperand (OfStatement kind) = false
 isOperand (OfMark kind) = false
+isOperand (OfMember kind) = false
 isOperand Other = false
 
 -- a row of an expression's kind is an expression or a place
@@ -65,19 +71,19 @@ abbrev operandSort : ℕ → Kind → Bool
 operandSort number kind = pick (isOperand kind) (between expressionRow placeRow (sortIn kind 0)) true
 
 operand-sort : (number : ℕ) → operandSort number (kindOf number) ≡ true
-unfolding everyLine kinds sortIn kindRow expressionFields statementFields markFields isOperand
+unfolding everyLine kinds sortIn kindRow expressionFields statementFields markFields memberFields isOperand
 operand-sort number = every-number operandSort refl (λ number. refl) number
 
 abbrev placeNumber : ℕ → Kind → Bool
 placeNumber number kind = pick (eqb (sortIn kind 0) placeRow) (eqb number 2 || eqb number 3) true
 
 place-number : (number : ℕ) → placeNumber number (kindOf number) ≡ true
-unfolding everyLine kinds sortIn kindRow expressionFields statementFields markFields
+unfolding everyLine kinds sortIn kindRow expressionFields statementFields markFields memberFields
 place-number number = every-number placeNumber refl (λ number. refl) number
 
 module _ (rows : List ℤ) (row : ℕ) where
-  pub number-is : sortIn (kindAt rows row) 0 ≡ statementRow → numberAt rows row 0 ≡ statementNumber (kindAt rows row)
-  unfolding kindAt everyLine kinds sortIn kindRow expressionFields statementFields markFields statementNumber
+  pub number-is : between statementRow armRow (sortIn (kindAt rows row) 0) ≡ true → numberAt rows row 0 ≡ statementNumber (kindAt rows row)
+  unfolding kindAt everyLine kinds sortIn kindRow expressionFields statementFields markFields memberFields statementNumber
   number-is e = sym (eqb-true _ _ (rw e at (every-number numbered refl (λ number. refl) (numberAt rows row 0))))
 
   pub sort-is : (field : ℕ) → sortAt rows row field ≡ sortIn (kindAt rows row) field
@@ -98,7 +104,7 @@ module _ (rows : List ℤ) (row : ℕ) where
 
   -- a row of a statement's kind is a statement or a mark
   pub statement-kind : sortAt rows row 0 ≡ statementRow → (isStatementKind (kindAt rows row) ≡ true) ⊎ ((kindAt rows row ≡ OfMark Case) ⊎ ((kindAt rows row ≡ OfMark Default) ⊎ (kindAt rows row ≡ OfMark Label)))
-  unfolding sortIn kindRow
+  unfolding sortIn kindRow memberFields
   statement-kind e = go (kindAt rows row) refl (sym (sort-is 0) ∙ e)
     where
       go : (kind : Kind) → kindAt rows row ≡ kind → sortIn kind 0 ≡ statementRow
@@ -108,30 +114,43 @@ module _ (rows : List ℤ) (row : ℕ) where
       go (OfMark Case) k t = inr (inl refl)
       go (OfMark Default) k t = inr (inr (inl refl))
       go (OfMark Label) k t = inr (inr (inr refl))
-      go Other k t = absurd (let z : _≡_ {A = ℕ} 0 13 = t in omega arith)
+      go (OfMember Arm) k t = absurd (let z : _≡_ {A = ℕ} 16 15 = t in omega arith)
+      go Other k t = absurd (let z : _≡_ {A = ℕ} 0 15 = t in omega arith)
+
+  -- a block is a statement
+  pub block-statement : isBlock rows row ≡ true → isStatement rows row ≡ true
+  unfolding isBlock isStatement sortAt sortOf kindOf kindIn kinds sortIn kindRow statementFields
+  block-statement e = rw (eqb-true (numberAt rows row 0) 42 e)
+
+  -- "Items of a block or switch are linked by next."
+  pub item-next : isStatement rows row ≡ true → sortAt rows row 5 ≡ optionalItem
+  unfolding isStatement sortIn kindRow memberFields
+  item-next e = go (kindAt rows row) refl (rw (sort-is 0) at e)
+    where
+      go : (kind : Kind) → kindAt rows row ≡ kind → eqb (sortIn kind 0) statementRow ≡ true → sortAt rows row 5 ≡ optionalItem
+      go (OfExpression kind) k t = absurd (false≢true (rw (eqb-true (sortIn (OfExpression kind) 0) statementRow t) at (operand-is k)))
+      go (OfStatement kind) k t = rw (sort-is 5, k)
+      go (OfMark kind) k t = rw (sort-is 5, k)
+      go (OfMember Arm) k t = absurd (false≢true t)
+      go Other k t = absurd (false≢true t)
+
+  -- "Kind 56 (arm)".
+  pub arm-is : isArm rows row ≡ true → kindAt rows row ≡ OfMember Arm
+  unfolding isArm sortAt sortOf kindAt
+  arm-is e = arm-kind (numberAt rows row 0) e
 
 module _ (form : Form) (rows : List ℤ) (row : ℕ) (known : inLanguage form (numberAt rows row 0) ≡ true) where
   pub kind-known : kindAt rows row ≡ Other → ⊥
   unfolding inLanguage kindAt kindRow
   kind-known e = false≢true (rw e at known)
 
-  pub expression-or-statement : (isExpression rows row ≡ true) ⊎ (isStatement rows row ≡ true)
-  unfolding isExpression isStatement sortIn kindRow
-  expression-or-statement = go (kindAt rows row) refl
+  pub expression-statement-or-arm : (isExpression rows row ≡ true) ⊎ ((isStatement rows row ≡ true) ⊎ (isArm rows row ≡ true))
+  unfolding isExpression isStatement isArm sortIn kindRow memberFields
+  expression-statement-or-arm = go (kindAt rows row) refl
     where
-      go : (kind : Kind) → kindAt rows row ≡ kind → (isExpression rows row ≡ true) ⊎ (isStatement rows row ≡ true)
+      go : (kind : Kind) → kindAt rows row ≡ kind → (isExpression rows row ≡ true) ⊎ ((isStatement rows row ≡ true) ⊎ (isArm rows row ≡ true))
       go (OfExpression kind) k = inl (rw (sort-is rows row 0, k) (operand-is rows row k))
-      go (OfStatement kind) k = inr (rw (sort-is rows row 0, k))
-      go (OfMark kind) k = inr (rw (sort-is rows row 0, k))
+      go (OfStatement kind) k = inr (inl (rw (sort-is rows row 0, k)))
+      go (OfMark kind) k = inr (inl (rw (sort-is rows row 0, k)))
+      go (OfMember Arm) k = inr (inr (rw (sort-is rows row 0, k)))
       go Other k = absurd (kind-known k)
-
-  -- next is a link, or counts as an unused field
-  pub next-sort : (sortAt rows row 5 ≡ unused) ⊎ (sortAt rows row 5 ≡ optionalItem)
-  unfolding sortIn kindRow
-  next-sort = go (kindAt rows row) refl
-    where
-      go : (kind : Kind) → kindAt rows row ≡ kind → (sortAt rows row 5 ≡ unused) ⊎ (sortAt rows row 5 ≡ optionalItem)
-      go (OfExpression kind) k = inl (rw (sort-is rows row 5, k))
-      go (OfStatement kind) k = inr (rw (sort-is rows row 5, k))
-      go (OfMark kind) k = inr (rw (sort-is rows row 5, k))
-      go Other k = inl (rw (sort-is rows row 5, k))

@@ -10,17 +10,19 @@ use lib.IntN.{ℤ}
 use lib.ListN.{length}
 use borrow.Author.Tests.{ltb-true}
 use Rattle.words.specs.Table.{rowCount, numberAt}
-use Rattle.words.specs.Kinds.{kindAt, variable, array, place, isLink, isRequired, sortIn, sortAt, isPlaceKind}
+use Rattle.words.specs.Kinds.{kindAt, variable, array, place, optionalArm, isLink, isRequired, sortIn, sortAt, isPlaceKind}
 use Rattle.words.specs.KindLaws.{required-link}
 use Rattle.words.specs.Laws.{both, either}
 use Rattle.words.specs.Layout.{Layout, layoutOf, storeSize, storeWords}
 use Rattle.words.specs.declared.Form.{Form}
+use Rattle.words.specs.declared.Kind.the-variants.{OfMember}
+use Rattle.words.specs.declared.MemberKind.the-variants.{Arm}
 use Rattle.language.specs.Sound.{Link, OptionalLink, SoundField, Sound}
 use Rattle.words.specs.Links.{isPlace, link, fits}
 use Rattle.structure.specs.Fields.{boundsIn, boundsOf, numberFits}
 use Rattle.structure.specs.StructuredLaws.{structured-tree}
 use Rattle.structure.specs.Structured.{Structured}
-use Rattle.accepted.specs.Sorts.{sort-is, kind-known}
+use Rattle.accepted.specs.Sorts.{sort-is, arm-is, kind-known}
 
 module _ (form : Form) (L : Layout) (words : ℕ) (rows : List ℤ) (store-fits : storeSize L ≤ words) (s : Structured form (boundsIn L words) rows) where
   variables-fit : L .variables ≤ storeSize L
@@ -62,6 +64,13 @@ module _ (form : Form) (L : Layout) (words : ℕ) (rows : List ℤ) (store-fits 
         let fit = rw e at (s .fitting row inside field first last there) in
         rw (← same (required-link _ t), ← sort-is rows (link rows row field) 0) fit
 
+    links-an-arm : sortAt rows row field ≡ optionalArm → 0 < numberAt rows row field → kindAt rows (numberAt rows row field) ≡ OfMember Arm
+    unfolding isLink fits
+    links-an-arm e some =
+        let t : isLink (sortAt rows row field) ≡ true = rw e in
+        let fit = rw e at (s .fitting row inside field first last (rw (same t) some)) in
+        rw (← same t) (arm-is rows (link rows row field) fit)
+
     sound-field : SoundField rows L words row field (sortIn (kindAt rows row) field)
     sound-field =
         rw (← sort-is rows row field)
@@ -72,6 +81,7 @@ module _ (form : Form) (L : Layout) (words : ℕ) (rows : List ℤ) (store-fits 
           present = required;
           forward = onward;
           at-place = links-a-place;
+          at-arm = links-an-arm;
         })
 
   -- What a run asks of a table, from what the checks of both forms share.

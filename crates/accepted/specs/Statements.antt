@@ -1,5 +1,5 @@
--- Statements: how the statements and lists of a structured table lie on its rows: each row's tree is made of those at its links. What is
--- true of every statement of a table is shown by recursion on `StatementRow` and `ListRow`.
+-- Statements: how the statements, lists and arms of a structured table lie on its rows: each row's tree is made of those at its links. What
+-- is true of every statement of a table is shown by recursion on `StatementRow`, `ListRow` and `ArmsRow`.
 use mathlib.Core.Path.{_≡_, refl, sym, _∙_}
 use mathlib.Core.Bool.{true, false≢true}
 use mathlib.Core.List.{List}
@@ -10,23 +10,23 @@ use lib.Dec.{eqb}
 use lib.IntN.{ℤ}
 use borrow.Author.Tests.{eqb-true}
 use Rattle.words.specs.Table.{rowCount, wordAt, numberAt, Whole}
-use Rattle.words.specs.Kinds.{kinds, kindIn, kindOf, kindAt, expression, optionalExpression, branch, optionalBranch, optionalItem, statementRow, sortOf, sortAt, isLink, isRequired, isStatementKind, sortIn, kindRow, expressionFields, statementFields, markFields}
+use Rattle.words.specs.Kinds.{kinds, kindIn, kindOf, kindAt, expression, optionalExpression, branch, optionalBranch, optionalItem, bodyBlock, optionalArm, statementRow, sortAt, isLink, isRequired, sortIn, kindRow, expressionFields, statementFields, markFields, memberFields}
 use Rattle.words.specs.Laws.{both}
 use Rattle.words.specs.declared.Form.{Form}
 use Rattle.words.specs.declared.Kind.{Kind}
-use Rattle.words.specs.declared.Kind.the-variants.{OfExpression, OfStatement, OfMark, Other}
-use Rattle.words.specs.declared.ExpressionKind.the-variants.{Constant, Variable, Element, Minus, Not, Binary, And, Or, Conditional, Comma, Assign, Compound, Prefix, Postfix}
-use Rattle.words.specs.declared.StatementKind.the-variants.{Empty, Express, Block, If, While, Do, For, Switch, Break, Continue, Goto}
+use Rattle.words.specs.declared.Kind.the-variants.{OfExpression, OfStatement, OfMark, OfMember, Other}
+use Rattle.words.specs.declared.StatementKind.the-variants.{Empty, Express, Block, If, While, Do, For, Switch, Break, Continue, Goto, GuardedIf, GuardedDo, Abort}
 use Rattle.words.specs.declared.MarkKind.the-variants.{Case, Default, Label}
-use Rattle.language.specs.Trees.{Expression, absent, present, case, default, label, Statement, empty, express, block, ifThen, ifElse, while, doWhile, for, switch, break, continue, goto, none, _then_, _here_}
-use Rattle.language.specs.Decode.{expressionAt, statementOf, statementAt, itemsAt, decode, listAt, partAt}
-use Rattle.language.specs.DecodeLaws.{statement-at, at-empty, at-express, at-block, at-ifThen, at-ifElse, at-while, at-doWhile, at-for, at-switch, at-break, at-continue, at-goto, at-item, at-case, at-default, at-label, part-some}
-use Rattle.words.specs.Links.{link, isStatement, fits}
+use Rattle.words.specs.declared.MemberKind.the-variants.{Arm}
+use Rattle.language.specs.Trees.{Expression, absent, present, case, default, label, Statement, empty, express, block, ifThen, ifElse, while, doWhile, for, switch, break, continue, goto, guardedIf, guardedDo, abort, noArm, arm, none, _then_, _here_}
+use Rattle.language.specs.Decode.{expressionAt, statementOf, statementAt, itemsAt, armsAt, decode, listAt, armListAt, partAt}
+use Rattle.language.specs.DecodeLaws.{statement-at, at-empty, at-express, at-block, at-ifThen, at-ifElse, at-while, at-doWhile, at-for, at-switch, at-break, at-continue, at-goto, at-guardedIf, at-guardedDo, at-abort, at-item, at-case, at-default, at-label, at-arm, part-some}
+use Rattle.words.specs.Links.{link, isStatement, isBlock, isArm, fits}
 use Rattle.language.specs.Program.{contents}
 use Rattle.structure.specs.StructuredLaws.{structured-tree}
 use Rattle.structure.specs.declared.Bounds.{Bounds}
 use Rattle.structure.specs.Structured.{Leads, Structured}
-use Rattle.accepted.specs.Sorts.{sort-is, operand-is, statement-kind}
+use Rattle.accepted.specs.Sorts.{sort-is, operand-is, statement-kind, block-statement, arm-is}
 use Rattle.accepted.specs.Fields.{holds, Linked, MayLink, linked, may-link, next-link}
 use Rattle.accepted.specs.Expressions.{ExpressionRow, whole-rows, expression-row}
 
@@ -74,6 +74,11 @@ module _ (rows : List ℤ) where
       continue-row : {row : ℕ} → kindAt rows row ≡ OfStatement Continue → statementAt rows row ≡ continue → StatementRow row
       goto-row : {row : ℕ} → kindAt rows row ≡ OfStatement Goto → statementAt rows row ≡ goto (numberAt rows row 1) → StatementRow row
       label-row : {row : ℕ} → kindAt rows row ≡ OfMark Label → statementAt rows row ≡ empty → StatementRow row
+      guardedIf-row : {row : ℕ} → kindAt rows row ≡ OfStatement GuardedIf
+          → statementAt rows row ≡ guardedIf (armListAt rows (link rows row 1)) → ArmsRow (link rows row 1) → StatementRow row
+      guardedDo-row : {row : ℕ} → kindAt rows row ≡ OfStatement GuardedDo
+          → statementAt rows row ≡ guardedDo (armListAt rows (link rows row 1)) → ArmsRow (link rows row 1) → StatementRow row
+      abort-row : {row : ℕ} → kindAt rows row ≡ OfStatement Abort → statementAt rows row ≡ abort → StatementRow row
 
     -- A list, at a link: empty, or a statement or mark and the list behind it.
     pub data ListRow : ℕ → Type 0 where
@@ -87,21 +92,33 @@ module _ (rows : List ℤ) where
       label-item : {l : ℕ} → 0 < l → kindAt rows l ≡ OfMark Label → listAt rows l ≡ label (numberAt rows l 1) here listAt rows (link rows l 5)
           → StatementRow l → ListRow (link rows l 5) → ListRow l
 
+    -- Arms, at a link: none, or a guard with its block and the arms behind it.
+    pub data ArmsRow : ℕ → Type 0 where
+      no-arms : {l : ℕ} → l ≡ 0 → armListAt rows l ≡ noArm → ArmsRow l
+      arm-row : {l : ℕ} → 0 < l → kindAt rows l ≡ OfMember Arm → Leads rows l 1 → Leads rows l 2
+          → armListAt rows l ≡ arm (expressionOf l 1) (statementIn l 2) (armListAt rows (link rows l 5))
+          → ExpressionRow rows (link rows l 1) → StatementRow (link rows l 2) → ArmsRow (link rows l 5) → ArmsRow l
+
   pub list-some : (l : ℕ) → 0 < l → listAt rows l ≡ itemsAt rows l
   list-some zero p = absurd (omega arith)
   list-some (suc l) p = refl
 
-  -- both faces of a row
+  pub arms-some : (l : ℕ) → 0 < l → armListAt rows l ≡ armsAt rows l
+  arms-some zero p = absurd (omega arith)
+  arms-some (suc l) p = refl
+
+  -- the faces of a row
   record Held (row : ℕ) : Type 0 where
-    statement : StatementRow row
-    list : 0 < row → ListRow row
+    statement : isStatement rows row ≡ true → StatementRow row
+    list : isStatement rows row ≡ true → 0 < row → ListRow row
+    arms : isArm rows row ≡ true → 0 < row → ArmsRow row
 
 module _ (form : Form) (bounds : Bounds) (rows : List ℤ) (s : Structured form bounds rows) where
   whole : Whole rows
   whole = whole-rows form bounds rows s
 
-  module _ (row : ℕ) (inside : row < rowCount rows) (later-rows : (l : ℕ) → row < l → l < rowCount rows → isStatement rows l ≡ true → Held rows l) where
-    -- the row that a field links: an expression, a branch or body, an else, a part of a for, a list
+  module _ (row : ℕ) (inside : row < rowCount rows) (later-rows : (l : ℕ) → row < l → l < rowCount rows → Held rows l) where
+    -- the row that a field links: an expression, a branch or body, an else, a part of a for, a list, an arm's block, arms
     link-at : {kind : Kind} → kindAt rows row ≡ kind → (field : ℕ) → holds (eqb expression) kind field ≡ true → Linked rows row expression field
     unfolding isRequired
     link-at k field t = linked form bounds rows s row inside k expression field refl t
@@ -116,14 +133,14 @@ module _ (form : Form) (bounds : Bounds) (rows : List ℤ) (s : Structured form 
 
     body : {field : ℕ} → Linked rows row branch field → StatementRow rows (link rows row field)
     unfolding fits
-    body l = later-rows _ (l .leads .later) (l .leads .inside) (both _ _ (l .fit) .0) .statement
+    body l = later-rows _ (l .leads .later) (l .leads .inside) .statement (both _ _ (l .fit) .0)
 
     may-at : {kind : Kind} → kindAt rows row ≡ kind → (sort field : ℕ) → isLink sort ≡ true → holds (eqb sort) kind field ≡ true → MayLink rows row sort field
     may-at = may-link form bounds rows s row inside
 
     otherwise : {field : ℕ} → MayLink rows row optionalBranch field → 0 < link rows row field → StatementRow rows (link rows row field)
     unfolding fits
-    otherwise l p = later-rows _ (l .leads p .later) (l .leads p .inside) (both _ _ (l .fit p) .0) .statement
+    otherwise l p = later-rows _ (l .leads p .later) (l .leads p .inside) .statement (both _ _ (l .fit p) .0)
 
     part : {field : ℕ} → MayLink rows row optionalExpression field → PartRow rows (link rows row field)
     unfolding fits
@@ -143,10 +160,24 @@ module _ (form : Form) (bounds : Bounds) (rows : List ℤ) (s : Structured form 
         go zero z = no-items z (rw z)
         go (suc next) z =
             let p : 0 < link rows row field = omega arith in
-            later-rows _ (l .leads p .later) (l .leads p .inside) (l .fit p) .list p
+            later-rows _ (l .leads p .later) (l .leads p .inside) .list (l .fit p) p
+
+    arm-body : Linked rows row bodyBlock 2 → StatementRow rows (link rows row 2)
+    unfolding fits
+    arm-body l = later-rows _ (l .leads .later) (l .leads .inside) .statement (block-statement rows _ (both (isBlock rows (link rows row 2)) _ (l .fit) .0))
+
+    arms-from : {field : ℕ} → MayLink rows row optionalArm field → ArmsRow rows (link rows row field)
+    unfolding fits
+    arms-from {field} l = go (link rows row field) refl
+      where
+        go : (l : ℕ) → link rows row field ≡ l → ArmsRow rows (link rows row field)
+        go zero z = no-arms z (rw z)
+        go (suc next) z =
+            let p : 0 < link rows row field = omega arith in
+            later-rows _ (l .leads p .later) (l .leads p .inside) .arms (l .fit p) p
 
     if-by : kindAt rows row ≡ OfStatement If → (l : ℕ) → link rows row 3 ≡ l → StatementRow rows row
-    unfolding sortIn kindRow expressionFields statementFields markFields isLink
+    unfolding sortIn kindRow expressionFields statementFields markFields memberFields isLink
     if-by k zero z =
         let a = link-at k 1 refl in
         let b = body-at k 2 refl in
@@ -163,7 +194,7 @@ module _ (form : Form) (bounds : Bounds) (rows : List ℤ) (s : Structured form 
         (operand a) (body b) (otherwise c p)
 
     statement-by : (kind : Kind) → kindAt rows row ≡ kind → eqb (sortIn kind 0) statementRow ≡ true → StatementRow rows row
-    unfolding sortIn kindRow expressionFields statementFields markFields isLink statementOf
+    unfolding sortIn kindRow expressionFields statementFields markFields memberFields isLink statementOf
     statement-by (OfStatement Empty) k t = empty-row k (at-empty rows whole row k)
     statement-by (OfStatement Express) k t =
         let a = link-at k 1 refl in
@@ -197,33 +228,60 @@ module _ (form : Form) (bounds : Bounds) (rows : List ℤ) (s : Structured form 
     statement-by (OfStatement Continue) k t = continue-row k (at-continue rows whole row k)
     statement-by (OfStatement Goto) k t = goto-row k (at-goto rows whole row k)
     statement-by (OfMark Label) k t = label-row k (rw (statement-at rows whole row, k))
+    statement-by (OfStatement GuardedIf) k t =
+        let a = may-at k optionalArm 1 refl refl in
+        guardedIf-row k (rw (a .same) (at-guardedIf rows whole row k (a .later))) (arms-from a)
+    statement-by (OfStatement GuardedDo) k t =
+        let a = may-at k optionalArm 1 refl refl in
+        guardedDo-row k (rw (a .same) (at-guardedDo rows whole row k (a .later))) (arms-from a)
+    statement-by (OfStatement Abort) k t = abort-row k (at-abort rows whole row k)
+    statement-by (OfMember Arm) k t = absurd (false≢true t)
     statement-by (OfExpression kind) k t = absurd (false≢true (rw (eqb-true (sortIn (OfExpression kind) 0) statementRow t) at (operand-is rows row k)))
     statement-by Other k t = absurd (false≢true t)
 
-    list-by : 0 < row → sortAt rows row 0 ≡ statementRow → StatementRow rows row → ListRow rows row
+    list-by : 0 < row → isStatement rows row ≡ true → StatementRow rows row → ListRow rows row
+    unfolding isStatement
     list-by p e held =
-        let next = next-link form bounds rows s row inside in
+        let next = next-link form bounds rows s row inside e in
         let begins = list-some rows row p in
         ⊎-elim (λ t. item p (rw (next .same) (begins ∙ at-item rows whole row t (next .later))) held (items next))
         (⊎-elim (λ k. case-item p k (rw (next .same) (begins ∙ at-case rows whole row k (next .later))) held (items next))
         (⊎-elim (λ k. default-item p k (rw (next .same) (begins ∙ at-default rows whole row k (next .later))) held (items next))
         (λ k. label-item p k (rw (next .same) (begins ∙ at-label rows whole row k (next .later))) held (items next))))
-        (statement-kind rows row e)
+        (statement-kind rows row (eqb-true _ _ e))
 
-  held-rows : (links row : ℕ) → rowCount rows ≤ row + links → row < rowCount rows → isStatement rows row ≡ true → Held rows row
-  unfolding isStatement
-  held-rows zero row enough inside t = absurd (omega arith)
-  held-rows (suc links) row enough inside t =
-      let later-rows : (l : ℕ) → row < l → l < rowCount rows → isStatement rows l ≡ true → Held rows l = λ l later there u. held-rows links l (omega arith) there u in
-      let own = statement-by row inside later-rows (kindAt rows row) refl (rw (sort-is rows row 0) at t) in
-      record { statement = own; list = λ p. list-by row inside later-rows p (eqb-true _ _ t) own }
+    arms-by : 0 < row → kindAt rows row ≡ OfMember Arm → ArmsRow rows row
+    unfolding sortIn kindRow expressionFields statementFields markFields memberFields isLink isRequired
+    arms-by p k =
+        let a = link-at k 1 refl in
+        let b = linked form bounds rows s row inside k bodyBlock 2 refl refl in
+        let next = may-at k optionalArm 5 refl refl in
+        arm-row p k (a .leads) (b .leads)
+        (rw (a .same, b .same, next .same) (arms-some rows row p ∙ at-arm rows whole row k (a .later) (b .later) (next .later)))
+        (operand a) (arm-body b) (arms-from next)
 
-  -- Every row of a statement's kind holds a statement, and is, but for row 0, where a list begins.
+    held-by : Held rows row
+    unfolding isStatement
+    held-by =
+        let own : isStatement rows row ≡ true → StatementRow rows row = λ t. statement-by (kindAt rows row) refl (rw (sort-is rows row 0) at t) in
+        record { statement = own; list = λ t p. list-by p t (own t); arms = λ t p. arms-by p (arm-is rows row t) }
+
+  held-rows : (links row : ℕ) → rowCount rows ≤ row + links → row < rowCount rows → Held rows row
+  held-rows zero row enough inside = absurd (omega arith)
+  held-rows (suc links) row enough inside = held-by row inside (λ l later there. held-rows links l (omega arith) there)
+
+  held-row : (row : ℕ) → row < rowCount rows → Held rows row
+  held-row row inside = held-rows (rowCount rows) row (omega arith) inside
+
+  -- Every row of a statement's kind holds a statement, and is, but for row 0, where a list begins; and an arm's row is where arms begin.
   pub statement-row : (row : ℕ) → row < rowCount rows → isStatement rows row ≡ true → StatementRow rows row
-  statement-row row inside t = held-rows (rowCount rows) row (omega arith) inside t .statement
+  statement-row row inside = held-row row inside .statement
 
   pub list-row : (row : ℕ) → row < rowCount rows → isStatement rows row ≡ true → 0 < row → ListRow rows row
-  list-row row inside t = held-rows (rowCount rows) row (omega arith) inside t .list
+  list-row row inside = held-row row inside .list
+
+  pub arms-row : (row : ℕ) → row < rowCount rows → isArm rows row ≡ true → 0 < row → ArmsRow rows row
+  arms-row row inside = held-row row inside .arms
 
   -- ---- row 0: "Row 0 is a block with next 0"
 
@@ -234,17 +292,20 @@ module _ (form : Form) (bounds : Bounds) (rows : List ℤ) (s : Structured form 
   pub root-inside : 0 < rowCount rows
   root-inside = structured-tree form bounds rows s .some-rows
 
+  pub root-statement : isStatement rows 0 ≡ true
+  unfolding isBlock
+  root-statement = block-statement rows 0 (rw (s .block))
+
   pub root-row : StatementRow rows 0
-  unfolding isStatement sortAt sortOf kindOf kindIn kinds sortIn kindRow statementFields
-  root-row = statement-row 0 root-inside (rw (s .block))
+  root-row = statement-row 0 root-inside root-statement
 
   -- The program is a block, and its items hang at row 0's field a.
   root-link : MayLink rows 0 optionalItem 1
-  unfolding sortIn kindRow expressionFields statementFields markFields isLink
+  unfolding sortIn kindRow expressionFields statementFields markFields memberFields isLink
   root-link = may-link form bounds rows s 0 root-inside root-kind optionalItem 1 refl refl
 
   pub program-list : ListRow rows (link rows 0 1)
-  program-list = items 0 root-inside (λ l later there t. held-rows (rowCount rows) l (omega arith) there t) root-link
+  program-list = items 0 root-inside (λ l later there. held-row l there) root-link
 
   pub program-contents : contents rows ≡ listAt rows (link rows 0 1)
   unfolding contents

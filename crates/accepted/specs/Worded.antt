@@ -2,7 +2,7 @@
 use Prim.Native.Nat.{_^_, _<_}
 use lib.IntN.{ℤ}
 use lib.Signed.{mag}
-use Rattle.language.specs.Trees.{Expression, constant, read, minus, not, binary, and, or, comma, conditional, assign, compound, prefix, postfix, Place, variable, element, Part, absent, present, Mark, case, default, label, Statement, empty, express, block, ifThen, ifElse, while, doWhile, for, switch, break, continue, goto, Items, none, _then_, _here_}
+use Rattle.language.specs.Trees.{Expression, constant, read, minus, not, binary, and, or, comma, conditional, assign, compound, prefix, postfix, Place, variable, element, Part, absent, present, Mark, case, default, label, Statement, empty, express, block, ifThen, ifElse, while, doWhile, for, switch, break, continue, goto, guardedIf, guardedDo, abort, Arms, noArm, arm, Items, none, _then_, _here_}
 
 -- Every constant and every case value of a tree satisfies Value.
 module _ (Value : ℤ → Type 0) where
@@ -49,6 +49,13 @@ module _ (Value : ℤ → Type 0) where
     ValuedStatement break = Unit {0}
     ValuedStatement continue = Unit {0}
     ValuedStatement (goto l) = Unit {0}
+    ValuedStatement (guardedIf arms) = ValuedArms arms
+    ValuedStatement (guardedDo arms) = ValuedArms arms
+    ValuedStatement abort = Unit {0}
+
+    pub ValuedArms : Arms → Type 0
+    ValuedArms noArm = Unit {0}
+    ValuedArms (arm guard body arms) = ValuedExpression guard × ValuedStatement body × ValuedArms arms
 
     pub ValuedItems : Items → Type 0
     ValuedItems none = Unit {0}

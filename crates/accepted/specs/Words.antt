@@ -8,13 +8,13 @@ use lib.Signed.{mag}
 use Rattle.words.specs.Table.{wordAt}
 use Rattle.words.specs.declared.Form.{Form}
 use Rattle.language.specs.Trees.{read}
-use Rattle.language.specs.Decode.{expressionAt, statementAt, decode, listAt, partAt}
+use Rattle.language.specs.Decode.{expressionAt, statementAt, decode, listAt, armListAt, partAt}
 use Rattle.words.specs.Links.{link}
 use Rattle.structure.specs.declared.Bounds.{Bounds}
 use Rattle.structure.specs.Structured.{Structured}
-use Rattle.accepted.specs.Worded.{ValuedExpression, ValuedPlace, ValuedPart, ValuedStatement, ValuedItems, IsWord, Worded}
+use Rattle.accepted.specs.Worded.{ValuedExpression, ValuedPlace, ValuedPart, ValuedStatement, ValuedArms, ValuedItems, IsWord, Worded}
 use Rattle.accepted.specs.Expressions.{ExpressionRow, constant-row, variable-row, element-row, minus-row, not-row, binary-row, and-row, or-row, comma-row, conditional-row, assign-row, compound-row, prefix-row, postfix-row, placeAt}
-use Rattle.accepted.specs.Statements.{PartRow, absent-part, present-part, StatementRow, empty-row, express-row, block-row, ifThen-row, ifElse-row, while-row, doWhile-row, for-row, switch-row, case-row, default-row, break-row, continue-row, goto-row, label-row, ListRow, no-items, item, case-item, default-item, label-item, program-list, program-contents, program-block}
+use Rattle.accepted.specs.Statements.{PartRow, absent-part, present-part, StatementRow, empty-row, express-row, block-row, ifThen-row, ifElse-row, while-row, doWhile-row, for-row, switch-row, case-row, default-row, break-row, continue-row, goto-row, label-row, guardedIf-row, guardedDo-row, abort-row, ArmsRow, no-arms, arm-row, ListRow, no-items, item, case-item, default-item, label-item, program-list, program-contents, program-block}
 
 module _ (rows : List ℤ) (Value : ℤ → Type 0) (values : (i : ℕ) → Value (getD rows i (pos 0))) where
   -- an operand that is a place
@@ -44,7 +44,7 @@ module _ (rows : List ℤ) (Value : ℤ → Type 0) (values : (i : ℕ) → Valu
   valued-part (present-part p e x) = rw e (valued-expression x)
 
   mutual
-    unfolding ValuedStatement ValuedItems wordAt
+    unfolding ValuedStatement ValuedArms ValuedItems wordAt
 
     pub valued-statement : {row : ℕ} → StatementRow rows row → ValuedStatement Value (statementAt rows row)
     valued-statement (empty-row k e) = rw e tt
@@ -62,6 +62,13 @@ module _ (rows : List ℤ) (Value : ℤ → Type 0) (values : (i : ℕ) → Valu
     valued-statement (continue-row k e) = rw e tt
     valued-statement (goto-row k e) = rw e tt
     valued-statement (label-row k e) = rw e tt
+    valued-statement (guardedIf-row k e x) = rw e (valued-arms x)
+    valued-statement (guardedDo-row k e x) = rw e (valued-arms x)
+    valued-statement (abort-row k e) = rw e tt
+
+    valued-arms : {l : ℕ} → ArmsRow rows l → ValuedArms Value (armListAt rows l)
+    valued-arms (no-arms z e) = rw e tt
+    valued-arms (arm-row p k q r e x y z) = rw e (valued-expression x, valued-statement y, valued-arms z)
 
     valued-list : {l : ℕ} → ListRow rows l → ValuedItems Value (listAt rows l)
     valued-list (no-items z e) = rw e tt

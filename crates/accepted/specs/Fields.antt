@@ -8,11 +8,9 @@ use Prim.Native.Nat.{ℕ, _≤_, _<_}
 use native.Mathlib.Omega.{arith}
 use lib.Dec.{eqb}
 use lib.IntN.{ℤ}
-use lib.ListN.{length}
 use borrow.Author.Tests.{ltb-true, leb-true, eqb-true, not-true}
 use Rattle.words.specs.Table.{rowCount, numberAt}
-use Rattle.words.specs.Kinds.{kindAt, variable, array, optionalItem, sortAt, between, isLink, isRequired, sortIn, kindRow, expressionFields, statementFields, markFields, memberFields}
-use Rattle.words.specs.Layout.{layoutOf, storeSize, storeWords}
+use Rattle.words.specs.Kinds.{kindAt, variable, array, optionalItem, sortAt, between, isLink, isRequired, sortIn}
 use Rattle.words.specs.Laws.{both, either}
 use Rattle.words.specs.declared.Form.{Form}
 use Rattle.words.specs.declared.Kind.{Kind}

@@ -1,6 +1,6 @@
 -- Places: in the tree of a legal source program break, continue, case and default stand where they may. A row has one owner, so what a row
 -- stands inside of is what its owner is or stands inside of. By recursion on the rows.
-use mathlib.Core.Path.{_≡_, refl, sym, ap, _∙_, subst}
+use mathlib.Core.Path.{_≡_, refl, sym, _∙_, subst}
 use mathlib.Core.Bool.{Bool, true, false, true≢false}
 use mathlib.Core.List.{List}
 use mathlib.Core.Logic.{_⊎_, inl, inr, ⊎-elim}
@@ -24,7 +24,7 @@ use Rattle.structure.specs.declared.Bounds.{Bounds}
 use Rattle.structure.specs.Structured.{Leads, Structured, Tree}
 use Rattle.source_check.specs.Places.{isLoop, isLoopOrSwitch, isMark}
 use Rattle.source_check.specs.Legal.{Inside, part, along, SwitchItem, first, next, Legal}
-use Rattle.accepted.specs.Sorts.{between-true, statementNumber, number-is}
+use Rattle.accepted.specs.Sorts.{between-true, statementNumber, number-is, in-language}
 use Rattle.accepted.specs.Fields.{leads-on}
 use Rattle.accepted.specs.Statements.{StatementRow, empty-row, express-row, block-row, ifThen-row, ifElse-row, while-row, doWhile-row, for-row, switch-row, case-row, default-row, break-row, continue-row, goto-row, label-row, guardedIf-row, guardedDo-row, abort-row, ArmsRow, no-arms, arm-row, ListRow, no-items, item, case-item, default-item, label-item, root-inside, root-row, program-block}
 
@@ -71,10 +71,6 @@ module _ (header rows : List ℤ) (legal : Legal header rows) where
   t : Tree rows
   t = structured-tree Source bounds rows s
 
-  -- the number of a row of a statement's or an arm's kind
-  number-of : {row : ℕ} {kind : Kind} → row < rowCount rows → kindAt rows row ≡ kind → between statementRow armRow (sortIn kind 0) ≡ true → numberAt rows row 0 ≡ statementNumber kind
-  number-of {row} inside k e = number-is rows row (ap (λ kind. between statementRow armRow (sortIn kind 0)) k ∙ e) ∙ ap statementNumber k
-
   -- What the flags of `Placed` say of a row: where it stands inside such a row, the flag is set.
   abbrev Flag : (ℕ → Bool) → Bool → ℕ → Type 0
   Flag kinds flag row = Inside rows kinds row → flag ≡ true
@@ -100,7 +96,7 @@ module _ (header rows : List ℤ) (legal : Legal header rows) where
       → isLoopOrSwitch (statementNumber kind) ≡ false → isLoop (statementNumber kind) ≡ false
       → Around mayBreak mayContinue row → (field : ℕ) → field < 6 → Leads rows row field → Around mayBreak mayContinue (link rows row field)
   through {row} k e u v around field h l =
-      let number = number-of (around .inside) k e in
+      let number = number-is rows row k e in
       record {
         inside = l .inside;
         breaks = handed isLoopOrSwitch _ row field h (λ f. rw number u) (around .breaks) l;
@@ -130,7 +126,7 @@ module _ (header rows : List ℤ) (legal : Legal header rows) where
         around = record {
           inside = l .inside;
           breaks = λ i. refl;
-          continues = handed isLoop _ row 2 (omega arith) (λ f. rw (number-of (around .inside) k refl)) (around .continues) l;
+          continues = handed isLoop _ row 2 (omega arith) (λ f. rw (number-is rows row k refl)) (around .continues) l;
         };
         own = λ i. refl;
       }
@@ -151,7 +147,7 @@ module _ (header rows : List ℤ) (legal : Legal header rows) where
 
   -- a case or default
   mark-allowed : {row : ℕ} {kind : Kind} {inSwitch mayBreak mayContinue : Bool} → AroundItem inSwitch mayBreak mayContinue row → kindAt rows row ≡ kind → between statementRow armRow (sortIn kind 0) ≡ true → isMark (statementNumber kind) ≡ true → inSwitch ≡ true
-  mark-allowed {row} a k e m = let inside = a .around .inside in a .own (legal .placed row inside .mark-inside (rw (number-of inside k e) m))
+  mark-allowed {row} a k e m = let inside = a .around .inside in a .own (legal .placed row inside .mark-inside (rw (number-is rows row k e) m))
 
   -- the same of a link that may be absent
   through-any : {row : ℕ} {kind : Kind} {mayBreak mayContinue : Bool} → kindAt rows row ≡ kind → between statementRow armRow (sortIn kind 0) ≡ true
@@ -163,8 +159,7 @@ module _ (header rows : List ℤ) (legal : Legal header rows) where
 
   -- "52 goto, 53 label (kernel only)"; "the kernel's new kind 57 (abort, no fields)".
   not-in-source : {row : ℕ} {kind : Kind} → row < rowCount rows → kindAt rows row ≡ kind → standsIn (kindRow kind .forms) Source ≡ false → ⊥
-  unfolding inLanguage kindAt
-  not-in-source {row} inside k f = true≢false (sym (rw k at (s .known row inside)) ∙ f)
+  not-in-source {row} inside k f = true≢false (sym (in-language Source rows row (s .known row inside) k) ∙ f)
 
   mutual
     unfolding Placed PlacedArms PlacedItems sortIn kindRow expressionFields statementFields markFields memberFields statementNumber inLanguage
@@ -182,8 +177,8 @@ module _ (header rows : List ℤ) (legal : Legal header rows) where
     placed-statement (switch-row k p e x y) b c a = rw e (placed-list y true true c (first-in-switch k a))
     placed-statement (case-row k e) b c a = rw e tt
     placed-statement (default-row k e) b c a = rw e tt
-    placed-statement {row} (break-row k e) b c a = rw e (a .breaks (legal .placed row (a .inside) .break-inside (number-of (a .inside) k refl)))
-    placed-statement {row} (continue-row k e) b c a = rw e (a .continues (legal .placed row (a .inside) .continue-inside (number-of (a .inside) k refl)))
+    placed-statement {row} (break-row k e) b c a = rw e (a .breaks (legal .placed row (a .inside) .break-inside (number-is rows row k refl)))
+    placed-statement {row} (continue-row k e) b c a = rw e (a .continues (legal .placed row (a .inside) .continue-inside (number-is rows row k refl)))
     placed-statement (goto-row k e) b c a = absurd (not-in-source (a .inside) k refl)
     placed-statement (label-row k e) b c a = rw e tt
     placed-statement (guardedIf-row k e x) b c a = rw e (placed-arms x b c (through-any k refl refl refl a 1 refl))

@@ -127,11 +127,11 @@ module _ (form : Form) (bounds : Bounds) (rows : List ℤ) (s : Structured form 
 
     -- an arm's block has next 0
     block-brings : {kind : Kind} → kindAt rows row ≡ kind → (field : ℕ) → holds (eqb bodyBlock) kind field ≡ true → brings field ≡ statementRows (statementAt rows (link rows row field))
-    unfolding isRequired fits
+    unfolding isRequired fits isBlock
     block-brings k field t =
         let l = linked form bounds rows s row inside k bodyBlock field refl t in
-        let parts = both (isBlock rows (link rows row field)) _ (l .fit) in
-        lone-brings field (l .leads) (block-statement rows _ (parts .0), parts .1)
+        let parts = both (eqb (numberAt rows (link rows row field) 0) 42) _ (l .fit) in
+        lone-brings field (l .leads) (block-statement rows _ (eqb-true _ _ (parts .0)), parts .1)
 
     part-brings : {kind : Kind} → kindAt rows row ≡ kind → (field : ℕ) → holds (eqb optionalExpression) kind field ≡ true → brings field ≡ partRows (partAt rows (link rows row field))
     unfolding isLink fits

@@ -1,16 +1,16 @@
 -- Sorts: what the table of kinds says of a row, by the row's kind.
 use mathlib.Core.Path.{_≡_, refl, sym, ap, _∙_}
-use mathlib.Core.Bool.{Bool, true, false, not, _||_, false≢true}
+use mathlib.Core.Bool.{Bool, true, false, _||_, false≢true}
 use mathlib.Core.List.{List}
 use mathlib.Core.Logic.{_⊎_, inl, inr, ⊎-elim}
-use Prim.Native.Nat.{ℕ, _≤_, _<_}
+use Prim.Native.Nat.{ℕ, _≤_}
 use native.Mathlib.Omega.{arith}
 use lib.Dec.{leb, eqb}
 use lib.IntN.{ℤ}
-use borrow.Author.Tests.{leb-true, eqb-true, eq-eqb}
+use borrow.Author.Tests.{leb-true, eqb-true}
 use Rattle.words.specs.Word.{pick}
 use Rattle.words.specs.Table.{numberAt}
-use Rattle.words.specs.Kinds.{kinds, kindIn, kindOf, kindAt, isStatementKind, optionalItem, expressionRow, placeRow, statementRow, armRow, noKind, between, kindRow, expressionFields, statementFields, markFields, memberFields, sortIn, sortOf, sortAt, inLanguage}
+use Rattle.words.specs.Kinds.{kinds, kindIn, kindOf, kindAt, isStatementKind, optionalItem, expressionRow, placeRow, statementRow, armRow, between, kindRow, expressionFields, statementFields, markFields, memberFields, sortIn, sortOf, sortAt, standsIn, inLanguage}
 use Rattle.words.specs.KindLaws.{everyLine, every-number, arm-kind}
 use Rattle.words.specs.Laws.{both, either}
 use Rattle.words.specs.declared.Form.{Form}
@@ -18,12 +18,10 @@ use Rattle.words.specs.declared.Kind.{Kind}
 use Rattle.words.specs.declared.Kind.the-variants.{OfExpression, OfStatement, OfMark, OfMember, Other}
 use Rattle.words.specs.declared.ExpressionKind.{ExpressionKind}
 use Rattle.words.specs.declared.ExpressionKind.the-variants.{Variable, Element}
-use Rattle.words.specs.declared.StatementKind.{StatementKind}
 use Rattle.words.specs.declared.StatementKind.the-variants.{Empty, Express, Block, If, While, Do, For, Switch, Break, Continue, Goto, GuardedIf, GuardedDo, Abort}
-use Rattle.words.specs.declared.MarkKind.{MarkKind}
 use Rattle.words.specs.declared.MarkKind.the-variants.{Case, Default, Label}
 use Rattle.words.specs.declared.MemberKind.the-variants.{Arm}
-use Rattle.words.specs.Links.{isExpression, isStatement, isBlock, isArm}
+use Rattle.words.specs.Links.{isExpression, isStatement, isArm}
 
 pub between-true : (least most number : ℕ) → between least most number ≡ true → (least ≤ number) × (number ≤ most)
 between-true least most number e =
@@ -82,9 +80,12 @@ unfolding everyLine kinds sortIn kindRow expressionFields statementFields markFi
 place-number number = every-number placeNumber refl (λ number. refl) number
 
 module _ (rows : List ℤ) (row : ℕ) where
-  pub number-is : between statementRow armRow (sortIn (kindAt rows row) 0) ≡ true → numberAt rows row 0 ≡ statementNumber (kindAt rows row)
+  own-number : between statementRow armRow (sortIn (kindAt rows row) 0) ≡ true → numberAt rows row 0 ≡ statementNumber (kindAt rows row)
   unfolding kindAt everyLine kinds sortIn kindRow expressionFields statementFields markFields memberFields statementNumber
-  number-is e = sym (eqb-true _ _ (rw e at (every-number numbered refl (λ number. refl) (numberAt rows row 0))))
+  own-number e = sym (eqb-true _ _ (rw e at (every-number numbered refl (λ number. refl) (numberAt rows row 0))))
+
+  pub number-is : {kind : Kind} → kindAt rows row ≡ kind → between statementRow armRow (sortIn kind 0) ≡ true → numberAt rows row 0 ≡ statementNumber kind
+  number-is k e = own-number (ap (λ kind. between statementRow armRow (sortIn kind 0)) k ∙ e) ∙ ap statementNumber k
 
   pub sort-is : (field : ℕ) → sortAt rows row field ≡ sortIn (kindAt rows row) field
   unfolding sortAt sortOf kindAt
@@ -118,9 +119,9 @@ module _ (rows : List ℤ) (row : ℕ) where
       go Other k t = absurd (let z : _≡_ {A = ℕ} 0 15 = t in omega arith)
 
   -- a block is a statement
-  pub block-statement : isBlock rows row ≡ true → isStatement rows row ≡ true
-  unfolding isBlock isStatement sortAt sortOf kindOf kindIn kinds sortIn kindRow statementFields
-  block-statement e = rw (eqb-true (numberAt rows row 0) 42 e)
+  pub block-statement : numberAt rows row 0 ≡ 42 → isStatement rows row ≡ true
+  unfolding isStatement sortAt sortOf kindOf kindIn kinds sortIn kindRow statementFields
+  block-statement e = rw e
 
   -- "Items of a block or switch are linked by next."
   pub item-next : isStatement rows row ≡ true → sortAt rows row 5 ≡ optionalItem
@@ -140,9 +141,14 @@ module _ (rows : List ℤ) (row : ℕ) where
   arm-is e = arm-kind (numberAt rows row 0) e
 
 module _ (form : Form) (rows : List ℤ) (row : ℕ) (known : inLanguage form (numberAt rows row 0) ≡ true) where
+  -- the form has the row's kind
+  pub in-language : {kind : Kind} → kindAt rows row ≡ kind → standsIn (kindRow kind .forms) form ≡ true
+  unfolding inLanguage kindAt
+  in-language k = rw k at known
+
   pub kind-known : kindAt rows row ≡ Other → ⊥
-  unfolding inLanguage kindAt kindRow
-  kind-known e = false≢true (rw e at known)
+  unfolding kindRow
+  kind-known e = false≢true (in-language e)
 
   pub expression-statement-or-arm : (isExpression rows row ≡ true) ⊎ ((isStatement rows row ≡ true) ⊎ (isArm rows row ≡ true))
   unfolding isExpression isStatement isArm sortIn kindRow memberFields

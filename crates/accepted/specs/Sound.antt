@@ -1,5 +1,5 @@
 -- Sound: a structured table is sound, in both forms: what a run asks of a table. Each field by its sort.
-use mathlib.Core.Path.{_≡_, refl, sym}
+use mathlib.Core.Path.{_≡_, sym}
 use mathlib.Core.Bool.{true}
 use mathlib.Core.List.{List}
 use mathlib.Core.Logic.{⊎-elim}
@@ -17,7 +17,7 @@ use Rattle.words.specs.Layout.{Layout, layoutOf, storeSize, storeWords}
 use Rattle.words.specs.declared.Form.{Form}
 use Rattle.words.specs.declared.Kind.the-variants.{OfMember}
 use Rattle.words.specs.declared.MemberKind.the-variants.{Arm}
-use Rattle.language.specs.Sound.{Link, OptionalLink, SoundField, Sound}
+use Rattle.language.specs.Sound.{OptionalLink, SoundField, Sound}
 use Rattle.words.specs.Links.{isPlace, link, fits}
 use Rattle.structure.specs.Fields.{boundsIn, boundsOf, numberFits}
 use Rattle.structure.specs.StructuredLaws.{structured-tree}

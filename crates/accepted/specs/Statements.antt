@@ -10,7 +10,7 @@ use lib.Dec.{eqb}
 use lib.IntN.{ℤ}
 use borrow.Author.Tests.{eqb-true}
 use Rattle.words.specs.Table.{rowCount, wordAt, numberAt, Whole}
-use Rattle.words.specs.Kinds.{kinds, kindIn, kindOf, kindAt, expression, optionalExpression, branch, optionalBranch, optionalItem, bodyBlock, optionalArm, statementRow, sortAt, isLink, isRequired, sortIn, kindRow, expressionFields, statementFields, markFields, memberFields}
+use Rattle.words.specs.Kinds.{kinds, kindIn, kindOf, kindAt, expression, optionalExpression, branch, optionalBranch, optionalItem, bodyBlock, optionalArm, statementRow, isLink, isRequired, sortIn, kindRow, expressionFields, statementFields, markFields, memberFields}
 use Rattle.words.specs.Laws.{both}
 use Rattle.words.specs.declared.Form.{Form}
 use Rattle.words.specs.declared.Kind.{Kind}
@@ -163,8 +163,8 @@ module _ (form : Form) (bounds : Bounds) (rows : List ℤ) (s : Structured form 
             later-rows _ (l .leads p .later) (l .leads p .inside) .list (l .fit p) p
 
     arm-body : Linked rows row bodyBlock 2 → StatementRow rows (link rows row 2)
-    unfolding fits
-    arm-body l = later-rows _ (l .leads .later) (l .leads .inside) .statement (block-statement rows _ (both (isBlock rows (link rows row 2)) _ (l .fit) .0))
+    unfolding fits isBlock
+    arm-body l = later-rows _ (l .leads .later) (l .leads .inside) .statement (block-statement rows _ (eqb-true _ _ (both (eqb (numberAt rows (link rows row 2) 0) 42) _ (l .fit) .0)))
 
     arms-from : {field : ℕ} → MayLink rows row optionalArm field → ArmsRow rows (link rows row field)
     unfolding fits
@@ -293,8 +293,7 @@ module _ (form : Form) (bounds : Bounds) (rows : List ℤ) (s : Structured form 
   root-inside = structured-tree form bounds rows s .some-rows
 
   pub root-statement : isStatement rows 0 ≡ true
-  unfolding isBlock
-  root-statement = block-statement rows 0 (rw (s .block))
+  root-statement = block-statement rows 0 (s .block)
 
   pub root-row : StatementRow rows 0
   root-row = statement-row 0 root-inside root-statement

@@ -11,7 +11,7 @@ use lib.Dec.{eqb}
 use lib.IntN.{ℤ}
 use borrow.Author.Tests.{eqb-true, eq-eqb}
 use Rattle.words.specs.Table.{rowCount, numberAt, Whole}
-use Rattle.words.specs.Kinds.{kinds, kindIn, kindOf, kindAt, expression, branch, optionalBranch, optionalItem, statementRow, inLanguage, isLink, isRequired, sortIn, kindRow, expressionFields, statementFields, markFields, standsIn}
+use Rattle.words.specs.Kinds.{kinds, kindIn, kindOf, kindAt, expression, branch, optionalBranch, optionalItem, inLanguage, isLink, isRequired, sortIn, kindRow, expressionFields, statementFields, markFields, memberFields, standsIn}
 use Rattle.words.specs.Laws.{both, either}
 use Rattle.words.specs.declared.Form.the-variants.{Kernel}
 use Rattle.words.specs.declared.Kind.{Kind}
@@ -19,7 +19,7 @@ use Rattle.words.specs.declared.Kind.the-variants.{OfStatement}
 use Rattle.words.specs.declared.StatementKind.the-variants.{Block, If}
 use Rattle.language.specs.Trees.{block, Items, none, _then_, _here_, _⧺_}
 use Rattle.language.specs.Decode.{statementOf, statementAt, listAt}
-use Rattle.language.specs.DecodeLaws.{statement-at, at-empty, at-express, at-block, at-ifElse, at-while, at-goto, at-item, at-label}
+use Rattle.language.specs.DecodeLaws.{statement-at, at-empty, at-express, at-block, at-ifElse, at-while, at-goto, at-abort, at-item, at-label}
 use Rattle.words.specs.Links.{isStatement, link, fits}
 use Rattle.language.specs.Program.{contents}
 use Rattle.structure.specs.Fields.{boundsOf}
@@ -28,12 +28,12 @@ use Rattle.structure.specs.declared.Bounds.{Bounds}
 use Rattle.structure.specs.Structured.{Leads, Structured}
 use Rattle.structure.specs.Lists.{Step, once, on, before-step}
 use Rattle.structure.specs.StructuredLaws.{structured-tree}
-use Rattle.translation.specs.KernelForm.{KernelStatement, kernel-empty, kernel-assign, kernel-block, kernel-if, kernel-while, kernel-goto, KernelItems, kernel-none, kernel-then, kernel-label}
+use Rattle.translation.specs.KernelForm.{KernelStatement, kernel-empty, kernel-assign, kernel-block, kernel-if, kernel-while, kernel-goto, kernel-abort, KernelItems, kernel-none, kernel-then, kernel-label}
 use Rattle.kernel_check.specs.Accepts.{structured-lone, structured-labels}
 use Rattle.kernel_check.specs.Legal.{Owner, part, beside, behind, outward, Legal}
 use Rattle.kernel_check.specs.ListLaws.{owner-earlier}
 use Rattle.kernel_check.specs.Statements.{isAtom, isBlock, isKernelIf, isKernelWhile, isKernelExpression, isKernelStatement}
-use Rattle.accepted.specs.Sorts.{statementNumber, number-is, statement-kind}
+use Rattle.accepted.specs.Sorts.{statementNumber, number-is, statement-kind, block-statement, in-language}
 use Rattle.accepted.specs.Fields.{holds, Linked, MayLink, linked, may-link, next-link}
 use Rattle.accepted.specs.Expressions.{whole-rows}
 use Rattle.accepted.specs.Statements.{list-some, program-contents}
@@ -58,7 +58,7 @@ module _ (header rows : List ℤ) (legal : Legal header rows) where
 
   -- the list of a block
   first-item : (row : ℕ) → row < rowCount rows → kindAt rows row ≡ OfStatement Block → MayLink rows row optionalItem 1
-  unfolding isLink sortIn kindRow expressionFields statementFields markFields
+  unfolding isLink sortIn kindRow expressionFields statementFields markFields memberFields
   first-item row n k = may-link Kernel bounds rows s row n k optionalItem 1 refl refl
 
   begins-in : (row : ℕ) → row < rowCount rows → kindAt rows row ≡ OfStatement Block → 0 < link rows row 1 → Begins row (link rows row 1)
@@ -70,7 +70,7 @@ module _ (header rows : List ℤ) (legal : Legal header rows) where
   begins-next : (owner row : ℕ) → Begins owner row → 0 < link rows row 5 → Begins owner (link rows row 5)
   unfolding fits
   begins-next owner row b p =
-      let next = next-link Kernel bounds rows s row (b .inside) in
+      let next = next-link Kernel bounds rows s row (b .inside) (b .statement) in
       record { inside = next .leads p .inside; statement = next .fit p; owned = beside (b .owned) (next .leads p) }
 
   -- ---- a statement, given the lists of later rows
@@ -103,7 +103,7 @@ module _ (header rows : List ℤ) (legal : Legal header rows) where
         let number : numberAt rows b 0 ≡ 42 = eqb-true _ _ (is-block .1) in
         let kind : kindAt rows b ≡ OfStatement Block = rw number in
         let owned : Owner rows row b = subst (Owner rows row) same (part h leads) in
-        let next = next-link Kernel bounds rows s b inside in
+        let next = next-link Kernel bounds rows s b inside (block-statement rows b number) in
         record {
           later = later;
           is = block-at b inside kind;
@@ -117,7 +117,7 @@ module _ (header rows : List ℤ) (legal : Legal header rows) where
         branch-by field h (b .leads) (b .same) (eqb-true _ _ (both (isStatement rows (link rows row field)) _ (b .fit) .1)) e
 
     else-at : kindAt rows row ≡ OfStatement If → isBlock rows (numberAt rows row 3) ≡ true → BranchAt 3
-    unfolding isLink sortIn kindRow expressionFields statementFields markFields fits isBlock
+    unfolding isLink sortIn kindRow expressionFields statementFields markFields memberFields fits isBlock
     else-at k e =
         let c = may-link Kernel bounds rows s row n k optionalBranch 3 refl refl in
         let there : 0 < link rows row 3 = rw (c .same) (above-zero _ (λ q. true≢false (sym (both (not (eqb (numberAt rows row 3) 0)) _ e .0) ∙ ap not (eq-eqb _ _ q)))) in
@@ -132,7 +132,7 @@ module _ (header rows : List ℤ) (legal : Legal header rows) where
     block-form e = rw (block-at row n (kind-of 42 e)) (kernel-block (lists row ahead (omega arith) n (kind-of 42 e) covers))
 
     if-form : isKernelIf rows row ≡ true → KernelStatement ahead (statementAt rows row)
-    unfolding isKernelIf kindOf kindIn kinds sortIn kindRow expressionFields statementFields markFields
+    unfolding isKernelIf kindOf kindIn kinds sortIn kindRow expressionFields statementFields markFields memberFields
     if-form e =
         let parts = both (eqb (numberAt rows row 0) 43) _ e in
         let others = both (isAtom rows (numberAt rows row 1)) _ (parts .1) in
@@ -144,7 +144,7 @@ module _ (header rows : List ℤ) (legal : Legal header rows) where
         (kernel-if (atom-at bounds rows s (numberAt rows row 1) (others .0)) (b .form) (c .form))
 
     while-form : isKernelWhile rows row ≡ true → KernelStatement ahead (statementAt rows row)
-    unfolding isKernelWhile kindOf kindIn kinds sortIn kindRow expressionFields statementFields markFields
+    unfolding isKernelWhile kindOf kindIn kinds sortIn kindRow expressionFields statementFields markFields memberFields
     while-form e =
         let parts = both (eqb (numberAt rows row 0) 44) _ e in
         let others = both (isAtom rows (numberAt rows row 1)) _ (parts .1) in
@@ -163,8 +163,12 @@ module _ (header rows : List ℤ) (legal : Legal header rows) where
     unfolding kindOf kindIn kinds statementOf
     label-form e = rw (statement-at rows whole row, kind-of 53 e) kernel-empty
 
+    abort-form : numberAt rows row 0 ≡ 57 → KernelStatement ahead (statementAt rows row)
+    unfolding kindOf kindIn kinds
+    abort-form e = rw (at-abort rows whole row (kind-of 57 e)) kernel-abort
+
     expression-form : isKernelExpression rows row ≡ true → KernelStatement ahead (statementAt rows row)
-    unfolding isKernelExpression kindOf kindIn kinds sortIn kindRow expressionFields statementFields markFields
+    unfolding isKernelExpression kindOf kindIn kinds sortIn kindRow expressionFields statementFields markFields memberFields
     expression-form e =
         let parts = both (eqb (numberAt rows row 0) 41) _ e in
         let k = kind-of 41 (eqb-true _ _ (parts .0)) in
@@ -179,19 +183,16 @@ module _ (header rows : List ℤ) (legal : Legal header rows) where
         (λ h. ⊎-elim if-form
         (λ h. ⊎-elim while-form
         (λ h. ⊎-elim (λ h. goto-form (eqb-true _ _ h))
-        (λ h. ⊎-elim (λ h. label-form (eqb-true _ _ h)) expression-form
-        (either (eqb (numberAt rows row 0) 53) _ h)) (either (eqb (numberAt rows row 0) 52) _ h)) (either (isKernelWhile rows row) _ h)) (either (isKernelIf rows row) _ h))
+        (λ h. ⊎-elim (λ h. label-form (eqb-true _ _ h))
+        (λ h. ⊎-elim (λ h. abort-form (eqb-true _ _ h)) expression-form
+        (either (eqb (numberAt rows row 0) 57) _ h)) (either (eqb (numberAt rows row 0) 53) _ h)) (either (eqb (numberAt rows row 0) 52) _ h)) (either (isKernelWhile rows row) _ h)) (either (isKernelIf rows row) _ h))
         (either (eqb (numberAt rows row 0) 42) _ h)) (either (eqb (numberAt rows row 0) 40) _ (legal .formed row n t))
 
   -- ---- lists
 
-  number-of : (row : ℕ) {kind : Kind} → row < rowCount rows → kindAt rows row ≡ kind → sortIn kind 0 ≡ statementRow → numberAt rows row 0 ≡ statementNumber kind
-  number-of row n k e = number-is rows row (ap (λ kind. sortIn kind 0) k ∙ e) ∙ ap statementNumber k
-
   -- no case and no default
   not-in-kernel : (row : ℕ) {kind : Kind} → row < rowCount rows → kindAt rows row ≡ kind → standsIn (kindRow kind .forms) Kernel ≡ false → ⊥
-  unfolding inLanguage kindAt
-  not-in-kernel row n k f = true≢false (sym (rw k at (s .known row n)) ∙ f)
+  not-in-kernel row n k f = true≢false (sym (in-language Kernel rows row (s .known row n) k) ∙ f)
 
   -- what the lists of later blocks give
   abbrev Lists : ℕ → Type 0
@@ -199,15 +200,15 @@ module _ (header rows : List ℤ) (legal : Legal header rows) where
 
   list-step : (row : ℕ) (ahead : Items) (owner : ℕ) → Begins owner row → 0 < row → Covers bounds rows s ahead owner → Lists row
       → KernelItems ahead (listAt rows (link rows row 5)) → KernelItems ahead (listAt rows row)
-  unfolding inLanguage isStatement sortIn kindRow expressionFields statementFields markFields statementNumber
+  unfolding inLanguage isStatement sortIn kindRow expressionFields statementFields markFields memberFields statementNumber
   list-step row ahead owner b p covers lists rest =
-      let next = next-link Kernel bounds rows s row (b .inside) in
+      let next = next-link Kernel bounds rows s row (b .inside) (b .statement) in
       let own = statement-form row (b .inside) lists (listAt rows (link rows row 5) ⧺ ahead) (covers-item bounds rows s ahead owner row (b .owned) covers) (b .statement) in
       ⊎-elim (λ t. rw (list-some rows row p ∙ at-item rows whole row t (next .later), ← next .same) (kernel-then own rest))
       (⊎-elim (λ k. absurd (not-in-kernel row (b .inside) k refl))
       (⊎-elim (λ k. absurd (not-in-kernel row (b .inside) k refl))
       (λ k. rw (list-some rows row p ∙ at-label rows whole row k (next .later), ← next .same)
-      (kernel-label (structured-labels bounds rows s row (b .inside) (rw (number-of row (b .inside) k refl))) rest))))
+      (kernel-label (structured-labels bounds rows s row (b .inside) (rw (number-is rows row k refl))) rest))))
       (statement-kind rows row (eqb-true _ _ (b .statement)))
 
   no-list : (row : ℕ) (ahead : Items) → row ≡ 0 → KernelItems ahead (listAt rows row)
@@ -231,7 +232,7 @@ module _ (header rows : List ℤ) (legal : Legal header rows) where
           let enough = h p in
           list-step row ahead owner b p covers
           (λ other more l m k c. rec (link rows other 1) more other (λ q. let later = first-item other m k .leads q .later in omega arith) (begins-in other m k) c)
-          (rec (link rows row 5) ahead owner (λ q. let later = next-link Kernel bounds rows s row (b .inside) .leads q .later in omega arith) (begins-next owner row b) covers)
+          (rec (link rows row 5) ahead owner (λ q. let later = next-link Kernel bounds rows s row (b .inside) (b .statement) .leads q .later in omega arith) (begins-next owner row b) covers)
 
   -- ---- the program
 

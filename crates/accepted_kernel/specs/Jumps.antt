@@ -13,7 +13,7 @@ use Rattle.computation.specs.Run.{State, ok, Limit, roundsFrom, run}
 use Rattle.language.specs.Trees.{label, has, sameMark, Statement, block, Items, none, _then_, _here_, _⧺_}
 use Rattle.language.specs.Meaning.{Signal, next, seeking, entersStatement, entersMark, enter, ifTrue, value, evaluate, afterBody, afterTest, perform, items, exec}
 use Rattle.accepted.specs.Gives.{Gives, Any, any, gives-weaker, gives-then, Leaves, gives-iterate, entered, chosen}
-use Rattle.translation.specs.KernelForm.{KernelStatement, kernel-empty, kernel-assign, kernel-block, kernel-if, kernel-while, kernel-goto, KernelItems, kernel-none, kernel-then, kernel-label}
+use Rattle.translation.specs.KernelForm.{KernelStatement, kernel-empty, kernel-assign, kernel-block, kernel-if, kernel-while, kernel-goto, kernel-abort, KernelItems, kernel-none, kernel-then, kernel-label}
 
 -- ---- jumps
 
@@ -72,6 +72,7 @@ module _ (L : Layout) (limit : Limit) where
         round : Computation (Turn Signal)
         round = evaluate L e >>= λ v. afterTest turn v
     statement-lands (kernel-goto n h) σ = jumps h
+    statement-lands kernel-abort σ = tt
 
     pub items-lands : {ahead is : Items} → KernelItems ahead is → (signal : Signal) → Lands (is ⧺ ahead) signal → (σ : State) → Gives (Lands ahead) (run limit (items L is signal) σ)
     items-lands kernel-none signal lands σ = lands

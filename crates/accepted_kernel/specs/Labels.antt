@@ -1,21 +1,23 @@
 -- Labels: a label that is ahead of a row stands among the items ahead of its tree.
-use mathlib.Core.Path.{_≡_, subst, sym, _∙_}
-use mathlib.Core.Bool.{Bool, true, _||_}
+use mathlib.Core.Path.{_≡_, subst, refl, sym, _∙_}
+use mathlib.Core.Bool.{Bool, true, _||_, false≢true}
 use mathlib.Core.List.{List}
 use Prim.Native.Nat.{ℕ, _<_}
 use native.Mathlib.Omega.{arith}
 use lib.IntN.{ℤ}
 use borrow.Author.Tests.{eq-eqb}
 use Rattle.words.specs.Table.{rowCount}
-use Rattle.words.specs.Kinds.{kinds, kindIn, kindOf, kindAt}
+use Rattle.words.specs.Kinds.{kinds, kindIn, kindOf, kindAt, isLink, sortIn, kindRow, markFields, memberFields}
 use Rattle.words.specs.declared.Form.the-variants.{Kernel}
-use Rattle.words.specs.declared.Kind.the-variants.{OfMark}
+use Rattle.words.specs.declared.Kind.{Kind}
+use Rattle.words.specs.declared.Kind.the-variants.{OfExpression, OfStatement, OfMark, OfMember, Other}
+use Rattle.words.specs.declared.MemberKind.the-variants.{Arm}
 use Rattle.words.specs.declared.MarkKind.the-variants.{Label}
 use Rattle.language.specs.Trees.{Mark, label, sameMark, has, Items, _⧺_}
 use Rattle.language.specs.TreeLaws.{has-next, has-left, has-right}
 use Rattle.language.specs.Decode.{listAt}
 use Rattle.language.specs.DecodeLaws.{at-label}
-use Rattle.words.specs.Links.{link, fits}
+use Rattle.words.specs.Links.{isStatement, link, fits}
 use Rattle.structure.specs.declared.Bounds.{Bounds}
 use Rattle.structure.specs.Structured.{Leads, Structured}
 use Rattle.structure.specs.Lists.{Before, adjacent, further}
@@ -24,7 +26,8 @@ use Rattle.kernel_check.specs.Legal.{Owner, Ahead, behind, outward}
 use Rattle.kernel_check.specs.Legal as legal
 use Rattle.kernel_check.specs.LabelLaws.{label-inside}
 use Rattle.kernel_check.specs.ListLaws.{owner-is}
-use Rattle.accepted.specs.Fields.{next-link}
+use Rattle.accepted.specs.Sorts.{sort-is, in-language, kind-known}
+use Rattle.accepted.specs.Fields.{link-none, next-link}
 use Rattle.accepted.specs.Expressions.{whole-rows}
 use Rattle.accepted.specs.Statements.{ListRow, no-items, item, case-item, default-item, label-item, list-row, list-some}
 
@@ -34,12 +37,24 @@ or-left : (a b : Bool) → a ≡ true → (a || b) ≡ true
 or-left a b e = rw e
 
 module _ (bounds : Bounds) (rows : List ℤ) (s : Structured Kernel bounds rows) where
+  -- in the kernel only an item has a next: there are no arms
+  has-next-item : (row : ℕ) → row < rowCount rows → 0 < link rows row 5 → isStatement rows row ≡ true
+  unfolding isStatement sortIn kindRow memberFields isLink
+  has-next-item row n p = go (kindAt rows row) refl
+    where
+      go : (kind : Kind) → kindAt rows row ≡ kind → isStatement rows row ≡ true
+      go (OfExpression kind) k = absurd (let none = link-none Kernel bounds rows s row n k 5 refl in omega arith)
+      go (OfStatement kind) k = rw (sort-is rows row 0, k)
+      go (OfMark kind) k = rw (sort-is rows row 0, k)
+      go (OfMember Arm) k = absurd (false≢true (in-language Kernel rows row (s .known row n) k))
+      go Other k = absurd (kind-known Kernel rows row (s .known row n) k)
+
   -- an item of a list, which another leads to
   item-row : (row : ℕ) → row < rowCount rows → Leads rows row 5 → ListRow rows (link rows row 5)
   unfolding fits
   item-row row n leads =
       let p : 0 < link rows row 5 = (let l = leads .later in omega arith) in
-      list-row Kernel bounds rows s (link rows row 5) (leads .inside) (next-link Kernel bounds rows s row n .fit p) p
+      list-row Kernel bounds rows s (link rows row 5) (leads .inside) (next-link Kernel bounds rows s row n (has-next-item row n p) .fit p) p
 
   leads-inside : {row field : ℕ} → Leads rows row field → row < rowCount rows
   leads-inside leads = let l = leads .later in let i = leads .inside in omega arith
@@ -60,11 +75,12 @@ module _ (bounds : Bounds) (rows : List ℤ) (s : Structured Kernel bounds rows)
 
   -- a label stands in the list that begins with it
   label-first : (number row : ℕ) → 0 < row → legal.Label rows number row → has (label number) (listAt rows row) ≡ true
-  unfolding has sameMark kindAt kindOf kindIn kinds
+  unfolding has sameMark kindAt kindOf kindIn kinds isStatement sortIn kindRow markFields
   label-first number row p l =
       let inside = label-inside rows number row (structured-tree Kernel bounds rows s) l in
-      let next = next-link Kernel bounds rows s row inside in
-      rw (list-some rows row p, at-label rows (whole-rows Kernel bounds rows s) row (rw (l .label)) (next .later)) (or-left _ _ (eq-eqb _ _ (sym (l .number-is))))
+      let kind : kindAt rows row ≡ OfMark Label = rw (l .label) in
+      let next = next-link Kernel bounds rows s row inside (rw (sort-is rows row 0, kind)) in
+      rw (list-some rows row p, at-label rows (whole-rows Kernel bounds rows s) row kind (next .later)) (or-left _ _ (eq-eqb _ _ (sym (l .number-is))))
 
   behind-has : (number : ℕ) {row item : ℕ} → Before rows row item → legal.Label rows number item → has (label number) (listAt rows (link rows row 5)) ≡ true
   behind-has number (adjacent {item} leads) l = label-first number (link rows item 5) (let later = leads .later in omega arith) l

@@ -1,4 +1,4 @@
--- Kernel samples: small kernel programs, and what the kernel check must answer of each, worked out from document 01.
+-- Kernel samples: small kernel programs, and what the kernel check must answer of each, worked out from documents 01 and 02.
 use mathlib.Core.List.{List, [], _∷_, _++_}
 use lib.IntN.{pos, negsuc}
 use lib.ListN.{replicate}
@@ -30,9 +30,13 @@ kernelHeaders =
     sample (pos 0 ∷ pos 0 ∷ []) (row 42 1 0 0 0 0 ++ row 50 0 0 0 0 0) (refused 3 1) ∷  -- kind 50
     sample (pos 0 ∷ pos 0 ∷ []) (row 42 1 0 0 0 0 ++ row 51 0 0 0 0 0) (refused 3 1) ∷  -- kind 51
     sample (pos 0 ∷ pos 0 ∷ []) (row 42 1 0 0 0 0 ++ row 54 0 0 0 0 0) (refused 3 1) ∷  -- kind 54
+    sample (pos 0 ∷ pos 0 ∷ []) (row 42 1 0 0 0 0 ++ row 55 0 0 0 0 0) (refused 3 1) ∷  -- kind 55
+    sample (pos 0 ∷ pos 0 ∷ []) (row 42 1 0 0 0 0 ++ row 56 0 0 0 0 0) (refused 3 1) ∷  -- kind 56
+    sample (pos 0 ∷ pos 0 ∷ []) (row 42 1 0 0 0 0 ++ row 58 0 0 0 0 0) (refused 3 1) ∷  -- kind 58
     sample (pos 0 ∷ pos 0 ∷ []) (row 42 1 0 0 0 0 ++ row 40 0 0 0 0 0) Accepted ∷  -- 40 empty
     sample (pos 0 ∷ pos 0 ∷ []) (row 42 1 0 0 0 0 ++ row 42 0 0 0 0 0) Accepted ∷  -- 42 block
     sample (pos 0 ∷ pos 0 ∷ []) (row 42 1 0 0 0 0 ++ row 53 0 0 0 0 0) Accepted ∷  -- 53 label
+    sample (pos 0 ∷ pos 0 ∷ []) (row 42 1 0 0 0 0 ++ row 57 0 0 0 0 0) Accepted ∷  -- 57 abort
     sample (pos 1 ∷ pos 1 ∷ pos 3 ∷ []) (row 42 1 0 0 0 0 ++ row 41 2 0 0 0 0 ++ row 21 3 4 0 0 0 ++ row 2 0 0 0 0 0 ++ row 1 7 0 0 0 0) Accepted ∷  -- the variable
     sample (pos 1 ∷ pos 1 ∷ pos 3 ∷ []) (row 42 1 0 0 0 0 ++ row 41 2 0 0 0 0 ++ row 21 3 4 0 0 0 ++ row 2 1 0 0 0 0 ++ row 1 7 0 0 0 0) (refused 6 3) ∷  -- number V
     sample (pos 1 ∷ pos 1 ∷ pos 3 ∷ []) (row 42 1 0 0 0 0 ++ row 41 2 0 0 0 0 ++ row 21 3 4 0 0 0 ++ row 2 3 0 0 0 0 ++ row 1 7 0 0 0 0) (refused 6 3) ∷  -- number S−1
@@ -75,6 +79,8 @@ statements =
     sample (pos 1 ∷ pos 0 ∷ pos 3 ∷ []) (row 42 1 0 0 0 0 ++ row 44 2 3 0 0 0 ++ row 1 0 0 0 0 0 ++ row 42 0 0 0 0 0) Accepted ∷  -- while
     sample (pos 1 ∷ pos 0 ∷ pos 3 ∷ []) (row 42 1 0 0 0 0 ++ row 44 2 4 0 0 0 ++ row 4 3 0 0 0 0 ++ row 1 0 0 0 0 0 ++ row 42 0 0 0 0 0) (refused 12 1) ∷  -- its test no atom
     sample (pos 1 ∷ pos 0 ∷ pos 3 ∷ []) (row 42 1 0 0 0 0 ++ row 44 2 3 0 0 0 ++ row 1 0 0 0 0 0 ++ row 40 0 0 0 0 0) (refused 12 1) ∷  -- its body no block
+    sample (pos 1 ∷ pos 0 ∷ pos 3 ∷ []) (row 42 1 0 0 0 0 ++ row 44 2 3 0 0 0 ++ row 1 0 0 0 0 0 ++ row 57 0 0 0 0 0) (refused 12 1) ∷  -- its body an abort
+    sample (pos 1 ∷ pos 0 ∷ pos 3 ∷ []) (row 42 1 0 0 0 0 ++ row 57 0 0 0 0 2 ++ row 40 0 0 0 0 0) Accepted ∷  -- abort, an item behind it
     sample (pos 1 ∷ pos 0 ∷ pos 3 ∷ []) (row 42 1 0 0 0 0 ++ row 42 2 0 0 0 0 ++ row 44 3 4 0 0 0 ++ row 1 0 0 0 0 0 ++ row 40 0 0 0 0 0) (refused 12 2) ∷  -- at the row of the statement
     []
 
@@ -97,7 +103,7 @@ labels =
 
 -- Cause 3 for each field that the table of kinds does not name, of the kinds that only the kernel has.
 abbrev pub unusedKernelFields : List Sample
-unusedKernelFields = unusedFrom (pos 0 ∷ pos 0 ∷ []) 2 3 (52 ∷ 53 ∷ [])
+unusedKernelFields = unusedFrom (pos 0 ∷ pos 0 ∷ []) 2 3 (52 ∷ 53 ∷ []) ++ unusedFrom (pos 0 ∷ pos 0 ∷ []) 1 4 (57 ∷ [])
 
 abbrev pub kernelSamples : List Sample
 kernelSamples = kernelHeaders ++ assignments ++ statements ++ labels ++ unusedKernelFields

@@ -1,16 +1,16 @@
--- Limit answers: depth 64 is within the source's limit, depth 65 is not (cause 9), of chains of minus, by computing; and the kernel's
--- limits, which are too large for a sample.
+-- Limit answers: depth 64 is within the source's limit, depth 65 is not (cause 9), of chains of minus and of arms, by computing; and the
+-- kernel's limits, which are too large for a sample.
 use mathlib.Core.Path.{_≡_, refl}
 use mathlib.Core.Bool.{true, false}
 use Rattle.words.specs.Word.{natural}
 use Rattle.words.specs.Table.{wordAt, numberAt}
 use Rattle.words.specs.Layout.{depthLimit, rowLimit}
 use Rattle.words.specs.declared.Form.the-variants.{Source, Kernel}
-use Rattle.words.specs.Kinds.{kindOf, kindIn, kinds, sortIn, kindRow, expressionFields, statementFields, markFields, sortOf, sortAt, isLink}
+use Rattle.words.specs.Kinds.{kindOf, kindIn, kinds, sortIn, kindRow, expressionFields, statementFields, markFields, memberFields, sortOf, sortAt, isLink}
 use Rattle.words.specs.Links.{link, target, linker, received, noteBy, note}
 use Rattle.structure.specs.Links.{deeper, depthAt, tooDeep}
 use Rattle.words.specs.Search.{lowest}
-use Rattle.check_answers.specs.Sample.{chain}
+use Rattle.check_answers.specs.Sample.{chain, guardedIn}
 
 pub record Limits : Type 0 where
   -- the constant at the end of a chain, and whether it is too deep
@@ -21,5 +21,28 @@ pub record Limits : Type 0 where
   pub kernel-rows : rowLimit Kernel ≡ 40980
 
 pub limit-answers : Limits
-unfolding natural wordAt numberAt kindOf kindIn kinds sortIn kindRow expressionFields statementFields markFields sortOf sortAt isLink link target linker received noteBy note deeper depthAt tooDeep lowest
+unfolding natural wordAt numberAt kindOf kindIn kinds sortIn kindRow expressionFields statementFields markFields memberFields sortOf sortAt isLink link target linker received noteBy note deeper depthAt tooDeep lowest
 limit-answers = record { depth-64 = refl; depth-65 = refl; kernel-depth = refl; kernel-rows = refl }
+
+-- Arms are one list: each has the guarded statement's depth and one more, its guard and its block two more. Here the guarded if is row 1.
+pub record ArmDepths : Type 0 where
+  pub guarded-if : depthAt (guardedIn 0 1) 1 ≡ 2
+  pub arm : depthAt (guardedIn 0 1) 2 ≡ 3
+  pub guard : depthAt (guardedIn 0 1) 3 ≡ 4
+  pub block : depthAt (guardedIn 0 1) 4 ≡ 4
+  pub next-arm : depthAt (guardedIn 0 1) 5 ≡ 3
+  pub next-guard : depthAt (guardedIn 0 1) 6 ≡ 4
+  pub next-block : depthAt (guardedIn 0 1) 7 ≡ 4
+
+pub arm-depths : ArmDepths
+unfolding natural wordAt numberAt kindOf kindIn kinds sortIn kindRow expressionFields statementFields markFields memberFields sortOf sortAt isLink link target linker received noteBy note deeper depthAt lowest
+arm-depths = record { guarded-if = refl; arm = refl; guard = refl; block = refl; next-arm = refl; next-guard = refl; next-block = refl }
+
+-- In 62 blocks the second arm of the guarded if is row 66, in 63 row 67.
+pub record ArmLimits : Type 0 where
+  pub arm-64 : tooDeep Source (guardedIn 0 62) 66 ≡ false
+  pub arm-65 : tooDeep Source (guardedIn 0 63) 67 ≡ true
+
+pub arm-limits : ArmLimits
+unfolding natural wordAt numberAt kindOf kindIn kinds sortIn kindRow expressionFields statementFields markFields memberFields sortOf sortAt isLink link target linker received noteBy note deeper depthAt tooDeep lowest
+arm-limits = record { arm-64 = refl; arm-65 = refl }

@@ -42,3 +42,11 @@ minuses from (suc count) = row 4 (from + 1) 0 0 0 0 ++ minuses (from + 1) count
 -- A block, an expression statement, so many rows of minus, a constant: the constant's depth is 3 more.
 abbrev pub chain : ℕ → List ℤ
 chain count = row 42 1 0 0 0 0 ++ row 41 2 0 0 0 0 ++ minuses 2 count
+
+-- So many blocks from a row on, each in the one before it, and then a guarded if with two arms.
+abbrev pub guardedIn : ℕ → ℕ → List ℤ
+guardedIn from zero =
+    row 54 (from + 1) 0 0 0 0
+    ++ (row 56 (from + 2) (from + 3) 0 0 (from + 4) ++ row 1 0 0 0 0 0 ++ row 42 0 0 0 0 0)
+    ++ (row 56 (from + 5) (from + 6) 0 0 0 ++ row 1 0 0 0 0 0 ++ row 42 0 0 0 0 0)
+guardedIn from (suc count) = row 42 (from + 1) 0 0 0 0 ++ guardedIn (from + 1) count

@@ -1,4 +1,4 @@
--- Source samples: small source programs, and what the check must answer of each, worked out from document 01. For each cause the last program
+-- Source samples: small source programs, and what the check must answer of each, worked out from documents 01 and 02. For each cause the last program
 -- that it does not turn down, and the first that it does.
 use mathlib.Core.List.{List, [], _∷_, _++_, map}
 use Prim.Native.Nat.{ℕ}
@@ -39,7 +39,8 @@ fields =
     sample (pos 0 ∷ []) (row 42 1 0 0 0 0 ++ row 39 0 0 0 0 0) (refused 3 1) ∷  -- kind 39
     sample (pos 0 ∷ []) (row 42 1 0 0 0 0 ++ row 52 0 0 0 0 0) (refused 3 1) ∷  -- kind 52
     sample (pos 0 ∷ []) (row 42 1 0 0 0 0 ++ row 53 0 0 0 0 0) (refused 3 1) ∷  -- kind 53
-    sample (pos 0 ∷ []) (row 42 1 0 0 0 0 ++ row 54 0 0 0 0 0) (refused 3 1) ∷  -- kind 54
+    sample (pos 0 ∷ []) (row 42 1 0 0 0 0 ++ row 57 0 0 0 0 0) (refused 3 1) ∷  -- kind 57
+    sample (pos 0 ∷ []) (row 42 1 0 0 0 0 ++ row 58 0 0 0 0 0) (refused 3 1) ∷  -- kind 58
     sample (pos 0 ∷ []) (row 42 1 0 0 0 0 ++ (negsuc 0 ∷ pos 0 ∷ pos 0 ∷ pos 0 ∷ pos 0 ∷ pos 0 ∷ [])) (refused 3 1) ∷  -- kind −1
     sample (pos 0 ∷ []) (row 42 1 0 0 0 0 ++ row 40 0 0 0 0 0) Accepted ∷  -- 40 empty
     sample (pos 0 ∷ []) (row 42 1 0 0 0 0 ++ row 51 0 0 0 0 0) (refused 7 1) ∷  -- 51 is in the language
@@ -144,6 +145,48 @@ marks =
     sample (pos 0 ∷ []) (row 42 1 0 0 0 0 ++ row 47 2 3 0 0 5 ++ row 1 0 0 0 0 0 ++ row 48 5 0 0 0 4 ++ row 48 5 0 0 0 0 ++ row 50 0 0 0 0 0) (refused 7 5) ∷  -- 7 before 8
     []
 
+-- Kinds 54 to 56: cause 4, "An arm elsewhere, or another kind among arms, gets 4", and cause 5.
+abbrev pub arms : List Sample
+arms =
+    sample (pos 0 ∷ []) (row 42 1 0 0 0 0 ++ row 54 0 0 0 0 0) Accepted ∷  -- guarded if without arms
+    sample (pos 0 ∷ []) (row 42 1 0 0 0 0 ++ row 55 0 0 0 0 0) Accepted ∷  -- guarded do without arms
+    sample (pos 0 ∷ []) (row 42 1 0 0 0 0 ++ row 54 2 0 0 0 0 ++ row 56 3 4 0 0 5 ++ row 1 0 0 0 0 0 ++ row 42 0 0 0 0 0 ++ row 56 6 7 0 0 0 ++ row 1 0 0 0 0 0 ++ row 42 0 0 0 0 0) Accepted ∷  -- guarded if with two arms
+    sample (pos 0 ∷ []) (row 42 1 0 0 0 0 ++ row 55 2 0 0 0 0 ++ row 56 3 4 0 0 5 ++ row 1 0 0 0 0 0 ++ row 42 0 0 0 0 0 ++ row 56 6 7 0 0 0 ++ row 1 0 0 0 0 0 ++ row 42 0 0 0 0 0) Accepted ∷  -- guarded do with two arms
+    sample (pos 0 ∷ []) (row 42 1 0 0 0 0 ++ row 54 0 0 0 0 2 ++ row 40 0 0 0 0 0) Accepted ∷  -- an item behind it
+    sample (pos 0 ∷ []) (row 42 1 0 0 0 0 ++ row 44 2 3 0 0 0 ++ row 1 0 0 0 0 0 ++ row 54 0 0 0 0 4 ++ row 40 0 0 0 0 0) (refused 4 1) ∷  -- as a body, with next
+    sample (pos 0 ∷ []) (row 42 1 0 0 0 0 ++ row 56 2 3 0 0 0 ++ row 1 0 0 0 0 0 ++ row 42 0 0 0 0 0) (refused 4 0) ∷  -- an arm for the first item of a block
+    sample (pos 0 ∷ []) (row 42 1 0 0 0 0 ++ row 40 0 0 0 0 2 ++ row 56 3 4 0 0 0 ++ row 1 0 0 0 0 0 ++ row 42 0 0 0 0 0) (refused 4 1) ∷  -- an arm for the next item
+    sample (pos 0 ∷ []) (row 42 1 0 0 0 0 ++ row 47 2 3 0 0 0 ++ row 1 0 0 0 0 0 ++ row 56 4 5 0 0 0 ++ row 1 0 0 0 0 0 ++ row 42 0 0 0 0 0) (refused 4 1) ∷  -- an arm for the first item of a switch
+    sample (pos 0 ∷ []) (row 42 1 0 0 0 0 ++ row 43 2 3 0 0 0 ++ row 1 0 0 0 0 0 ++ row 56 4 5 0 0 0 ++ row 1 0 0 0 0 0 ++ row 42 0 0 0 0 0) (refused 4 1) ∷  -- an arm for a branch
+    sample (pos 0 ∷ []) (row 42 1 0 0 0 0 ++ row 44 2 3 0 0 0 ++ row 1 0 0 0 0 0 ++ row 56 4 5 0 0 0 ++ row 1 0 0 0 0 0 ++ row 42 0 0 0 0 0) (refused 4 1) ∷  -- an arm for a body
+    sample (pos 0 ∷ []) (row 42 1 0 0 0 0 ++ row 41 2 0 0 0 0 ++ row 56 3 4 0 0 0 ++ row 1 0 0 0 0 0 ++ row 42 0 0 0 0 0) (refused 4 1) ∷  -- an arm for an expression
+    sample (pos 0 ∷ []) (row 42 1 0 0 0 0 ++ row 54 2 0 0 0 0 ++ row 40 0 0 0 0 0) (refused 4 1) ∷  -- a statement for the first arm
+    sample (pos 0 ∷ []) (row 42 1 0 0 0 0 ++ row 55 2 0 0 0 0 ++ row 42 0 0 0 0 0) (refused 4 1) ∷  -- a block for the first arm
+    sample (pos 0 ∷ []) (row 42 1 0 0 0 0 ++ row 54 2 0 0 0 0 ++ row 1 0 0 0 0 0) (refused 4 1) ∷  -- an expression for the first arm
+    sample (pos 0 ∷ []) (row 42 1 0 0 0 0 ++ row 54 2 0 0 0 0 ++ row 56 3 4 0 0 5 ++ row 1 0 0 0 0 0 ++ row 42 0 0 0 0 0 ++ row 40 0 0 0 0 0) (refused 4 2) ∷  -- a statement for the next arm
+    sample (pos 0 ∷ []) (row 42 1 0 0 0 0 ++ row 54 2 0 0 0 0 ++ row 56 0 3 0 0 0 ++ row 42 0 0 0 0 0) (refused 4 2) ∷  -- an arm without a guard
+    sample (pos 0 ∷ []) (row 42 1 0 0 0 0 ++ row 54 2 0 0 0 0 ++ row 56 3 0 0 0 0 ++ row 1 0 0 0 0 0) (refused 4 2) ∷  -- an arm without a block
+    sample (pos 0 ∷ []) (row 42 1 0 0 0 0 ++ row 54 2 0 0 0 0 ++ row 56 3 4 0 0 0 ++ row 40 0 0 0 0 0 ++ row 42 0 0 0 0 0) (refused 4 2) ∷  -- a statement for the guard
+    sample (pos 0 ∷ []) (row 42 1 0 0 0 0 ++ row 54 2 0 0 0 0 ++ row 56 3 4 0 0 0 ++ row 1 0 0 0 0 0 ++ row 40 0 0 0 0 0) (refused 4 2) ∷  -- an empty statement for the block
+    sample (pos 0 ∷ []) (row 42 1 0 0 0 0 ++ row 54 2 0 0 0 0 ++ row 56 3 4 0 0 0 ++ row 1 0 0 0 0 0 ++ row 42 0 0 0 0 5 ++ row 40 0 0 0 0 0) (refused 4 2) ∷  -- a block with next
+    sample (pos 0 ∷ []) (row 42 0 0 0 0 0 ++ row 56 2 3 0 0 0 ++ row 1 0 0 0 0 0 ++ row 42 0 0 0 0 0) (refused 5 1) ∷  -- an arm that nothing links
+    sample (pos 0 ∷ []) (row 56 1 2 0 0 0 ++ row 1 0 0 0 0 0 ++ row 42 0 0 0 0 0) (refused 5 0) ∷  -- row 0 an arm
+    sample (pos 0 ∷ []) (row 42 1 0 0 0 0 ++ row 54 3 0 0 0 2 ++ row 55 3 0 0 0 0 ++ row 56 4 5 0 0 0 ++ row 1 0 0 0 0 0 ++ row 42 0 0 0 0 0) (refused 5 3) ∷  -- an arm linked twice
+    []
+
+-- Cause 7: "Neither form counts as a loop for break and continue."
+abbrev pub guardedPlaces : List Sample
+guardedPlaces =
+    sample (pos 0 ∷ []) (row 42 1 0 0 0 0 ++ row 54 2 0 0 0 0 ++ row 56 3 4 0 0 0 ++ row 1 0 0 0 0 0 ++ row 42 5 0 0 0 0 ++ row 50 0 0 0 0 0) (refused 7 5) ∷  -- break in a guarded if
+    sample (pos 0 ∷ []) (row 42 1 0 0 0 0 ++ row 55 2 0 0 0 0 ++ row 56 3 4 0 0 0 ++ row 1 0 0 0 0 0 ++ row 42 5 0 0 0 0 ++ row 50 0 0 0 0 0) (refused 7 5) ∷  -- break in a guarded do
+    sample (pos 0 ∷ []) (row 42 1 0 0 0 0 ++ row 55 2 0 0 0 0 ++ row 56 3 4 0 0 0 ++ row 1 0 0 0 0 0 ++ row 42 5 0 0 0 0 ++ row 51 0 0 0 0 0) (refused 7 5) ∷  -- continue in a guarded do
+    sample (pos 0 ∷ []) (row 42 1 0 0 0 0 ++ row 44 2 3 0 0 0 ++ row 1 0 0 0 0 0 ++ row 55 4 0 0 0 0 ++ row 56 5 6 0 0 0 ++ row 1 0 0 0 0 0 ++ row 42 7 0 0 0 0 ++ row 50 0 0 0 0 0) Accepted ∷  -- break in a guarded do in a while
+    sample (pos 0 ∷ []) (row 42 1 0 0 0 0 ++ row 44 2 3 0 0 0 ++ row 1 0 0 0 0 0 ++ row 54 4 0 0 0 0 ++ row 56 5 6 0 0 0 ++ row 1 0 0 0 0 0 ++ row 42 7 0 0 0 0 ++ row 51 0 0 0 0 0) Accepted ∷  -- continue in a guarded if in a while
+    sample (pos 0 ∷ []) (row 42 1 0 0 0 0 ++ row 47 2 3 0 0 0 ++ row 1 0 0 0 0 0 ++ row 54 4 0 0 0 0 ++ row 56 5 6 0 0 0 ++ row 1 0 0 0 0 0 ++ row 42 7 0 0 0 0 ++ row 50 0 0 0 0 0) Accepted ∷  -- break in a guarded if in a switch
+    sample (pos 0 ∷ []) (row 42 1 0 0 0 0 ++ row 47 2 3 0 0 0 ++ row 1 0 0 0 0 0 ++ row 55 4 0 0 0 0 ++ row 56 5 6 0 0 0 ++ row 1 0 0 0 0 0 ++ row 42 7 0 0 0 0 ++ row 51 0 0 0 0 0) (refused 7 7) ∷  -- continue in a guarded do in a switch
+    sample (pos 0 ∷ []) (row 42 1 0 0 0 0 ++ row 47 2 3 0 0 0 ++ row 1 0 0 0 0 0 ++ row 54 4 0 0 0 0 ++ row 56 5 6 0 0 0 ++ row 1 0 0 0 0 0 ++ row 42 7 0 0 0 0 ++ row 48 0 0 0 0 0) (refused 7 7) ∷  -- case in an arm's block in a switch
+    []
+
 -- A row of a kind as an expression statement's value, with the rows below it.
 abbrev pub valued : Verdict → List ℤ → (ℕ → List ℤ) → ℕ → Sample
 valued answer below top kind = sample (pos 1 ∷ []) (row 42 1 0 0 0 0 ++ row 41 2 0 0 0 0 ++ top kind ++ below) answer
@@ -181,9 +224,9 @@ unusedFields =
     ++ unusedFrom (pos 0 ∷ []) 3 3 (3 ∷ 6 ∷ 7 ∷ 8 ∷ 9 ∷ 10 ∷ 11 ∷ 12 ∷ 13 ∷ 14 ∷ 15 ∷ 16 ∷ 17 ∷ 18 ∷ 20 ∷ 21 ∷ 22 ∷ 23 ∷ 24 ∷ 25 ∷ 26 ∷ [])
     ++ unusedFrom (pos 0 ∷ []) 4 2 (19 ∷ [])
     ++ unusedFrom (pos 0 ∷ []) 1 4 (40 ∷ 49 ∷ 50 ∷ 51 ∷ [])
-    ++ unusedFrom (pos 0 ∷ []) 2 3 (41 ∷ 42 ∷ 48 ∷ [])
-    ++ unusedFrom (pos 0 ∷ []) 3 2 (44 ∷ 45 ∷ 47 ∷ [])
+    ++ unusedFrom (pos 0 ∷ []) 2 3 (41 ∷ 42 ∷ 48 ∷ 54 ∷ 55 ∷ [])
+    ++ unusedFrom (pos 0 ∷ []) 3 2 (44 ∷ 45 ∷ 47 ∷ 56 ∷ [])
     ++ unusedFrom (pos 0 ∷ []) 4 1 (43 ∷ [])
 
 abbrev pub sourceSamples : List Sample
-sourceSamples = headers ++ fields ++ links ++ rowsOnce ++ numbers ++ places ++ marks ++ operands ++ unusedFields
+sourceSamples = headers ++ fields ++ links ++ rowsOnce ++ numbers ++ places ++ marks ++ arms ++ guardedPlaces ++ operands ++ unusedFields

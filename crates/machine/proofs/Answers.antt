@@ -16,15 +16,16 @@ use borrow.Author.Tests.{ltb-true, eq-eqb}
 use Rattle.words.specs.Word.{isWord, sameWord, natural, pick}
 use Rattle.words.specs.Arithmetic.{isTrue}
 use Rattle.words.specs.Laws.{or-right, back, sameWord-refl, sameWord-differ}
+use Rattle.words.specs.declared.FaultSort.{FaultSort}
 use Rattle.computation.specs.Computation.{Turn, again, leave, Computation, ret}
-use Rattle.computation.specs.Run.{spent}
+use Rattle.computation.specs.Run.{spent, fault}
 use Rattle.computation.specs.Remaining.{Rest, gives, halts, onward, onTurn, spend, leftOf, left-never-rises}
 use Rattle.language.specs.Trees.{label}
-use Rattle.language.specs.Meaning.{Signal, next, breaking, continuing, seeking, enter, afterSwitch, afterBody}
-use Rattle.evaluator.specs.Answers.{beyond, stopOf, operandOf, operandRest, answered}
+use Rattle.language.specs.Meaning.{Signal, next, breaking, continuing, seeking, enter, afterSwitch, afterBody, Choice, ran as ranWith, afterArms}
+use Rattle.evaluator.specs.Answers.{beyond, stopOf, stopNumber, operandOf, operandRest, answered}
 use Rattle.evaluator.specs.declared.Operand.{Operand}
 use Rattle.evaluator.specs.declared.Operand.the-variants.{Value, Halted as Stopped}
-use Rattle.evaluator.proofs.Decoding.{handed, handed-is, wide, wide-is, operand-word}
+use Rattle.evaluator.proofs.Decoding.{handed, handed-is, wide, wide-is, operand-word, operand-other, stop-other, stop-again}
 use Rattle.evaluator.proofs.Enter.{entered, not-entered}
 use Rattle.evaluator.proofs.Operands.{stops}
 use Rattle.machine.specs.Flows.{passingOf, flowOf, flowRest, ran, turnBy, turned, EndsSwitch, EndsBody, EndsRound}
@@ -120,6 +121,10 @@ pub flow-passes : (z v : ℤ) → operandOf z ≡ Value v → flowOf z ≡ passi
 unfolding flowOf
 flow-passes z v e = rw e
 
+-- a fault's number, as the code has it
+pub ran-fault : (sort : FaultSort) (z : ℤ) → mag z < 2 ^ 63 → z ≡ stopNumber (fault sort) → (n : ℕ) (s : List ℤ) → ran (handed z) n s ≡ halts (fault sort) n s
+ran-fault sort z fits e n s = rw (handed-is z fits, e, flow-stops (stopNumber (fault sort)) (operand-other (stopNumber (fault sort)) (stop-other (fault sort))), stop-again (fault sort))
+
 -- an arm that several variants share: the tag is one of theirs
 abbrev member : ℕ → List ℕ → Bool
 member x [] = false
@@ -135,6 +140,9 @@ excluded (k ∷ ks) x h m = false≢true (sym m ∙ one-of k ks x h)
 
 abbrev tag : Flow → ℕ
 tag f = tagOf declared.the-type f
+
+pub not-next : (f : Flow) → OneOf (1 ∷ 2 ∷ 3 ∷ 4 ∷ []) (tag f) → f ≡ Next → ⊥
+not-next f h e = excluded (1 ∷ 2 ∷ 3 ∷ 4 ∷ []) 0 (rw e at h) refl
 
 pub not-break : (f : Flow) → OneOf (0 ∷ 2 ∷ 3 ∷ 4 ∷ []) (tag f) → f ≡ Break → ⊥
 not-break f h e = excluded (0 ∷ 2 ∷ 3 ∷ 4 ∷ []) 1 (rw e at h) refl
@@ -228,6 +236,16 @@ module _ {m : Rest Signal} (r : ℤ) (n : ℕ) (s : List ℤ) (fits : mag r < 2 
   pub switch-turns : EndsSwitch (handed r) z → ran z n s ≡ onward m (λ signal n s. gives (afterSwitch signal) n s)
   switch-turns e = e n s ∙ ap (λ (x : Rest Signal). onward x (λ signal n s. gives (afterSwitch signal) n s)) (ran-handed r n s fits ∙ h)
 
+-- what enters a row and goes on has made a step
+step-falls : {A : Type 0} (a : A) (n : ℕ) (s : List ℤ) (m : Computation A) (k : ℕ) (t : List ℤ) → gives a n s ≡ spend (enter m) k t → n < k
+step-falls a n s m zero t h =
+    let p : gives a n s ≡ halts spent 0 t = h ∙ not-entered m t 0 refl in
+    let w : _≡_ {A = ℕ} 0 1 = cc in
+    omega arith
+step-falls a n s m (suc k) t h =
+    let l : n ≡ leftOf (spend m (suc k - 1) t) = ap leftOf (h ∙ entered m t (suc k) (λ w. omega arith)) in
+    omega (arith, left-never-rises m (suc k - 1) t)
+
 -- `m` is the part of the run that a round did
 module _ (z : ℤ) (n : ℕ) (s : List ℤ) (fits : mag z < 2 ^ 63) (f : Flow) (e : f ≡ flowOf (handed z)) where
   module _ (q : f ≡ Continue) where
@@ -242,14 +260,7 @@ module _ (z : ℤ) (n : ℕ) (s : List ℤ) (fits : mag z < 2 ^ 63) (f : Flow) (
 
     -- and it has made a step
     pub round-falls : (m : Computation (Turn Signal)) (k : ℕ) (t : List ℤ) → turned z n s ≡ spend (enter m) k t → n < k
-    round-falls m zero t h =
-        let p : gives again n s ≡ halts spent 0 t = sym went ∙ h ∙ not-entered m t 0 refl in
-        let w : _≡_ {A = ℕ} 0 1 = cc in
-        omega arith
-    round-falls m (suc k) t h =
-        let p : gives again n s ≡ spend m (suc k - 1) t = sym went ∙ h ∙ entered m t (suc k) (λ w. omega arith) in
-        let l : n ≡ leftOf (spend m (suc k - 1) t) = ap leftOf p in
-        omega (arith, left-never-rises m (suc k - 1) t)
+    round-falls m k t h = step-falls again n s m k t (sym went ∙ h)
 
   module _ (q : f ≡ Continue → ⊥) where
     goes-not : flowOf z ≡ Continue → ⊥
@@ -274,6 +285,35 @@ module _ (z : ℤ) (n : ℕ) (s : List ℤ) (fits : mag z < 2 ^ 63) (f : Flow) (
         by Continue q = absurd (q refl)
         by (Goto l) q = refl
         by Halted q = refl
+
+-- ---- the rounds of a guarded do
+
+-- after its arms, which ran a block: the rounds again, or the block's own end
+abbrev pub rounded : (ℕ → List ℤ → Rest Signal) → Choice → ℕ → List ℤ → Rest Signal
+rounded more choice n s = onTurn more (afterArms choice) n s
+
+module _ (z : ℤ) (n : ℕ) (s : List ℤ) (fits : mag z < 2 ^ 63) {m : Rest Signal} (h : ran z n s ≡ m) (f : Flow) (e : f ≡ flowOf (handed z)) where
+  module _ (q : f ≡ Next) where
+    went-on : ran z n s ≡ gives next n s
+    went-on = rw (flow-is z fits f e, q)
+
+    pub arms-again : (more : ℕ → List ℤ → Rest Signal) → onward m (λ signal n s. rounded more (ranWith signal) n s) ≡ more n s
+    arms-again more = rw (← h, went-on)
+
+  module _ (q : f ≡ Next → ⊥) where
+    pub arms-left : (more : ℕ → List ℤ → Rest Signal) → onward m (λ signal n s. rounded more (ranWith signal) n s) ≡ ran (handed z) n s
+    arms-left more = rw (← h) (by (flowOf z) (λ g. q (sym (flow-is z fits f e) ∙ g)) ∙ sym (ran-handed z n s fits))
+      where
+        by : (g : Flow) → (g ≡ Next → ⊥) → onward (flowRest g z n s) (λ signal n s. rounded more (ranWith signal) n s) ≡ flowRest g z n s
+        by Next q = absurd (q refl)
+        by Break q = refl
+        by Continue q = refl
+        by (Goto l) q = refl
+        by Halted q = refl
+
+-- and a block that ended plainly has made a step
+pub block-falls : (z : ℤ) (n : ℕ) (s : List ℤ) → mag z < 2 ^ 63 → (f : Flow) → f ≡ flowOf (handed z) → f ≡ Next → (m : Computation Signal) (k : ℕ) (t : List ℤ) → ran z n s ≡ spend (enter m) k t → n < k
+block-falls z n s fits f e q m k t h = step-falls next n s m k t (sym (went-on z n s fits refl f e q) ∙ h)
 
 -- ---- the steps left never rise
 

@@ -15,7 +15,7 @@ use Rattle.words.specs.Kinds.{kinds, kindIn, kindOf, kindAt}
 use Rattle.words.specs.KindLaws.{kind-numbered, markNumber, mark-number}
 use Rattle.words.specs.Layout.{Layout}
 use Rattle.words.specs.declared.Kind.{Kind}
-use Rattle.words.specs.declared.Kind.the-variants.{OfExpression, OfStatement, OfMark, Other}
+use Rattle.words.specs.declared.Kind.the-variants.{OfExpression, OfStatement, OfMark, OfMember, Other}
 use Rattle.words.specs.declared.MarkKind.{MarkKind}
 use Rattle.words.specs.declared.MarkKind.the-variants.{Case, Default, Label}
 use Rattle.computation.specs.Remaining.{Rest, onward, spend}
@@ -40,6 +40,7 @@ item-cases (OfStatement kind) word s is P o t c d l = t
 item-cases (OfMark Case) word s is P o t c d l = c refl
 item-cases (OfMark Default) word s is P o t c d l = d refl
 item-cases (OfMark Label) word s is P o t c d l = l refl
+item-cases (OfMember kind) word s is P o t c d l = t
 item-cases Other word s is P o t c d l = o refl
 
 module _ {rows : List ℤ} {row : ℕ} (item : InTable rows row) where

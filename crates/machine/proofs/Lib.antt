@@ -7,6 +7,8 @@ pub mod Enter
 pub mod Items
 -- Rows: what follows the entry of a row of a sound table, by its kind.
 pub mod Rows
+-- Choices: the arms of a guarded statement by the rows that hold them.
+pub mod Choices
 -- Bounds: how the list of bounds is written, and that a layout is read off its own bounds.
 pub mod Bounds
 -- Endings: why a run ended, and what its answer says of the run under the budget.

@@ -34,7 +34,7 @@ use Rattle.machine.specs.Rows.{valueOr, roundOf, partOr, performAt, exec
 use Rattle.machine.proofs.Enter.{switch-starts}
 
 -- the tree at the row is known
-known : (rows : List ℤ) (bounds : List ℕ) (row : ℕ) (t : Statement) (n : ℕ) (s : List ℤ) → statementAt rows row ≡ t
+pub known : (rows : List ℤ) (bounds : List ℕ) (row : ℕ) (t : Statement) (n : ℕ) (s : List ℤ) → statementAt rows row ≡ t
     → spend (performAt rows bounds row) n s ≡ spend (perform (layoutFrom bounds) t) n s
 known rows bounds row t n s e = ap (λ (x : Statement). spend (perform (layoutFrom bounds) x) n s) e
 
@@ -211,8 +211,9 @@ module _ {rows : List ℤ} {bounds : List ℕ} {words row : ℕ} where
   goto-row here n s = known rows bounds row _ n s (at-goto rows (whole here) row (here .kind-is))
 
   -- a row whose number no statement has
-  pub other-row : Ready rows bounds words row → {number : ℕ} → number ≡ numberAt rows row 0 → ((40 ≤ number) × (number ≤ 47) → ⊥) → ((50 ≤ number) × (number ≤ 52) → ⊥) → (n : ℕ) (s : List ℤ)
+  pub other-row : Ready rows bounds words row → {number : ℕ} → number ≡ numberAt rows row 0 → ((40 ≤ number) × (number ≤ 47) → ⊥) → ((50 ≤ number) × (number ≤ 52) → ⊥)
+      → ((54 ≤ number) × (number ≤ 55) → ⊥) → (number ≡ 57 → ⊥) → (n : ℕ) (s : List ℤ)
       → spend (performAt rows bounds row) n s ≡ gives next n s
   unfolding spend perform
-  other-row here {number} p beyond behind n s =
-      known rows bounds row _ n s (at-no-statement rows (here .setting .sound .whole) row (ap isStatementKind (kind-numbered rows row p number refl) ∙ no-statement number beyond behind))
+  other-row here {number} p plain jumps guarded aborting n s =
+      known rows bounds row _ n s (at-no-statement rows (here .setting .sound .whole) row (ap isStatementKind (kind-numbered rows row p number refl) ∙ no-statement number plain jumps guarded aborting))

@@ -7,5 +7,7 @@ pub mod Flows
 pub mod Lists
 -- Rows: what is done at a row, and what the code asks for it.
 pub mod Rows
+-- Arms: what the arms of a guarded statement come to.
+pub mod Arms
 -- Whole: the run of a program.
 pub mod Whole

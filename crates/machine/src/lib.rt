@@ -1,5 +1,6 @@
 // The machine: the core that walks rows, one for both forms. Statements' answers are one number each, so that they come back in a
 // register: flows.rt says what they mean.
+pub mod arms; // arms.rt: which block the arms of a guarded statement come to
 pub mod flows; // flows.rt: what a statement's answer says
 pub mod lists; // lists.rt: where a list goes on: the search for a mark
 pub mod statements; // statements.rt: statement runs and list runs

@@ -4,6 +4,7 @@ use super::BREAK;
 use super::CONTINUE;
 use super::Flow;
 use super::NEXT;
+use super::arms::choose_block;
 use super::flows::after_body;
 use super::flows::after_last;
 use super::flows::after_switch;
@@ -12,18 +13,22 @@ use super::flows::jump;
 use super::lists::find_start;
 use super::lists::resume;
 use evaluator::Operand;
+use evaluator::Position;
 use evaluator::SPENT;
+use evaluator::answers::fault;
 use evaluator::answers::operand;
+use evaluator::answers::position;
 use evaluator::expressions::eval;
 use evaluator::expressions::eval_operation;
 use evaluator::operations::link_at;
+use words::FaultSort;
 use words::arithmetic::is_true;
 use words::table::number_at;
 use words::table::word_at;
 ghost use mathlib.Core.Path.{_≡_};
 ghost use lib.ListN.{length};
 ghost use Rattle.words.specs.declared.Kind.the-variants.{OfStatement};
-ghost use Rattle.words.specs.declared.StatementKind.the-variants.{Express, If, For, Switch};
+ghost use Rattle.words.specs.declared.StatementKind.the-variants.{Express, If, For, Switch, GuardedIf, GuardedDo};
 ghost use Rattle.computation.specs.Remaining.{spend};
 ghost use Rattle.evaluator.specs.Answers.{answered};
 ghost use Rattle.evaluator.specs.Ready.{Ready, Entered};
@@ -110,6 +115,9 @@ fn perform(rows: &[i32], bounds: &[usize], row: usize, store: &mut [i32], left: 
         50 => BREAK,
         51 => CONTINUE,
         52 => jump(word_at(rows, row, 1)),
+        54 => guarded_if(&*rows, &*bounds, row, store, left),
+        55 => guarded_do(&*rows, &*bounds, row, store, left),
+        57 => fault(FaultSort::Guard),
         _ => NEXT,
     }
 }
@@ -258,4 +266,44 @@ fn switch(rows: &[i32], bounds: &[usize], row: usize, store: &mut [i32], left: &
     };
     let first = find_start(rows, link_at(rows, row, 2), value);
     after_switch(list(&*rows, &*bounds, first, store, left))
+}
+
+// A guarded if's row, entered: its arms, then the block that they come to. "Guarded if with no true guard gives a fourth fault".
+fn guarded_if(rows: &[i32], bounds: &[usize], row: usize, store: &mut [i32], left: &mut u32) -> i64
+    requires { ⌜ Entered (now rows) (now bounds) (length (now store)) row (OfStatement GuardedIf) ⌝ }
+    ensures { λ r. ⌜ ran r (now (left .exit)) (now (store .exit)) ≡ spend (performAt (now (rows .entry)) (now (bounds .entry)) row) (now (left .entry)) (now (store .entry)) ⌝ }
+{
+    let answer = choose_block(&*rows, &*bounds, link_at(rows, row, 1), store, left);
+    let chosen = position(answer);
+    let Position::At(block) = chosen else {
+        return answer;
+    };
+    if block == 0 {
+        return fault(FaultSort::Guard);
+    }
+    exec(&*rows, &*bounds, block, store, left)
+}
+
+// A guarded do's row, entered: rounds of its arms, until no guard is true, or a block ends with a break, a continue or a goto. Each
+// round enters an arm, so the unspent budget falls.
+fn guarded_do(rows: &[i32], bounds: &[usize], row: usize, store: &mut [i32], left: &mut u32) -> i64
+    requires { ⌜ Entered (now rows) (now bounds) (length (now store)) row (OfStatement GuardedDo) ⌝ }
+    ensures { λ r. ⌜ ran r (now (left .exit)) (now (store .exit)) ≡ spend (performAt (now (rows .entry)) (now (bounds .entry)) row) (now (left .entry)) (now (store .entry)) ⌝ }
+{
+    let first = link_at(rows, row, 1);
+    loop {
+        let answer = choose_block(&*rows, &*bounds, first, store, left);
+        let chosen = position(answer);
+        let Position::At(block) = chosen else {
+            return answer;
+        };
+        if block == 0 {
+            return NEXT;
+        }
+        let ended = exec(&*rows, &*bounds, block, store, left);
+        let turn = flow(ended);
+        let Flow::Next = turn else {
+            return ended;
+        };
+    }
 }

@@ -7,8 +7,8 @@ use Rattle.evaluator.proofs.Enter.{entered, not-entered}
 use Rattle.machine.specs.Rows.{performAt}
 use Rattle.machine.proofs.Answers.{ran-spent, ran-handed}
 use Rattle.machine.proofs.statements.exec.Reads as reads
-use Rattle.machine.proofs.statements.+branch+exec+for_loop+item+list+perform+round+rounds+switch.Lts-exec as lts
-use Rattle.machine.proofs.statements.+branch+exec+for_loop+item+list+perform+round+rounds+switch.Proof.Claims.{exec-claims, exec-at}
+use Rattle.machine.proofs.statements.+branch+exec+for_loop+guarded_do+guarded_if+item+list+perform+round+rounds+switch.Lts-exec as lts
+use Rattle.machine.proofs.statements.+branch+exec+for_loop+guarded_do+guarded_if+item+list+perform+round+rounds+switch.Proof.Claims.{exec-claims, exec-at}
 
 pub returns : (t : ℕ) → lts.Need-returns (exec-claims t) (exec-at t) reads.Post
 returns t c =

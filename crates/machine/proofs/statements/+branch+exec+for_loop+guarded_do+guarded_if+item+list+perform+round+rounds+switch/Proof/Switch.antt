@@ -16,8 +16,8 @@ use Rattle.machine.specs.Lists.{startOf}
 use Rattle.machine.proofs.Answers.{ran-handed, hands-flow, switch-turns, answered-least}
 use Rattle.machine.proofs.Rows.{switch-links, in-table, table-row, optional-asks, optional, switch-row}
 use Rattle.machine.proofs.statements.switch.Reads as reads
-use Rattle.machine.proofs.statements.+branch+exec+for_loop+item+list+perform+round+rounds+switch.Lts-switch as lts
-use Rattle.machine.proofs.statements.+branch+exec+for_loop+item+list+perform+round+rounds+switch.Proof.Claims.{switch-claims, switch-at}
+use Rattle.machine.proofs.statements.+branch+exec+for_loop+guarded_do+guarded_if+item+list+perform+round+rounds+switch.Lts-switch as lts
+use Rattle.machine.proofs.statements.+branch+exec+for_loop+guarded_do+guarded_if+item+list+perform+round+rounds+switch.Proof.Claims.{switch-claims, switch-at}
 
 pub link-at-requires : (t : ℕ) → lts.Need-link-at-requires (switch-claims t) (switch-at t) reads.Post
 link-at-requires t c κs =

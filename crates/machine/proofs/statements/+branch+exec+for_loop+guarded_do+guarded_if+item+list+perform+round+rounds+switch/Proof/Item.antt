@@ -10,8 +10,8 @@ use Rattle.machine.proofs.Answers.{ran-spent, ran-handed}
 use Rattle.words.specs.Kinds.{kinds, kindIn, kindOf}
 use Rattle.evaluator.proofs.Rows.{numbered}
 use Rattle.machine.proofs.statements.item.Reads as reads
-use Rattle.machine.proofs.statements.+branch+exec+for_loop+item+list+perform+round+rounds+switch.Lts-item as lts
-use Rattle.machine.proofs.statements.+branch+exec+for_loop+item+list+perform+round+rounds+switch.Proof.Claims.{item-claims, item-at}
+use Rattle.machine.proofs.statements.+branch+exec+for_loop+guarded_do+guarded_if+item+list+perform+round+rounds+switch.Lts-item as lts
+use Rattle.machine.proofs.statements.+branch+exec+for_loop+guarded_do+guarded_if+item+list+perform+round+rounds+switch.Proof.Claims.{item-claims, item-at}
 
 pub returns : (t : ℕ) → lts.Need-returns (item-claims t) (item-at t) reads.Post
 returns t c =

@@ -11,8 +11,8 @@ use Rattle.machine.proofs.Answers.{flow-next, ran-least}
 use Rattle.machine.proofs.Items.{ahead-falls, continued-next, continued-end, list-step}
 use Rattle.machine.proofs.Rows.{in-table, table-row}
 use Rattle.machine.proofs.statements.list.Reads as reads
-use Rattle.machine.proofs.statements.+branch+exec+for_loop+item+list+perform+round+rounds+switch.Lts-list as lts
-use Rattle.machine.proofs.statements.+branch+exec+for_loop+item+list+perform+round+rounds+switch.Proof.Claims.{list-claims, list-at, list-Inv-loop, list-μ-loop}
+use Rattle.machine.proofs.statements.+branch+exec+for_loop+guarded_do+guarded_if+item+list+perform+round+rounds+switch.Lts-list as lts
+use Rattle.machine.proofs.statements.+branch+exec+for_loop+guarded_do+guarded_if+item+list+perform+round+rounds+switch.Proof.Claims.{list-claims, list-at, list-Inv-loop, list-μ-loop}
 
 pub loop-holds : (t : ℕ) → lts.Need-loop-holds (list-claims t) (list-at t) reads.Post list-Inv-loop list-μ-loop
 loop-holds t c =

@@ -9,8 +9,8 @@ use Rattle.machine.specs.Rows.{partOr}
 use Rattle.machine.proofs.Answers.{ran-handed, hands-flow, answered-least}
 use Rattle.machine.proofs.Rows.{optional-asks, optional, for-links, for-row}
 use Rattle.machine.proofs.statements.for_loop.Reads as reads
-use Rattle.machine.proofs.statements.+branch+exec+for_loop+item+list+perform+round+rounds+switch.Lts-for_loop as lts
-use Rattle.machine.proofs.statements.+branch+exec+for_loop+item+list+perform+round+rounds+switch.Proof.Claims.{for-loop-claims, for-loop-at}
+use Rattle.machine.proofs.statements.+branch+exec+for_loop+guarded_do+guarded_if+item+list+perform+round+rounds+switch.Lts-for_loop as lts
+use Rattle.machine.proofs.statements.+branch+exec+for_loop+guarded_do+guarded_if+item+list+perform+round+rounds+switch.Proof.Claims.{for-loop-claims, for-loop-at}
 
 pub link-at-requires : (t : ℕ) → lts.Need-link-at-requires (for-loop-claims t) (for-loop-at t) reads.Post
 link-at-requires t c κs =

@@ -9,40 +9,51 @@ use borrow.Fn.Kinds.{In}
 use borrow.Fn.PlainCycle.{Measures, is, falls, and}
 use Rattle.words.specs.Table.{rowCount}
 use Rattle.computation.specs.Remaining.{spend}
+use Rattle.language.specs.Decode.{armListAt}
+use Rattle.language.specs.Meaning.{choiceRounds}
 use Rattle.evaluator.specs.Bounds.{layoutFrom}
 use Rattle.machine.specs.Lists.{continued}
 use Rattle.machine.specs.Rows.{itemsFrom, roundsAt}
 use Rattle.machine.proofs.Items.{ahead}
 use Rattle.machine.proofs.statements.perform.Reads as perform
 use Rattle.machine.proofs.statements.perform.Kinds as perform-kinds
-use Rattle.machine.proofs.statements.+branch+exec+for_loop+item+list+perform+round+rounds+switch.Lts-perform as perform-lts
+use Rattle.machine.proofs.statements.+branch+exec+for_loop+guarded_do+guarded_if+item+list+perform+round+rounds+switch.Lts-perform as perform-lts
 use Rattle.machine.proofs.statements.round.Reads as round
 use Rattle.machine.proofs.statements.round.Kinds as round-kinds
-use Rattle.machine.proofs.statements.+branch+exec+for_loop+item+list+perform+round+rounds+switch.Lts-round as round-lts
+use Rattle.machine.proofs.statements.+branch+exec+for_loop+guarded_do+guarded_if+item+list+perform+round+rounds+switch.Lts-round as round-lts
 use Rattle.machine.proofs.statements.for_loop.Reads as for-loop
 use Rattle.machine.proofs.statements.for_loop.Kinds as for-loop-kinds
-use Rattle.machine.proofs.statements.+branch+exec+for_loop+item+list+perform+round+rounds+switch.Lts-for_loop as for-loop-lts
+use Rattle.machine.proofs.statements.+branch+exec+for_loop+guarded_do+guarded_if+item+list+perform+round+rounds+switch.Lts-for_loop as for-loop-lts
 use Rattle.machine.proofs.statements.branch.Reads as branch
 use Rattle.machine.proofs.statements.branch.Kinds as branch-kinds
-use Rattle.machine.proofs.statements.+branch+exec+for_loop+item+list+perform+round+rounds+switch.Lts-branch as branch-lts
+use Rattle.machine.proofs.statements.+branch+exec+for_loop+guarded_do+guarded_if+item+list+perform+round+rounds+switch.Lts-branch as branch-lts
 use Rattle.machine.proofs.statements.item.Reads as item
 use Rattle.machine.proofs.statements.item.Kinds as item-kinds
-use Rattle.machine.proofs.statements.+branch+exec+for_loop+item+list+perform+round+rounds+switch.Lts-item as item-lts
+use Rattle.machine.proofs.statements.+branch+exec+for_loop+guarded_do+guarded_if+item+list+perform+round+rounds+switch.Lts-item as item-lts
 use Rattle.machine.proofs.statements.list.Reads as list
 use Rattle.machine.proofs.statements.list.Kinds as list-kinds
-use Rattle.machine.proofs.statements.+branch+exec+for_loop+item+list+perform+round+rounds+switch.Lts-list as list-lts
+use Rattle.machine.proofs.statements.+branch+exec+for_loop+guarded_do+guarded_if+item+list+perform+round+rounds+switch.Lts-list as list-lts
 use Rattle.machine.proofs.statements.rounds.Reads as rounds
 use Rattle.machine.proofs.statements.rounds.Kinds as rounds-kinds
-use Rattle.machine.proofs.statements.+branch+exec+for_loop+item+list+perform+round+rounds+switch.Lts-rounds as rounds-lts
+use Rattle.machine.proofs.statements.+branch+exec+for_loop+guarded_do+guarded_if+item+list+perform+round+rounds+switch.Lts-rounds as rounds-lts
 use Rattle.machine.proofs.statements.exec.Reads as exec
 use Rattle.machine.proofs.statements.exec.Kinds as exec-kinds
-use Rattle.machine.proofs.statements.+branch+exec+for_loop+item+list+perform+round+rounds+switch.Lts-exec as exec-lts
+use Rattle.machine.proofs.statements.+branch+exec+for_loop+guarded_do+guarded_if+item+list+perform+round+rounds+switch.Lts-exec as exec-lts
 use Rattle.machine.proofs.statements.switch.Reads as switch
 use Rattle.machine.proofs.statements.switch.Kinds as switch-kinds
-use Rattle.machine.proofs.statements.+branch+exec+for_loop+item+list+perform+round+rounds+switch.Lts-switch as switch-lts
+use Rattle.machine.proofs.statements.+branch+exec+for_loop+guarded_do+guarded_if+item+list+perform+round+rounds+switch.Lts-switch as switch-lts
+use Rattle.machine.proofs.statements.guarded_if.Reads as guarded-if
+use Rattle.machine.proofs.statements.guarded_if.Kinds as guarded-if-kinds
+use Rattle.machine.proofs.statements.+branch+exec+for_loop+guarded_do+guarded_if+item+list+perform+round+rounds+switch.Lts-guarded_if as guarded-if-lts
+use Rattle.machine.proofs.statements.guarded_do.Reads as guarded-do
+use Rattle.machine.proofs.statements.guarded_do.Kinds as guarded-do-kinds
+use Rattle.machine.proofs.statements.+branch+exec+for_loop+guarded_do+guarded_if+item+list+perform+round+rounds+switch.Lts-guarded_do as guarded-do-lts
+use Rattle.evaluator.proofs.answers.fault.Reads as fault-reads
 use Rattle.evaluator.proofs.answers.operand.Reads as operand-reads
+use Rattle.evaluator.proofs.answers.position.Reads as position-reads
 use Rattle.evaluator.proofs.expressions.eval.Reads as eval-reads
 use Rattle.evaluator.proofs.operations.link_at.Reads as link-at-reads
+use Rattle.machine.proofs.arms.choose_block.Reads as choose-block-reads
 use Rattle.machine.proofs.flows.after_body.Reads as after-body-reads
 use Rattle.machine.proofs.flows.after_last.Reads as after-last-reads
 use Rattle.machine.proofs.flows.after_switch.Reads as after-switch-reads
@@ -82,6 +93,12 @@ abbrev pub μ-exec : Measures 4 exec-kinds.ps ℕ
 
 abbrev pub μ-switch : Measures 4 switch-kinds.ps ℕ
 μ-switch κs a = 6 * a .1 .1 .1 .1 .0 .now + 2
+
+abbrev pub μ-guarded-if : Measures 4 guarded-if-kinds.ps ℕ
+μ-guarded-if κs a = 6 * a .1 .1 .1 .1 .0 .now + 1
+
+abbrev pub μ-guarded-do : Measures 4 guarded-do-kinds.ps ℕ
+μ-guarded-do κs a = 6 * a .1 .1 .1 .1 .0 .now + 1
 
 abbrev pub perform-at : ℕ → In 4 perform-kinds.ps
 perform-at t = and 4 perform-kinds.ps (is 4 perform-kinds.ps μ-perform t) perform.Pre
@@ -137,6 +154,18 @@ switch-at t = and 4 switch-kinds.ps (is 4 switch-kinds.ps μ-switch t) switch.Pr
 abbrev pub switch-below : ℕ → In 4 switch-kinds.ps
 switch-below t = and 4 switch-kinds.ps (falls 4 switch-kinds.ps _<_ μ-switch t) switch.Pre
 
+abbrev pub guarded-if-at : ℕ → In 4 guarded-if-kinds.ps
+guarded-if-at t = and 4 guarded-if-kinds.ps (is 4 guarded-if-kinds.ps μ-guarded-if t) guarded-if.Pre
+
+abbrev pub guarded-if-below : ℕ → In 4 guarded-if-kinds.ps
+guarded-if-below t = and 4 guarded-if-kinds.ps (falls 4 guarded-if-kinds.ps _<_ μ-guarded-if t) guarded-if.Pre
+
+abbrev pub guarded-do-at : ℕ → In 4 guarded-do-kinds.ps
+guarded-do-at t = and 4 guarded-do-kinds.ps (is 4 guarded-do-kinds.ps μ-guarded-do t) guarded-do.Pre
+
+abbrev pub guarded-do-below : ℕ → In 4 guarded-do-kinds.ps
+guarded-do-below t = and 4 guarded-do-kinds.ps (falls 4 guarded-do-kinds.ps _<_ μ-guarded-do t) guarded-do.Pre
+
 abbrev pub list-Inv-loop : list-lts.InvT-loop
 list-Inv-loop rows bounds first store₀ left₀ at₀ answer₀ store left at answer =
     (at < rowCount rows) × (length store ≡ length store₀) × (left ≤ left₀)
@@ -153,8 +182,16 @@ rounds-Inv-loop rows bounds test body last decides store₀ left₀ store left =
 abbrev pub rounds-μ-loop : rounds-lts.MeasureT-loop
 rounds-μ-loop rows bounds test body last decides store₀ left₀ store left = left
 
+abbrev pub guarded-do-Inv-loop : guarded-do-lts.InvT-loop
+guarded-do-Inv-loop rows bounds row store₀ left₀ first store left =
+    (length store ≡ length store₀) × (left ≤ left₀)
+    × (spend (choiceRounds (layoutFrom bounds) (armListAt rows first)) left₀ store₀ ≡ spend (choiceRounds (layoutFrom bounds) (armListAt rows first)) left store)
+
+abbrev pub guarded-do-μ-loop : guarded-do-lts.MeasureT-loop
+guarded-do-μ-loop rows bounds row store₀ left₀ first store left = left
+
 abbrev pub perform-claims : ℕ → perform-lts.Claims
-perform-claims t = (number-at-reads.Asked, number-at-reads.Learnt, express-reads.Asked, express-reads.Learnt, link-at-reads.Asked, link-at-reads.Learnt, list-below t, list.Post, branch-below t, branch.Post, rounds-below t, rounds.Post, for-loop-below t, for-loop.Post, switch-below t, switch.Post, word-at-reads.Asked, word-at-reads.Learnt, jump-reads.Asked, jump-reads.Learnt)
+perform-claims t = (number-at-reads.Asked, number-at-reads.Learnt, express-reads.Asked, express-reads.Learnt, link-at-reads.Asked, link-at-reads.Learnt, list-below t, list.Post, branch-below t, branch.Post, rounds-below t, rounds.Post, for-loop-below t, for-loop.Post, switch-below t, switch.Post, word-at-reads.Asked, word-at-reads.Learnt, jump-reads.Asked, jump-reads.Learnt, guarded-if-below t, guarded-if.Post, guarded-do-below t, guarded-do.Post, fault-reads.Asked, fault-reads.Learnt)
 
 abbrev pub round-claims : ℕ → round-lts.Claims
 round-claims t = (part-reads.Asked, part-reads.Learnt, operand-reads.Asked, operand-reads.Learnt, is-true-reads.Asked, is-true-reads.Learnt, exec-below t, exec.Post, after-body-reads.Asked, after-body-reads.Learnt, flow-reads.Asked, flow-reads.Learnt, after-last-reads.Asked, after-last-reads.Learnt)
@@ -179,3 +216,9 @@ exec-claims t = (perform-below t, perform.Post)
 
 abbrev pub switch-claims : ℕ → switch-lts.Claims
 switch-claims t = (link-at-reads.Asked, link-at-reads.Learnt, eval-reads.Asked, eval-reads.Learnt, operand-reads.Asked, operand-reads.Learnt, find-start-reads.Asked, find-start-reads.Learnt, list-below t, list.Post, after-switch-reads.Asked, after-switch-reads.Learnt)
+
+abbrev pub guarded-if-claims : ℕ → guarded-if-lts.Claims
+guarded-if-claims t = (link-at-reads.Asked, link-at-reads.Learnt, choose-block-reads.Asked, choose-block-reads.Learnt, position-reads.Asked, position-reads.Learnt, fault-reads.Asked, fault-reads.Learnt, exec-below t, exec.Post)
+
+abbrev pub guarded-do-claims : ℕ → guarded-do-lts.Claims
+guarded-do-claims t = (link-at-reads.Asked, link-at-reads.Learnt, choose-block-reads.Asked, choose-block-reads.Learnt, position-reads.Asked, position-reads.Learnt, exec-below t, exec.Post, flow-reads.Asked, flow-reads.Learnt)

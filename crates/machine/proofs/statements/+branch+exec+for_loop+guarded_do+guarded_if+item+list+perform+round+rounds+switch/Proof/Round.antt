@@ -16,8 +16,8 @@ use Rattle.machine.proofs.Answers.{turned-last, hands-turn, not-continu
 use Rattle.machine.proofs.Enter.{closing-is, round-is}
 use Rattle.machine.proofs.Rows.{table-row}
 use Rattle.machine.proofs.statements.round.Reads as reads
-use Rattle.machine.proofs.statements.+branch+exec+for_loop+item+list+perform+round+rounds+switch.Lts-round as lts
-use Rattle.machine.proofs.statements.+branch+exec+for_loop+item+list+perform+round+rounds+switch.Proof.Claims.{round-claims, round-at}
+use Rattle.machine.proofs.statements.+branch+exec+for_loop+guarded_do+guarded_if+item+list+perform+round+rounds+switch.Lts-round as lts
+use Rattle.machine.proofs.statements.+branch+exec+for_loop+guarded_do+guarded_if+item+list+perform+round+rounds+switch.Proof.Claims.{round-claims, round-at}
 
 pub part-requires : (t : ℕ) → lts.Need-part-requires (round-claims t) (round-at t) reads.Post
 part-requires t c κs =

@@ -10,8 +10,8 @@ use Rattle.evaluator.proofs.Operands.{goes, link-asks, linked, chosen-true, cho
 use Rattle.machine.proofs.Answers.{ran-next, ran-handed, hands-flow, answered-least}
 use Rattle.machine.proofs.Rows.{if-links, optional-asks, optional, otherwise-none, otherwise-some, if-row}
 use Rattle.machine.proofs.statements.branch.Reads as reads
-use Rattle.machine.proofs.statements.+branch+exec+for_loop+item+list+perform+round+rounds+switch.Lts-branch as lts
-use Rattle.machine.proofs.statements.+branch+exec+for_loop+item+list+perform+round+rounds+switch.Proof.Claims.{branch-claims, branch-at}
+use Rattle.machine.proofs.statements.+branch+exec+for_loop+guarded_do+guarded_if+item+list+perform+round+rounds+switch.Lts-branch as lts
+use Rattle.machine.proofs.statements.+branch+exec+for_loop+guarded_do+guarded_if+item+list+perform+round+rounds+switch.Proof.Claims.{branch-claims, branch-at}
 
 pub link-at-requires : (t : ℕ) → lts.Need-link-at-requires (branch-claims t) (branch-at t) reads.Post
 link-at-requires t c κs =

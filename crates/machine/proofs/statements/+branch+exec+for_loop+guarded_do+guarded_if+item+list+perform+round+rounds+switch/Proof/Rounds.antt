@@ -9,8 +9,8 @@ use Rattle.machine.proofs.Answers.{not-continue, goes-round, round-fall
 use Rattle.machine.proofs.Enter.{loop-round}
 use Rattle.machine.proofs.Rows.{table-row}
 use Rattle.machine.proofs.statements.rounds.Reads as reads
-use Rattle.machine.proofs.statements.+branch+exec+for_loop+item+list+perform+round+rounds+switch.Lts-rounds as lts
-use Rattle.machine.proofs.statements.+branch+exec+for_loop+item+list+perform+round+rounds+switch.Proof.Claims.{rounds-claims, rounds-at, rounds-Inv-loop, rounds-μ-loop}
+use Rattle.machine.proofs.statements.+branch+exec+for_loop+guarded_do+guarded_if+item+list+perform+round+rounds+switch.Lts-rounds as lts
+use Rattle.machine.proofs.statements.+branch+exec+for_loop+guarded_do+guarded_if+item+list+perform+round+rounds+switch.Proof.Claims.{rounds-claims, rounds-at, rounds-Inv-loop, rounds-μ-loop}
 
 pub loop-holds : (t : ℕ) → lts.Need-loop-holds (rounds-claims t) (rounds-at t) reads.Post rounds-Inv-loop rounds-μ-loop
 loop-holds t c = (refl, omega arith, refl)

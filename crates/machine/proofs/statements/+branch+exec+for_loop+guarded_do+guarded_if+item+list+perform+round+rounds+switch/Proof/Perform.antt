@@ -8,24 +8,38 @@ use Rattle.words.specs.Word.{natural}
 use Rattle.words.specs.Kinds.{kinds, kindIn, kindOf}
 use Rattle.words.specs.KindLaws.{Passed, passed}
 use Rattle.words.specs.Laws.{back}
+use Rattle.words.specs.declared.FaultSort.the-variants.{Guard}
 use Rattle.computation.specs.Remaining.{gives}
 use Rattle.language.specs.Trees.{label}
 use Rattle.language.specs.Meaning.{seeking}
 use Rattle.evaluator.proofs.Operands.{link-asks, linked}
 use Rattle.evaluator.proofs.Rows.{field-inside, numbered}
-use Rattle.machine.proofs.Answers.{ran-next, ran-break, ran-continue, ran-handed}
+use Rattle.machine.proofs.Answers.{ran-next, ran-break, ran-continue, ran-fault, ran-handed}
+use Rattle.machine.proofs.Choices.{abort-row}
 use Rattle.machine.proofs.Rows.{table-row, optional-asks, optional, empty-row, block-link, block-row, while-links, while-row, do-links, do-row, break-row, continue-row, goto-row, other-row}
 use Rattle.machine.proofs.statements.perform.Reads as reads
-use Rattle.machine.proofs.statements.+branch+exec+for_loop+item+list+perform+round+rounds+switch.Lts-perform as lts
-use Rattle.machine.proofs.statements.+branch+exec+for_loop+item+list+perform+round+rounds+switch.Proof.Claims.{perform-claims, perform-at}
+use Rattle.machine.proofs.statements.+branch+exec+for_loop+guarded_do+guarded_if+item+list+perform+round+rounds+switch.Lts-perform as lts
+use Rattle.machine.proofs.statements.+branch+exec+for_loop+guarded_do+guarded_if+item+list+perform+round+rounds+switch.Proof.Claims.{perform-claims, perform-at}
 
--- the numbers that the match passed: 40 to 47, and 50 to 52
-module _ {known : Type 0} (number : ℕ) (rest : Passed 50 3 number (Passed 40 8 number known)) where
-  below-marks : 40 ≤ number → 48 ≤ number
-  below-marks h = passed 40 8 number known (passed 50 3 number (Passed 40 8 number known) rest .0) .1 h
+-- the numbers that the match passed: 40 to 47, 50 to 52, 54, 55 and 57
+module _ {known : Type 0} (number : ℕ) (rest : Passed 57 1 number (Passed 54 2 number (Passed 50 3 number (Passed 40 8 number known)))) where
+  abbrev past-guarded : Passed 54 2 number (Passed 50 3 number (Passed 40 8 number known))
+  past-guarded = passed 57 1 number (Passed 54 2 number (Passed 50 3 number (Passed 40 8 number known))) rest .0
 
-  beyond-marks : 50 ≤ number → 53 ≤ number
-  beyond-marks h = passed 50 3 number (Passed 40 8 number known) rest .1 h
+  abbrev past-jumps : Passed 50 3 number (Passed 40 8 number known)
+  past-jumps = passed 54 2 number (Passed 50 3 number (Passed 40 8 number known)) past-guarded .0
+
+  not-plain : (40 ≤ number) × (number ≤ 47) → ⊥
+  not-plain inside = omega (arith, inside .1, passed 40 8 number known (passed 50 3 number (Passed 40 8 number known) past-jumps .0) .1 (inside .0))
+
+  not-jump : (50 ≤ number) × (number ≤ 52) → ⊥
+  not-jump inside = omega (arith, inside .1, passed 50 3 number (Passed 40 8 number known) past-jumps .1 (inside .0))
+
+  not-guarded : (54 ≤ number) × (number ≤ 55) → ⊥
+  not-guarded inside = omega (arith, inside .1, passed 54 2 number (Passed 50 3 number (Passed 40 8 number known)) past-guarded .1 (inside .0))
+
+  not-abort : number ≡ 57 → ⊥
+  not-abort e = omega (arith, passed 57 1 number (Passed 54 2 number (Passed 50 3 number (Passed 40 8 number known))) rest .1 (omega arith))
 
 pub number-at-requires : (t : ℕ) → lts.Need-number-at-requires (perform-claims t) (perform-at t) reads.Post
 number-at-requires t c κs =
@@ -169,6 +183,27 @@ word-at-requires t c κs =
 pub jump-requires : (t : ℕ) → lts.Need-jump-requires (perform-claims t) (perform-at t) reads.Post
 jump-requires t c κs = search needs
 
+pub guarded-if-requires : (t : ℕ) → lts.Need-guarded-if-requires (perform-claims t) (perform-at t) reads.Post
+unfolding kinds kindIn kindOf
+guarded-if-requires t c κs =
+    let start = c .before .before .before .before .before in
+    let here = start .pre .1 in
+    let past-number-at = c .before .before .before .number-at in
+    let past-match = c .before .before .match in
+    (omega (arith, start .pre .0), numbered here (past-number-at .ensures) 54 (past-match .keys12))
+
+pub guarded-do-requires : (t : ℕ) → lts.Need-guarded-do-requires (perform-claims t) (perform-at t) reads.Post
+unfolding kinds kindIn kindOf
+guarded-do-requires t c κs =
+    let start = c .before .before .before .before .before in
+    let here = start .pre .1 in
+    let past-number-at = c .before .before .before .number-at in
+    let past-match = c .before .before .match in
+    (omega (arith, start .pre .0), numbered here (past-number-at .ensures) 55 (past-match .keys13))
+
+pub fault-requires : (t : ℕ) → lts.Need-fault-requires (perform-claims t) (perform-at t) reads.Post
+fault-requires t c κs = search needs
+
 pub returns : (t : ℕ) → lts.Need-returns (perform-claims t) (perform-at t) reads.Post
 unfolding kinds kindIn kindOf
 returns t c =
@@ -284,11 +319,39 @@ returns-11 t c =
     ran-handed (past-jump .result) _ _ (past-jump .ok) ∙ past-jump .ensures (start .args .left .now) (start .args .store .now) ∙ ap (λ (z : ℤ). gives (seeking (label (natural z))) (start .args .left .now) (start .args .store .now)) (back (past-word-at .result) (past-word-at .ok) ∙ past-word-at .ensures)
     ∙ sym (goto-row (numbered here (past-number-at .ensures) 52 (past-match .keys11)) (start .args .left .now) (start .args .store .now))
 
+pub same-length-8 : (t : ℕ) → lts.Need-same-length-8 (perform-claims t) (perform-at t) reads.Post
+same-length-8 t c = search needs
+
 pub returns-12 : (t : ℕ) → lts.Need-returns-12 (perform-claims t) (perform-at t) reads.Post
 returns-12 t c =
+    let past-guarded-if = c .before .guarded-if in
+    ran-handed (past-guarded-if .result) _ _ (past-guarded-if .ok) ∙ past-guarded-if .ensures
+
+pub same-length-9 : (t : ℕ) → lts.Need-same-length-9 (perform-claims t) (perform-at t) reads.Post
+same-length-9 t c = search needs
+
+pub returns-13 : (t : ℕ) → lts.Need-returns-13 (perform-claims t) (perform-at t) reads.Post
+returns-13 t c =
+    let past-guarded-do = c .before .guarded-do in
+    ran-handed (past-guarded-do .result) _ _ (past-guarded-do .ok) ∙ past-guarded-do .ensures
+
+pub returns-14 : (t : ℕ) → lts.Need-returns-14 (perform-claims t) (perform-at t) reads.Post
+unfolding kinds kindIn kindOf
+returns-14 t c =
+    let start = c .before .before .before .before in
+    let here = start .pre .1 in
+    let past-number-at = c .before .before .number-at in
+    let past-match = c .before .match in
+    let past-fault = c .fault in
+    ran-fault Guard (past-fault .result) (past-fault .ok) (past-fault .ensures) (start .args .left .now) (start .args .store .now)
+    ∙ sym (abort-row (numbered here (past-number-at .ensures) 57 (past-match .keys14)) (start .args .left .now) (start .args .store .now))
+
+pub returns-15 : (t : ℕ) → lts.Need-returns-15 (perform-claims t) (perform-at t) reads.Post
+returns-15 t c =
     let start = c .before .before .before in
     let here = start .pre .1 in
     let past-number-at = c .before .number-at in
     let past-match = c .match in
     let number = past-number-at .result in
-    ran-next _ _ ∙ sym (other-row here (past-number-at .ensures) (λ inside. omega (arith, inside .1, below-marks number (past-match .rest) (inside .0))) (λ inside. omega (arith, inside .1, beyond-marks number (past-match .rest) (inside .0))) (start .args .left .now) (start .args .store .now))
+    let rest = past-match .rest in
+    ran-next _ _ ∙ sym (other-row here (past-number-at .ensures) (not-plain number rest) (not-jump number rest) (not-guarded number rest) (not-abort number rest) (start .args .left .now) (start .args .store .now))

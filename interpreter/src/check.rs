@@ -103,7 +103,8 @@ fn check_links(rows: &[Row]) -> Result<(), Refusal> {
         // The next of an expression is 0 by now.
         if row[NEXT] != 0 {
             let target = later_row(rows, at, row[NEXT]).ok_or(refusal)?;
-            if is_expression(target[0]) {
+            let fits = if row[0] == ARM { target[0] == ARM } else { is_statement(target[0]) };
+            if !fits {
                 return Err(refusal);
             }
         }

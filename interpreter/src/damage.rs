@@ -32,6 +32,7 @@ enum Damage {
     Link,
     BranchNext,
     Linked,
+    Arm,
     Number,
     AnyWord,
     Swap,
@@ -40,7 +41,7 @@ enum Damage {
     Words,
 }
 
-const WEIGHTS: [(usize, Damage); 17] = [
+const WEIGHTS: [(usize, Damage); 18] = [
     (30, Damage::Misplaced),
     (24, Damage::Repeated),
     (18, Damage::Deep),
@@ -53,6 +54,7 @@ const WEIGHTS: [(usize, Damage); 17] = [
     (22, Damage::Link),
     (9, Damage::BranchNext),
     (22, Damage::Linked),
+    (20, Damage::Arm),
     (22, Damage::Number),
     (12, Damage::AnyWord),
     (9, Damage::Swap),

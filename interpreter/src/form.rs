@@ -62,9 +62,9 @@ impl Form {
     /// The fields a to d of a kind; none where the kind is not in the language.
     pub fn fields(self, kind: i32) -> Option<[Field; 4]> {
         let known = match (self, kind) {
-            (Source, kind) => kind <= CONTINUE,
+            (Source, kind) => kind <= CONTINUE || (GUARDED_IF..=ARM).contains(&kind),
             (Kernel, CONSTANT..=MINUS | ADD..=UNEQUAL | ASSIGN) => true,
-            (Kernel, EMPTY..=WHILE | GOTO | LABEL) => true,
+            (Kernel, EMPTY..=WHILE | GOTO | LABEL | ABORT) => true,
             (Kernel, _) => false,
         };
         if known {
@@ -81,6 +81,6 @@ impl Form {
 
     /// Whether the kind is a statement of this form.
     pub fn is_statement(self, kind: i32) -> bool {
-        !is_expression(kind) && self.fields(kind).is_some()
+        is_statement(kind) && self.fields(kind).is_some()
     }
 }

@@ -1,9 +1,11 @@
 //! Generated programs, weighted toward what translators get wrong: one place
 //! read and written on both sides, effects in indices, fall-through, jumps
-//! through nests, faults half-way, and budgets next to the count.
+//! through nests and guarded statements, faults half-way, and budgets next to
+//! the count.
 
 mod aliasing;
 mod expressions;
+mod guarded;
 mod loops;
 mod statements;
 
@@ -38,15 +40,20 @@ pub struct Program {
 pub fn case(seed: u64, number: u64, size: Size) -> Case {
     let random = &mut Random::new(seed, number);
     let wanted = random.weighted(&[
-        (70, None),
-        (12, Some(Fault::Overflow)),
-        (11, Some(Fault::Zero)),
+        (66, None),
+        (11, Some(Fault::Overflow)),
+        (10, Some(Fault::Zero)),
         (7, Some(Fault::Index)),
+        (6, Some(Fault::Guard)),
     ]);
     let most_tries = if size == Size::Mixed { 25 } else { 1 };
     let mut tries = 0;
     loop {
-        let program = program(random, size);
+        let guards = match wanted {
+            Some(Fault::Guard) => Guards::Failing,
+            _ => any_guards(random),
+        };
+        let program = legal(random, size, 3, guards);
         let order = any_order(random);
         let rows = crate::tree::number(&program.tree, order, random);
         let words = start_words(Source, random, &program.header);
@@ -68,7 +75,8 @@ pub fn case(seed: u64, number: u64, size: Size) -> Case {
 pub fn endless_case(seed: u64, number: u64) -> Case {
     let random = &mut Random::new(seed, number);
     loop {
-        let Program { header, tree } = legal(random, Size::Mixed, 40);
+        let guards = any_guards(random);
+        let Program { header, tree } = legal(random, Size::Mixed, 40, guards);
         let order = any_order(random);
         let rows = crate::tree::number(&tree, order, random);
         let words = start_words(Source, random, &header);
@@ -159,15 +167,34 @@ pub fn end_value(random: &mut Random) -> i32 {
     ])
 }
 
+/// Which guarded statements a program has.
+#[derive(Clone, Copy, Debug, PartialEq, Eq)]
+pub enum Guards {
+    None,
+    /// Most guarded ifs have a true guard.
+    Some,
+    /// Many have none.
+    Failing,
+}
+
+/// A third of the programs have guarded statements.
+fn any_guards(random: &mut Random) -> Guards {
+    match random.chance(37) {
+        true => Guards::Some,
+        false => Guards::None,
+    }
+}
+
 /// A legal program, of whose loops few are endless.
 pub fn program(random: &mut Random, size: Size) -> Program {
-    legal(random, size, 3)
+    let guards = any_guards(random);
+    legal(random, size, 3, guards)
 }
 
 /// A legal program; so many of a hundred loops are endless, unless it is long.
-fn legal(random: &mut Random, size: Size, endless: usize) -> Program {
+fn legal(random: &mut Random, size: Size, endless: usize, guards: Guards) -> Program {
     loop {
-        let program = draft(random, size, endless);
+        let program = draft(random, size, endless, guards);
         let rows = number(&program.tree, Order::Pre, random);
         if check(Source, &program.header, &rows).is_ok() {
             return program;
@@ -175,7 +202,7 @@ fn legal(random: &mut Random, size: Size, endless: usize) -> Program {
     }
 }
 
-fn draft(random: &mut Random, size: Size, endless: usize) -> Program {
+fn draft(random: &mut Random, size: Size, endless: usize, guards: Guards) -> Program {
     let header = header(random);
     let rows = match size {
         Size::Large => random.pick(&[300, 600, 1_000, 1_500, 2_040, 2_048]),
@@ -201,6 +228,7 @@ fn draft(random: &mut Random, size: Size, endless: usize) -> Program {
         room: rows - 1,
         counters: Vec::new(),
         rounds: 1,
+        guards,
         in_loop: false,
         breakable: false,
     };
@@ -242,6 +270,7 @@ pub struct Maker<'a> {
     pub counters: Vec<i32>,
     /// Product of the rounds of the loops around.
     pub rounds: i32,
+    pub guards: Guards,
     pub in_loop: bool,
     pub breakable: bool,
 }

@@ -125,7 +125,8 @@ impl Writer<'_> {
         self.left = self.left.saturating_sub(1);
         match self.random.below(if depth > 8 { 7 } else { 12 }) {
             0 => {
-                self.row(EMPTY);
+                let kind = if self.random.chance(30) { ABORT } else { EMPTY };
+                self.row(kind);
             }
             1 if !ahead.is_empty() => {
                 let at = self.row(GOTO);
@@ -243,7 +244,10 @@ fn change_word(random: &mut Random, rows: &mut [i32]) {
         1 => rows[random.below(rows.len())],
         2 => random.between(0, rows.len() as i32 / WORDS as i32),
         3 => random.pick(&[-1, 0, 40_979, 40_980, i32::MIN, i32::MAX]),
-        4 => random.pick(&[CONSTANT, VARIABLE, ELEMENT, NOT, ASSIGN, EMPTY, BLOCK, GOTO, LABEL]),
+        4 => random.pick(&[
+            CONSTANT, VARIABLE, ELEMENT, NOT, ASSIGN, EMPTY, BLOCK, GOTO, LABEL, GUARDED_IF,
+            GUARDED_DO, ARM, ABORT,
+        ]),
         _ => 0,
     };
 }

@@ -11,6 +11,7 @@ pub enum Fault {
     Overflow,
     Zero,
     Index,
+    Guard,
 }
 
 #[derive(Clone, Copy, Debug, PartialEq, Eq)]
@@ -28,6 +29,7 @@ impl Ending {
             Ending::Fault(Fault::Overflow) => "overflow",
             Ending::Fault(Fault::Zero) => "zero",
             Ending::Fault(Fault::Index) => "index",
+            Ending::Fault(Fault::Guard) => "guard",
         }
     }
 }
@@ -261,6 +263,18 @@ impl Machine<'_> {
                     flow => Ok(flow),
                 }
             }
+            GUARDED_IF => match self.arms(a)? {
+                Some(flow) => Ok(flow),
+                None => Err(Stop::Fault(Fault::Guard)),
+            },
+            GUARDED_DO => {
+                while let Some(flow) = self.arms(a)? {
+                    if flow != Flow::On {
+                        return Ok(flow);
+                    }
+                }
+                Ok(Flow::On)
+            }
             BREAK => Ok(Flow::Break),
             CONTINUE => Ok(Flow::Continue),
             // Empty, case and default: the step alone.
@@ -307,6 +321,21 @@ impl Machine<'_> {
             }
         }
         Ok(Flow::On)
+    }
+
+    /// Enters the arms from the given one on until a guard is true, and runs its block; none where
+    /// no guard is true.
+    fn arms(&mut self, first: i32) -> Result<Option<Flow>, Stop> {
+        let mut arm = first;
+        while arm != 0 {
+            let [_, guard, block, .., next] = self.rows[arm as usize];
+            self.enter()?;
+            if self.expression(guard)? != 0 {
+                return self.statement(block).map(Some);
+            }
+            arm = next;
+        }
+        Ok(None)
     }
 
     /// Runs the items of a list from the given one on; 0 is an empty list.

@@ -54,7 +54,7 @@ and `tally` read cases of the source form.
 
 A case is a line BUDGET LENGTH [WORD ...], parted by tabs, and then LENGTH
 bytes of program text. Without words the store starts from zeros.
-Endings: ended, spent, overflow, zero, index.
+Endings: ended, spent, overflow, zero, index, guard.
 ";
 
 fn main() -> ExitCode {

@@ -1,8 +1,9 @@
 //! Document 01's rules on the shelf as programs, the rewritings that lose
 //! parcels, and further orders that surprise, each with its expected answer.
-//! The answers are worked out by hand from document 01.
+//! The answers are worked out by hand from documents 01 and 02.
 
 mod expressions;
+mod guarded;
 mod refusals;
 mod shelf;
 mod statements;
@@ -26,6 +27,7 @@ pub fn rules() -> Vec<Rule> {
     shelf::add(&mut rules);
     expressions::add(&mut rules);
     statements::add(&mut rules);
+    guarded::add(&mut rules);
     refusals::add(&mut rules);
     rules
 }

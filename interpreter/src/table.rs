@@ -1,5 +1,5 @@
-//! Document 01's table: the kinds of rows and their fields, the limits of both
-//! forms, and refusals.
+//! Document 01's table, with the kinds of document 02: the kinds of rows and
+//! their fields, the limits of both forms, and refusals.
 
 use std::fmt;
 
@@ -67,6 +67,10 @@ pub const BREAK: i32 = 50;
 pub const CONTINUE: i32 = 51;
 pub const GOTO: i32 = 52;
 pub const LABEL: i32 = 53;
+pub const GUARDED_IF: i32 = 54;
+pub const GUARDED_DO: i32 = 55;
+pub const ARM: i32 = 56;
+pub const ABORT: i32 = 57;
 
 /// A cause's number and its place: a row, a line of the text, or 0.
 #[derive(Clone, Copy, Debug, PartialEq, Eq)]
@@ -106,6 +110,10 @@ pub enum Field {
     MaybeBranch,
     /// Link to the first item of a list, or 0.
     First,
+    /// Link to the first arm of a guarded statement, or 0.
+    FirstArm,
+    /// Link to a block that is a body.
+    BodyBlock,
 }
 
 impl Field {
@@ -114,11 +122,12 @@ impl Field {
     }
 
     pub fn may_be_absent(self) -> bool {
-        matches!(self, Field::MaybeExpression | Field::MaybeBranch | Field::First)
+        matches!(self, Field::MaybeExpression | Field::MaybeBranch | Field::First | Field::FirstArm)
     }
 
+    /// A branch or body, whose next is 0.
     pub fn is_branch(self) -> bool {
-        matches!(self, Field::Branch | Field::MaybeBranch)
+        matches!(self, Field::Branch | Field::MaybeBranch | Field::BodyBlock)
     }
 
     /// Whether a row of this kind, which the table has, is of the sort that the link asks for.
@@ -126,7 +135,9 @@ impl Field {
         match self {
             Field::Expression | Field::MaybeExpression => is_expression(kind),
             Field::Place => kind == VARIABLE || kind == ELEMENT,
-            Field::Branch | Field::MaybeBranch | Field::First => !is_expression(kind),
+            Field::Branch | Field::MaybeBranch | Field::First => is_statement(kind),
+            Field::FirstArm => kind == ARM,
+            Field::BodyBlock => kind == BLOCK,
             _ => false,
         }
     }
@@ -147,7 +158,7 @@ pub(crate) fn fields(kind: i32) -> Option<[Field; 4]> {
         CONDITIONAL => [e, e, e, u],
         ASSIGN..=REMAINDER_ASSIGN => [Place, e, u, u],
         PRE_INCREMENT..=POST_DECREMENT => [Place, u, u, u],
-        EMPTY | DEFAULT | BREAK | CONTINUE => [u, u, u, u],
+        EMPTY | DEFAULT | BREAK | CONTINUE | ABORT => [u, u, u, u],
         EXPRESSION => [e, u, u, u],
         BLOCK => [First, u, u, u],
         IF => [e, Branch, MaybeBranch, u],
@@ -155,14 +166,20 @@ pub(crate) fn fields(kind: i32) -> Option<[Field; 4]> {
         DO => [Branch, e, u, u],
         FOR => [MaybeExpression, MaybeExpression, MaybeExpression, Branch],
         SWITCH => [e, First, u, u],
+        GUARDED_IF | GUARDED_DO => [FirstArm, u, u, u],
+        ARM => [e, BodyBlock, u, u],
         _ => return None,
     };
     Some(fields)
 }
 
-/// The rest are statements.
 pub fn is_expression(kind: i32) -> bool {
     (CONSTANT..=POST_DECREMENT).contains(&kind)
+}
+
+/// Of the kinds that the table has: an arm is neither expression nor statement.
+pub fn is_statement(kind: i32) -> bool {
+    !is_expression(kind) && kind != ARM
 }
 
 pub fn is_loop(kind: i32) -> bool {

@@ -97,6 +97,15 @@ pub fn switch(selector: Tree, items: Vec<Tree>) -> Tree {
     node(SWITCH, one(selector), List(items))
 }
 
+/// A guarded if or a guarded do.
+pub fn guarded(kind: i32, arms: Vec<Tree>) -> Tree {
+    node(kind, List(arms), Absent)
+}
+
+pub fn arm(guard: Tree, items: Vec<Tree>) -> Tree {
+    binary(ARM, guard, block(items))
+}
+
 pub fn case(value: i32) -> Tree {
     node(CASE, Number(value), Absent)
 }
@@ -191,7 +200,7 @@ fn lay(tree: &Tree, rows: &mut Vec<Row>) -> usize {
 pub fn link_fields(row: &Row) -> Vec<usize> {
     let fields = Source.fields_or_unused(row[0]);
     let mut links: Vec<usize> = (1..NEXT).filter(|&i| fields[i - 1].is_link()).collect();
-    if Source.is_statement(row[0]) {
+    if Source.is_statement(row[0]) || row[0] == ARM {
         links.push(NEXT);
     }
     links
@@ -208,7 +217,7 @@ pub fn renumber(rows: &[Row], order: Order, random: &mut Random) -> Vec<Row> {
             Order::Pre | Order::Last => ready.len() - 1,
             Order::Breadth => 0,
             Order::StatementsFirst => {
-                ready.iter().position(|&at: &usize| Source.is_statement(rows[at][0])).unwrap_or(0)
+                ready.iter().position(|&at: &usize| !is_expression(rows[at][0])).unwrap_or(0)
             }
             Order::Random => random.below(ready.len()),
         };

@@ -63,13 +63,14 @@ fn sizes() {
 #[test]
 fn kinds_and_unused_fields() {
     for kind in (-3..70).chain([i32::MIN, i32::MAX]) {
-        let known = (1..=30).contains(&kind) || (40..=51).contains(&kind);
+        let known =
+            (1..=30).contains(&kind) || (40..=51).contains(&kind) || (54..=56).contains(&kind);
         assert_eq!(Source.fields(kind).is_some(), known, "{kind}");
         let rows = [BLOCK, 1, 0, 0, 0, 0, kind, 0, 0, 0, 0, 0];
         assert_eq!(refused(&[1, 1], &rows) == (3, 1), !known, "{kind}");
     }
     // Every field that the kind does not name, and next of an expression.
-    for kind in 1..=CONTINUE {
+    for kind in 1..=ARM {
         let Some(fields) = Source.fields(kind) else { continue };
         for i in 1..WORDS {
             let unused =
@@ -96,7 +97,7 @@ fn links() {
     let next = [BLOCK, 1, 0, 0, 0, 0, EMPTY, 0, 0, 0, 0, 1];
     assert_eq!(refused(&[0], &next), (4, 1));
     // A link that is needed and absent.
-    for kind in (3..=30).chain([EXPRESSION, IF, WHILE, DO, FOR, SWITCH]) {
+    for kind in (3..=30).chain([EXPRESSION, IF, WHILE, DO, FOR, SWITCH, ARM]) {
         let rows = [BLOCK, 0, 0, 0, 0, 0, kind, 0, 0, 0, 0, 0];
         assert_eq!(refused(&[1, 1], &rows), (4, 1), "{kind}");
     }
@@ -230,6 +231,13 @@ fn depth() {
     assert_eq!(refused(&[0], &table(vec![nest(63), nest(64)])), (9, 127));
     let items = (0..500).map(|_| plain(EMPTY)).collect();
     assert_eq!(refused(&[0], &table(items)), (0, 0));
+    // Arms are one list: each has the guarded statement's depth and 1, guard and block 2.
+    let arms = |depth| {
+        let last = arm(constant(0), vec![nest(depth)]);
+        table(vec![guarded(GUARDED_IF, vec![arm(constant(1), vec![]), last])])
+    };
+    assert_eq!(refused(&[0], &arms(60)), (0, 0));
+    assert_eq!(refused(&[0], &arms(61)), (9, 68));
 }
 
 #[test]

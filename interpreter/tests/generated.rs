@@ -23,15 +23,22 @@ fn shares_of_generated_cases() {
     let tally = tally(generated(3_000));
     assert_eq!(tally.accepted, 3_000);
     assert!(tally.bytes < 2_600_000);
-    for (ending, least) in
-        [("ended", 900), ("spent", 400), ("overflow", 100), ("zero", 100), ("index", 100)]
-    {
+    for (ending, least) in [
+        ("ended", 900),
+        ("spent", 400),
+        ("overflow", 100),
+        ("zero", 100),
+        ("index", 100),
+        ("guard", 30),
+    ] {
         assert!(tally.answers[ending] >= least, "{ending}: {:?}", tally.answers);
     }
-    for kind in (1..=30).chain(40..=51) {
+    for kind in (1..=30).chain(40..=51).chain(54..=56) {
         let programs = tally.programs_with.get(&kind).copied().unwrap_or(0);
         assert!(programs >= 150, "kind {kind} in {programs} programs");
     }
+    // About a third of the programs have guarded statements with arms.
+    assert!((900..=1_100).contains(&tally.programs_with[&56]), "{}", tally.programs_with[&56]);
 }
 
 #[test]

@@ -96,9 +96,33 @@ fn a_goto_goes_on_at_its_label() {
     assert_eq!((outcome.ending, outcome.count, store), (Ending::Spent, 7, [1]));
 }
 
+/// An abort is a step, then the fault; what stands behind it is not run.
+#[test]
+fn an_abort_fails() {
+    let abort = |next| [57, 0, 0, 0, 0, next];
+    let mut store = [];
+    let rows = [block(1), abort(2), [40, 0, 0, 0, 0, 0]].concat();
+    for (budget, ending, count) in [
+        (1, Ending::Spent, 1),
+        (2, Ending::Fault(Fault::Guard), 2),
+        (100, Ending::Fault(Fault::Guard), 2),
+    ] {
+        let outcome = run(Kernel, &[0, 0], &rows, &mut store, budget).unwrap();
+        assert_eq!((outcome.ending, outcome.count), (ending, count));
+    }
+    // { goto 5; abort; label 5; }
+    let rows = [block(1), [52, 5, 0, 0, 0, 2], abort(3), [53, 5, 0, 0, 0, 0]].concat();
+    let outcome = run(Kernel, &[0, 0], &rows, &mut store, 100).unwrap();
+    assert_eq!((outcome.ending, outcome.count), (Ending::Ended, 3));
+    assert_eq!(refused(&[0, 0], &[block(1), [57, 0, 0, 0, 1, 0]]), (3, 1));
+    for kind in [54, 55, 56] {
+        assert_eq!(refused(&[0, 0], &[block(1), [kind, 0, 0, 0, 0, 0]]), (3, 1));
+    }
+}
+
 #[test]
 fn generated_programs_end_in_every_way() {
-    let mut seen = [0; 5];
+    let mut seen = [0; 6];
     for i in 0..3_000 {
         let program = program(&mut Random::new(8, i));
         let words = Kernel.store_words(&program.header);
@@ -111,6 +135,7 @@ fn generated_programs_end_in_every_way() {
             Ending::Fault(Fault::Overflow) => 2,
             Ending::Fault(Fault::Zero) => 3,
             Ending::Fault(Fault::Index) => 4,
+            Ending::Fault(Fault::Guard) => 5,
         }] += 1;
     }
     assert!(seen.iter().all(|&count| count > 20), "{seen:?}");
@@ -123,7 +148,7 @@ fn shares_of_cases() {
     let mut tally = Tally::default();
     (0..2_000).for_each(|i| tally.add(Kernel, &case(5, i)));
     assert_eq!(tally.accepted, 2_000);
-    for ending in ["ended", "spent", "overflow", "zero", "index"] {
+    for ending in ["ended", "spent", "overflow", "zero", "index", "guard"] {
         assert!(tally.answers[ending] >= 10, "{ending}: {:?}", tally.answers);
     }
     let mut tally = Tally::default();

@@ -36,6 +36,7 @@ pub fn damage_table(random: &mut Random, header: &mut Vec<i32>, rows: &mut Vec<R
         Damage::Link => damage_link(random, rows),
         Damage::BranchNext => damage_branch_next(random, rows),
         Damage::Linked => damage_linked(random, rows),
+        Damage::Arm => damage_arm(random, rows),
         Damage::Number => damage_number(random, header, rows),
         Damage::AnyWord => any_word(random, rows),
         Damage::Swap => swap(random, rows),
@@ -77,8 +78,8 @@ fn damage_kind(random: &mut Random, rows: &mut [Row]) {
     let all = rows_where(rows, |_| true);
     let Some(at) = some_row(random, &all) else { return };
     rows[at][0] = match random.below(4) {
-        0 => random.pick(&[52, 53]),
-        1 => random.pick(&[0, 31, 39, 54]),
+        0 => random.pick(&[GOTO, LABEL, ABORT, ABORT]),
+        1 => random.pick(&[0, 31, 39, 58]),
         2 => random.between(31, 39),
         _ => random.pick(&[-1, i32::MIN, i32::MAX, 100, 257, -42]),
     };
@@ -120,11 +121,11 @@ fn damage_link(random: &mut Random, rows: &mut [Row]) {
 }
 
 fn damage_branch_next(random: &mut Random, rows: &mut [Row]) {
-    let owners = rows_where(rows, |row| matches!(row[0], IF | WHILE | DO | FOR));
+    let owners = rows_where(rows, |row| matches!(row[0], IF | WHILE | DO | FOR | ARM));
     let Some(at) = some_row(random, &owners) else { return };
     let branch = match rows[at][0] {
         IF if rows[at][3] != 0 && random.chance(50) => rows[at][3],
-        IF | WHILE => rows[at][2],
+        IF | WHILE | ARM => rows[at][2],
         DO => rows[at][1],
         _ => rows[at][4],
     };
@@ -160,13 +161,15 @@ fn cut_link(random: &mut Random, rows: &mut [Row]) {
     let optional = |row: &Row| {
         (row[0] == IF && row[3] != 0)
             || (row[0] == FOR && row[1..4] != [0, 0, 0])
-            || (Source.is_statement(row[0]) && row[NEXT] != 0)
+            || (matches!(row[0], GUARDED_IF | GUARDED_DO) && row[1] != 0)
+            || (!is_expression(row[0]) && row[NEXT] != 0)
     };
     let owners = rows_where(rows, optional);
     let Some(at) = some_row(random, &owners) else { return };
     match rows[at][0] {
         IF => rows[at][3] = 0,
         FOR => rows[at][random.pick(&[1, 2, 3])] = 0,
+        GUARDED_IF | GUARDED_DO if random.chance(50) => rows[at][1] = 0,
         _ => rows[at][NEXT] = 0,
     }
 }
@@ -177,6 +180,7 @@ fn move_link(random: &mut Random, rows: &mut [Row]) {
     let Some(at) = some_row(random, &all) else { return };
     let field = random.pick(&link_fields(&rows[at]));
     let wanted = match field {
+        NEXT if rows[at][0] == ARM => Field::FirstArm,
         NEXT => Field::First,
         _ => Source.fields_or_unused(rows[at][0])[field - 1],
     };
@@ -190,6 +194,75 @@ fn move_link(random: &mut Random, rows: &mut [Row]) {
     if let Some(other) = some_row(random, &others) {
         rows[at][field] = other as i32;
     }
+}
+
+/// An arm elsewhere, another kind among arms, an arm's block that is none.
+fn damage_arm(random: &mut Random, rows: &mut Vec<Row>) {
+    let arms = rows_where(rows, |row| row[0] == ARM);
+    let Some(at) = some_row(random, &arms) else {
+        return arm_alone(random, rows);
+    };
+    let later = |fits: &dyn Fn(&Row) -> bool| {
+        let found = rows_where(rows, fits).into_iter().filter(|&row| row > at);
+        found.collect::<Vec<usize>>()
+    };
+    match random.below(9) {
+        // A while and an if without else have the fields of an arm.
+        0 | 1 => rows[at][0] = random.pick(&[WHILE, IF]),
+        2 => rows[at][0] = random.pick(&[ADD, COMMA, BLOCK, GUARDED_IF, GUARDED_DO, EMPTY]),
+        3 => {
+            let likely = rows_where(rows, |row| row[0] == WHILE || (row[0] == IF && row[3] == 0));
+            if let Some(other) = some_row(random, &likely) {
+                rows[other][0] = ARM;
+            }
+        }
+        // The arm as an item, a branch or a body.
+        4 | 5 => {
+            let owners = rows_where(&rows[..at], |row| Source.is_statement(row[0]));
+            let Some(owner) = some_row(random, &owners) else { return };
+            let field = random.pick(&link_fields(&rows[owner]));
+            rows[owner][field] = at as i32;
+        }
+        6 => {
+            let others = later(&|row| Source.is_statement(row[0]) && row[0] != BLOCK);
+            match some_row(random, &others) {
+                Some(other) => rows[at][2] = other as i32,
+                None => rows[at][2] = 0,
+            }
+        }
+        7 => {
+            let others = later(&|row| row[0] != ARM);
+            if let Some(other) = some_row(random, &others) {
+                rows[at][NEXT] = other as i32;
+            }
+        }
+        _ => {
+            let block = rows[at][2];
+            if let Some(row) = usize::try_from(block).ok().and_then(|block| rows.get_mut(block)) {
+                row[0] = random.pick(&[EMPTY, SWITCH, GUARDED_IF, GUARDED_DO, ARM]);
+            }
+        }
+    }
+}
+
+/// Arms, linked and not, behind a program without any.
+fn arm_alone(random: &mut Random, rows: &mut Vec<Row>) {
+    let n = rows.len() as i32;
+    let arm = [ARM, n + 1, n + 2, 0, 0, 0];
+    let parts = [[CONSTANT, 1, 0, 0, 0, 0], [BLOCK, 0, 0, 0, 0, 0]];
+    let owners = rows_where(rows, |row| Source.is_statement(row[0]) && row[NEXT] == 0);
+    if let Some(owner) = some_row(random, &owners) {
+        rows[owner][NEXT] = n;
+    }
+    match random.below(3) {
+        0 => rows.push(arm),
+        1 => {
+            rows.push([random.pick(&[GUARDED_IF, GUARDED_DO]), n + 1, 0, 0, 0, 0]);
+            rows.push([ARM, n + 2, n + 3, 0, 0, 0]);
+        }
+        _ => rows.push([random.pick(&[GUARDED_IF, GUARDED_DO, ARM, ABORT]), 0, 0, 0, 0, 0]),
+    }
+    rows.extend(parts);
 }
 
 fn damage_number(random: &mut Random, header: &mut Vec<i32>, rows: &mut [Row]) {
@@ -227,7 +300,7 @@ fn any_word(random: &mut Random, rows: &mut Vec<Row>) {
         1 => rows.insert(at, rows[at]),
         2..=5 => {
             let same = Source.fields(rows[at][0]);
-            let kinds: Vec<i32> = (1..=CONTINUE)
+            let kinds: Vec<i32> = (1..=ABORT)
                 .filter(|&kind| {
                     Source.fields(kind) == same
                         && Source.is_statement(kind) == Source.is_statement(rows[at][0])

@@ -17,11 +17,12 @@ pub fn damage_tree(random: &mut Random, tree: &mut Tree, pick: Damage) {
         }
         Damage::Root => {
             let old = std::mem::replace(tree, plain(EMPTY));
-            *tree = match random.below(5) {
+            *tree = match random.below(6) {
                 0 => plain(EMPTY),
                 1 => constant(1),
                 2 => choice(constant(1), old, None),
                 3 => do_loop(old, constant(0)),
+                4 => guarded(random.pick(&[GUARDED_IF, ARM]), vec![]),
                 _ => switch(constant(1), vec![plain(DEFAULT), old]),
             };
         }
@@ -129,7 +130,7 @@ fn misplace(random: &mut Random, tree: &mut Tree) {
 }
 
 fn owns_branch(tree: &Tree) -> bool {
-    matches!(tree.kind, IF | WHILE | DO | FOR)
+    matches!(tree.kind, IF | WHILE | DO | FOR | ARM)
 }
 
 fn is_mark(tree: &Tree) -> bool {
@@ -175,10 +176,13 @@ fn nest(random: &mut Random, depth: usize) -> Tree {
     }
     let mut tree = expression(inner);
     while tree.depth() < depth {
-        tree = match random.below(4) {
+        tree = match random.below(5) {
             0 => choice(constant(1), tree, None),
             1 => do_loop(tree, constant(0)),
             2 => switch(constant(1), vec![plain(DEFAULT), tree]),
+            3 if tree.depth() + 3 <= depth => {
+                guarded(GUARDED_IF, vec![arm(constant(1), vec![tree])])
+            }
             _ => block(vec![plain(EMPTY), tree]),
         };
     }

@@ -14,6 +14,9 @@ impl Maker<'_> {
             let place = self.place(1);
             items.push(expression(assign(place, constant(end_value(self.random)))));
         }
+        if self.has_guards() && self.random.chance(80) {
+            self.guarded(&mut items, deepest);
+        }
         while self.room > 0 {
             self.statement(&mut items, deepest);
         }
@@ -37,6 +40,7 @@ impl Maker<'_> {
     fn statement(&mut self, items: &mut Vec<Tree>, level: i32) {
         self.room -= 1;
         let inner = (level > 0 && self.room > 6) as usize;
+        let guards = inner * self.has_guards() as usize;
         let kind = self.random.weighted(&[
             (46, EXPRESSION),
             (11 * inner, IF),
@@ -45,6 +49,8 @@ impl Maker<'_> {
             (10 * inner, DO),
             (11 * inner, FOR),
             (18 * inner, SWITCH),
+            (22 * guards, GUARDED_IF),
+            (20 * guards, GUARDED_DO),
             (3, EMPTY),
             (5 * self.breakable as usize, BREAK),
             (14 * self.in_loop as usize, CONTINUE),
@@ -63,6 +69,8 @@ impl Maker<'_> {
             BLOCK => items.push(block(self.list(level - 1, 3))),
             WHILE | DO | FOR => self.any_loop(items, level, kind),
             SWITCH => items.push(self.switch(level)),
+            GUARDED_IF => items.push(self.guarded_if(level)),
+            GUARDED_DO => self.guarded_do(items, level),
             EMPTY => items.push(plain(EMPTY)),
             _ => items.push(self.jump(kind)),
         }
@@ -97,7 +105,7 @@ impl Maker<'_> {
         }
     }
 
-    fn list(&mut self, level: i32, most: i32) -> Vec<Tree> {
+    pub fn list(&mut self, level: i32, most: i32) -> Vec<Tree> {
         let mut items = Vec::new();
         for _ in 0..self.random.between(0, most) {
             if self.room > 0 {
@@ -258,13 +266,15 @@ impl Maker<'_> {
     }
 
     fn wrap_statement(&mut self, inner: Tree) -> Tree {
-        match self.random.below(7) {
+        match self.random.below(if self.has_guards() { 9 } else { 7 }) {
             0 => block(vec![inner]),
             1 => choice(constant(1), inner, None),
             2 => choice(self.leaf(), plain(EMPTY), Some(inner)),
             3 => do_loop(inner, constant(0)),
             4 => switch(self.leaf(), vec![plain(DEFAULT), inner, plain(BREAK)]),
             5 => for_loop(None, None, None, block(vec![inner, plain(BREAK)])),
+            7 => guarded(GUARDED_IF, vec![arm(constant(0), vec![]), arm(constant(1), vec![inner])]),
+            8 => guarded(GUARDED_DO, vec![arm(self.leaf(), vec![inner])]),
             _ => while_loop(constant(1), block(vec![plain(EMPTY), inner, plain(BREAK)])),
         }
     }

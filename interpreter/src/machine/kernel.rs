@@ -1,6 +1,6 @@
 //! The statements of the kernel form: gotos take the place of break and continue.
 
-use super::{Machine, Stop};
+use super::{Fault, Machine, Stop};
 use crate::table::*;
 
 /// How a kernel statement is left: plainly, or by a goto with this label.
@@ -27,6 +27,7 @@ impl Machine<'_> {
                 Ok(None)
             }
             GOTO => Ok(Some(a)),
+            ABORT => Err(Stop::Fault(Fault::Guard)),
             // Empty and label: the step alone.
             _ => Ok(None),
         }

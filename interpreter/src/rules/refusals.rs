@@ -5,6 +5,7 @@ use super::*;
 pub fn add(r: &mut Vec<Rule>) {
     headers_and_row_counts(r);
     tables(r);
+    arms(r);
     programs(r);
     malformed(r);
 }
@@ -30,7 +31,7 @@ fn headers_and_row_counts(r: &mut Vec<Rule>) {
 /// Causes 3, 4 and 5.
 fn tables(r: &mut Vec<Rule>) {
     let with = |kind| [[BLOCK, 1, 0, 0, 0, 0], [kind, 0, 0, 0, 0, 0]];
-    for kind in [0, 31, 39, 52, 53, 54, -1, i32::MAX] {
+    for kind in [0, 31, 39, 52, 53, 57, 58, -1, i32::MAX] {
         table_rule(r, "a kind not in the language", &[1], &with(kind), "refused 3 1");
     }
     let rows = [[BLOCK, 1, 0, 0, 0, 0], [EXPRESSION, 2, 0, 0, 0, 0], [CONSTANT, 1, 0, 0, 0, 9]];
@@ -54,6 +55,47 @@ fn tables(r: &mut Vec<Rule>) {
     table_rule(r, "row 0 no block", &[1], &[[EMPTY, 0, 0, 0, 0, 0]], "refused 5 0");
     let rows = [[BLOCK, 0, 0, 0, 0, 0], [EXPRESSION, 2, 0, 0, 0, 0], [VARIABLE, 9, 0, 0, 0, 0]];
     table_rule(r, "5 before 6", &[1], &rows, "refused 5 1");
+}
+
+/// Causes 3, 4 and 5 where there are arms. Rows 3 to 5 are a guard, a block and an empty statement.
+fn arms(r: &mut Vec<Rule>) {
+    let table = |statement: Row, arm: Row, block: Row| {
+        [
+            [BLOCK, 1, 0, 0, 0, 0],
+            statement,
+            arm,
+            [CONSTANT, 1, 0, 0, 0, 0],
+            block,
+            [EMPTY, 0, 0, 0, 0, 0],
+        ]
+    };
+    let mut refused = |name, statement, arm, block, answer| {
+        table_rule(r, name, &[1], &table(statement, arm, block), answer);
+    };
+    let statement = [GUARDED_IF, 2, 0, 0, 0, 0];
+    let arm = [ARM, 3, 4, 0, 0, 0];
+    let block = [BLOCK, 5, 0, 0, 0, 0];
+    refused("an arm", statement, arm, block, "ended 6 0");
+    refused("an arm as an item", [EMPTY, 0, 0, 0, 0, 2], arm, block, "refused 4 1");
+    refused("an arm as a first item", [BLOCK, 2, 0, 0, 0, 0], arm, block, "refused 4 1");
+    refused("an arm as a body", [WHILE, 3, 2, 0, 0, 0], arm, block, "refused 4 1");
+    refused("a while among arms", statement, [WHILE, 3, 4, 0, 0, 0], block, "refused 4 1");
+    refused("a statement behind an arm", statement, [ARM, 3, 4, 0, 0, 5], block, "refused 4 2");
+    refused("an arm without a guard", statement, [ARM, 0, 4, 0, 0, 0], block, "refused 4 2");
+    refused("an arm without a block", statement, [ARM, 3, 0, 0, 0, 0], block, "refused 4 2");
+    refused("an arm's body no block", statement, [ARM, 3, 5, 0, 0, 0], block, "refused 4 2");
+    refused("an arm's block with next", statement, arm, [BLOCK, 0, 0, 0, 0, 5], "refused 4 2");
+    refused("c of an arm", statement, [ARM, 3, 4, 1, 0, 0], block, "refused 3 2");
+    refused("b of a guarded if", [GUARDED_IF, 2, 5, 0, 0, 0], arm, block, "refused 3 1");
+    refused("an abort before 4", [ABORT, 0, 0, 0, 0, 2], arm, block, "refused 3 1");
+    refused("an arm not linked", [GUARDED_DO, 0, 0, 0, 0, 0], arm, block, "refused 5 2");
+    let lone = [[ARM, 1, 2, 0, 0, 0], [CONSTANT, 1, 0, 0, 0, 0], LONE[0]];
+    table_rule(r, "row 0 an arm", &[1], &lone, "refused 5 0");
+    let inside = |item| vec![guarded(GUARDED_DO, vec![super::arm(n(1), vec![item])])];
+    rule(r, "break in a guarded do alone", &[1], &[], inside(plain(BREAK)), "refused 7 5");
+    rule(r, "continue in a guarded do alone", &[1], &[], inside(plain(CONTINUE)), "refused 7 5");
+    let marked = vec![switch(n(1), vec![case(1), inside(case(2)).remove(0)])];
+    rule(r, "case in an arm's block", &[1], &[], marked, "refused 7 8");
 }
 
 /// Causes 6, 7, 8 and 11.

@@ -9,6 +9,9 @@ pub const GREATEST_WORD: i64 = 2147483647;
 // The answer for a run that has no step left.
 pub const SPENT: i64 = GREATEST_WORD + 1;
 
+// The answer for a run in which no guard is true: that fault's number, as a constant.
+pub const GUARD: i64 = GREATEST_WORD + 5;
+
 // What an operand comes to: its value, or the run stops there.
 pub enum Operand {
     Value(i32),

@@ -16,16 +16,17 @@ use borrow.Author.Tests.{ltb-true, eq-eqb}
 use Rattle.words.specs.Word.{isWord, sameWord, natural, pick}
 use Rattle.words.specs.Arithmetic.{isTrue}
 use Rattle.words.specs.Laws.{or-right, back, sameWord-refl, sameWord-differ}
-use Rattle.words.specs.declared.FaultSort.{FaultSort}
+use Rattle.words.specs.Answers.{faultNumbered}
+use Rattle.words.specs.declared.FaultSort.the-variants.{Guard}
 use Rattle.computation.specs.Computation.{Turn, again, leave, Computation, ret}
 use Rattle.computation.specs.Run.{spent, fault}
 use Rattle.computation.specs.Remaining.{Rest, gives, halts, onward, onTurn, spend, leftOf, left-never-rises}
 use Rattle.language.specs.Trees.{label}
 use Rattle.language.specs.Meaning.{Signal, next, breaking, continuing, seeking, enter, afterSwitch, afterBody, Choice, ran as ranWith, afterArms}
-use Rattle.evaluator.specs.Answers.{beyond, stopOf, stopNumber, operandOf, operandRest, answered}
+use Rattle.evaluator.specs.Answers.{beyond, stopOf, operandOf, operandRest, answered}
 use Rattle.evaluator.specs.declared.Operand.{Operand}
 use Rattle.evaluator.specs.declared.Operand.the-variants.{Value, Halted as Stopped}
-use Rattle.evaluator.proofs.Decoding.{handed, handed-is, wide, wide-is, operand-word, operand-other, stop-other, stop-again}
+use Rattle.evaluator.proofs.Decoding.{handed, handed-is, wide, wide-is, operand-word}
 use Rattle.evaluator.proofs.Enter.{entered, not-entered}
 use Rattle.evaluator.proofs.Operands.{stops}
 use Rattle.machine.specs.Flows.{passingOf, flowOf, flowRest, ran, turnBy, turned, EndsSwitch, EndsBody, EndsRound}
@@ -51,6 +52,10 @@ module _ (n : ℕ) (s : List ℤ) where
   pub ran-spent : ran (pos 2147483648) n s ≡ halts spent n s
   unfolding flowOf operandOf isWord beyond stopOf
   ran-spent = refl
+
+  pub ran-guard : ran (pos 2147483652) n s ≡ halts (fault Guard) n s
+  unfolding flowOf operandOf isWord beyond stopOf faultNumbered
+  ran-guard = refl
 
   pub turned-last : turned (negsuc 0) n s ≡ gives (leave next) n s
   unfolding flowOf operandOf isWord passingOf sameWord
@@ -120,10 +125,6 @@ flow-stops z e = rw e
 pub flow-passes : (z v : ℤ) → operandOf z ≡ Value v → flowOf z ≡ passingOf v
 unfolding flowOf
 flow-passes z v e = rw e
-
--- a fault's number, as the code has it
-pub ran-fault : (sort : FaultSort) (z : ℤ) → mag z < 2 ^ 63 → z ≡ stopNumber (fault sort) → (n : ℕ) (s : List ℤ) → ran (handed z) n s ≡ halts (fault sort) n s
-ran-fault sort z fits e n s = rw (handed-is z fits, e, flow-stops (stopNumber (fault sort)) (operand-other (stopNumber (fault sort)) (stop-other (fault sort))), stop-again (fault sort))
 
 -- an arm that several variants share: the tag is one of theirs
 abbrev member : ℕ → List ℕ → Bool

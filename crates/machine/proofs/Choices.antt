@@ -1,9 +1,9 @@
 -- Choices: the arms of a guarded statement by the rows that hold them, told by the steps left: the arm at a row, the rounds of a guarded do, and
 -- what follows the block that an answer names.
 use mathlib.Core.Path.{_≡_, refl, sym, ap, _∙_}
-use mathlib.Core.Bool.{Bool, true, false}
+use mathlib.Core.Bool.{true, false}
 use mathlib.Core.List.{List}
-use Prim.Native.Nat.{ℕ, zero, suc, _+_, _*_, _-_, _^_, _≤_, _<_}
+use Prim.Native.Nat.{ℕ, zero, suc, _*_, _^_, _≤_, _<_}
 use native.Mathlib.Omega.{arith}
 use lib.IntN.{ℤ, pos}
 use lib.ListN.{length}
@@ -12,7 +12,7 @@ use mir.Syntax.{w64}
 use mir.Val.{toZ}
 use Rattle.words.specs.Word.{natural, pick}
 use Rattle.words.specs.Table.{rowCount, numberAt}
-use Rattle.words.specs.Kinds.{kindAt, optionalArm, isLink, isRequired, statementFields, memberFields, kindRow, sortIn}
+use Rattle.words.specs.Kinds.{isRequired, statementFields, memberFields, kindRow, sortIn}
 use Rattle.words.specs.Layout.{Layout}
 use Rattle.words.specs.Arithmetic.{isTrue}
 use Rattle.words.specs.declared.Kind.{Kind}
@@ -20,25 +20,25 @@ use Rattle.words.specs.declared.Kind.the-variants.{OfStatement, OfMember}
 use Rattle.words.specs.declared.MemberKind.the-variants.{Arm}
 use Rattle.words.specs.declared.StatementKind.the-variants.{GuardedIf, GuardedDo, Abort}
 use Rattle.words.specs.declared.FaultSort.the-variants.{Guard}
-use Rattle.computation.specs.Computation.{Turn, again, leave, Computation, ret, _>>=_, loop}
-use Rattle.computation.specs.Run.{spent, fault}
-use Rattle.computation.specs.Remaining.{Rest, gives, halts, onward, pay, onTurn, spend, leftOf, left-never-rises}
-use Rattle.language.specs.Trees.{Arms, noArm, arm, Statement, guardedIf, guardedDo, abort}
-use Rattle.language.specs.Decode.{expressionAt, statementAt, armsAt, armListAt}
+use Rattle.computation.specs.Computation.{Turn, again, Computation, ret, _>>=_, loop}
+use Rattle.computation.specs.Run.{fault}
+use Rattle.computation.specs.Remaining.{Rest, gives, halts, onward, pay, onTurn, spend}
+use Rattle.language.specs.Trees.{Arms, noArm, arm, guardedIf, guardedDo}
+use Rattle.language.specs.Decode.{armsAt, armListAt}
 use Rattle.language.specs.DecodeLaws.{at-guardedIf, at-guardedDo, at-abort, at-arm}
-use Rattle.language.specs.Meaning.{Signal, next, breaking, continuing, seeking, Choice, noneTrue, ran as ranWith, enter, value, tryArm, afterChoice, afterArms, perform, choose, choiceRounds}
+use Rattle.language.specs.Meaning.{Signal, next, Choice, noneTrue, ran as ranWith, enter, value, tryArm, afterChoice, afterArms, perform, choose, choiceRounds}
 use Rattle.language.specs.Sound.{Link, ArmLink}
 use Rattle.language.specs.SoundLaws.{arm-link-of}
-use Rattle.evaluator.specs.Answers.{stopOf, operandOf, answered, positionOf, placed}
+use Rattle.evaluator.specs.Answers.{operandOf, answered, positionOf}
 use Rattle.evaluator.specs.Bounds.{layoutFrom}
-use Rattle.evaluator.specs.Ready.{Ready, Entered}
+use Rattle.evaluator.specs.Ready.{Entered}
 use Rattle.evaluator.specs.Rows.{valueAt}
 use Rattle.evaluator.specs.declared.Operand.{Operand}
 use Rattle.evaluator.specs.declared.Operand.the-variants.{Value, Halted}
 use Rattle.evaluator.specs.declared.Position.{Position}
 use Rattle.evaluator.specs.declared.Position.the-variants.{At, Nowhere}
 use Rattle.evaluator.proofs.Decoding.{handed, handed-is, operand-word, placed-word, placed-position}
-use Rattle.evaluator.proofs.Enter.{entered, not-entered, onward-same, onward-onward, forks}
+use Rattle.evaluator.proofs.Enter.{onward-same, onward-onward, forks}
 use Rattle.evaluator.proofs.Operands.{goes, stops, chosen-true, chosen-false}
 use Rattle.evaluator.proofs.Rows.{link}
 use Rattle.machine.specs.Flows.{ran}

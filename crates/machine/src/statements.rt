@@ -12,16 +12,15 @@ use super::flows::flow;
 use super::flows::jump;
 use super::lists::find_start;
 use super::lists::resume;
+use evaluator::GUARD;
 use evaluator::Operand;
 use evaluator::Position;
 use evaluator::SPENT;
-use evaluator::answers::fault;
 use evaluator::answers::operand;
 use evaluator::answers::position;
 use evaluator::expressions::eval;
 use evaluator::expressions::eval_operation;
 use evaluator::operations::link_at;
-use words::FaultSort;
 use words::arithmetic::is_true;
 use words::table::number_at;
 use words::table::word_at;
@@ -117,7 +116,7 @@ fn perform(rows: &[i32], bounds: &[usize], row: usize, store: &mut [i32], left: 
         52 => jump(word_at(rows, row, 1)),
         54 => guarded_if(&*rows, &*bounds, row, store, left),
         55 => guarded_do(&*rows, &*bounds, row, store, left),
-        57 => fault(FaultSort::Guard),
+        57 => GUARD,
         _ => NEXT,
     }
 }
@@ -279,7 +278,7 @@ fn guarded_if(rows: &[i32], bounds: &[usize], row: usize, store: &mut [i32], lef
         return answer;
     };
     if block == 0 {
-        return fault(FaultSort::Guard);
+        return GUARD;
     }
     exec(&*rows, &*bounds, block, store, left)
 }

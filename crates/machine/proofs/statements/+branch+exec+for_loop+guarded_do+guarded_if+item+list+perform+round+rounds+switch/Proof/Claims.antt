@@ -48,7 +48,6 @@ use Rattle.machine.proofs.statements.+branch+exec+for_loop+guarded_do+g
 use Rattle.machine.proofs.statements.guarded_do.Reads as guarded-do
 use Rattle.machine.proofs.statements.guarded_do.Kinds as guarded-do-kinds
 use Rattle.machine.proofs.statements.+branch+exec+for_loop+guarded_do+guarded_if+item+list+perform+round+rounds+switch.Lts-guarded_do as guarded-do-lts
-use Rattle.evaluator.proofs.answers.fault.Reads as fault-reads
 use Rattle.evaluator.proofs.answers.operand.Reads as operand-reads
 use Rattle.evaluator.proofs.answers.position.Reads as position-reads
 use Rattle.evaluator.proofs.expressions.eval.Reads as eval-reads
@@ -191,7 +190,7 @@ abbrev pub guarded-do-μ-loop : guarded-do-lts.MeasureT-loop
 guarded-do-μ-loop rows bounds row store₀ left₀ first store left = left
 
 abbrev pub perform-claims : ℕ → perform-lts.Claims
-perform-claims t = (number-at-reads.Asked, number-at-reads.Learnt, express-reads.Asked, express-reads.Learnt, link-at-reads.Asked, link-at-reads.Learnt, list-below t, list.Post, branch-below t, branch.Post, rounds-below t, rounds.Post, for-loop-below t, for-loop.Post, switch-below t, switch.Post, word-at-reads.Asked, word-at-reads.Learnt, jump-reads.Asked, jump-reads.Learnt, guarded-if-below t, guarded-if.Post, guarded-do-below t, guarded-do.Post, fault-reads.Asked, fault-reads.Learnt)
+perform-claims t = (number-at-reads.Asked, number-at-reads.Learnt, express-reads.Asked, express-reads.Learnt, link-at-reads.Asked, link-at-reads.Learnt, list-below t, list.Post, branch-below t, branch.Post, rounds-below t, rounds.Post, for-loop-below t, for-loop.Post, switch-below t, switch.Post, word-at-reads.Asked, word-at-reads.Learnt, jump-reads.Asked, jump-reads.Learnt, guarded-if-below t, guarded-if.Post, guarded-do-below t, guarded-do.Post)
 
 abbrev pub round-claims : ℕ → round-lts.Claims
 round-claims t = (part-reads.Asked, part-reads.Learnt, operand-reads.Asked, operand-reads.Learnt, is-true-reads.Asked, is-true-reads.Learnt, exec-below t, exec.Post, after-body-reads.Asked, after-body-reads.Learnt, flow-reads.Asked, flow-reads.Learnt, after-last-reads.Asked, after-last-reads.Learnt)
@@ -218,7 +217,7 @@ abbrev pub switch-claims : ℕ → switch-lts.Claims
 switch-claims t = (link-at-reads.Asked, link-at-reads.Learnt, eval-reads.Asked, eval-reads.Learnt, operand-reads.Asked, operand-reads.Learnt, find-start-reads.Asked, find-start-reads.Learnt, list-below t, list.Post, after-switch-reads.Asked, after-switch-reads.Learnt)
 
 abbrev pub guarded-if-claims : ℕ → guarded-if-lts.Claims
-guarded-if-claims t = (link-at-reads.Asked, link-at-reads.Learnt, choose-block-reads.Asked, choose-block-reads.Learnt, position-reads.Asked, position-reads.Learnt, fault-reads.Asked, fault-reads.Learnt, exec-below t, exec.Post)
+guarded-if-claims t = (link-at-reads.Asked, link-at-reads.Learnt, choose-block-reads.Asked, choose-block-reads.Learnt, position-reads.Asked, position-reads.Learnt, exec-below t, exec.Post)
 
 abbrev pub guarded-do-claims : ℕ → guarded-do-lts.Claims
 guarded-do-claims t = (link-at-reads.Asked, link-at-reads.Learnt, choose-block-reads.Asked, choose-block-reads.Learnt, position-reads.Asked, position-reads.Learnt, exec-below t, exec.Post, flow-reads.Asked, flow-reads.Learnt)

@@ -3,8 +3,7 @@ use borrow.Author.Needs.{needs}
 use mathlib.Core.Path.{refl, sym, _∙_}
 use Prim.Native.Nat.{ℕ}
 use native.Mathlib.Omega.{arith}
-use Rattle.words.specs.declared.FaultSort.the-variants.{Guard}
-use Rattle.machine.proofs.Answers.{ran-fault, ran-handed}
+use Rattle.machine.proofs.Answers.{ran-guard, ran-handed}
 use Rattle.machine.proofs.Choices.{arms-ready, guarded-if-link, guarded-if-row, choice-stops, block-below, choice-none, choice-block, choice-fails, choice-ends}
 use Rattle.machine.proofs.Rows.{table-row, optional-asks}
 use Rattle.machine.proofs.statements.guarded_if.Reads as reads
@@ -44,23 +43,19 @@ returns t c =
     let past-position = c .before .before .position in
     choice-stops (past-choose-block .result) (past-choose-block .last .1 .1 .1 .1 .0) (past-choose-block .last .1 .1 .1 .0) (past-choose-block .ensures) (past-choose-block .ok) (past-position .result) (past-position .ensures) (c .enum-told .given .1) _ ∙ sym (guarded-if-row here (past-link-at .ensures) (start .args .left .now) (start .args .store .now))
 
-pub fault-requires : (t : ℕ) → lts.Need-fault-requires (guarded-if-claims t) (guarded-if-at t) reads.Post
-fault-requires t c κs = search needs
-
 pub same-length-2 : (t : ℕ) → lts.Need-same-length-2 (guarded-if-claims t) (guarded-if-at t) reads.Post
 same-length-2 t c = search needs
 
 pub returns-2 : (t : ℕ) → lts.Need-returns-2 (guarded-if-claims t) (guarded-if-at t) reads.Post
 returns-2 t c =
-    let start = c .before .before .before .before .before .before .before .before .before .before .before .before in
+    let start = c .before .before .before .before .before .before .before .before .before .before .before in
     let here = start .pre .1 in
-    let past-link-at = c .before .before .before .before .before .before .before .before .before .before .link-at in
-    let past-choose-block = c .before .before .before .before .before .before .before .choose-block in
-    let past-position = c .before .before .before .before .before .position in
-    let past-chosen = c .before .before .before .chosen in
-    let past-if1 = c .before .if1 in
-    let past-fault = c .fault in
-    ran-fault Guard (past-fault .result) (past-fault .ok) (past-fault .ensures) _ _ ∙ sym (guarded-if-row here (past-link-at .ensures) (start .args .left .now) (start .args .store .now) ∙ choice-none (past-choose-block .result) (past-choose-block .last .1 .1 .1 .1 .0) (past-choose-block .last .1 .1 .1 .0) (past-choose-block .ensures) (past-choose-block .ok) (past-position .result) (past-position .ensures) (past-chosen .given .0 .0) (past-chosen .given .1) (past-if1 .taken) _ ∙ choice-fails _ _)
+    let past-link-at = c .before .before .before .before .before .before .before .before .before .link-at in
+    let past-choose-block = c .before .before .before .before .before .before .choose-block in
+    let past-position = c .before .before .before .before .position in
+    let past-chosen = c .before .before .chosen in
+    let past-if1 = c .if1 in
+    ran-guard _ _ ∙ sym (guarded-if-row here (past-link-at .ensures) (start .args .left .now) (start .args .store .now) ∙ choice-none (past-choose-block .result) (past-choose-block .last .1 .1 .1 .1 .0) (past-choose-block .last .1 .1 .1 .0) (past-choose-block .ensures) (past-choose-block .ok) (past-position .result) (past-position .ensures) (past-chosen .given .0 .0) (past-chosen .given .1) (past-if1 .taken) _ ∙ choice-fails _ _)
 
 pub exec-requires : (t : ℕ) → lts.Need-exec-requires (guarded-if-claims t) (guarded-if-at t) reads.Post
 exec-requires t c κs =

@@ -8,13 +8,12 @@ use Rattle.words.specs.Word.{natural}
 use Rattle.words.specs.Kinds.{kinds, kindIn, kindOf}
 use Rattle.words.specs.KindLaws.{Passed, passed}
 use Rattle.words.specs.Laws.{back}
-use Rattle.words.specs.declared.FaultSort.the-variants.{Guard}
 use Rattle.computation.specs.Remaining.{gives}
 use Rattle.language.specs.Trees.{label}
 use Rattle.language.specs.Meaning.{seeking}
 use Rattle.evaluator.proofs.Operands.{link-asks, linked}
 use Rattle.evaluator.proofs.Rows.{field-inside, numbered}
-use Rattle.machine.proofs.Answers.{ran-next, ran-break, ran-continue, ran-fault, ran-handed}
+use Rattle.machine.proofs.Answers.{ran-next, ran-break, ran-continue, ran-guard, ran-handed}
 use Rattle.machine.proofs.Choices.{abort-row}
 use Rattle.machine.proofs.Rows.{table-row, optional-asks, optional, empty-row, block-link, block-row, while-links, while-row, do-links, do-row, break-row, continue-row, goto-row, other-row}
 use Rattle.machine.proofs.statements.perform.Reads as reads
@@ -201,9 +200,6 @@ guarded-do-requires t c κs =
     let past-match = c .before .before .match in
     (omega (arith, start .pre .0), numbered here (past-number-at .ensures) 55 (past-match .keys13))
 
-pub fault-requires : (t : ℕ) → lts.Need-fault-requires (perform-claims t) (perform-at t) reads.Post
-fault-requires t c κs = search needs
-
 pub returns : (t : ℕ) → lts.Need-returns (perform-claims t) (perform-at t) reads.Post
 unfolding kinds kindIn kindOf
 returns t c =
@@ -338,13 +334,11 @@ returns-13 t c =
 pub returns-14 : (t : ℕ) → lts.Need-returns-14 (perform-claims t) (perform-at t) reads.Post
 unfolding kinds kindIn kindOf
 returns-14 t c =
-    let start = c .before .before .before .before in
+    let start = c .before .before .before in
     let here = start .pre .1 in
-    let past-number-at = c .before .before .number-at in
-    let past-match = c .before .match in
-    let past-fault = c .fault in
-    ran-fault Guard (past-fault .result) (past-fault .ok) (past-fault .ensures) (start .args .left .now) (start .args .store .now)
-    ∙ sym (abort-row (numbered here (past-number-at .ensures) 57 (past-match .keys14)) (start .args .left .now) (start .args .store .now))
+    let past-number-at = c .before .number-at in
+    let past-match = c .match in
+    ran-guard _ _ ∙ sym (abort-row (numbered here (past-number-at .ensures) 57 (past-match .keys14)) (start .args .left .now) (start .args .store .now))
 
 pub returns-15 : (t : ℕ) → lts.Need-returns-15 (perform-claims t) (perform-at t) reads.Post
 returns-15 t c =

@@ -63,7 +63,8 @@ enum clight_ending {
     CLIGHT_SPENT = 1,
     CLIGHT_OVERFLOW = 2,
     CLIGHT_ZERO = 3,
-    CLIGHT_INDEX = 4
+    CLIGHT_INDEX = 4,
+    CLIGHT_GUARD = 5 /* no guard true in a guarded if, or an abort of the kernel */
 };
 
 /* Limits. n source rows give at most CLIGHT_KERNEL_ROWS(n) kernel rows, and the kernel header has one word more. */

@@ -5,7 +5,7 @@
 #include <string.h>
 
 static const char *const endings[] = {
-    [CLIGHT_ENDED] = "ended", [CLIGHT_SPENT] = "spent", [CLIGHT_OVERFLOW] = "overflow", [CLIGHT_ZERO] = "zero", [CLIGHT_INDEX] = "index"};
+    [CLIGHT_ENDED] = "ended", [CLIGHT_SPENT] = "spent", [CLIGHT_OVERFLOW] = "overflow", [CLIGHT_ZERO] = "zero", [CLIGHT_INDEX] = "index", [CLIGHT_GUARD] = "guard"};
 
 static const char text[] = "1\t3\n"
                            "42\t1\t0\t0\t0\t0\n"

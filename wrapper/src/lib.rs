@@ -90,15 +90,18 @@ pub enum Ending {
     Overflow,
     ZeroDivisor,
     Index,
+    /// No guard of a guarded if was true.
+    Guard,
 }
 
 /// Each ending, at the library's number for it, with the word that the trial program prints.
-pub const ENDINGS: [(Ending, &str); 5] = [
+pub const ENDINGS: [(Ending, &str); 6] = [
     (Ending::Ended, "ended"),
     (Ending::Spent, "spent"),
     (Ending::Overflow, "overflow"),
     (Ending::ZeroDivisor, "zero"),
     (Ending::Index, "index"),
+    (Ending::Guard, "guard"),
 ];
 
 impl std::fmt::Display for Ending {

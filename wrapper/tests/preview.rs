@@ -16,13 +16,15 @@ macro_rules! sample {
     };
 }
 
-const SAMPLES: [(&str, &str); 7] = [
+const SAMPLES: [(&str, &str); 9] = [
     sample!("worked"),
     sample!("fall-through"),
     sample!("nest"),
     sample!("overflow"),
     sample!("zero"),
     sample!("index"),
+    sample!("guarded"),
+    sample!("guard"),
     sample!("spent"),
 ];
 

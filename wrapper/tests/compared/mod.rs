@@ -54,6 +54,7 @@ fn same_run(run: Run) -> Outcome {
         clight::Ending::Overflow => Ending::Fault(Fault::Overflow),
         clight::Ending::ZeroDivisor => Ending::Fault(Fault::Zero),
         clight::Ending::Index => Ending::Fault(Fault::Index),
+        clight::Ending::Guard => Ending::Fault(Fault::Guard),
     };
     Outcome { ending, count: run.count }
 }

@@ -179,7 +179,7 @@ pub enum Guards {
 
 /// A third of the programs have guarded statements.
 fn any_guards(random: &mut Random) -> Guards {
-    match random.chance(37) {
+    match random.chance(34) {
         true => Guards::Some,
         false => Guards::None,
     }

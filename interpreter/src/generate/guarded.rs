@@ -12,11 +12,46 @@ impl Maker<'_> {
 
     /// A guarded statement early in a program, at times in a loop.
     pub fn guarded(&mut self, items: &mut Vec<Tree>, level: i32) {
-        match self.random.below(5) {
-            0 | 1 => items.push(self.guarded_if(level)),
-            2 | 3 => self.guarded_do(items, level),
-            _ => self.any_loop(items, level, FOR),
+        match self.random.below(6) {
+            0 => items.push(self.guarded_if(level)),
+            1 | 2 => self.guarded_do(items, level),
+            _ => self.guarded_in_loop(items, level),
         }
+    }
+
+    /// A guarded statement in a for, at times in a switch in it, so that its jumps have their place.
+    fn guarded_in_loop(&mut self, items: &mut Vec<Tree>, level: i32) {
+        if self.variables == 0 {
+            return items.push(self.guarded_if(level));
+        }
+        let number = self.written_variable();
+        let rounds = self.random.between(1, 4);
+        self.room -= 12;
+        let before = (self.in_loop, self.breakable, self.rounds, self.counters.len());
+        (self.in_loop, self.breakable) = (true, true);
+        self.rounds *= rounds;
+        self.counters.push(number);
+        let mut inner = Vec::new();
+        match self.random.chance(50) {
+            true => inner.push(self.guarded_if(level - 1)),
+            false => self.guarded_do(&mut inner, level - 1),
+        }
+        inner.extend(self.list(level - 1, 1));
+        if self.random.chance(40) {
+            let value = self.random.between(0, rounds);
+            let mut marked = vec![case(value)];
+            marked.extend(inner);
+            marked.push(plain(DEFAULT));
+            marked.extend(self.list(level - 1, 1));
+            inner = vec![switch(variable(number), marked)];
+        }
+        inner.extend(self.list(level - 1, 1));
+        self.counters.truncate(before.3);
+        (self.in_loop, self.breakable, self.rounds, _) = before;
+        let start = assign(variable(number), constant(0));
+        let test = binary(LESS, variable(number), constant(rounds));
+        let step = unary(PRE_INCREMENT, variable(number));
+        items.push(for_loop(Some(start), Some(test), Some(step), block(inner)));
     }
 
     /// A guarded if; where it is kept from faulting, its last guard is true.
@@ -113,8 +148,8 @@ impl Maker<'_> {
         let mut items: Vec<Tree> = first.into_iter().collect();
         items.extend(self.list(level - 1, 2));
         match self.random.below(8) {
-            0 if self.breakable => items.push(plain(BREAK)),
-            1 if self.in_loop => items.push(plain(CONTINUE)),
+            0 | 1 if self.breakable => items.push(plain(BREAK)),
+            2 | 3 if self.in_loop => items.push(plain(CONTINUE)),
             _ => {}
         }
         arm(guard, items)

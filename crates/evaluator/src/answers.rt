@@ -24,7 +24,7 @@ pub fn operand(answer: i64) -> Operand
     Operand::Value(answer as i32)
 }
 
-// The position that a place's answer gives.
+// The position that an answer gives: a place's, or the row of a block.
 pub fn position(answer: i64) -> Position
     ensures { λ r. ⌜ r ≡ positionOf (operandOf answer) ⌝ }
 {

@@ -18,7 +18,7 @@ pub enum Operand {
     Halted,
 }
 
-// Where a place lies in the store, or the run stops there.
+// Where an answer points: a place's position in the store, or a row of the table; or the run stops there.
 pub enum Position {
     At(usize),
     Nowhere,

@@ -35,7 +35,8 @@ module _ (rows : List ℤ) (bounds : List ℕ) where
     signal ← execAt rows bounds (suc row)
     ret (ran signal)
 
-  -- What the answer says of the arms, with the steps left and the store: the block at that row is still to run.
+  -- What the answer says of the arms, with the steps left and the store: the block at the row that it names is still to run. It names a row as
+  -- a place's answer names a position.
   abbrev pub chosen : ℤ → ℕ → List ℤ → Rest Choice
   chosen answer n s = onward (placed answer n s) (λ block n s. spend (blockFrom block) n s)
 

@@ -10,7 +10,7 @@ use Rattle.language.specs.Rule.{Rule}
 use Rattle.language.specs.KernelRules.{kernelTable}
 use Rattle.words.specs.Links.{fits, isExpression, isPlace, isStatement, link, target, linker, received, noteBy, note}
 use Rattle.structure.specs.Fields.{foreign, leadsRight, mislinked, boundsOf, numberFits, outside}
-use Rattle.words.specs.Kinds.{kindOf, kindIn, kinds, sortIn, kindRow, expressionFields, statementFields, markFields, sortOf, sortAt, inLanguage, isLink, isRequired}
+use Rattle.words.specs.Kinds.{kindOf, kindIn, kinds, sortIn, kindRow, expressionFields, statementFields, markFields, memberFields, sortOf, sortAt, inLanguage, isLink, isRequired}
 use Rattle.structure.specs.Links.{linksAmong, linkCount, loneBlock, notOnce, deeper, depthAt, tooDeep}
 use Rattle.structure.specs.Refusal.{at, unless, _next_, rowCauses, structuralRefusal}
 use Rattle.words.specs.Search.{lowest, some, lowestRow, someField}
@@ -28,7 +28,7 @@ abbrev pub accepted : Rule → Verdict
 accepted rule = Accepted
 
 pub kernel-rules-accepted : map checked kernelTable ≡ map accepted kernelTable
-unfolding natural wordAt numberAt layoutOf sum storeSize storeWords allWithin headerFits countFits foreign fits leadsRight mislinked boundsOf numberFits outside kindOf kindIn kinds sortIn kindRow expressionFields statementFields markFields sortOf sortAt inLanguage isExpression isPlace isStatement isLink isRequired link target linksAmong linkCount loneBlock notOnce linker received noteBy note deeper depthAt tooDeep at unless _next_ rowCauses structuralRefusal lowest some lowestRow someField isLabel repeatedLabel owning ownerAt labelBehind labelAhead gotoWithoutLabel labelFault kernelCauses refusal isAtom isAtomMinus isAtomOperation isAtomElement fitsVariable isAssignment isBlock isKernelIf isKernelWhile isKernelExpression isKernelStatement notKernelForm
+unfolding natural wordAt numberAt layoutOf sum storeSize storeWords allWithin headerFits countFits foreign fits leadsRight mislinked boundsOf numberFits outside kindOf kindIn kinds sortIn kindRow expressionFields statementFields markFields memberFields sortOf sortAt inLanguage isExpression isPlace isStatement isLink isRequired link target linksAmong linkCount loneBlock notOnce linker received noteBy note deeper depthAt tooDeep at unless _next_ rowCauses structuralRefusal lowest some lowestRow someField isLabel repeatedLabel owning ownerAt labelBehind labelAhead gotoWithoutLabel labelFault kernelCauses refusal isAtom isAtomMinus isAtomOperation isAtomElement fitsVariable isAssignment isBlock isKernelIf isKernelWhile isKernelExpression isKernelStatement notKernelForm
 kernel-rules-accepted = refl
 
 -- Each of a list of rules is a legal kernel program.

@@ -9,7 +9,7 @@ use lib.ListN.{length}
 use Rattle.words.specs.Word.{pick}
 use Rattle.words.specs.declared.Operator.{Operator}
 use Rattle.words.specs.declared.Operator.the-variants.{Add, Subtract, Multiply, Divide, Remainder, Less, Greater, LessOrEqual, GreaterOrEqual, Equal, NotEqual}
-use Rattle.language.specs.Trees.{read, minus, binary, assign, variable, element, empty, express, block, ifElse, goto, label, none, _then_, _here_}
+use Rattle.language.specs.Trees.{read, minus, binary, assign, variable, element, empty, express, block, ifElse, goto, abort, label, none, _then_, _here_}
 use Rattle.language.specs.Sizes.{expressionRows, statementRows}
 use Rattle.emission.specs.Emission.{rowOf, operatorNumber, emitExpression, emitItems}
 use Rattle.words.specs.Over.{over}
@@ -79,6 +79,10 @@ module _ (base : ℕ) (follows : Bool) where
   pub goto-words : (number : ℕ) → rowOf 52 (pos number) 0 0 0 (pick follows (base + 1) 0) ≡ emitItems follows (goto number then none) base
   unfolding emitItems statementRows
   goto-words number = refl
+
+  pub abort-words : rowOf 57 (pos 0) 0 0 0 (pick follows (base + 1) 0) ≡ emitItems follows (abort then none) base
+  unfolding emitItems statementRows
+  abort-words = refl
 
   pub label-words : (number : ℕ) → rowOf 53 (pos number) 0 0 0 (pick follows (base + 1) 0) ≡ emitItems follows (label number here none) base
   unfolding emitItems

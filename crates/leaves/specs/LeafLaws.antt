@@ -6,7 +6,7 @@ use Prim.Native.Nat.{ℕ, _≤_}
 use native.Mathlib.Omega.{arith}
 use lib.IntN.{ℤ}
 use Rattle.words.specs.declared.Operator.{Operator}
-use Rattle.language.specs.Trees.{read, binary, assign, Place, variable, element, express, block, ifElse, goto, label, Items, none, _then_, _here_}
+use Rattle.language.specs.Trees.{read, binary, assign, Place, variable, element, express, block, ifElse, goto, abort, label, Items, none, _then_, _here_}
 use Rattle.language.specs.Sizes.{expressionRows, itemsRows}
 use Rattle.translation.specs.Translate.{placeTaken, atomOf}
 use Rattle.emission.specs.Emission.{emitItems}
@@ -57,6 +57,10 @@ module _ (follows : Bool) (base : ℕ) (l m : List ℤ) where
   pub goto-wrote : (number : ℕ) → m ≡ over (emitItems follows (goto number then none) base) l → Wrote follows (goto number then none) base 1 l m
   unfolding itemsRows
   goto-wrote number e = record { table = e; size = refl }
+
+  pub abort-wrote : m ≡ over (emitItems follows (abort then none) base) l → Wrote follows (abort then none) base 1 l m
+  unfolding itemsRows
+  abort-wrote e = record { table = e; size = refl }
 
   pub label-wrote : (number : ℕ) → m ≡ over (emitItems follows (label number here none) base) l → Wrote follows (label number here none) base 1 l m
   unfolding itemsRows

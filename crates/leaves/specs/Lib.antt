@@ -7,6 +7,8 @@ pub mod Room
 pub mod Atoms
 -- Straight: what an expression does with the values of its first two operands, and the rows that head an assignment and a loop.
 pub mod Straight
+-- Guarded: the rows of the guarded forms, beside the code of their guards and blocks.
+pub mod Guarded
 -- Asks: what the leaves ask of their caller.
 pub mod Asks
 -- Chains: parts of a table written one behind the other.

@@ -1,4 +1,4 @@
-// Rows that say where a run goes on: blocks, ifs, loops, labels, gotos, and empty statements.
+// Rows that say where a run goes on: blocks, ifs, loops, labels, gotos, aborts, and empty statements.
 use super::Atom;
 use super::rows::behind;
 use super::rows::put_atom;
@@ -10,7 +10,7 @@ ghost use Prim.Native.Nat.{_+_, _^_, _≤_, _<_};
 ghost use lib.IntN.{pos};
 ghost use lib.ListN.{length};
 ghost use Rattle.words.specs.Word.{pick};
-ghost use Rattle.language.specs.Trees.{read, variable, empty, block, ifElse, goto, label, none, _then_, _here_};
+ghost use Rattle.language.specs.Trees.{read, variable, empty, block, ifElse, goto, abort, label, none, _then_, _here_};
 ghost use Rattle.emission.specs.Emission.{rowOf, emitExpression, emitItems};
 ghost use Rattle.words.specs.Over.{over};
 ghost use Rattle.leaves.specs.Room.{Room};
@@ -55,6 +55,14 @@ pub fn put_goto(number: usize, base: usize, follows: bool, out: &mut [i32])
     ensures { λ _. ⌜ now (out .exit) ≡ over (emitItems follows (goto number then none) base) (now (out .entry)) ⌝ }
 {
     put_item(52, number, base, follows, out);
+}
+
+// "Abort, no fields."
+pub fn put_abort(base: usize, follows: bool, out: &mut [i32])
+    requires { ⌜ Room 1 base (length (now out)) ⌝ }
+    ensures { λ _. ⌜ now (out .exit) ≡ over (emitItems follows (abort then none) base) (now (out .entry)) ⌝ }
+{
+    put_item(57, 0, base, follows, out);
 }
 
 pub fn put_label(number: usize, base: usize, follows: bool, out: &mut [i32])

@@ -2,6 +2,7 @@
 pub mod assignments; // assignments.rt: the assignments of the kernel
 pub mod atoms; // atoms.rt: kernel atoms and places, from the source rows
 pub mod control; // control.rt: rows that say where a run goes on: blocks, ifs, loops, labels, gotos
+pub mod guarded; // guarded.rt: the rows of the guarded forms, beside the code of their guards and blocks
 pub mod rows; // rows.rt: what all rows are put together by
 pub mod straight; // straight.rt: what an expression does with its operands' values
 

@@ -4,24 +4,26 @@ use mathlib.Core.List.{List}
 use Prim.Native.Nat.{ℕ, zero, suc, _+_, _*_, _≤_, _<_, max}
 use native.Mathlib.Omega.{arith}
 use lib.IntN.{ℤ}
-use Rattle.language.specs.Trees.{Expression, absent, present, Statement, while, doWhile, for, Items, none, _here_, Mark, case, default, label}
-use Rattle.language.specs.Decode.{expressionAt, statementAt, itemsAt, listAt, partAt}
+use Rattle.language.specs.Trees.{Expression, absent, present, Statement, while, doWhile, for, guardedIf, guardedDo, Arms, noArm, arm, Items, none, _here_, Mark, case, default, label}
+use Rattle.language.specs.Decode.{expressionAt, statementAt, itemsAt, armsAt, listAt, armListAt, partAt}
 use Rattle.language.specs.DecodeLaws.{part-some}
 use Rattle.translation.specs.declared.Use.{Use}
 use Rattle.translation.specs.declared.Use.the-variants.{Dropped as dropped, Wanted as wanted}
-use Rattle.translation.specs.Translate.{atomOf, taken, labels, itemsLabels, expressionLevels, operandLevels, statementLevels, itemsLevels}
+use Rattle.translation.specs.Translate.{atomOf, taken, labels, armsLabels, itemsLabels, expressionLevels, operandLevels, statementLevels, armsLevels, itemsLevels}
 use Rattle.translation.specs.TranslateBounds.{taken-most}
-use Rattle.translation.specs.TranslateSize.{expressionSize, operandSize, testSize, statementSize, itemsSize, cases}
-use Rattle.shapes.specs.Shapes.{statementTree, Onward, OptionalOnward, StatementAt, ItemAt}
+use Rattle.translation.specs.TranslateSize.{expressionSize, operandSize, testSize, statementSize, armsSize, itemsSize, cases}
+use Rattle.shapes.specs.Shapes.{statementTree, Onward, OptionalOnward, StatementAt, ItemAt, ArmAt}
 use Rattle.shapes.specs.ShapeLaws.{optional}
 use Rattle.shapes.specs.declared.StatementShape.{StatementShape}
-use Rattle.shapes.specs.declared.StatementShape.the-variants.{Express, Block, If, While, Do, For, Switch}
+use Rattle.shapes.specs.declared.StatementShape.the-variants.{Express, Block, If, While, Do, For, Switch, GuardedIf, GuardedDo}
 use Rattle.shapes.specs.declared.MarkShape.the-variants.{Case, Default, Label}
 use Rattle.shapes.specs.declared.Item.the-variants as item
-use Rattle.measures.specs.Measures.{limited, pastLabels, defaultPlace, rowsSlot, levelsSlot, droppedRowsSlot, droppedLevelsSlot, rowsFor, levelsFor, statementRowsSlot, statementLevelsSlot, statementLabelsSlot, listRowsSlot, listLevelsSlot, listLabelsSlot, listCasesSlot, listDefaultSlot, slotAt, testSlots, MeasuredFrom, StatementMeasured, ListMeasured, markMeasures, statementMeasures, plainMeasures, expressMeasures, blockMeasures, ifMeasures, loopMeasures, switchMeasures}
+use Rattle.shapes.specs.declared.ArmShape.{ArmShape}
+use Rattle.shapes.specs.declared.ArmShape.the-variants.{Arm, NoArm}
+use Rattle.measures.specs.Measures.{limited, pastLabels, defaultPlace, rowsSlot, levelsSlot, droppedRowsSlot, droppedLevelsSlot, rowsFor, levelsFor, statementRowsSlot, statementLevelsSlot, statementLabelsSlot, listRowsSlot, listLevelsSlot, listLabelsSlot, listCasesSlot, listDefaultSlot, armsRowsSlot, armsLevelsSlot, armsLabelsSlot, slotAt, testSlots, MeasuredFrom, StatementMeasured, ListMeasured, ArmsMeasured, markMeasures, statementMeasures, plainMeasures, noMeasures, aroundArms, expressMeasures, blockMeasures, ifMeasures, loopMeasures, switchMeasures, guardedMeasures, roundsMeasures, armMeasures}
 use Rattle.measures.specs.declared.StatementMeasures.{StatementMeasures}
 use Rattle.measures.specs.declared.ListMeasures.{ListMeasures}
-use Rattle.measures.specs.MeasureLaws.{part-rows, part-levels, list-rows, list-levels, list-labels, list-cases, list-default, body-rows, body-levels, body-labels}
+use Rattle.measures.specs.MeasureLaws.{part-rows, part-levels, list-rows, list-levels, list-labels, list-cases, list-default, arms-rows, arms-levels, arms-labels, body-rows, body-levels, body-labels}
 use Rattle.measures.proofs.ExpressionLaws.{limited-max, limited-twice}
 
 small : (n : ℕ) → n ≤ 2 → n ≡ limited n
@@ -79,6 +81,15 @@ while-measured {e} {body} h = same-measured {s = for absent (present e) absent b
 do-measured : {e : Expression} {body : Statement} {r : StatementMeasures} → StatementMeasured (for absent (present e) absent body) r → StatementMeasured (doWhile body e) r
 unfolding statementSize statementLevels labels
 do-measured {e} {body} h = same-measured {s = for absent (present e) absent body} {t = doWhile body e} (omega arith) (omega arith) refl h
+
+-- a guarded do by its arms: what their measures x, y, z come to
+rounds-measured : (arms : Arms) (x y z : ℕ) → x ≡ limited (armsSize arms) → y ≡ limited (armsLevels arms) → z ≡ limited (armsLabels arms)
+    → StatementMeasured (guardedDo arms) (aroundArms x (record { rows = limited (6 + x); levels = y; labels = limited (2 + z) }))
+unfolding statementSize statementLevels labels armsSize armsLevels armsLabels limited
+rounds-measured noArm zero y z p q r = record { rows-are = refl; levels-are = refl; labels-are = refl }
+rounds-measured noArm (suc x) y z p q r = absurd (omega arith)
+rounds-measured (arm e s arms) zero y z p q r = absurd (omega arith)
+rounds-measured (arm e s arms) (suc x) y z p q r = record { rows-are = omega arith; levels-are = q; labels-are = omega arith }
 
 module _ {rows : List ℤ} {table : List ℕ} {row : ℕ} (m : MeasuredFrom rows table (row + 1)) where
   -- an expression that is there
@@ -175,6 +186,34 @@ module _ {rows : List ℤ} {table : List ℕ} {row : ℕ} (m : MeasuredFrom rows
       switch-rows : (e list : ℕ) → Onward rows row e → OptionalOnward rows row list → switchMeasures table held e list .rows ≡ limited (2 + expressionSize (expressionAt rows e) wanted + 11 * cases (listAt rows list) + itemsSize (listAt rows list))
       switch-rows e list a b = selected _ _ _ _ _ _ (some-rows wanted e a) (list-cases rows table m list b) (list-rows rows table m list b)
 
+  pub guarded-measured : {arms : ℕ} {r : StatementMeasures} → StatementAt rows row (GuardedIf arms) → r ≡ guardedMeasures table 2 1 arms → StatementMeasured (statementAt rows row) r
+  unfolding statementSize statementLevels labels
+  guarded-measured {arms} f h = by-shape f h (record {
+    rows-are = two-more _ _ (arms-rows rows table m arms (f .onward));
+    levels-are = arms-levels rows table m arms (f .onward);
+    labels-are = one-more _ _ (arms-labels rows table m arms (f .onward));
+  })
+
+  pub rounds-shape : {arms : ℕ} {r : StatementMeasures} → StatementAt rows row (GuardedDo arms) → r ≡ roundsMeasures table arms → StatementMeasured (statementAt rows row) r
+  rounds-shape {arms} f h =
+      by-shape f h (rounds-measured (armListAt rows arms) _ _ _ (arms-rows rows table m arms (f .onward)) (arms-levels rows table m arms (f .onward)) (arms-labels rows table m arms (f .onward)))
+
+  -- ---- arms
+
+  pub arm-measured : {guard body next : ℕ} {r : StatementMeasures} → ArmAt rows row next (Arm guard body) → r ≡ armMeasures table guard body next → ArmsMeasured (armsAt rows row) r
+  unfolding armsSize armsLevels armsLabels
+  arm-measured {guard} {body} {next} f h =
+      let o = f .onward in
+      rw (h, f .is) (record {
+        rows-are = step _ _ _ _ (step _ _ _ _ (step 5 5 _ _ refl (cut _ _ (some-rows wanted guard (o .0)))) (cut _ _ (body-rows rows table m body (o .1)))) (cut _ _ (arms-rows rows table m next (f .behind)));
+        levels-are = simp limited-max (ap₂ max (some-levels wanted guard (o .0)) (ap₂ max (body-levels rows table m body (o .1)) (arms-levels rows table m next (f .behind))));
+        labels-are = sum _ _ _ _ (body-labels rows table m body (o .1)) (arms-labels rows table m next (f .behind));
+      })
+
+  pub no-arm-measured : {next : ℕ} {r : StatementMeasures} → ArmAt rows row next NoArm → r ≡ noMeasures → ArmsMeasured (armsAt rows row) r
+  unfolding armsSize armsLevels armsLabels
+  no-arm-measured f h = rw (h, f .is) (record { rows-are = small 0 (omega arith); levels-are = small 0 (omega arith); labels-are = small 0 (omega arith) })
+
   -- ---- lists
 
   -- a list that begins with a mark: what it adds to the list behind it
@@ -240,6 +279,15 @@ test-some table (suc test) x h e = rw e
 
 -- ---- the words that the code puts together
 
+-- a guarded do, by whether it has arms
+pub around-none : (n : ℕ) (m : StatementMeasures) → n ≡ 0 → plainMeasures ≡ aroundArms n m
+around-none zero m h = refl
+around-none (suc n) m h = absurd (omega arith)
+
+pub around-some : (n : ℕ) (m : StatementMeasures) → 0 < n → m ≡ aroundArms n m
+around-some zero m h = absurd (omega arith)
+around-some (suc n) m h = refl
+
 abbrev three : ℕ → ℕ → ℕ → StatementMeasures
 three a b c = record { rows = a; levels = b; labels = c }
 
@@ -252,6 +300,11 @@ module _ (table : List ℕ) where
       → three (limited (4 + a + b + c)) (max x (max y z)) (limited (u + v)) ≡ ifMeasures table e onTrue onFalse
   if-words e onTrue onFalse pa pb pc px py pz pu pv = rw (pa, pb, pc, px, py, pz, pu, pv)
 
+  pub arm-words : (guard body next : ℕ) {a b c x y z u v : ℕ} → a ≡ slotAt table guard rowsSlot → b ≡ slotAt table body statementRowsSlot → c ≡ slotAt table next armsRowsSlot
+      → x ≡ slotAt table guard levelsSlot → y ≡ slotAt table body statementLevelsSlot → z ≡ slotAt table next armsLevelsSlot → u ≡ slotAt table body statementLabelsSlot → v ≡ slotAt table next armsLabelsSlot
+      → three (limited (5 + a + b + c)) (max x (max y z)) (limited (u + v)) ≡ armMeasures table guard body next
+  arm-words guard body next pa pb pc px py pz pu pv = rw (pa, pb, pc, px, py, pz, pu, pv)
+
   pub loop-words : (first test action body : ℕ) {a t b c w x y z v : ℕ} → a ≡ slotAt table first droppedRowsSlot → t ≡ testSlots table test → b ≡ slotAt table action droppedRowsSlot → c ≡ slotAt table body statementRowsSlot
       → w ≡ slotAt table first droppedLevelsSlot → x ≡ slotAt table test levelsSlot → y ≡ slotAt table action droppedLevelsSlot → z ≡ slotAt table body statementLevelsSlot → v ≡ slotAt table body statementLabelsSlot
       → three (limited (5 + (a + t) + (b + c))) (max (max w x) (max y z)) (limited (2 + v)) ≡ loopMeasures table first test action body
@@ -260,6 +313,10 @@ module _ (table : List ℕ) where
   pub switch-words : (held e list : ℕ) {a b c x y v : ℕ} → a ≡ slotAt table e rowsSlot → b ≡ slotAt table list listCasesSlot → c ≡ slotAt table list listRowsSlot → x ≡ slotAt table e levelsSlot → y ≡ slotAt table list listLevelsSlot → v ≡ slotAt table list listLabelsSlot
       → three (limited (2 + a + 11 * b + c)) (max (held + 1) (max x y)) (limited (1 + v)) ≡ switchMeasures table held e list
   switch-words held e list pa pb pc px py pv = rw (pa, pb, pc, px, py, pv)
+
+-- the row behind an arm, as it was read
+pub at-behind : {rows : List ℤ} {row next read : ℕ} {s : ArmShape} → read ≡ next → ArmAt rows row next s → ArmAt rows row read s
+at-behind {rows} {row} {next} {read} {s} e f = subst (λ (n : ℕ). ArmAt rows row n s) (sym e) f
 
 -- a link that is absent
 pub absent-link : {rows : List ℤ} {row : ℕ} → OptionalOnward rows row 0

@@ -8,20 +8,20 @@ use lib.IntN.{ℤ}
 use lib.ListN.{length}
 use Rattle.words.specs.Table.{rowCount}
 use Rattle.language.specs.Trees.{Expression, constant, read, minus, not, binary, and, or, comma, conditional, assign, compound, prefix, postfix, Place, variable, element, present, _here_}
-use Rattle.language.specs.Decode.{expressionAt, statementAt, listAt, partAt}
+use Rattle.language.specs.Decode.{expressionAt, statementAt, listAt, armListAt, partAt}
 use Rattle.translation.specs.Uses.{direct}
 use Rattle.translation.specs.declared.Use.{Use}
 use Rattle.translation.specs.declared.Use.the-variants.{Dropped as dropped, Wanted as wanted, Stored as stored}
-use Rattle.translation.specs.Translate.{Atom, top, held, landed, atomOf, labels, itemsLabels, expressionLevels, operandLevels, statementLevels, itemsLevels}
+use Rattle.translation.specs.Translate.{Atom, top, held, landed, atomOf, labels, armsLabels, itemsLabels, expressionLevels, operandLevels, statementLevels, armsLevels, itemsLevels}
 use Rattle.language.specs.Writes.{writes, indexWrites}
 use Rattle.translation.specs.HeldCode.{copied-most, held-variable}
-use Rattle.translation.specs.TranslateSize.{copied, ownRows, expressionSize, operandSize, statementSize, itemsSize, cases}
+use Rattle.translation.specs.TranslateSize.{copied, ownRows, expressionSize, operandSize, statementSize, armsSize, itemsSize, cases}
 use Rattle.shapes.specs.Shapes.{choiceTree, Onward, OptionalOnward}
 use Rattle.shapes.specs.Source.{Source}
 use Rattle.shapes.specs.declared.ChoiceShape.{ChoiceShape}
 use Rattle.shapes.specs.declared.ChoiceShape.the-variants.{And, Or, Conditional}
 use Rattle.measures.specs.Parts.{firstOperand, secondOperand, thirdOperand, fourthOperand, aboveFirst, firstCopied, plainAtom, firstUse, secondUse, ownLevels, usePassed, UseFits}
-use Rattle.measures.specs.Measures.{limited, defaultPlace, width, valueSlot, statementRowsSlot, statementLevelsSlot, statementLabelsSlot, listRowsSlot, listLevelsSlot, listLabelsSlot, listCasesSlot, listDefaultSlot, copiedSlot, rowsFor, levelsFor, slot, slotAt, LinkMeasured, MeasuredRow, MeasuredFrom, Measured}
+use Rattle.measures.specs.Measures.{limited, defaultPlace, width, rowsSlot, levelsSlot, valueSlot, statementRowsSlot, statementLevelsSlot, statementLabelsSlot, listRowsSlot, listLevelsSlot, listLabelsSlot, listCasesSlot, listDefaultSlot, copiedSlot, armsRowsSlot, armsLevelsSlot, armsLabelsSlot, rowsFor, levelsFor, slot, slotAt, LinkMeasured, MeasuredRow, MeasuredFrom, Measured}
 
 -- ---- sums that are cut off
 
@@ -150,6 +150,22 @@ module _ (rows : List ℤ) (table : List ℕ) where
     list-default zero o = refl
     list-default (suc link) o = link-measured (suc link) m (o (omega arith)) .list .default-is
 
+    -- those of arms
+    pub arms-rows : (link : ℕ) → OptionalOnward rows row link → slotAt table link armsRowsSlot ≡ limited (armsSize (armListAt rows link))
+    unfolding limited armsSize
+    arms-rows zero o = refl
+    arms-rows (suc link) o = link-measured (suc link) m (o (omega arith)) .arms .rows-are
+
+    pub arms-levels : (link : ℕ) → OptionalOnward rows row link → slotAt table link armsLevelsSlot ≡ limited (armsLevels (armListAt rows link))
+    unfolding limited armsLevels
+    arms-levels zero o = refl
+    arms-levels (suc link) o = link-measured (suc link) m (o (omega arith)) .arms .levels-are
+
+    pub arms-labels : (link : ℕ) → OptionalOnward rows row link → slotAt table link armsLabelsSlot ≡ limited (armsLabels (armListAt rows link))
+    unfolding limited armsLabels
+    arms-labels zero o = refl
+    arms-labels (suc link) o = link-measured (suc link) m (o (omega arith)) .arms .labels-are
+
     -- those of a statement
     pub body-rows : (link : ℕ) → Onward rows row link → slotAt table link statementRowsSlot ≡ limited (statementSize (statementAt rows link))
     body-rows link o = at-some table link statementRowsSlot (omega (arith, o .later)) ∙ link-measured link m o .statement .rows-are
@@ -275,7 +291,10 @@ measured-small {rows} {table} {row} s m (suc (suc (suc (suc (suc (suc (suc (suc 
 measured-small s m (suc (suc (suc (suc (suc (suc (suc (suc (suc (suc (suc (suc zero)))))))))))) h = limited-as _ (m .expression .dropped-rows-are)
 measured-small s m (suc (suc (suc (suc (suc (suc (suc (suc (suc (suc (suc (suc (suc zero))))))))))))) h = limited-as _ (m .expression .dropped-levels-are)
 measured-small s m (suc (suc (suc (suc (suc (suc (suc (suc (suc (suc (suc (suc (suc (suc zero)))))))))))))) h = limited-as _ (m .expression .stored-levels-are)
-measured-small s m (suc (suc (suc (suc (suc (suc (suc (suc (suc (suc (suc (suc (suc (suc (suc k))))))))))))))) h = absurd (omega arith)
+measured-small s m (suc (suc (suc (suc (suc (suc (suc (suc (suc (suc (suc (suc (suc (suc (suc zero))))))))))))))) h = limited-as _ (m .arms .rows-are)
+measured-small s m (suc (suc (suc (suc (suc (suc (suc (suc (suc (suc (suc (suc (suc (suc (suc (suc zero)))))))))))))))) h = limited-as _ (m .arms .levels-are)
+measured-small s m (suc (suc (suc (suc (suc (suc (suc (suc (suc (suc (suc (suc (suc (suc (suc (suc (suc zero))))))))))))))))) h = limited-as _ (m .arms .labels-are)
+measured-small s m (suc (suc (suc (suc (suc (suc (suc (suc (suc (suc (suc (suc (suc (suc (suc (suc (suc (suc k)))))))))))))))))) h = absurd (omega arith)
 
 pub measured-less : {rows : List ℤ} {table : List ℕ} {k : ℕ} (j : ℕ) → MeasuredFrom rows table k → k ≤ j → MeasuredFrom rows table j
 measured-less j m h = record { source = m .source; room = m .room; row-measured = λ row l. m .row-measured row (omega arith) }
@@ -342,3 +361,8 @@ module _ {rows : List ℤ} {table : List ℕ} (m : Measured rows table) where
   unfolding limited defaultPlace
   whole-default zero h = refl
   whole-default (suc link) h = whole-row h .list .default-is
+
+  pub whole-arms : (link : ℕ) → link < rowCount rows → slotAt table link armsRowsSlot ≡ limited (armsSize (armListAt rows link))
+  unfolding limited armsSize
+  whole-arms zero h = refl
+  whole-arms (suc link) h = whole-row h .arms .rows-are

@@ -7,12 +7,12 @@ use lib.IntN.{ℤ}
 use lib.ListN.{length, getD}
 use Rattle.words.specs.Table.{rowCount}
 use Rattle.words.specs.declared.Operator.{Operator}
-use Rattle.language.specs.Trees.{Expression, assign, postfix, variable, Statement, Items, none, _then_, _here_, case, default, label}
-use Rattle.language.specs.Decode.{placeOf, expressionAt, statementAt, itemsAt}
+use Rattle.language.specs.Trees.{Expression, assign, postfix, variable, Statement, Arms, Items, none, _then_, _here_, case, default, label}
+use Rattle.language.specs.Decode.{placeOf, expressionAt, statementAt, itemsAt, armsAt}
 use Rattle.translation.specs.declared.Use.{Use}
 use Rattle.translation.specs.declared.Use.the-variants.{Dropped as dropped, Wanted as wanted, Stored as stored}
-use Rattle.translation.specs.Translate.{atomOf, labels, itemsLabels, expressionLevels, statementLevels, itemsLevels}
-use Rattle.translation.specs.TranslateSize.{expressionSize, statementSize, itemsSize, cases}
+use Rattle.translation.specs.Translate.{atomOf, labels, armsLabels, itemsLabels, expressionLevels, statementLevels, armsLevels, itemsLevels}
+use Rattle.translation.specs.TranslateSize.{expressionSize, statementSize, armsSize, itemsSize, cases}
 use Rattle.shapes.specs.Shapes.{Onward}
 use Rattle.shapes.specs.Source.{mostVariables, Source}
 use Rattle.measures.specs.Parts.{firstCopied, plainAtom}
@@ -64,11 +64,16 @@ pub record ListMeasured (is : Items) (m : ListMeasures) : Type 0 where
   pub cases-are : m .cases ≡ limited (cases is)
   pub default-is : m .default ≡ limited (defaultPlace is)
 
+pub record ArmsMeasured (arms : Arms) (m : StatementMeasures) : Type 0 where
+  pub rows-are : m .rows ≡ limited (armsSize arms)
+  pub levels-are : m .levels ≡ limited (armsLevels arms)
+  pub labels-are : m .labels ≡ limited (armsLabels arms)
+
 -- ---- the table
 
 -- The words of a row, and where each measure stands among them.
 abbrev pub width : ℕ
-width = 15
+width = 18
 
 abbrev pub rowsSlot : ℕ
 rowsSlot = 0
@@ -114,6 +119,15 @@ droppedLevelsSlot = 13
 
 abbrev pub storedLevelsSlot : ℕ
 storedLevelsSlot = 14
+
+abbrev pub armsRowsSlot : ℕ
+armsRowsSlot = 15
+
+abbrev pub armsLevelsSlot : ℕ
+armsLevelsSlot = 16
+
+abbrev pub armsLabelsSlot : ℕ
+armsLabelsSlot = 17
 
 -- The measures of an expression, by the use of its value.
 abbrev pub rowsFor : Use → ℕ
@@ -165,10 +179,13 @@ statementSlots table row = record { rows = slot table row statementRowsSlot; lev
 abbrev pub listSlots : List ℕ → ℕ → ListMeasures
 listSlots table row = record { rows = slot table row listRowsSlot; levels = slot table row listLevelsSlot; labels = slot table row listLabelsSlot; cases = slot table row listCasesSlot; default = slot table row listDefaultSlot }
 
+abbrev pub armsSlots : List ℕ → ℕ → StatementMeasures
+armsSlots table row = record { rows = slot table row armsRowsSlot; levels = slot table row armsLevelsSlot; labels = slot table row armsLabelsSlot }
+
 -- The words of a row.
-abbrev pub rowWords : ExpressionMeasures → StatementMeasures → ListMeasures → List ℕ
-rowWords e s l =
-    e .rows ∷ e .levels ∷ e .value ∷ s .rows ∷ s .levels ∷ s .labels ∷ l .rows ∷ l .levels ∷ l .labels ∷ l .cases ∷ l .default ∷ e .copied ∷ e .«dropped_rows» ∷ e .«dropped_levels» ∷ e .«stored_levels» ∷ []
+abbrev pub rowWords : ExpressionMeasures → StatementMeasures → ListMeasures → StatementMeasures → List ℕ
+rowWords e s l a =
+    e .rows ∷ e .levels ∷ e .value ∷ s .rows ∷ s .levels ∷ s .labels ∷ l .rows ∷ l .levels ∷ l .labels ∷ l .cases ∷ l .default ∷ e .copied ∷ e .«dropped_rows» ∷ e .«dropped_levels» ∷ e .«stored_levels» ∷ a .rows ∷ a .levels ∷ a .labels ∷ []
 
 -- A loop's test: its code and 5 rows, where it is there.
 abbrev pub testSlots : List ℕ → ℕ → ℕ
@@ -184,6 +201,8 @@ pub record MeasuredRow (rows : List ℤ) (table : List ℕ) (row : ℕ) : Type 0
   pub expression : ExpressionMeasured rows (expressionAt rows row) (expressionSlots table row)
   pub statement : StatementMeasured (statementAt rows row) (statementSlots table row)
   pub list : ListMeasured (itemsAt rows row) (listSlots table row)
+  -- a row that is no arm ends the arms: none of it on
+  pub arms : ArmsMeasured (armsAt rows row) (armsSlots table row)
 
 -- The rows from `least` on are measured.
 pub record MeasuredFrom (rows : List ℤ) (table : List ℕ) (least : ℕ) : Type 0 where
@@ -233,6 +252,14 @@ measures n levels marks = record { rows = n; levels = levels; labels = marks }
 abbrev pub plainMeasures : StatementMeasures
 plainMeasures = measures 1 0 0
 
+abbrev pub noMeasures : StatementMeasures
+noMeasures = measures 0 0 0
+
+-- What a guarded do takes, by the rows of its arms: without arms it is an empty statement.
+abbrev pub aroundArms : ℕ → StatementMeasures → StatementMeasures
+aroundArms zero m = plainMeasures
+aroundArms (suc n) m = m
+
 module _ (table : List ℕ) where
   abbrev pub expressMeasures : ℕ → StatementMeasures
   expressMeasures e = measures (max 1 (slotAt table e droppedRowsSlot)) (slotAt table e droppedLevelsSlot) 0
@@ -259,3 +286,19 @@ module _ (table : List ℕ) where
       measures (limited (2 + slotAt table e rowsSlot + 11 * slotAt table list listCasesSlot + slotAt table list listRowsSlot))
       (max (held + 1) (max (slotAt table e levelsSlot) (slotAt table list listLevelsSlot)))
       (limited (1 + slotAt table list listLabelsSlot))
+
+  -- The arms of a guarded form, with the rows and labels of its own.
+  abbrev pub guardedMeasures : ℕ → ℕ → ℕ → StatementMeasures
+  guardedMeasures own marks arms =
+      measures (limited (own + slotAt table arms armsRowsSlot)) (slotAt table arms armsLevelsSlot) (limited (marks + slotAt table arms armsLabelsSlot))
+
+  abbrev pub roundsMeasures : ℕ → StatementMeasures
+  roundsMeasures arms = aroundArms (slotAt table arms armsRowsSlot) (guardedMeasures 6 2 arms)
+
+  -- ---- what the function that measures an arm gives; `next` is the row behind it
+
+  abbrev pub armMeasures : ℕ → ℕ → ℕ → StatementMeasures
+  armMeasures guard body next =
+      measures (limited (5 + slotAt table guard rowsSlot + slotAt table body statementRowsSlot + slotAt table next armsRowsSlot))
+      (max (slotAt table guard levelsSlot) (max (slotAt table body statementLevelsSlot) (slotAt table next armsLevelsSlot)))
+      (limited (slotAt table body statementLabelsSlot + slotAt table next armsLabelsSlot))

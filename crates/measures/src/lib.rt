@@ -2,6 +2,7 @@
 // written. So every link of the translation is known when its row is written.
 use translation::Use;
 
+pub mod arms; // arms.rt: the measures of arms
 pub mod copies; // copies.rt: which values are copied
 pub mod expressions; // expressions.rt: the measures of an expression
 pub mod holders; // holders.rt: what holds a value
@@ -14,8 +15,8 @@ pub mod uses; // uses.rt: what goes by the use of a value
 pub mod writes; // writes.rt: the write sets of the rows
 
 // The words of a row in the table of measures, and where each measure stands among them: of the row as an expression, as a statement,
-// and of the list from it on.
-pub const WIDTH: usize = 15;
+// of the list from it on, and of the arms from it on.
+pub const WIDTH: usize = 18;
 
 pub const ROWS: usize = 0;
 
@@ -46,6 +47,12 @@ pub const DROPPED_ROWS: usize = 12;
 pub const DROPPED_LEVELS: usize = 13;
 
 pub const STORED_LEVELS: usize = 14;
+
+pub const ARMS_ROWS: usize = 15;
+
+pub const ARMS_LEVELS: usize = 16;
+
+pub const ARMS_LABELS: usize = 17;
 
 // What an expression's own row brings: the rows of its operands, of which 0 is absent, the first two worked out before all else, the
 // second `above` levels above the first, the others in branches; the use of the first one's value, and whether the second one's is used as
@@ -93,7 +100,7 @@ pub struct ExpressionMeasures {
     pub stored_levels: usize,
 }
 
-// The measures of a statement: kernel rows, levels, labels.
+// The measures of a statement, and of the arms from an arm on: kernel rows, levels, labels.
 pub struct StatementMeasures {
     pub rows: usize,
     pub levels: usize,

@@ -1,4 +1,5 @@
 // The pass over the rows, from the last to the first: every link leads to a row that is measured already.
+use super::arms::measured_arms;
 use super::expressions::measured_expression;
 use super::lists::measured_list;
 use super::statements::measured_statement;
@@ -18,7 +19,8 @@ fn measure_row(rows: &[i32], sets: &[u64], table: &mut [usize], row: usize)
     let expression = measured_expression(rows, sets, table, row);
     let statement = measured_statement(rows, table, row);
     let list = measured_list(rows, table, row, statement);
-    set_measures(table, row, expression, statement, list);
+    let arms = measured_arms(rows, table, row);
+    set_measures(table, row, expression, statement, list, arms);
 }
 
 fn measure_rows(rows: &[i32], sets: &[u64], table: &mut [usize])

@@ -1,4 +1,7 @@
 // The measures of a statement, by its shape, from those of the rows that its links lead to.
+use super::ARMS_LABELS;
+use super::ARMS_LEVELS;
+use super::ARMS_ROWS;
 use super::DROPPED_LEVELS;
 use super::DROPPED_ROWS;
 use super::LEVELS;
@@ -21,7 +24,7 @@ ghost use mathlib.Core.Path.{_≡_};
 ghost use Prim.Native.Nat.{_+_, _≤_, _<_};
 ghost use Rattle.words.specs.Table.{rowCount};
 ghost use Rattle.language.specs.Decode.{statementAt};
-ghost use Rattle.measures.specs.Measures.{plainMeasures, expressMeasures, blockMeasures, ifMeasures, loopMeasures, switchMeasures, LinkMeasured, TestIs, MeasuredFrom, StatementMeasured};
+ghost use Rattle.measures.specs.Measures.{plainMeasures, expressMeasures, blockMeasures, ifMeasures, loopMeasures, switchMeasures, guardedMeasures, roundsMeasures, LinkMeasured, TestIs, MeasuredFrom, StatementMeasured};
 
 // The test of a loop takes 5 rows beside its code, where there is one.
 fn test_rows(table: &[usize], test: usize) -> usize
@@ -133,6 +136,29 @@ fn switch_measures(table: &[usize], taken: usize, e: usize, list: usize) -> Stat
     }
 }
 
+// The arms of a guarded form, with the rows and labels of its own.
+fn guarded_measures(table: &[usize], own: usize, labels: usize, arms: usize) -> StatementMeasures
+    requires { ⌜ LinkMeasured (now table) arms × (own ≤ 6) × (labels ≤ 2) ⌝ }
+    ensures { λ r. ⌜ r ≡ guardedMeasures (now (table .entry)) own labels arms ⌝ }
+{
+    StatementMeasures {
+        rows: limited(own + measure_at(table, arms, ARMS_ROWS)),
+        levels: measure_at(table, arms, ARMS_LEVELS),
+        labels: limited(labels + measure_at(table, arms, ARMS_LABELS)),
+    }
+}
+
+// A guarded do; without arms it has no rounds.
+fn rounds_measures(table: &[usize], arms: usize) -> StatementMeasures
+    requires { ⌜ LinkMeasured (now table) arms ⌝ }
+    ensures { λ r. ⌜ r ≡ roundsMeasures (now (table .entry)) arms ⌝ }
+{
+    if measure_at(table, arms, ARMS_ROWS) == 0 {
+        return plain_measures();
+    }
+    guarded_measures(table, 6, 2, arms)
+}
+
 pub fn measured_statement(rows: &[i32], table: &[usize], row: usize) -> StatementMeasures
     requires { ⌜ MeasuredFrom (now rows) (now table) (row + 1) × (row < rowCount (now rows)) ⌝ }
     ensures { λ r. ⌜ StatementMeasured (statementAt (now (rows .entry)) row) r ⌝ }
@@ -154,5 +180,8 @@ pub fn measured_statement(rows: &[i32], table: &[usize], row: usize) -> Statemen
         StatementShape::Break => plain_measures(),
         StatementShape::Continue => plain_measures(),
         StatementShape::Goto(_) => plain_measures(),
+        StatementShape::GuardedIf(arms) => guarded_measures(table, 2, 1, arms),
+        StatementShape::GuardedDo(arms) => rounds_measures(table, arms),
+        StatementShape::Abort => plain_measures(),
     }
 }

@@ -1,4 +1,7 @@
 // The words of the table of measures.
+use super::ARMS_LABELS;
+use super::ARMS_LEVELS;
+use super::ARMS_ROWS;
 use super::COPIED;
 use super::DROPPED_LEVELS;
 use super::DROPPED_ROWS;
@@ -61,9 +64,10 @@ pub fn set_measures(
     expression: ExpressionMeasures,
     statement: StatementMeasures,
     list: ListMeasures,
+    arms: StatementMeasures,
 )
     requires { ⌜ width * row + width ≤ length (now table) ⌝ }
-    ensures { λ _. ⌜ now (table .exit) ≡ take (width * row) (now (table .entry)) ++ rowWords expression statement list ++ drop (width * row + width) (now (table .entry)) ⌝ }
+    ensures { λ _. ⌜ now (table .exit) ≡ take (width * row) (now (table .entry)) ++ rowWords expression statement list arms ++ drop (width * row + width) (now (table .entry)) ⌝ }
 {
     let at = WIDTH * row;
     table[at + ROWS] = expression.rows;
@@ -81,4 +85,7 @@ pub fn set_measures(
     table[at + DROPPED_ROWS] = expression.dropped_rows;
     table[at + DROPPED_LEVELS] = expression.dropped_levels;
     table[at + STORED_LEVELS] = expression.stored_levels;
+    table[at + ARMS_ROWS] = arms.rows;
+    table[at + ARMS_LEVELS] = arms.levels;
+    table[at + ARMS_LABELS] = arms.labels;
 }

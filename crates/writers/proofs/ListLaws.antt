@@ -137,7 +137,7 @@ next-less rows row next source inside some e =
 pub next-inside : (rows : List ℤ) (row : ℕ) → Source rows → row < rowCount rows → numberAt rows row 5 < rowCount rows
 next-inside rows row source inside = optional-inside rows row (numberAt rows row 5) inside (next-onward rows row source inside)
 
-le-of-lt : {m n : ℕ} → m < n → m ≤ n
+pub le-of-lt : {m n : ℕ} → m < n → m ≤ n
 le-of-lt h = omega arith
 
 -- What an item takes of its list, where `next` is the row behind it.
@@ -151,18 +151,18 @@ module _ (rows : List ℤ) (item next : ℕ) (source : Source rows) (inside : it
   pub behind-labels : itemsLabels (listAt rows item) ≡ itemLabels (itemsAt rows item) + itemsLabels (listAt rows next)
   behind-labels = rw e (ap itemsLabels (some-list rows item (omega arith)) ∙ first-labels (first-of rows item source inside))
 
--- ---- a loop over the items
+-- ---- a loop over the members of a list, which are items or arms
 
--- `code` gives the code of a list whose labels begin at a number, `size` its rows.
-module _ (follows : Bool) (code : Items → ℕ → Items) (size : Items → ℕ) (rows : List ℤ) (list label base : ℕ) (out₀ : List ℤ) where
-  -- The items before `item` are passed; theirs are n rows and the labels before `from`.
+-- `at` gives the list at a link, `marks` its labels, `code` its code where they begin at a number, `size` its rows.
+module _ {X : Type 0} (at : ℕ → X) (marks : X → ℕ) (follows : Bool) (code : X → ℕ → Items) (size : X → ℕ) (rows : List ℤ) (list label base : ℕ) (out₀ : List ℤ) where
+  -- What stands before `item` is passed; theirs are n rows and the labels before `from`.
   pub record Progress (out : List ℤ) (item from n : ℕ) : Type 0 where
     pub done : Items
-    pub is : code (listAt rows list) label ≡ done ⧺ code (listAt rows item) from
-    pub written : Wrote (orMore follows (code (listAt rows item) from)) done base n out₀ out
+    pub is : code (at list) label ≡ done ⧺ code (at item) from
+    pub written : Wrote (orMore follows (code (at item) from)) done base n out₀ out
     pub inside : item < rowCount rows
-    pub labels-are : label + itemsLabels (listAt rows list) ≡ from + itemsLabels (listAt rows item)
-    pub size-is : size (listAt rows list) ≡ n + size (listAt rows item)
+    pub labels-are : label + marks (at list) ≡ from + marks (at item)
+    pub size-is : size (at list) ≡ n + size (at item)
     pub kept : length out ≡ length out₀
     pub onward : above rows item ≤ above rows list
 
@@ -172,18 +172,18 @@ module _ (follows : Bool) (code : Items → ℕ → Items) (size : Items → ℕ
 
   pub step : {out : List ℤ} {item from n : ℕ} → Progress out item from n → (next k m : ℕ) (first : Items) (out2 : List ℤ)
       → next < rowCount rows → above rows next ≤ above rows item
-      → code (listAt rows item) from ≡ first ⧺ code (listAt rows next) (from + k)
-      → itemsLabels (listAt rows item) ≡ k + itemsLabels (listAt rows next)
-      → size (listAt rows item) ≡ m + size (listAt rows next)
-      → Wrote (orMore follows (code (listAt rows next) (from + k))) first (base + n) m (part n out) out2
+      → code (at item) from ≡ first ⧺ code (at next) (from + k)
+      → marks (at item) ≡ k + marks (at next)
+      → size (at item) ≡ m + size (at next)
+      → Wrote (orMore follows (code (at next) (from + k))) first (base + n) m (part n out) out2
       → length out2 ≡ length (part n out)
       → Progress (back-in n out out2) next (from + k) (n + m)
   step {out} {item} {from} {n} p next k m first out2 inside less e l s w h =
-      let more : orMore follows (code (listAt rows item) from) ≡ orMore (orMore follows (code (listAt rows next) (from + k))) first =
-      ap (orMore follows) e ∙ more-append follows first (code (listAt rows next) (from + k)) in
+      let more : orMore follows (code (at item) from) ≡ orMore (orMore follows (code (at next) (from + k))) first =
+      ap (orMore follows) e ∙ more-append follows first (code (at next) (from + k)) in
       record {
         done = p .done ⧺ first;
-        is = p .is ∙ ap (λ xs. p .done ⧺ xs) e ∙ sym (append-append (p .done) first (code (listAt rows next) (from + k)));
+        is = p .is ∙ ap (λ xs. p .done ⧺ xs) e ∙ sym (append-append (p .done) first (code (at next) (from + k)));
         written = wrote-behind (n + m) refl more refl (p .written) w;
         inside = inside;
         labels-are = p .labels-are ∙ omega (arith, l);
@@ -192,26 +192,30 @@ module _ (follows : Bool) (code : Items → ℕ → Items) (size : Items → ℕ
         onward = omega (arith, p .onward, less);
       }
 
-  pub finish : {out : List ℤ} {item from n : ℕ} → Progress out item from n → item ≡ 0 → code none from ≡ none → out ≡ over (emitItems follows (code (listAt rows list) label) base) out₀
-  finish {out} {item} {from} {n} p z e =
-      let rest : code (listAt rows item) from ≡ none = ap (λ i. code (listAt rows i) from) z ∙ e in
-      let all : code (listAt rows list) label ≡ p .done = p .is ∙ ap (λ xs. p .done ⧺ xs) rest ∙ append-none (p .done) in
-      let more : orMore follows (code (listAt rows item) from) ≡ follows = ap (orMore follows) rest in
+  pub finish : {out : List ℤ} {item from n : ℕ} → Progress out item from n → code (at item) from ≡ none → out ≡ over (emitItems follows (code (at list) label) base) out₀
+  finish {out} {item} {from} {n} p rest =
+      let all : code (at list) label ≡ p .done = p .is ∙ ap (λ xs. p .done ⧺ xs) rest ∙ append-none (p .done) in
+      let more : orMore follows (code (at item) from) ≡ follows = ap (orMore follows) rest in
       rw (all, ← more) (p .written .table)
+
+-- The list at an absent link.
+pub none-at : (rows : List ℤ) (item : ℕ) → item ≡ 0 → listAt rows item ≡ none
+none-at rows zero h = refl
+none-at rows (suc item) h = absurd (omega arith)
 
 -- ---- the two loops: the tests of a switch, and the code of a list
 
 module _ (S : ℕ) (rows : List ℤ) (list label base : ℕ) (out₀ : List ℤ) {out : List ℤ} {item from n : ℕ} (source : Source rows) (some : item ≡ 0 → ⊥) where
-  pub tests-step : (x : Expression) (u : ℕ) → expressionRows x ≡ 1 → Progress true (caseTests S x u) (λ is. 11 * cases is) rows list label base out₀ out item from n
+  pub tests-step : (x : Expression) (u : ℕ) → expressionRows x ≡ 1 → Progress (listAt rows) itemsLabels true (caseTests S x u) (λ is. 11 * cases is) rows list label base out₀ out item from n
       → (next k m : ℕ) (out2 : List ℤ) → next ≡ numberAt rows item 5 → k ≡ itemLabels (itemsAt rows item) → m ≡ 11 * itemCases (itemsAt rows item)
       → out2 ≡ over (emitItems true (itemTest S x u (itemsAt rows item) from) (base + n)) (part n out) → length out2 ≡ length (part n out)
-      → Progress true (caseTests S x u) (λ is. 11 * cases is) rows list label base out₀ (back-in n out out2) next (from + k) (n + m)
+      → Progress (listAt rows) itemsLabels true (caseTests S x u) (λ is. 11 * cases is) rows list label base out₀ (back-in n out out2) next (from + k) (n + m)
   tests-step x u one p next k m out2 e ek em t h =
       let inside = p .inside in
       let first = first-of rows item source inside in
       let same : listAt rows item ≡ itemsAt rows item = some-list rows item (omega arith) in
       rw (e, ek, em) (
-      step true (caseTests S x u) (λ is. 11 * cases is) rows list label base out₀ p (numberAt rows item 5) (itemLabels (itemsAt rows item)) (11 * itemCases (itemsAt rows item))
+      step (listAt rows) itemsLabels true (caseTests S x u) (λ is. 11 * cases is) rows list label base out₀ p (numberAt rows item 5) (itemLabels (itemsAt rows item)) (11 * itemCases (itemsAt rows item))
       (itemTest S x u (itemsAt rows item) from) out2
       (next-inside rows item source inside) (le-of-lt (next-less rows item (numberAt rows item 5) source inside some refl))
       (ap (λ is. caseTests S x u is from) same ∙ first-tests S first x u from)
@@ -221,11 +225,11 @@ module _ (S : ℕ) (rows : List ℤ) (list label base : ℕ) (out₀ : List ℤ)
       h
       )
 
-  pub items-step : (follows : Bool) (x : Exits) → Progress follows (λ is. itemsCode S is x) itemsSize rows list label base out₀ out item from n
+  pub items-step : (follows : Bool) (x : Exits) → Progress (listAt rows) itemsLabels follows (λ is. itemsCode S is x) itemsSize rows list label base out₀ out item from n
       → (next k m : ℕ) (f : Bool) (out2 : List ℤ) → next ≡ numberAt rows item 5 → k ≡ itemLabels (itemsAt rows item) → m ≡ itemSize (itemsAt rows item)
       → f ≡ moreRows follows (itemsSize (listAt rows next))
       → out2 ≡ over (emitItems f (itemCode S (itemsAt rows item) x from) (base + n)) (part n out) → length out2 ≡ length (part n out)
-      → Progress follows (λ is. itemsCode S is x) itemsSize rows list label base out₀ (back-in n out out2) next (from + k) (n + m)
+      → Progress (listAt rows) itemsLabels follows (λ is. itemsCode S is x) itemsSize rows list label base out₀ (back-in n out out2) next (from + k) (n + m)
   items-step follows x p next k m f out2 e ek em ef t h =
       let inside = p .inside in
       let first = first-of rows item source inside in
@@ -234,7 +238,7 @@ module _ (S : ℕ) (rows : List ℤ) (list label base : ℕ) (out₀ : List ℤ)
       let more : f ≡ orMore follows (itemsCode S rest x (from + itemLabels (itemsAt rows item))) =
       ef ∙ ap (λ i. moreRows follows (itemsSize (listAt rows i))) e ∙ more-rows follows (itemsCode S rest x (from + itemLabels (itemsAt rows item))) (itemsSize rest) (rows-items S rest x (from + itemLabels (itemsAt rows item))) in
       rw (e, ek, em) (
-      step follows (λ is. itemsCode S is x) itemsSize rows list label base out₀ p (numberAt rows item 5) (itemLabels (itemsAt rows item)) (itemSize (itemsAt rows item))
+      step (listAt rows) itemsLabels follows (λ is. itemsCode S is x) itemsSize rows list label base out₀ p (numberAt rows item 5) (itemLabels (itemsAt rows item)) (itemSize (itemsAt rows item))
       (itemCode S (itemsAt rows item) x from) out2
       (next-inside rows item source inside) (le-of-lt (next-less rows item (numberAt rows item 5) source inside some refl))
       (ap (λ is. itemsCode S is x from) same ∙ first-code S first x from)

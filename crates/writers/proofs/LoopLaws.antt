@@ -132,7 +132,7 @@ module _ (S : ℕ) where
         more-append false T (B ⧺ E) ∙ ap (λ (b : Bool). orMore b T) (more-append false B E ∙ more-true B) ∙ more-true T
 
   -- The rows of a loop, whose round is not empty.
-  loop-words : (R : Items) (base round number : ℕ) (follows : Bool) → itemsRows R ≡ round → orMore false R ≡ true
+  pub loop-words : (R : Items) (base round number : ℕ) (follows : Bool) → itemsRows R ≡ round → orMore false R ≡ true
       → (loopHead base round ++ emitItems false R (base + 3)) ++ emitItems follows (label number here none) (base + 3 + round) ≡ emitItems follows (loopCode S R number) base
   unfolding emitExpression emitStatement expressionRows statementRows
   loop-words R base round number follows size some =

@@ -9,18 +9,22 @@ use Rattle.words.specs.Table.{rowCount, numberAt}
 use Rattle.words.specs.Kinds.{kindAt, isLink, statementFields, kindRow, sortIn}
 use Rattle.words.specs.declared.Kind.the-variants.{OfStatement}
 use Rattle.words.specs.declared.StatementKind.the-variants.{Block}
-use Rattle.language.specs.Trees.{Statement, empty, express, block, ifThen, ifElse, while, doWhile, for, switch, break, continue, goto, Items, none, _then_, _here_}
+use Rattle.language.specs.Trees.{Statement, empty, express, block, ifThen, ifElse, while, doWhile, for, switch, break, continue, goto, guardedIf, guardedDo, abort, Arms, noArm, arm, Items, none, _then_, _here_}
 use Rattle.language.specs.Decode.{listAt}
 use Rattle.language.specs.Program.{contents}
 use Rattle.language.specs.SoundLaws.{optional-link-of}
-use Rattle.translation.specs.Translate.{labels, itemsLabels, exits, itemsCode}
-use Rattle.translation.specs.TranslateSize.{statementSize, itemsSize}
+use Rattle.translation.specs.Translate.{roundsLabels, labels, armsLabels, itemsLabels, exits, itemsCode}
+use Rattle.translation.specs.TranslateSize.{roundsRows, statementSize, armsSize, itemsSize}
 use Rattle.emission.specs.Emission.{emitStatement, emitItems, emit}
 use Rattle.shapes.specs.Source.{Source}
 use Rattle.words.specs.Over.{over}
 use Rattle.writers.specs.Program.{kernelProgram}
 
 -- Every label has a row.
+rounds-labels-small : (arms : Arms) → roundsLabels arms ≤ roundsRows arms
+rounds-labels-small noArm = omega arith
+rounds-labels-small (arm e s arms) = omega arith
+
 mutual
   unfolding labels statementSize
 
@@ -37,6 +41,13 @@ mutual
   labels-small break = omega arith
   labels-small continue = omega arith
   labels-small (goto l) = omega arith
+  labels-small (guardedIf arms) = omega (arith, arms-labels-small arms)
+  labels-small (guardedDo arms) = omega (arith, rounds-labels-small arms, arms-labels-small arms)
+  labels-small abort = omega arith
+
+  arms-labels-small : (arms : Arms) → armsLabels arms ≤ armsSize arms
+  arms-labels-small noArm = omega arith
+  arms-labels-small (arm e s arms) = omega (arith, labels-small s, arms-labels-small arms)
 
   pub list-labels-small : (is : Items) → itemsLabels is ≤ itemsSize is
   list-labels-small none = omega arith

@@ -6,14 +6,14 @@ use Prim.Native.Nat.{ℕ, zero, suc, _+_, _*_, _≤_, _<_}
 use native.Mathlib.Omega.{arith}
 use lib.IntN.{ℤ, pos}
 use Rattle.words.specs.Word.{pick}
-use Rattle.language.specs.Trees.{Expression, Part, absent, present, default, label, Statement, empty, express, block, ifThen, ifElse, while, doWhile, for, switch, break, continue, goto, Items, none, _then_, _here_, _⧺_}
+use Rattle.language.specs.Trees.{Expression, Part, absent, present, default, label, Statement, empty, express, block, ifThen, ifElse, while, doWhile, for, switch, break, continue, goto, guardedIf, guardedDo, abort, Arms, noArm, arm, Items, none, _then_, _here_, _⧺_}
 use Rattle.language.specs.Sizes.{statementRows, itemsRows}
 use Rattle.language.specs.TreeLaws.{append-none, append-append, statement-some}
 use Rattle.language.specs.Decode.{expressionAt, ifOf, statementAt, partAt}
 use Rattle.translation.specs.declared.Use.{Use}
 use Rattle.translation.specs.declared.Use.the-variants.{Dropped as dropped, Wanted as wanted}
 use Rattle.translation.specs.Translate.{Atom, number as constantAtom, top, atomOf, taken, atom, labels, labelOf, choosing, orEmpty, operandCode, partCode, testCode, loopCode, caseTests, expressionCode, Exits, exits, statementCode, itemsCode}
-use Rattle.translation.specs.TranslateSize.{expressionSize, operandSize, partSize, cases, statementSize, itemsSize}
+use Rattle.translation.specs.TranslateSize.{expressionSize, operandSize, partSize, cases, roundsRows, statementSize, itemsSize}
 use Rattle.translation.specs.TranslateRows.{rows-expression, rows-cases, rows-statement, rows-items}
 use Rattle.emission.specs.Emission.{rowOf, listLink, emitExpression, emitStatement, emitItems}
 use Rattle.emission.specs.EmissionLaws.{emit-append, length-expression, length-statement}
@@ -97,6 +97,10 @@ pub alone : (s : Statement) (follows : Bool) (base : ℕ) (l : List ℤ) {n : �
     → m ≡ over (emitItems follows (s then none) base) l
 alone s follows base l {n} size put = reworded _ put (ap (λ (k : ℕ). emitStatement s base (pick follows (base + k) 0)) (sym size) ∙ sym (one-item follows s base))
 
+rounds-some : (arms : Arms) → 1 ≤ roundsRows arms
+rounds-some noArm = omega arith
+rounds-some (arm e s arms) = omega arith
+
 pub statement-size-some : (s : Statement) → 1 ≤ statementSize s
 unfolding statementSize
 statement-size-some empty = omega arith
@@ -111,6 +115,9 @@ statement-size-some (switch e is) = omega arith
 statement-size-some break = omega arith
 statement-size-some continue = omega arith
 statement-size-some (goto l) = omega arith
+statement-size-some (guardedIf arms) = omega arith
+statement-size-some (guardedDo arms) = omega (arith, rounds-some arms)
+statement-size-some abort = omega arith
 
 module _ (S : ℕ) where
   -- A block of a list.

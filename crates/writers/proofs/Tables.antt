@@ -1,4 +1,4 @@
--- Tables: what the table of measures says of statements and lists whose code is within the limits; and the label of a list's default.
+-- Tables: what the table of measures says of statements, lists and arms whose code is within the limits; and the label of a list's default.
 use mathlib.Core.Path.{_≡_, refl, _∙_}
 use mathlib.Core.List.{List}
 use Prim.Native.Nat.{ℕ, zero, suc, _+_, _≤_, _<_}
@@ -6,12 +6,12 @@ use native.Mathlib.Omega.{arith}
 use lib.IntN.{ℤ}
 use Rattle.words.specs.Table.{rowCount}
 use Rattle.language.specs.Trees.{case, default, label, sameMark, Items, none, _then_, _here_}
-use Rattle.language.specs.Decode.{statementAt, listAt}
-use Rattle.translation.specs.Translate.{labels, itemsLabels, labelOf}
-use Rattle.translation.specs.TranslateSize.{statementSize, itemsSize, cases}
+use Rattle.language.specs.Decode.{statementAt, listAt, armListAt}
+use Rattle.translation.specs.Translate.{labels, armsLabels, itemsLabels, labelOf}
+use Rattle.translation.specs.TranslateSize.{statementSize, armsSize, itemsSize, cases}
 use Rattle.shapes.specs.Shapes.{OptionalOnward}
-use Rattle.measures.specs.Measures.{width, pastLabels, defaultPlace, statementRowsSlot, statementLabelsSlot, listRowsSlot, listCasesSlot, listDefaultSlot, slot, slotAt, SlotAsks, Measured, MeasuredFrom}
-use Rattle.measures.specs.MeasureLaws.{limited-small, list-rows, list-cases, list-default, slot-asks}
+use Rattle.measures.specs.Measures.{width, pastLabels, defaultPlace, statementRowsSlot, statementLabelsSlot, listRowsSlot, listCasesSlot, listDefaultSlot, armsRowsSlot, armsLabelsSlot, slot, slotAt, SlotAsks, Measured, MeasuredFrom}
+use Rattle.measures.specs.MeasureLaws.{limited-small, list-rows, list-cases, list-default, arms-rows, arms-labels, slot-asks}
 
 -- ---- the label of a list's default, from its place
 
@@ -76,6 +76,12 @@ module _ (rows : List ℤ) (table : List ℕ) (measured : Measured rows table) w
 
   pub cases-of-list : (list : ℕ) → list < rowCount rows → cases (listAt rows list) ≤ 40980 → slotAt table list listCasesSlot ≡ cases (listAt rows list)
   cases-of-list list inside h = list-cases rows table later-measured list (as-link list inside) ∙ limited-small _ (omega arith)
+
+  pub rows-of-arms : (arms : ℕ) → arms < rowCount rows → armsSize (armListAt rows arms) ≤ 40980 → slotAt table arms armsRowsSlot ≡ armsSize (armListAt rows arms)
+  rows-of-arms arms inside h = arms-rows rows table later-measured arms (as-link arms inside) ∙ limited-small _ (omega arith)
+
+  pub labels-of-arms : (arms : ℕ) → arms < rowCount rows → armsLabels (armListAt rows arms) ≤ 65535 → slotAt table arms armsLabelsSlot ≡ armsLabels (armListAt rows arms)
+  labels-of-arms arms inside h = arms-labels rows table later-measured arms (as-link arms inside) ∙ limited-small _ (omega arith)
 
   pub default-of-list : (list : ℕ) → list < rowCount rows → itemsLabels (listAt rows list) ≤ 65535 → slotAt table list listDefaultSlot ≡ defaultPlace (listAt rows list)
   default-of-list list inside h = list-default rows table later-measured list (as-link list inside) ∙ limited-small _ (omega (arith, default-most (listAt rows list)))

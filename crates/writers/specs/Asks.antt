@@ -3,15 +3,15 @@ use mathlib.Core.List.{List}
 use Prim.Native.Nat.{ℕ, zero, suc, _+_, _*_, _≤_, _<_, max}
 use lib.IntN.{ℤ}
 use Rattle.words.specs.Table.{rowCount}
-use Rattle.language.specs.Decode.{expressionAt, statementAt, itemsAt, listAt, partAt}
+use Rattle.language.specs.Decode.{expressionAt, statementAt, itemsAt, armsAt, listAt, armListAt, partAt}
 use Rattle.translation.specs.declared.Use.the-variants.{Dropped as dropped, Wanted as wanted}
-use Rattle.translation.specs.Translate.{labels, itemsLabels}
-use Rattle.translation.specs.TranslateSize.{expressionSize, partSize, testSize, statementSize, itemsSize, cases}
+use Rattle.translation.specs.Translate.{roundsLabels, labels, armsLabels, itemsLabels}
+use Rattle.translation.specs.TranslateSize.{expressionSize, partSize, testSize, roundsRows, statementSize, armsSize, itemsSize, cases}
 use Rattle.shapes.specs.Source.{Source}
 use Rattle.leaves.specs.Room.{Room}
 use Rattle.leaves.specs.Atoms.{AtomFits}
 use Rattle.leaves.specs.declared.Atom.{Atom}
-use Rattle.writers.specs.Items.{itemSize, itemLabels, itemCases}
+use Rattle.writers.specs.Items.{itemSize, itemLabels, itemCases, firstOnly}
 use Rattle.writers.specs.declared.Exits.{Exits}
 use Rattle.writers.specs.declared.Loop.{Loop}
 
@@ -132,4 +132,44 @@ pub record SwitchAsks (rows : List ℤ) (selector list : ℕ) (x : Exits) (label
   pub inside : list < rowCount rows
   pub room : Room (2 + expressionSize (expressionAt rows selector) wanted + 11 * cases (listAt rows list) + itemsSize (listAt rows list)) base words
   pub labels-low : label + (1 + itemsLabels (listAt rows list)) ≤ 65535
+  pub exits-low : ExitsLow x
+
+-- ---- guarded forms
+
+-- The arms at a link, their labels from `label` on; each goes to the label `target`.
+pub record ArmsAsk (rows : List ℤ) (arms : ℕ) (x : Exits) (target label base words : ℕ) : Type 0 where
+  pub inside : arms < rowCount rows
+  pub room : Room (armsSize (armListAt rows arms)) base words
+  pub labels-low : label + armsLabels (armListAt rows arms) ≤ 65535
+  pub target-low : target < 65536
+  pub exits-low : ExitsLow x
+
+-- The same of the arm at a row.
+pub record ArmAsks (rows : List ℤ) (row : ℕ) (x : Exits) (target label base words : ℕ) : Type 0 where
+  pub inside : row < rowCount rows
+  pub room : Room (armsSize (firstOnly (armsAt rows row))) base words
+  pub labels-low : label + armsLabels (firstOnly (armsAt rows row)) ≤ 65535
+  pub target-low : target < 65536
+  pub exits-low : ExitsLow x
+
+-- The same of an arm by its links.
+pub record GuardedAsks (rows : List ℤ) (guard body : ℕ) (x : Exits) (target label base words : ℕ) : Type 0 where
+  pub guard-some : 0 < guard
+  pub guard-inside : guard < rowCount rows
+  pub body-inside : body < rowCount rows
+  pub room : Room (5 + expressionSize (expressionAt rows guard) wanted + statementSize (statementAt rows body)) base words
+  pub labels-low : label + labels (statementAt rows body) ≤ 65535
+  pub target-low : target < 65536
+  pub exits-low : ExitsLow x
+
+pub record ChoiceAsks (rows : List ℤ) (arms : ℕ) (x : Exits) (label base words : ℕ) : Type 0 where
+  pub inside : arms < rowCount rows
+  pub room : Room (2 + armsSize (armListAt rows arms)) base words
+  pub labels-low : label + (1 + armsLabels (armListAt rows arms)) ≤ 65535
+  pub exits-low : ExitsLow x
+
+pub record RoundsAsk (rows : List ℤ) (arms : ℕ) (x : Exits) (label base words : ℕ) : Type 0 where
+  pub inside : arms < rowCount rows
+  pub room : Room (roundsRows (armListAt rows arms) + armsSize (armListAt rows arms)) base words
+  pub labels-low : label + (roundsLabels (armListAt rows arms) + armsLabels (armListAt rows arms)) ≤ 65535
   pub exits-low : ExitsLow x

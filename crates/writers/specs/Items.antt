@@ -1,8 +1,8 @@
--- Items: what the first item of a list brings to the code of the list.
+-- Items: what the first item of a list brings to the code of the list, and the first of some arms.
 use Prim.Native.Nat.{ℕ}
 use lib.IntN.{ℤ}
 use Rattle.words.specs.declared.Operator.the-variants.{Equal}
-use Rattle.language.specs.Trees.{Expression, constant, read, binary, case, default, label, goto, Items, none, _then_, _here_}
+use Rattle.language.specs.Trees.{Expression, constant, read, binary, case, default, label, goto, Arms, noArm, arm, Items, none, _then_, _here_}
 use Rattle.translation.specs.Translate.{assigning, choosing, temporary, labels, Exits, statementCode}
 use Rattle.translation.specs.TranslateSize.{statementSize}
 
@@ -40,3 +40,8 @@ abbrev pub itemCode : ℕ → Items → Exits → ℕ → Items
 itemCode S none x l = none
 itemCode S (s then is) x l = statementCode S s x l
 itemCode S (m here is) x l = label l here none
+
+-- The first arm alone.
+abbrev pub firstOnly : Arms → Arms
+firstOnly noArm = noArm
+firstOnly (arm e s arms) = arm e s noArm

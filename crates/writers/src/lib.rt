@@ -1,6 +1,6 @@
 // Writers: the code that writes the rows of a translation. The output table's part from the free row is lent on to each construct's
 // writer; the table of measures says beforehand how many rows each takes.
-pub mod lists; // lists.rt: what statements, items and lists take, by the table of measures
+pub mod lists; // lists.rt: what statements, items, lists and arms take, by the table of measures
 pub mod loops; // loops.rt: the parts of a loop
 pub mod program; // program.rt: the writer of a program
 pub mod statements; // statements.rt: the writers of statements, blocks and lists, which call each other

@@ -1,4 +1,6 @@
-// What statements, items and lists take, by the table of measures: rows, labels, cases.
+// What statements, items, lists and arms take, by the table of measures: rows, labels, cases.
+use measures::ARMS_LABELS;
+use measures::ARMS_ROWS;
 use measures::LIST_CASES;
 use measures::LIST_DEFAULT;
 use measures::LIST_ROWS;
@@ -12,9 +14,9 @@ ghost use mathlib.Core.Path.{_≡_};
 ghost use Prim.Native.Nat.{_≤_, _<_};
 ghost use Rattle.words.specs.Table.{rowCount};
 ghost use Rattle.language.specs.Trees.{default};
-ghost use Rattle.language.specs.Decode.{statementAt, itemsAt, listAt};
-ghost use Rattle.translation.specs.Translate.{labels, labelOf};
-ghost use Rattle.translation.specs.TranslateSize.{statementSize, itemsSize, cases};
+ghost use Rattle.language.specs.Decode.{statementAt, itemsAt, listAt, armListAt};
+ghost use Rattle.translation.specs.Translate.{labels, armsLabels, labelOf};
+ghost use Rattle.translation.specs.TranslateSize.{statementSize, armsSize, itemsSize, cases};
 ghost use Rattle.measures.specs.Measures.{Measured};
 ghost use Rattle.writers.specs.Items.{itemSize, itemLabels};
 ghost use Rattle.writers.specs.Asks.{bodySize, ListInside};
@@ -60,6 +62,22 @@ pub fn list_cases(rows: &[i32], table: &[usize], list: usize) -> usize
     ensures { λ r. ⌜ r ≡ cases (listAt (now (rows .entry)) list) ⌝ }
 {
     measure_at(table, list, LIST_CASES)
+}
+
+// The kernel rows of the arms at a link.
+pub fn arms_size(rows: &[i32], table: &[usize], arms: usize) -> usize
+    requires { ⌜ Measured (now rows) (now table) × (arms < rowCount (now rows)) × (armsSize (armListAt (now rows) arms) ≤ 40980) ⌝ }
+    ensures { λ r. ⌜ r ≡ armsSize (armListAt (now (rows .entry)) arms) ⌝ }
+{
+    measure_at(table, arms, ARMS_ROWS)
+}
+
+// The labels of the arms at a link.
+pub fn arms_labels(rows: &[i32], table: &[usize], arms: usize) -> usize
+    requires { ⌜ Measured (now rows) (now table) × (arms < rowCount (now rows)) × (armsLabels (armListAt (now rows) arms) ≤ 65535) ⌝ }
+    ensures { λ r. ⌜ r ≡ armsLabels (armListAt (now (rows .entry)) arms) ⌝ }
+{
+    measure_at(table, arms, ARMS_LABELS)
 }
 
 // The label of the list's default, or `other`.

@@ -1,6 +1,8 @@
-// The writers of statements, blocks and lists: the functions that call each other, by what they write.
+// The writers of statements, blocks, lists and arms: the functions that call each other, by what they write.
 use super::Exits;
 use super::Loop;
+use super::lists::arms_labels;
+use super::lists::arms_size;
 use super::lists::body_size;
 use super::lists::default_label;
 use super::lists::item_labels;
@@ -23,29 +25,35 @@ use leaves::control::put_goto;
 use leaves::control::put_if;
 use leaves::control::put_label;
 use leaves::control::put_loop;
+use leaves::guarded::put_arm_end;
+use leaves::guarded::put_arm_head;
+use leaves::guarded::put_choice_end;
+use leaves::guarded::put_rounds_end;
 use leaves::rows::behind;
 use leaves::rows::more;
 use measures::holders::taken_at;
+use shapes::ArmShape;
 use shapes::Item;
 use shapes::StatementShape;
+use shapes::rows::arm_at;
 use shapes::rows::item_at;
 use shapes::rows::statement_at;
 use translation::Use;
 use words::table::number_at;
 ghost use mathlib.Core.Path.{_≡_};
-ghost use mathlib.Core.Bool.{false};
+ghost use mathlib.Core.Bool.{true, false};
 ghost use lib.ListN.{length};
 ghost use Rattle.emission.specs.Emission.{emitItems, emitStatement};
-ghost use Rattle.language.specs.Decode.{expressionAt, ifOf, statementAt, itemsAt, listAt};
-ghost use Rattle.language.specs.Trees.{block, none, _then_, switch};
+ghost use Rattle.language.specs.Decode.{expressionAt, ifOf, statementAt, itemsAt, armsAt, listAt, armListAt};
+ghost use Rattle.language.specs.Trees.{block, none, _then_, switch, guardedIf, guardedDo, noArm, arm};
 ghost use Rattle.leaves.specs.Asks.{Writing};
 ghost use Rattle.leaves.specs.Room.{Room};
 ghost use Rattle.translation.specs.declared.Use.the-variants.{Dropped as dropped};
-ghost use Rattle.translation.specs.Translate.{expressionCode, orEmpty, statementCode, itemsCode};
+ghost use Rattle.translation.specs.Translate.{expressionCode, orEmpty, statementCode, armsCode, itemsCode};
 ghost use Rattle.words.specs.Over.{over};
-ghost use Rattle.writers.specs.Asks.{BodyAsks, IfAsks, StatementAsks, ListAsks, BlockAsks, ItemAsks, ExpressAsks, SwitchAsks, roundSize, loopSize, LoopFits};
+ghost use Rattle.writers.specs.Asks.{BodyAsks, IfAsks, StatementAsks, ListAsks, BlockAsks, ItemAsks, ExpressAsks, SwitchAsks, ArmsAsk, ArmAsks, GuardedAsks, ChoiceAsks, RoundsAsk, roundSize, loopSize, LoopFits};
 ghost use Rattle.writers.specs.Code.{exitsOf, bodyCode, roundCode, wholeLoop};
-ghost use Rattle.writers.specs.Items.{itemCode};
+ghost use Rattle.writers.specs.Items.{itemCode, firstOnly};
 
 // An expression statement: one that leaves nothing to do leaves an empty statement.
 fn write_express(
@@ -184,6 +192,29 @@ pub fn write_statement(
         StatementShape::Break => put_goto(exits.breaking, base, follows, out),
         StatementShape::Continue => put_goto(exits.continuing, base, follows, out),
         StatementShape::Goto(_) => put_empty(base, follows, out),
+        StatementShape::GuardedIf(arms) => write_choice(
+            rows,
+            table,
+            store,
+            arms,
+            exits,
+            label,
+            base,
+            follows,
+            out,
+        ),
+        StatementShape::GuardedDo(arms) => write_rounds(
+            rows,
+            table,
+            store,
+            arms,
+            exits,
+            label,
+            base,
+            follows,
+            out,
+        ),
+        StatementShape::Abort => put_empty(base, follows, out),
     }
 }
 
@@ -422,6 +453,173 @@ fn write_switch(
         &mut out[6 * i..],
     );
     put_label(label, base + m, follows, &mut out[6 * m..]);
+}
+
+// ---- guarded forms
+
+// A guarded if: its arms, an abort, and the label behind it.
+fn write_choice(
+    rows: &[i32],
+    table: &[usize],
+    store: usize,
+    arms: usize,
+    exits: Exits,
+    label: usize,
+    base: usize,
+    follows: bool,
+    out: &mut [i32],
+)
+    requires { ⌜ Writing (now rows) (now table) store × ChoiceAsks (now rows) arms exits label base (length (now out)) ⌝ }
+    ensures { λ _. ⌜ now (out .exit) ≡ over (emitItems follows (statementCode store (guardedIf (armListAt (now (rows .entry)) arms)) (exitsOf exits) label) base) (now (out .entry)) ⌝ }
+{
+    let n = arms_size(rows, table, arms);
+    write_arms(rows, table, store, arms, exits, label, label + 1, base, out);
+    put_choice_end(label, base + n, follows, &mut out[6 * n..]);
+}
+
+// A guarded do: a loop around its arms, and the label behind it; without arms an empty statement.
+fn write_rounds(
+    rows: &[i32],
+    table: &[usize],
+    store: usize,
+    arms: usize,
+    exits: Exits,
+    label: usize,
+    base: usize,
+    follows: bool,
+    out: &mut [i32],
+)
+    requires { ⌜ Writing (now rows) (now table) store × RoundsAsk (now rows) arms exits label base (length (now out)) ⌝ }
+    ensures { λ _. ⌜ now (out .exit) ≡ over (emitItems follows (statementCode store (guardedDo (armListAt (now (rows .entry)) arms)) (exitsOf exits) label) base) (now (out .entry)) ⌝ }
+{
+    let n = arms_size(rows, table, arms);
+    if n == 0 {
+        put_empty(base, follows, out);
+        return;
+    }
+    let m = 3 + n;
+    put_loop(base, n + 2, out);
+    write_arms(
+        rows,
+        table,
+        store,
+        arms,
+        exits,
+        label + 1,
+        label + 2,
+        base + 3,
+        &mut out[18..],
+    );
+    put_rounds_end(label, base + m, follows, &mut out[6 * m..]);
+}
+
+// The arms at a link, one behind the other. Their labels begin at `label`; each goes to the label `target`. More follows.
+fn write_arms(
+    rows: &[i32],
+    table: &[usize],
+    store: usize,
+    arms: usize,
+    exits: Exits,
+    target: usize,
+    label: usize,
+    base: usize,
+    out: &mut [i32],
+)
+    requires { ⌜ Writing (now rows) (now table) store × ArmsAsk (now rows) arms exits target label base (length (now out)) ⌝ }
+    ensures { λ _. ⌜ now (out .exit) ≡ over (emitItems true (armsCode store (armListAt (now (rows .entry)) arms) (exitsOf exits) target label) base) (now (out .entry)) ⌝ }
+{
+    let size = arms_size(rows, table, arms);
+    let last = label + arms_labels(rows, table, arms);
+    let mut arm = arms;
+    let mut from = label;
+    let mut n: usize = 0;
+    while n < size {
+        let next = number_at(rows, arm, 5);
+        write_arm(
+            rows,
+            table,
+            store,
+            arm,
+            exits,
+            target,
+            from,
+            base + n,
+            &mut out[6 * n..],
+        );
+        n = size - arms_size(rows, table, next);
+        from = last - arms_labels(rows, table, next);
+        arm = next;
+    }
+}
+
+// The arm at a row.
+fn write_arm(
+    rows: &[i32],
+    table: &[usize],
+    store: usize,
+    row: usize,
+    exits: Exits,
+    target: usize,
+    label: usize,
+    base: usize,
+    out: &mut [i32],
+)
+    requires { ⌜ Writing (now rows) (now table) store × ArmAsks (now rows) row exits target label base (length (now out)) ⌝ }
+    ensures { λ _. ⌜ now (out .exit) ≡ over (emitItems true (armsCode store (firstOnly (armsAt (now (rows .entry)) row)) (exitsOf exits) target label) base) (now (out .entry)) ⌝ }
+{
+    let shape = arm_at(rows, row);
+    match shape {
+        ArmShape::Arm(guard, body) => write_guarded(
+            rows,
+            table,
+            store,
+            guard,
+            body,
+            exits,
+            target,
+            label,
+            base,
+            out,
+        ),
+        ArmShape::NoArm => {}
+    }
+}
+
+// An arm by its links: its guard; where that is true its block, and on to the label `target`.
+fn write_guarded(
+    rows: &[i32],
+    table: &[usize],
+    store: usize,
+    guard: usize,
+    body: usize,
+    exits: Exits,
+    target: usize,
+    label: usize,
+    base: usize,
+    out: &mut [i32],
+)
+    requires { ⌜ Writing (now rows) (now table) store × GuardedAsks (now rows) guard body exits target label base (length (now out)) ⌝ }
+    ensures { λ _. ⌜ now (out .exit) ≡ over (emitItems true (armsCode store (arm (expressionAt (now (rows .entry)) guard) (statementAt (now (rows .entry)) body) noArm) (exitsOf exits) target label) base) (now (out .entry)) ⌝ }
+{
+    let k = operand_size(rows, table, guard, Use::Wanted);
+    let n = k + 3;
+    let size = statement_size(rows, table, body);
+    let m = n + size;
+    let atom = atom_at(rows, table, store, guard, 0);
+    write_expression(rows, table, store, guard, Use::Wanted, 0, base, true, out);
+    put_arm_head(atom, base + k, size, &mut out[6 * k..]);
+    write_statement(
+        rows,
+        table,
+        store,
+        body,
+        exits,
+        label,
+        base + n,
+        true,
+        &mut out[6 * n..],
+    );
+    put_arm_end(target, &mut out[6 * m..]);
 }
 
 // ---- blocks and lists

@@ -7,16 +7,18 @@ use Rattle.translation.specs.Translate.{atomOf, labels, statementLevels}
 use Rattle.translation.specs.TranslateSize.{statementSize}
 use Rattle.translation.specs.TranslateBounds.{taken-most}
 use Rattle.measures.specs.MeasureLaws.{slot-asks, link-asks}
-use Rattle.measures.proofs.StatementLaws.{absent-link, plain-measured, express-measured, block-measured, if-measured, while-shape, do-shape, for-measured, switch-measured}
+use Rattle.measures.proofs.StatementLaws.{absent-link, plain-measured, express-measured, block-measured, if-measured, while-shape, do-shape, for-measured, switch-measured, guarded-measured, rounds-shape}
 use borrow.Author.Needs.{needs}
 use Rattle.measures.proofs.statements.measured_statement.Statement.{statement}
 use Rattle.measures.proofs.statements.measured_statement.Tie as tie
 use Rattle.measures.proofs.holders.taken_at.Reads as taken-at-reads
 use Rattle.measures.proofs.statements.block_measures.Reads as block-measures-reads
 use Rattle.measures.proofs.statements.express_measures.Reads as express-measures-reads
+use Rattle.measures.proofs.statements.guarded_measures.Reads as guarded-measures-reads
 use Rattle.measures.proofs.statements.if_measures.Reads as if-measures-reads
 use Rattle.measures.proofs.statements.loop_measures.Reads as loop-measures-reads
 use Rattle.measures.proofs.statements.plain_measures.Reads as plain-measures-reads
+use Rattle.measures.proofs.statements.rounds_measures.Reads as rounds-measures-reads
 use Rattle.measures.proofs.statements.switch_measures.Reads as switch-measures-reads
 use Rattle.shapes.proofs.rows.statement_at.Reads as statement-at-reads
 
@@ -92,6 +94,24 @@ enum-told-4 c = search needs
 plain-measures-requires-4 : tie.Need-plain-measures-requires-4
 plain-measures-requires-4 c κs = search needs
 
+enum-known-shape-8 : tie.Need-enum-known-shape-8
+enum-known-shape-8 c = search needs
+
+guarded-measures-requires : tie.Need-guarded-measures-requires
+guarded-measures-requires c κs = (slot-asks (c .before .before .before .before .before .pre .0) ((stated (c .before .before .before .statement-at .ensures) (c .before .shape8 .given .1)) .onward), omega arith, omega arith)
+
+enum-known-shape-9 : tie.Need-enum-known-shape-9
+enum-known-shape-9 c = search needs
+
+rounds-measures-requires : tie.Need-rounds-measures-requires
+rounds-measures-requires c κs = slot-asks (c .before .before .before .before .before .pre .0) ((stated (c .before .before .before .statement-at .ensures) (c .before .shape9 .given .1)) .onward)
+
+enum-told-5 : tie.Need-enum-told-5
+enum-told-5 c = search needs
+
+plain-measures-requires-5 : tie.Need-plain-measures-requires-5
+plain-measures-requires-5 c κs = search needs
+
 returns : tie.Need-returns
 unfolding statementSize statementLevels labels
 returns c = plain-measured (c .before .before .before .before .before .pre .0) (stated (c .before .before .before .statement-at .ensures) (c .before .enum-told .given .1)) refl refl refl (c .plain-measures .ensures)
@@ -129,6 +149,16 @@ returns-11 : tie.Need-returns-11
 unfolding statementSize statementLevels labels
 returns-11 c = plain-measured (c .before .before .before .before .before .pre .0) (stated (c .before .before .before .statement-at .ensures) (c .before .enum-told4 .given .1)) refl refl refl (c .plain-measures4 .ensures)
 
+returns-12 : tie.Need-returns-12
+returns-12 c = guarded-measured (c .before .before .before .before .before .before .pre .0) (stated (c .before .before .before .before .statement-at .ensures) (c .before .before .shape8 .given .1)) (c .guarded-measures .ensures)
+
+returns-13 : tie.Need-returns-13
+returns-13 c = rounds-shape (c .before .before .before .before .before .before .pre .0) (stated (c .before .before .before .before .statement-at .ensures) (c .before .before .shape9 .given .1)) (c .rounds-measures .ensures)
+
+returns-14 : tie.Need-returns-14
+unfolding statementSize statementLevels labels
+returns-14 c = plain-measured (c .before .before .before .before .before .pre .0) (stated (c .before .before .before .statement-at .ensures) (c .before .enum-told5 .given .1)) refl refl refl (c .plain-measures5 .ensures)
+
 pub measured-statement-spec : {M : Type 1} → statement M
 measured-statement-spec =
     tie.close
@@ -157,6 +187,12 @@ measured-statement-spec =
     plain-measures-requires-3
     enum-told-4
     plain-measures-requires-4
+    enum-known-shape-8
+    guarded-measures-requires
+    enum-known-shape-9
+    rounds-measures-requires
+    enum-told-5
+    plain-measures-requires-5
     returns
     returns-2
     returns-3
@@ -167,4 +203,7 @@ measured-statement-spec =
     returns-8
     returns-9
     returns-10
-    returns-11)
+    returns-11
+    returns-12
+    returns-13
+    returns-14)

@@ -1,7 +1,7 @@
 -- The stores of a row's measures.
 use native.Mathlib.Omega.{arith}
 use lib.ListN.{length-set}
-use Rattle.measures.proofs.Stores.{fifteen-stores}
+use Rattle.measures.proofs.Stores.{eighteen-stores}
 use borrow.Author.Needs.{needs}
 use Rattle.measures.proofs.table.set_measures.Statement.{statement}
 use Rattle.measures.proofs.table.set_measures.Tie as tie
@@ -144,11 +144,38 @@ mul-table-15 c = search needs
 slice-write-table-15 : tie.Need-slice-write-table-15
 slice-write-table-15 c = simp length-set (omega arith)
 
+add-table-16 : tie.Need-add-table-16
+add-table-16 c = search needs
+
+mul-table-16 : tie.Need-mul-table-16
+mul-table-16 c = search needs
+
+slice-write-table-16 : tie.Need-slice-write-table-16
+slice-write-table-16 c = simp length-set (omega arith)
+
+add-table-17 : tie.Need-add-table-17
+add-table-17 c = search needs
+
+mul-table-17 : tie.Need-mul-table-17
+mul-table-17 c = search needs
+
+slice-write-table-17 : tie.Need-slice-write-table-17
+slice-write-table-17 c = simp length-set (omega arith)
+
+add-table-18 : tie.Need-add-table-18
+add-table-18 c = search needs
+
+mul-table-18 : tie.Need-mul-table-18
+mul-table-18 c = search needs
+
+slice-write-table-18 : tie.Need-slice-write-table-18
+slice-write-table-18 c = simp length-set (omega arith)
+
 same-length : tie.Need-same-length
 same-length c = simp length-set
 
 returns : tie.Need-returns
-returns c = fifteen-stores _ _ _ _ _ _ _ _ _ _ _ _ _ _ _ _ _ (c .pre)
+returns c = eighteen-stores _ _ _ _ _ _ _ _ _ _ _ _ _ _ _ _ _ _ _ _ (c .pre)
 
 pub set-measures-spec : {M : Type 1} → statement M
 set-measures-spec =
@@ -200,5 +227,14 @@ set-measures-spec =
     add-table-15
     mul-table-15
     slice-write-table-15
+    add-table-16
+    mul-table-16
+    slice-write-table-16
+    add-table-17
+    mul-table-17
+    slice-write-table-17
+    add-table-18
+    mul-table-18
+    slice-write-table-18
     same-length
     returns)

@@ -1,9 +1,11 @@
 -- The tests of a switch: the loop keeps `Progress`, so that what is written is the tests of the items passed.
-use Rattle.writers.proofs.ListLaws.{Progress, start as begin, finish, above, next-less, first-of, some-list, first-cases, first-labels, room-item, tests-step}
+use Rattle.writers.proofs.ListLaws.{Progress, start as begin, finish, none-at, above, next-less, first-of, some-list, first-cases, first-labels, room-item, tests-step}
 use mathlib.Core.Path.{refl, ap}
 use mathlib.Core.Bool.{true}
 use Prim.Native.Nat.{_*_}
 use native.Mathlib.Omega.{arith}
+use Rattle.language.specs.Trees.{Items}
+use Rattle.language.specs.Decode.{listAt}
 use Rattle.translation.specs.Translate.{caseTests, itemsLabels}
 use Rattle.translation.specs.TranslateSize.{cases}
 use Rattle.leaves.specs.Atoms.{atomTree}
@@ -12,13 +14,13 @@ use Rattle.writers.proofs.switches.write_cases.Statement.{statement}
 use Rattle.writers.proofs.switches.write_cases.Tie as tie
 
 abbrev Inv-loop : tie.InvT-loop
-Inv-loop rows table list x store level label base out₀ item₀ target₀ n₀ out item target n = Progress true (caseTests store (atomTree x) level) (λ is. 11 * cases is) rows list label base out₀ out item target n
+Inv-loop rows table list x store level label base out₀ item₀ target₀ n₀ out item target n = Progress (listAt rows) itemsLabels true (caseTests store (atomTree x) level) (λ is. 11 * cases is) rows list label base out₀ out item target n
 
 abbrev μ-loop : tie.MeasureT-loop
 μ-loop rows table list x store level label base out₀ item₀ target₀ n₀ out item target n = above rows item
 
 loop-holds : tie.Need-loop-holds Inv-loop μ-loop
-loop-holds c = begin _ _ _ _ _ _ _ _ (c .before .pre .1 .inside)
+loop-holds c = begin _ _ _ _ _ _ _ _ _ _ (c .before .pre .1 .inside)
 
 add-put-item-test : tie.Need-add-put-item-test Inv-loop μ-loop
 add-put-item-test c = omega (arith, c .before .before .before .pre .1 .room .low, c .before .loop .inv .size-is)
@@ -106,7 +108,10 @@ same-length c = c .before .loop .inv .kept
 
 returns : tie.Need-returns Inv-loop μ-loop
 unfolding caseTests
-returns c = finish _ _ _ _ _ _ _ _ (c .before .loop .inv) (c .loop-test .left) refl
+returns c =
+    let past-loop = c .before .loop in
+    let args = c .before .before .before .args in
+    finish _ _ _ _ _ _ _ _ _ _ (past-loop .inv) (ap (λ (is : Items). caseTests (args .store) (atomTree (args .x)) (args .level) is (past-loop .target)) (none-at (args .rows .now) (past-loop .item) (c .loop-test .left)))
 
 pub write-cases-spec : {M : Type 1} → statement M
 write-cases-spec =

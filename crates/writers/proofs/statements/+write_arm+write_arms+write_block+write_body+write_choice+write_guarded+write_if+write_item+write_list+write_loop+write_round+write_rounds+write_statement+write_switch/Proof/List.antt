@@ -3,18 +3,20 @@ use borrow.Author.Needs.{needs}
 use mathlib.Core.Path.{refl, ap, _∙_}
 use Prim.Native.Nat.{ℕ}
 use native.Mathlib.Omega.{arith}
-use Rattle.translation.specs.Translate.{itemsCode}
+use Rattle.language.specs.Trees.{Items}
+use Rattle.language.specs.Decode.{listAt}
+use Rattle.translation.specs.Translate.{itemsLabels, itemsCode}
 use Rattle.translation.specs.TranslateSize.{itemsSize}
 use Rattle.leaves.specs.Room.{moreRows}
 use Rattle.writers.specs.Code.{exitsOf}
-use Rattle.writers.proofs.ListLaws.{Progress, start as begin, finish, above, above-some, next-less, behind-inside, behind-size, behind-labels, room-item, items-step}
+use Rattle.writers.proofs.ListLaws.{Progress, start as begin, finish, none-at, above, above-some, next-less, behind-inside, behind-size, behind-labels, room-item, items-step}
 use Rattle.writers.proofs.statements.write_list.Reads as reads
-use Rattle.writers.proofs.statements.+write_block+write_body+write_if+write_item+write_list+write_loop+write_round+write_statement+write_switch.Lts-write_list as lts
-use Rattle.writers.proofs.statements.+write_block+write_body+write_if+write_item+write_list+write_loop+write_round+write_statement+write_switch.Proof.Claims.{write-list-claims, write-list-at}
+use Rattle.writers.proofs.statements.+write_arm+write_arms+write_block+write_body+write_choice+write_guarded+write_if+write_item+write_list+write_loop+write_round+write_rounds+write_statement+write_switch.Lts-write_list as lts
+use Rattle.writers.proofs.statements.+write_arm+write_arms+write_block+write_body+write_choice+write_guarded+write_if+write_item+write_list+write_loop+write_round+write_rounds+write_statement+write_switch.Proof.Claims.{write-list-claims, write-list-at}
 
 abbrev pub Inv-loop : lts.InvT-loop
 Inv-loop rows table store list exits label base follows out₀ item₀ from₀ n₀ out item from n =
-    Progress follows (λ is. itemsCode store is (exitsOf exits)) itemsSize rows list label base out₀ out item from n
+    Progress (listAt rows) itemsLabels follows (λ is. itemsCode store is (exitsOf exits)) itemsSize rows list label base out₀ out item from n
 
 abbrev pub μ-loop : lts.MeasureT-loop
 μ-loop rows table store list exits label base follows out₀ item₀ from₀ n₀ out item from n = above rows item
@@ -23,7 +25,7 @@ pub loop-holds : (t : ℕ) → lts.Need-loop-holds (write-list-claims t) (write-
 loop-holds t c =
     let start = c .before in
     let asks = start .pre .1 .1 in
-    begin _ _ _ _ _ _ _ _ (asks .inside)
+    begin _ _ _ _ _ _ _ _ _ _ (asks .inside)
 
 pub number-at-requires : (t : ℕ) → lts.Need-number-at-requires (write-list-claims t) (write-list-at t) reads.Post Inv-loop μ-loop
 number-at-requires t c κs =
@@ -240,4 +242,5 @@ returns t c =
     let past-loop = c .before .loop in
     let progress = past-loop .inv in
     let past-loop-test = c .loop-test in
-    finish _ _ _ _ _ _ _ _ progress (past-loop-test .left) refl
+    let args = c .before .before .before .args in
+    finish _ _ _ _ _ _ _ _ _ _ progress (ap (λ (is : Items). itemsCode (args .store) is (exitsOf (args .exits)) (past-loop .from)) (none-at (args .rows .now) (past-loop .item) (past-loop-test .left)))

@@ -12,8 +12,8 @@ use Rattle.writers.proofs.Tables.{default-low}
 use Rattle.translation.specs.TranslateBounds.{taken-most}
 use Rattle.writers.proofs.StatementLaws.{part-size, switch-done}
 use Rattle.writers.proofs.statements.write_switch.Reads as reads
-use Rattle.writers.proofs.statements.+write_block+write_body+write_if+write_item+write_list+write_loop+write_round+write_statement+write_switch.Lts-write_switch as lts
-use Rattle.writers.proofs.statements.+write_block+write_body+write_if+write_item+write_list+write_loop+write_round+write_statement+write_switch.Proof.Claims.{write-switch-claims, write-switch-at}
+use Rattle.writers.proofs.statements.+write_arm+write_arms+write_block+write_body+write_choice+write_guarded+write_if+write_item+write_list+write_loop+write_round+write_rounds+write_statement+write_switch.Lts-write_switch as lts
+use Rattle.writers.proofs.statements.+write_arm+write_arms+write_block+write_body+write_choice+write_guarded+write_if+write_item+write_list+write_loop+write_round+write_rounds+write_statement+write_switch.Proof.Claims.{write-switch-claims, write-switch-at}
 
 pub operand-size-requires : (t : ℕ) → lts.Need-operand-size-requires (write-switch-claims t) (write-switch-at t) reads.Post
 operand-size-requires t c κs =

@@ -6,8 +6,8 @@ use Rattle.leaves.specs.Chain.{Reach, back-in, room-less}
 use Rattle.writers.proofs.Sequence.{back-length, room-behind}
 use Rattle.writers.proofs.LoopLaws.{loop-done}
 use Rattle.writers.proofs.statements.write_loop.Reads as reads
-use Rattle.writers.proofs.statements.+write_block+write_body+write_if+write_item+write_list+write_loop+write_round+write_statement+write_switch.Lts-write_loop as lts
-use Rattle.writers.proofs.statements.+write_block+write_body+write_if+write_item+write_list+write_loop+write_round+write_statement+write_switch.Proof.Claims.{write-loop-claims, write-loop-at}
+use Rattle.writers.proofs.statements.+write_arm+write_arms+write_block+write_body+write_choice+write_guarded+write_if+write_item+write_list+write_loop+write_round+write_rounds+write_statement+write_switch.Lts-write_loop as lts
+use Rattle.writers.proofs.statements.+write_arm+write_arms+write_block+write_body+write_choice+write_guarded+write_if+write_item+write_list+write_loop+write_round+write_rounds+write_statement+write_switch.Proof.Claims.{write-loop-claims, write-loop-at}
 
 pub operand-size-requires : (t : ℕ) → lts.Need-operand-size-requires (write-loop-claims t) (write-loop-at t) reads.Post
 operand-size-requires t c κs =

@@ -7,8 +7,8 @@ use Rattle.writers.proofs.Sequence.{back-length, room-behind}
 use Rattle.writers.proofs.ListLaws.{above-some}
 use Rattle.writers.proofs.StatementLaws.{body-some, body-labels, body-none, body-done}
 use Rattle.writers.proofs.statements.write_body.Reads as reads
-use Rattle.writers.proofs.statements.+write_block+write_body+write_if+write_item+write_list+write_loop+write_round+write_statement+write_switch.Lts-write_body as lts
-use Rattle.writers.proofs.statements.+write_block+write_body+write_if+write_item+write_list+write_loop+write_round+write_statement+write_switch.Proof.Claims.{write-body-claims, write-body-at}
+use Rattle.writers.proofs.statements.+write_arm+write_arms+write_block+write_body+write_choice+write_guarded+write_if+write_item+write_list+write_loop+write_round+write_rounds+write_statement+write_switch.Lts-write_body as lts
+use Rattle.writers.proofs.statements.+write_arm+write_arms+write_block+write_body+write_choice+write_guarded+write_if+write_item+write_list+write_loop+write_round+write_rounds+write_statement+write_switch.Proof.Claims.{write-body-claims, write-body-at}
 
 pub put-block-requires : (t : ℕ) → lts.Need-put-block-requires (write-body-claims t) (write-body-at t) reads.Post
 put-block-requires t c κs =

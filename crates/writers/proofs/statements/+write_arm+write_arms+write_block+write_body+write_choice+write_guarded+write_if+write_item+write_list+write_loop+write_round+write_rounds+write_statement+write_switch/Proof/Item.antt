@@ -12,8 +12,8 @@ use Rattle.writers.specs.Items.{itemCode}
 use Rattle.writers.specs.Code.{exitsOf}
 use Rattle.writers.proofs.ListLaws.{item-is}
 use Rattle.writers.proofs.statements.write_item.Reads as reads
-use Rattle.writers.proofs.statements.+write_block+write_body+write_if+write_item+write_list+write_loop+write_round+write_statement+write_switch.Lts-write_item as lts
-use Rattle.writers.proofs.statements.+write_block+write_body+write_if+write_item+write_list+write_loop+write_round+write_statement+write_switch.Proof.Claims.{write-item-claims, write-item-at}
+use Rattle.writers.proofs.statements.+write_arm+write_arms+write_block+write_body+write_choice+write_guarded+write_if+write_item+write_list+write_loop+write_round+write_rounds+write_statement+write_switch.Lts-write_item as lts
+use Rattle.writers.proofs.statements.+write_arm+write_arms+write_block+write_body+write_choice+write_guarded+write_if+write_item+write_list+write_loop+write_round+write_rounds+write_statement+write_switch.Proof.Claims.{write-item-claims, write-item-at}
 
 pub item-at-requires : (t : ℕ) → lts.Need-item-at-requires (write-item-claims t) (write-item-at t) reads.Post
 item-at-requires t c κs =

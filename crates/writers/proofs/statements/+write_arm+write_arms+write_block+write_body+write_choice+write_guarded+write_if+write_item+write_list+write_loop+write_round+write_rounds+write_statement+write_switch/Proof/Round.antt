@@ -6,8 +6,8 @@ use Rattle.leaves.specs.Chain.{Reach, back-in, room-less}
 use Rattle.writers.proofs.Sequence.{back-length, room-behind}
 use Rattle.writers.proofs.LoopLaws.{round-done}
 use Rattle.writers.proofs.statements.write_round.Reads as reads
-use Rattle.writers.proofs.statements.+write_block+write_body+write_if+write_item+write_list+write_loop+write_round+write_statement+write_switch.Lts-write_round as lts
-use Rattle.writers.proofs.statements.+write_block+write_body+write_if+write_item+write_list+write_loop+write_round+write_statement+write_switch.Proof.Claims.{write-round-claims, write-round-at}
+use Rattle.writers.proofs.statements.+write_arm+write_arms+write_block+write_body+write_choice+write_guarded+write_if+write_item+write_list+write_loop+write_round+write_rounds+write_statement+write_switch.Lts-write_round as lts
+use Rattle.writers.proofs.statements.+write_arm+write_arms+write_block+write_body+write_choice+write_guarded+write_if+write_item+write_list+write_loop+write_round+write_rounds+write_statement+write_switch.Proof.Claims.{write-round-claims, write-round-at}
 
 pub test-size-requires : (t : ℕ) → lts.Need-test-size-requires (write-round-claims t) (write-round-at t) reads.Post
 test-size-requires t c κs =

@@ -10,8 +10,8 @@ use Rattle.leaves.proofs.Words.{pick-most}
 use Rattle.writers.proofs.Sequence.{back-length, room-behind}
 use Rattle.writers.proofs.StatementLaws.{part-size, body-some, body-labels, if-done}
 use Rattle.writers.proofs.statements.write_if.Reads as reads
-use Rattle.writers.proofs.statements.+write_block+write_body+write_if+write_item+write_list+write_loop+write_round+write_statement+write_switch.Lts-write_if as lts
-use Rattle.writers.proofs.statements.+write_block+write_body+write_if+write_item+write_list+write_loop+write_round+write_statement+write_switch.Proof.Claims.{write-if-claims, write-if-at}
+use Rattle.writers.proofs.statements.+write_arm+write_arms+write_block+write_body+write_choice+write_guarded+write_if+write_item+write_list+write_loop+write_round+write_rounds+write_statement+write_switch.Lts-write_if as lts
+use Rattle.writers.proofs.statements.+write_arm+write_arms+write_block+write_body+write_choice+write_guarded+write_if+write_item+write_list+write_loop+write_round+write_rounds+write_statement+write_switch.Proof.Claims.{write-if-claims, write-if-at}
 
 pub operand-size-requires : (t : ℕ) → lts.Need-operand-size-requires (write-if-claims t) (write-if-at t) reads.Post
 operand-size-requires t c κs =

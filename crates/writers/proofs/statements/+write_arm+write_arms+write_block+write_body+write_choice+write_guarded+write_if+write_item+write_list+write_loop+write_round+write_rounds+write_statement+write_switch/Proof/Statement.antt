@@ -17,8 +17,8 @@ use Rattle.leaves.specs.Chain.{room-less}
 use Rattle.writers.proofs.ListLaws.{above-less, optional-inside}
 use Rattle.writers.proofs.StatementLaws.{line-done, if-size, if-labels, while-size, do-size, for-size, while-code, do-code, for-code}
 use Rattle.writers.proofs.statements.write_statement.Reads as reads
-use Rattle.writers.proofs.statements.+write_block+write_body+write_if+write_item+write_list+write_loop+write_round+write_statement+write_switch.Lts-write_statement as lts
-use Rattle.writers.proofs.statements.+write_block+write_body+write_if+write_item+write_list+write_loop+write_round+write_statement+write_switch.Proof.Claims.{write-statement-claims, write-statement-at}
+use Rattle.writers.proofs.statements.+write_arm+write_arms+write_block+write_body+write_choice+write_guarded+write_if+write_item+write_list+write_loop+write_round+write_rounds+write_statement+write_switch.Lts-write_statement as lts
+use Rattle.writers.proofs.statements.+write_arm+write_arms+write_block+write_body+write_choice+write_guarded+write_if+write_item+write_list+write_loop+write_round+write_rounds+write_statement+write_switch.Proof.Claims.{write-statement-claims, write-statement-at}
 
 pub statement-at-requires : (t : ℕ) → lts.Need-statement-at-requires (write-statement-claims t) (write-statement-at t) reads.Post
 statement-at-requires t c κs =
@@ -279,6 +279,69 @@ put-empty-requires-2 t c κs =
     let asks = start .pre .1 .1 in
     rw (is-goto .is) at (asks .room)
 
+pub enum-known-line-8 : (t : ℕ) → lts.Need-enum-known-line-8 (write-statement-claims t) (write-statement-at t) reads.Post
+enum-known-line-8 t c = search needs
+
+pub write-choice-requires : (t : ℕ) → lts.Need-write-choice-requires (write-statement-claims t) (write-statement-at t) reads.Post
+unfolding statementSize labels
+write-choice-requires t c κs =
+    let start = c .before .before .before .before .before .before in
+    let args = start .args in
+    let rows = args .rows .now in
+    let past-line8 = c .before .before .line8 in
+    let asks = start .pre .1 .1 in
+    let past-statement-at = c .before .before .before .before .statement-at in
+    let is-choice = stated (past-statement-at .ensures) (past-line8 .given .1) in (
+      omega (arith, start .pre .0, above-less (args .rows .now) (args .row) (past-line8 .given .0 .0) (asks .inside) (is-choice .onward)),
+      (
+        start .pre .1 .0,
+        record {
+          inside = optional-inside (args .rows .now) (args .row) (past-line8 .given .0 .0) (asks .inside) (is-choice .onward);
+          room = rw (is-choice .is) at (asks .room);
+          labels-low = rw (is-choice .is) at (asks .labels-low);
+          exits-low = asks .exits-low;
+        },
+      ),
+    )
+
+pub enum-known-line-9 : (t : ℕ) → lts.Need-enum-known-line-9 (write-statement-claims t) (write-statement-at t) reads.Post
+enum-known-line-9 t c = search needs
+
+pub write-rounds-requires : (t : ℕ) → lts.Need-write-rounds-requires (write-statement-claims t) (write-statement-at t) reads.Post
+unfolding statementSize labels
+write-rounds-requires t c κs =
+    let start = c .before .before .before .before .before .before in
+    let args = start .args in
+    let rows = args .rows .now in
+    let past-line9 = c .before .before .line9 in
+    let asks = start .pre .1 .1 in
+    let past-statement-at = c .before .before .before .before .statement-at in
+    let is-rounds = stated (past-statement-at .ensures) (past-line9 .given .1) in (
+      omega (arith, start .pre .0, above-less (args .rows .now) (args .row) (past-line9 .given .0 .0) (asks .inside) (is-rounds .onward)),
+      (
+        start .pre .1 .0,
+        record {
+          inside = optional-inside (args .rows .now) (args .row) (past-line9 .given .0 .0) (asks .inside) (is-rounds .onward);
+          room = rw (is-rounds .is) at (asks .room);
+          labels-low = rw (is-rounds .is) at (asks .labels-low);
+          exits-low = asks .exits-low;
+        },
+      ),
+    )
+
+pub enum-told-5 : (t : ℕ) → lts.Need-enum-told-5 (write-statement-claims t) (write-statement-at t) reads.Post
+enum-told-5 t c = search needs
+
+pub put-empty-requires-3 : (t : ℕ) → lts.Need-put-empty-requires-3 (write-statement-claims t) (write-statement-at t) reads.Post
+unfolding statementSize
+put-empty-requires-3 t c κs =
+    let past-statement-at = c .before .before .before .statement-at in
+    let past-enum-told5 = c .before .enum-told5 in
+    let is-abort = stated (past-statement-at .ensures) (past-enum-told5 .given .1) in
+    let start = c .before .before .before .before .before in
+    let asks = start .pre .1 .1 in
+    rw (is-abort .is) at (asks .room)
+
 pub same-length : (t : ℕ) → lts.Need-same-length (write-statement-claims t) (write-statement-at t) reads.Post
 same-length t c = c .before .put-empty .kept .1 .1 .0
 
@@ -430,3 +493,43 @@ returns-11 t c =
     let is-goto = stated (past-statement-at .ensures) (past-enum-told4 .given .1) in
     let past-put-empty2 = c .before .put-empty2 in
     line-done (args .store) (exitsOf (args .exits)) (args .label) (args .base) (args .follows) (args .out .now) is-goto (past-put-empty2 .ensures)
+
+pub same-length-12 : (t : ℕ) → lts.Need-same-length-12 (write-statement-claims t) (write-statement-at t) reads.Post
+same-length-12 t c = c .before .write-choice .kept .1 .1 .1 .1 .1 .1 .1 .1 .0
+
+pub returns-12 : (t : ℕ) → lts.Need-returns-12 (write-statement-claims t) (write-statement-at t) reads.Post
+returns-12 t c =
+    let start = c .before .before .before .before .before .before .before .before in
+    let args = start .args in
+    let past-statement-at = c .before .before .before .before .before .before .statement-at in
+    let past-line8 = c .before .before .before .before .line8 in
+    let is-choice = stated (past-statement-at .ensures) (past-line8 .given .1) in
+    let past-write-choice = c .before .write-choice in
+    line-done (args .store) (exitsOf (args .exits)) (args .label) (args .base) (args .follows) (args .out .now) is-choice (past-write-choice .ensures)
+
+pub same-length-13 : (t : ℕ) → lts.Need-same-length-13 (write-statement-claims t) (write-statement-at t) reads.Post
+same-length-13 t c = c .before .write-rounds .kept .1 .1 .1 .1 .1 .1 .1 .1 .0
+
+pub returns-13 : (t : ℕ) → lts.Need-returns-13 (write-statement-claims t) (write-statement-at t) reads.Post
+returns-13 t c =
+    let start = c .before .before .before .before .before .before .before .before in
+    let args = start .args in
+    let past-statement-at = c .before .before .before .before .before .before .statement-at in
+    let past-line9 = c .before .before .before .before .line9 in
+    let is-rounds = stated (past-statement-at .ensures) (past-line9 .given .1) in
+    let past-write-rounds = c .before .write-rounds in
+    line-done (args .store) (exitsOf (args .exits)) (args .label) (args .base) (args .follows) (args .out .now) is-rounds (past-write-rounds .ensures)
+
+pub same-length-14 : (t : ℕ) → lts.Need-same-length-14 (write-statement-claims t) (write-statement-at t) reads.Post
+same-length-14 t c = c .before .put-empty3 .kept .1 .1 .0
+
+pub returns-14 : (t : ℕ) → lts.Need-returns-14 (write-statement-claims t) (write-statement-at t) reads.Post
+unfolding statementCode
+returns-14 t c =
+    let start = c .before .before .before .before .before .before .before in
+    let args = start .args in
+    let past-statement-at = c .before .before .before .before .before .statement-at in
+    let past-enum-told5 = c .before .before .before .enum-told5 in
+    let is-abort = stated (past-statement-at .ensures) (past-enum-told5 .given .1) in
+    let past-put-empty3 = c .before .put-empty3 in
+    line-done (args .store) (exitsOf (args .exits)) (args .label) (args .base) (args .follows) (args .out .now) is-abort (past-put-empty3 .ensures)

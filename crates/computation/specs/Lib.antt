@@ -16,3 +16,5 @@ pub mod WritesMadeLaws
 pub mod Unlimited
 -- The same runs, told by the steps that are left: what a machine carries.
 pub mod Remaining
+-- Agreement: two states that agree on a set of words, and computations that do not tell them apart.
+pub mod Agreement

@@ -59,6 +59,11 @@ pub mod CopyLaws
 -- ---- laws: values straight to their place
 -- No program gets more rows or temporaries by it.
 pub mod Savings
+-- ---- laws: temporaries do not show
+-- Blind code: kernel code that reads no temporary before it has written it.
+pub mod BlindCode
+-- Every translation is such code: two runs that start alike but for the temporaries show the same.
+pub mod TranslateBlind
 -- ---- laws: examples
 -- Document 01's program, a switch, both guarded forms, with their translations.
 pub mod WorkedExamples

@@ -1,5 +1,6 @@
--- The theorem: every accepted program has a kernel form that is legal, shares its fate and makes the same writes. From the theorems about
--- trees (`translation-preserves`, `translation-writes`, `translated-legal`), since decode reads both tables.
+-- The theorem: every accepted program has a kernel form that is legal, shares its fate, makes the same writes and hides its temporaries. From
+-- the theorems about trees (`translation-preserves`, `translation-writes`, `temporaries-hidden`, `translated-legal`), since decode reads both
+-- tables.
 use mathlib.Core.Path.{_≡_, refl, ap, _∙_}
 use mathlib.Core.List.{List, _++_}
 use Prim.Native.Nat.{ℕ, _+_, _*_, _≤_}
@@ -24,6 +25,7 @@ use Rattle.language.specs.WellFormed.{SourceTree}
 use Rattle.translation.specs.Translate.{translate, temporaries}
 use Rattle.translation.specs.TranslatePreserves.{SameWords, SharedFate as TreesShareFate, translation-preserves}
 use Rattle.translation.specs.SameWrites.{SameWrites as TreesWriteAlike, translation-writes}
+use Rattle.translation.specs.TranslateBlind.{temporaries-hidden}
 use Rattle.translation.specs.TranslateBounds.{rows-bound, temporaries-bound}
 use Rattle.translation.specs.Copies.{statementCopies, ownCopies, ownResults, total}
 use Rattle.translation.specs.CopyLaws.{copies-exactly}
@@ -36,6 +38,7 @@ use Rattle.kernel_check.specs.Accepts.{accepts-legal as kernel-accepts}
 use Rattle.accepted.specs.Source.{legal-block, legal-tree, legal-rows, legal-depth}
 use Rattle.fate.specs.Fate.{SourceEnds, KernelEnds, SharedFate}
 use Rattle.fate.specs.SameWrites.{SameWrites}
+use Rattle.fate.specs.Views.{HidesTemporaries}
 use Rattle.fate.specs.KernelForms.{kernelHeaderOf, kernelRowsOf, KernelFormOf, HasKernelForm}
 
 -- ---- ended is settled
@@ -155,6 +158,13 @@ module _ (header rows : List ℤ) (legal : Legal header rows) where
       source-follows = λ N. record { within = tree-writes .sourceSteps N; as-first = rw (kernel-under N, source-under (tree-writes .sourceSteps N)) (tree-writes .source-follows N) };
     }
 
+  hides-temporaries : HidesTemporaries (kernelHeaderOf header rows) (kernelRowsOf header rows)
+  hides-temporaries store temporaryWords others words are others-are budget =
+      let all-words : length store ≡ storeSize L = rw kernel-layout at words in
+      let h = temporaries-hidden L program tree store all-words (steps budget) temporaryWords others (omega (arith, are, others-are)) in
+      let cells : take (length store) ((final (kernel store temporaryWords all-words are budget)) .store) ≡ take (length store) ((final (kernel store others all-words others-are budget)) .store) = rw all-words (h .same-words) in
+      rw (kernel-run store temporaryWords all-words are budget, kernel-run store others all-words others-are budget, h .same-ending, cells)
+
   copies-allowed : statementCopies (storeSize L) (decode (kernelRowsOf header rows)) ≡ total ownCopies program + total ownResults program
   unfolding statementCopies
   copies-allowed = ap (statementCopies (storeSize L)) kernel-tree ∙ copies-exactly L program tree
@@ -165,11 +175,12 @@ module _ (header rows : List ℤ) (legal : Legal header rows) where
     accepted = kernel-accepts (kernelHeaderOf header rows) (kernelRowsOf header rows) .1 (translated-legal header program (legal .header-fits) tree few shallow);
     share-fate = λ store temporaryWords s t. shared-fate store temporaryWords s t;
     write-alike = λ store temporaryWords s t. same-writes store temporaryWords s t;
+    hides-temporaries = hides-temporaries;
     few-rows = omega (arith, kernel-rows, rows-bound L program, source-rows);
     few-temporaries = omega (arith, kernel-temporaries, temporaries-bound program, source-rows);
     copies-allowed = copies-allowed;
   }
 
--- Demands 2 and 3 and Change 14, for every accepted program.
+-- Demands 2 and 3 and Changes 9 and 14, for every accepted program.
 pub has-kernel-form : (header rows : List ℤ) → HasKernelForm header rows
 has-kernel-form header rows e = kernel-form-of header rows (source-accepts header rows .0 e)

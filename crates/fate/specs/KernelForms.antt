@@ -17,6 +17,7 @@ use Rattle.source_check.specs.Refusal.{refusal as sourceRefusal}
 use Rattle.kernel_check.specs.Refusal.{refusal as kernelRefusal}
 use Rattle.fate.specs.Fate.{ShareFate}
 use Rattle.fate.specs.SameWrites.{WriteAlike}
+use Rattle.fate.specs.Views.{HidesTemporaries}
 
 -- The rewriting of docs/REWRITING.md, written out: V, T, the array lengths; and the rows of the translation.
 unfoldable pub kernelHeaderOf : List ℤ → List ℤ → List ℤ
@@ -33,6 +34,8 @@ pub record KernelFormOf (header rows kernelHeader kernelRows : List ℤ) : Type 
   pub share-fate : ShareFate header rows kernelHeader kernelRows
   -- Change 14: the same writes, also where the runs never end.
   pub write-alike : WriteAlike header rows kernelHeader kernelRows
+  -- Change 9: what stands in the temporaries at the start does not show.
+  pub hides-temporaries : HidesTemporaries kernelHeader kernelRows
   -- "From n source rows come at most 20×n+20 kernel rows and at most 4×n temporaries."
   pub few-rows : rowCount kernelRows ≤ 20 * rowCount rows + 20
   pub few-temporaries : temporariesOf Kernel kernelHeader ≤ 4 * rowCount rows

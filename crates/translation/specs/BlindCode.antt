@@ -191,5 +191,9 @@ module _ (L : Layout) (S : ℕ) where
 
   pub items-append : {P Q R : Words} (xs ys : Items) → BlindItems P Q xs → BlindItems Q R ys → BlindItems P R (xs ⧺ ys)
   unfolding run
-  items-append xs ys b c = record { blind = λ signal. record { same = λ l σ τ g.
-      rw (run-append l xs ys signal σ, run-append l xs ys signal τ) (blind-then Seen (b .blind signal) (λ u. c .blind u) .same l σ τ g) } }
+  items-append xs ys b c = record {
+    blind = λ signal. record {
+      same = λ l σ τ g.
+          rw (run-append l xs ys signal σ, run-append l xs ys signal τ) (blind-then Seen (b .blind signal) (λ u. c .blind u) .same l σ τ g);
+    };
+  }

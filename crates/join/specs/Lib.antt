@@ -3,8 +3,16 @@
 -- ---- definitions
 -- Join: the rows of a join, and what it refuses.
 pub mod Join
+-- Followed: one run behind another, on the steps left.
+pub mod Followed
 -- Moved: a table that holds another one's rows at other places.
 pub mod Moved
 -- ---- laws
 -- MovedTrees: the trees at the new place of a row are those at its old one.
 pub mod MovedTrees
+-- JoinedRows: the joined rows hold the first's and the second's.
+pub mod JoinedRows
+-- JoinedRun: the run of two trees in a block is the one followed by the other, at every budget.
+pub mod JoinedRun
+-- JoinedProgram: the tree of the joined rows, and their run at every budget.
+pub mod JoinedProgram

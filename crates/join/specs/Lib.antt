@@ -5,6 +5,8 @@
 pub mod Join
 -- Followed: one run behind another, on the steps left.
 pub mod Followed
+-- JoinFate: how a join ends, with no limit on steps, in the request's words.
+pub mod JoinFate
 -- Moved: a table that holds another one's rows at other places.
 pub mod Moved
 -- ---- laws
@@ -16,3 +18,5 @@ pub mod JoinedRows
 pub mod JoinedRun
 -- JoinedProgram: the tree of the joined rows, and their run at every budget.
 pub mod JoinedProgram
+-- JoinFateLaws: the fate of a join, from its run at every budget.
+pub mod JoinFateLaws

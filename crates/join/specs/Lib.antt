@@ -20,3 +20,5 @@ pub mod JoinedRun
 pub mod JoinedProgram
 -- JoinFateLaws: the fate of a join, from its run at every budget.
 pub mod JoinFateLaws
+-- MovedLegal: what legality asks of a row holds at its new place.
+pub mod MovedLegal

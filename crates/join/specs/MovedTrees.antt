@@ -190,6 +190,10 @@ module _ {form : Form} {bounds : Bounds} {joined rows : List ℤ} {ρ : ℕ → 
       go m zero e d = ((λ _. refl), (λ _. e))
       go m (suc l) e d = let up = d (omega arith) .1 in ((λ z. absurd (omega arith)), (λ z. absurd (omega arith)))
 
+  -- so is the next of a row
+  pub next-alike : (row : ℕ) → 0 < row → row < rowCount rows → (numberAt joined (ρ row) 5 ≡ 0) ↔ (numberAt rows row 5 ≡ 0)
+  next-alike row p n = absent-alike row 5 (next-led row p n)
+
   same-words : (row : ℕ) → row < rowCount rows → SameWords (kindAt rows row) (wordAt joined (ρ row)) (wordAt rows row)
   unfolding kindAt sortAt sortOf
   same-words row n field least e = h .stays row field n (omega arith) (omega arith) e

@@ -22,3 +22,5 @@ pub mod JoinedProgram
 pub mod JoinFateLaws
 -- MovedLegal: what legality asks of a row holds at its new place.
 pub mod MovedLegal
+-- JoinedLinks: which word of the joined rows links which row; each row but row 0 is linked once.
+pub mod JoinedLinks

@@ -24,3 +24,5 @@ pub mod JoinFateLaws
 pub mod MovedLegal
 -- JoinedLinks: which word of the joined rows links which row; each row but row 0 is linked once.
 pub mod JoinedLinks
+-- JoinedLegal: the join of two legal programs is legal.
+pub mod JoinedLegal

@@ -86,7 +86,7 @@ module _ (header first second : List ℤ) (legal-first : Legal header first) (le
   plain-first left end e p f =
       let budget : ℕ = left .count + f .budget in
       let enough : runProgram Source header first budget store ≡ left =
-          from-count header first store (e .budget) budget (rw (e .is) (e .not-spent)) (rw (e .is) (omega arith)) ∙ e .is in
+      from-count header first store (e .budget) budget (rw (e .is) (e .not-spent)) (rw (e .is) (omega arith)) ∙ e .is in
       let rest : budget - left .count ≡ f .budget = omega arith in
       record {
         budget = suc budget;

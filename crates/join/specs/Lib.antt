@@ -5,7 +5,7 @@
 pub mod Join
 -- Followed: one run behind another, on the steps left.
 pub mod Followed
--- JoinFate: how a join ends, with no limit on steps, in the request's words.
+-- JoinFate: how a join ends, in the request's words, and all that is promised of one.
 pub mod JoinFate
 -- Moved: a table that holds another one's rows at other places.
 pub mod Moved
@@ -26,3 +26,5 @@ pub mod MovedLegal
 pub mod JoinedLinks
 -- JoinedLegal: the join of two legal programs is legal.
 pub mod JoinedLegal
+-- JoinLaws: what is not refused is joined as promised; the order of a join's own causes; a join worked by hand.
+pub mod JoinLaws

@@ -1,0 +1,112 @@
+-- Laws of joins: what is not refused is joined as promised; the order of a join's own causes; a join worked by hand.
+use mathlib.Core.Path.{_≡_, refl, sym, ap₂, subst}
+use mathlib.Core.Bool.{Bool, true, false, false≢true}
+use mathlib.Core.List.{List, [], _∷_}
+use Prim.Native.Nat.{ℕ, _≤_, _<_}
+use lib.Dec.{leb}
+use lib.IntN.{ℤ, pos}
+use lib.ListN.{length}
+use borrow.Author.Tests.{leb-true}
+use Rattle.words.specs.Word.{natural, sameWord}
+use Rattle.words.specs.Laws.{both, sameWord-equal}
+use Rattle.words.specs.Table.{rowCount, wordAt, numberAt}
+use Rattle.words.specs.Layout.{rowLimit}
+use Rattle.words.specs.Kinds.{kinds, kindIn, kindOf, isLink, kindRow, expressionFields, statementFields, markFields, memberFields, sortIn, sortOf, sortAt}
+use Rattle.words.specs.Links.{link}
+use Rattle.words.specs.Search.{lowestRow}
+use Rattle.words.specs.declared.Form.the-variants.{Source}
+use Rattle.words.specs.declared.Found.the-variants.{At}
+use Rattle.words.specs.declared.Verdict.the-variants.{Accepted, Refused}
+use Rattle.structure.specs.Links.{tooDeep}
+use Rattle.structure.specs.Refusal.{at, unless, _next_}
+use Rattle.structure.specs.RefusalLaws.{next-accepts, at-accepts, unless-accepts}
+use Rattle.source_check.specs.Refusal.{refusal}
+use Rattle.source_check.specs.Legal.{Legal}
+use Rattle.source_check.specs.AcceptsLegal.{accepts-legal}
+use Rattle.join.specs.Join.{movedWord, movedRows, outerBlock, joinedRows, sameHeader, ownRefusal, joinRefusal}
+use Rattle.join.specs.JoinFate.{Joins}
+use Rattle.join.specs.JoinedProgram.{joined-run}
+use Rattle.join.specs.JoinFateLaws.{join-fate}
+use Rattle.join.specs.JoinedLegal.{joined-legal}
+
+-- ---- what is not refused
+
+pub same-header : (header other : List ℤ) → sameHeader header other ≡ true → header ≡ other
+unfolding sameHeader
+same-header [] [] e = refl
+same-header [] (v ∷ vs) e = absurd (false≢true e)
+same-header (w ∷ ws) [] e = absurd (false≢true e)
+same-header (w ∷ ws) (v ∷ vs) e = let parts = both (sameWord w v) (sameHeader ws vs) e in ap₂ _∷_ (sameWord-equal w v (parts .0)) (same-header ws vs (parts .1))
+
+module _ (header first secondHeader second : List ℤ) where
+  abbrev joined : List ℤ
+  joined = joinedRows first second
+
+  pub accepted-joins : (room : ℕ) → joinRefusal header first secondHeader second room ≡ Accepted → Joins header first second joined
+  unfolding joinRefusal ownRefusal
+  accepted-joins room e =
+      let ofFirst = next-accepts (refusal header first) _ e in
+      let ofSecond = next-accepts (refusal secondHeader second) _ (ofFirst .1) in
+      let ofJoin = next-accepts (ownRefusal header first secondHeader second) _ (ofSecond .1) in
+      let headers = next-accepts (unless (sameHeader header secondHeader) 16) _ (ofJoin .0) in
+      let counts = next-accepts (unless (leb (rowCount joined) (rowLimit Source)) 17) _ (headers .1) in
+      let same = same-header header secondHeader (unless-accepts _ 16 (headers .0)) in
+      let few = leb-true (rowCount joined) (rowLimit Source) (unless-accepts _ 17 (counts .0)) in
+      let flat = at-accepts 9 _ (counts .1) in
+      let legal-first = accepts-legal header first .0 (ofFirst .0) in
+      let legal-second : Legal header second = subst (λ (h : List ℤ). Legal h second) (sym same) (accepts-legal secondHeader second .0 (ofSecond .0)) in
+      record {
+        legal = joined-legal header first second legal-first legal-second few flat;
+        runs = joined-run header first second legal-first legal-second;
+        fate = join-fate header first second legal-first legal-second;
+      }
+
+  -- ---- "unequal headers get 16, joined rows over 2,048 get 17 (both place 0), and a join too deep 9 with its joined row"
+
+  pub unequal-headers : sameHeader header secondHeader ≡ false → ownRefusal header first secondHeader second ≡ Refused (record { number = 16; place = 0 })
+  unfolding ownRefusal unless _next_
+  unequal-headers e = rw e
+
+  pub too-many-rows : sameHeader header secondHeader ≡ true → leb (rowCount joined) 2048 ≡ false → ownRefusal header first secondHeader second ≡ Refused (record { number = 17; place = 0 })
+  unfolding ownRefusal unless _next_
+  too-many-rows e n = rw (e, n)
+
+  pub too-deep : (row : ℕ) → sameHeader header secondHeader ≡ true → leb (rowCount joined) 2048 ≡ true → lowestRow joined (tooDeep Source joined) ≡ At row
+      → ownRefusal header first secondHeader second ≡ Refused (record { number = 9; place = row })
+  unfolding ownRefusal unless at _next_
+  too-deep row e n d = rw (e, n, d)
+
+-- ---- a join worked by hand: v0 = 7, and a switch on v0 whose case 7 breaks
+
+assigns : List ℤ
+assigns =
+    pos 42 ∷ pos 1 ∷ pos 0 ∷ pos 0 ∷ pos 0 ∷ pos 0 ∷  -- 0 block
+    pos 41 ∷ pos 2 ∷ pos 0 ∷ pos 0 ∷ pos 0 ∷ pos 0 ∷  -- 1 expression statement
+    pos 21 ∷ pos 3 ∷ pos 4 ∷ pos 0 ∷ pos 0 ∷ pos 0 ∷  -- 2 assign
+    pos 2 ∷ pos 0 ∷ pos 0 ∷ pos 0 ∷ pos 0 ∷ pos 0 ∷  -- 3 variable 0
+    pos 1 ∷ pos 7 ∷ pos 0 ∷ pos 0 ∷ pos 0 ∷ pos 0 ∷  -- 4 constant 7
+    []
+
+switches : List ℤ
+switches =
+    pos 42 ∷ pos 1 ∷ pos 0 ∷ pos 0 ∷ pos 0 ∷ pos 0 ∷  -- 0 block
+    pos 47 ∷ pos 2 ∷ pos 3 ∷ pos 0 ∷ pos 0 ∷ pos 0 ∷  -- 1 switch
+    pos 2 ∷ pos 0 ∷ pos 0 ∷ pos 0 ∷ pos 0 ∷ pos 0 ∷  -- 2 variable 0
+    pos 48 ∷ pos 7 ∷ pos 0 ∷ pos 0 ∷ pos 0 ∷ pos 4 ∷  -- 3 case 7, next 4
+    pos 50 ∷ pos 0 ∷ pos 0 ∷ pos 0 ∷ pos 0 ∷ pos 0 ∷  -- 4 break
+    []
+
+by-hand : joinedRows assigns switches
+    ≡ (pos 42 ∷ pos 1 ∷ pos 0 ∷ pos 0 ∷ pos 0 ∷ pos 0 ∷  -- 0 the new block
+    pos 42 ∷ pos 2 ∷ pos 0 ∷ pos 0 ∷ pos 0 ∷ pos 6 ∷  -- 1 block, next 6
+    pos 41 ∷ pos 3 ∷ pos 0 ∷ pos 0 ∷ pos 0 ∷ pos 0 ∷
+    pos 21 ∷ pos 4 ∷ pos 5 ∷ pos 0 ∷ pos 0 ∷ pos 0 ∷
+    pos 2 ∷ pos 0 ∷ pos 0 ∷ pos 0 ∷ pos 0 ∷ pos 0 ∷
+    pos 1 ∷ pos 7 ∷ pos 0 ∷ pos 0 ∷ pos 0 ∷ pos 0 ∷
+    pos 42 ∷ pos 7 ∷ pos 0 ∷ pos 0 ∷ pos 0 ∷ pos 0 ∷  -- 6 block
+    pos 47 ∷ pos 8 ∷ pos 9 ∷ pos 0 ∷ pos 0 ∷ pos 0 ∷
+    pos 2 ∷ pos 0 ∷ pos 0 ∷ pos 0 ∷ pos 0 ∷ pos 0 ∷
+    pos 48 ∷ pos 7 ∷ pos 0 ∷ pos 0 ∷ pos 0 ∷ pos 10 ∷  -- 9 case 7, next 10
+    pos 50 ∷ pos 0 ∷ pos 0 ∷ pos 0 ∷ pos 0 ∷ pos 0 ∷ [])
+unfolding assigns switches joinedRows movedRows movedWord outerBlock link sortAt sortOf sortIn kindOf kindIn kinds kindRow expressionFields statementFields markFields memberFields isLink numberAt wordAt natural
+by-hand = refl

@@ -138,7 +138,7 @@ natural-is [] h f = absurd (omega arith)
 natural-is (byte ∷ []) h f = refl
 natural-is (byte ∷ (next ∷ bytes)) h f = rw (ne-eqb byte 48 f)
 
-length-some : (n : ℕ) → 1 ≤ length (digits n)
+pub length-some : (n : ℕ) → 1 ≤ length (digits n)
 length-some n =
     by-cases (ltb n 10) (λ e. omega (arith, length-one n (ltb-true n 10 e)))
     (λ e. omega (arith, length-more n (ltb-false n 10 e)))
@@ -147,7 +147,7 @@ natural-zero : natural (digits 0) ≡ some 0
 unfolding natural digits digitsWithin decimal isDigit
 natural-zero = refl
 
-natural-shows : (n : ℕ) → natural (digits n) ≡ some n
+pub natural-shows : (n : ℕ) → natural (digits n) ≡ some n
 natural-shows zero = natural-zero
 natural-shows (suc n) = natural-is (digits (suc n)) (omega (arith, length-some (suc n))) (λ e. omega (arith, head-digits (suc n) (omega arith))) ∙ digits-shows (suc n)
 

@@ -1,0 +1,100 @@
+-- Examples: the page of document 01's program in kernel form, one with every statement, and pages that are none. By computation.
+use mathlib.Core.Path.{_≡_, refl}
+use mathlib.Core.List.{List, [], _∷_, _++_}
+use mathlib.Core.Option.{none, some}
+use Prim.Native.Nat.{ℕ}
+use Prim.Native.String.{String}
+use lib.IntN.{pos, negsuc}
+use Rattle.words.specs.Word.{isWord}
+use Rattle.words.specs.declared.Operator.the-variants.{Add, Subtract, LessOrEqual}
+use Rattle.text_form.specs.Number.{digits, digitsWithin, numberBytes, isDigit, decimal, natural, word, positive, negative, numberOf}
+use Rattle.text_form.specs.Line.{together, linesOf}
+use Rattle.language.specs.Trees.{Expression, constant, read, minus, binary, assign, Place, variable, element, label, Statement, empty, express, block, ifElse, while, goto, abort, Items, none as noItem, _then_, _here_}
+use Rattle.page.specs.Lines.{statementLines, itemsLines, plain, readBefore, readLines}
+use Rattle.page.specs.Page.{ended, name, blanks, parted, rightSet, padded, lineBytes, linesBytes, pageBytes}
+use Rattle.page.specs.Reading.{same, pieces, filled, without, readOperator, readName, readAtom, readPlace, pageLines, readPage}
+use Rattle.page.specs.Texts.{bytesOf, quoted}
+
+abbrev set : Place → Expression → Statement
+set p e = express (assign p e)
+
+-- ---- document 01's program in kernel form: one variable and one array of 3, so S = 4
+
+abbrev worked : Items
+worked =
+    set (variable 0) (constant (pos 2)) then
+    set (variable 4) (read (variable 0)) then
+    set (variable 0) (binary Add (read (variable 4)) (constant (pos 1))) then
+    set (variable 0) (binary Subtract (read (variable 0)) (constant (pos 1))) then
+    set (element 0 (read (variable 0))) (read (variable 4)) then
+    noItem
+
+abbrev workedLines : List String
+workedLines =
+    "    1 v0 = 2;                                                                   " ∷
+    "    2 t0 = v0;                                                                  " ∷
+    "    3 v0 = t0 + 1;                                                              " ∷
+    "    4 v0 = v0 - 1;                                                              " ∷
+    "    5 a0[v0] = t0;                                                              " ∷ []
+
+pub worked-page : pageBytes 4 worked ≡ quoted workedLines
+unfolding quoted bytesOf digits digitsWithin numberBytes statementLines ended name blanks parted rightSet padded lineBytes linesBytes pageBytes
+worked-page = refl
+
+-- ---- every statement: two variables and one array of 3, so S = 5
+
+abbrev every : Items
+every =
+    set (variable 8196) (binary LessOrEqual (constant (negsuc 2147483647)) (constant (negsuc 2147483647))) then
+    while (constant (pos 1)) (block
+    (set (variable 5) (minus (constant (negsuc 4))) then
+    ifElse (read (variable 5)) (block noItem) (block (goto 1 then noItem)) then
+    set (element 0 (read (variable 6))) (read (variable 1)) then
+    set (variable 0) (read (element 0 (constant (pos 2)))) then
+    empty then
+    block (abort then noItem) then
+    label 2 here noItem)) then
+    label 1 here noItem
+
+abbrev everyLines : List String
+everyLines =
+    "    1 t8191 = -2147483648 <= -2147483648;                                       " ∷
+    "    2 while (1) {                                                               " ∷
+    "    3   t0 = - -5;                                                              " ∷
+    "    4   if (t0) {                                                               " ∷
+    "    5   } else {                                                                " ∷
+    "    6     goto L1;                                                              " ∷
+    "    7   }                                                                       " ∷
+    "    8   a0[t1] = v1;                                                            " ∷
+    "    9   v0 = a0[2];                                                             " ∷
+    "   10   ;                                                                       " ∷
+    "   11   {                                                                       " ∷
+    "   12     abort();                                                              " ∷
+    "   13   }                                                                       " ∷
+    "   14   L2:;                                                                    " ∷
+    "   15 }                                                                         " ∷
+    "   16 L1:;                                                                      " ∷ []
+
+pub every-page : pageBytes 5 every ≡ quoted everyLines
+unfolding quoted bytesOf digits digitsWithin numberBytes statementLines ended name blanks parted rightSet padded lineBytes linesBytes pageBytes
+every-page = refl
+
+pub every-read : readPage 5 (quoted everyLines) ≡ some every
+unfolding quoted bytesOf digits digitsWithin numberBytes isDigit decimal natural word positive negative numberOf isWord together linesOf statementLines readBefore readLines ended name blanks parted rightSet padded lineBytes linesBytes pageBytes same pieces filled without readOperator readName readAtom readPlace pageLines readPage
+every-read = refl
+
+-- ---- no pages: a line one column to the right; a block that is not closed
+
+abbrev shifted : List String
+shifted = "    1  v0 = 2;                                                                  " ∷ []
+
+abbrev unclosed : List String
+unclosed = "    1 {                                                                         " ∷ []
+
+pub shifted-refused : readPage 4 (quoted shifted) ≡ none
+unfolding quoted bytesOf digits digitsWithin numberBytes isDigit decimal natural word positive negative numberOf isWord together linesOf statementLines readBefore readLines ended name blanks parted rightSet padded lineBytes linesBytes pageBytes same pieces filled without readOperator readName readAtom readPlace pageLines readPage
+shifted-refused = refl
+
+pub unclosed-refused : readPage 4 (quoted unclosed) ≡ none
+unfolding quoted bytesOf isDigit decimal natural together linesOf readBefore readLines same pieces filled without readPlace pageLines readPage
+unclosed-refused = refl

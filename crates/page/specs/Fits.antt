@@ -1,0 +1,78 @@
+-- Fits: lines of kernel form whose constants are words and whose names are within bounds; a kernel program has no others.
+use mathlib.Core.List.{List, [], _∷_, _++_}
+use Prim.Native.Nat.{ℕ, _+_, _^_, _<_}
+use lib.IntN.{ℤ}
+use lib.Signed.{mag}
+use Rattle.words.specs.declared.Operator.{Operator}
+use Rattle.language.specs.Trees.{Expression, constant, read, minus, binary, assign, variable, element, label, Statement, empty, express, goto, abort, Items}
+use Rattle.language.specs.WellFormed.{NamedExpression, NamedPlace, NamedStatement, NamedItems}
+use Rattle.translation.specs.KernelForm.{IsAtom, constant-atom, variable-atom, Assigns, assigns-atom, assigns-minus, assigns-operation, assigns-element, assigns-to-element, isLabelNumber, KernelStatement, kernel-empty, kernel-assign, kernel-block, kernel-if, kernel-while, kernel-goto, kernel-abort, KernelItems, kernel-none, kernel-then, kernel-label}
+use Rattle.accepted.specs.Worded.{ValuedExpression, ValuedPlace, ValuedStatement, ValuedItems, IsWord}
+use Rattle.page.specs.Lines.{Line, single, mark, opens, opensWhile, opensIf, turns, closes, Indented, indented, statementLines, branchLines, itemsLines}
+
+-- Variables satisfy Names, arrays are below `arrays`.
+module _ (Names : ℕ → Type 0) (arrays : ℕ) where
+  pub data AtomFits : Expression → Type 0 where
+    fits-constant : {v : ℤ} → mag v < 2 ^ 31 → AtomFits (constant v)
+    fits-variable : {i : ℕ} → Names i → AtomFits (read (variable i))
+
+  pub data ValueFits : Expression → Type 0 where
+    value-atom : {e : Expression} → AtomFits e → ValueFits e
+    value-element : {array : ℕ} {e : Expression} → array < arrays → AtomFits e → ValueFits (read (element array e))
+    value-minus : {e : Expression} → AtomFits e → ValueFits (minus e)
+    value-binary : {o : Operator} {a b : Expression} → AtomFits a → AtomFits b → ValueFits (binary o a b)
+
+  pub data LineFits : Line → Type 0 where
+    fits-empty : LineFits (single empty)
+    fits-abort : LineFits (single abort)
+    fits-goto : {l : ℕ} → isLabelNumber l → LineFits (single (goto l))
+    fits-label : {l : ℕ} → isLabelNumber l → LineFits (mark (label l))
+    fits-store : {i : ℕ} {e : Expression} → Names i → ValueFits e → LineFits (single (express (assign (variable i) e)))
+    fits-put : {array : ℕ} {index e : Expression} → array < arrays → AtomFits index → AtomFits e → LineFits (single (express (assign (element array index) e)))
+    fits-opens : LineFits opens
+    fits-while : {e : Expression} → AtomFits e → LineFits (opensWhile e)
+    fits-if : {e : Expression} → AtomFits e → LineFits (opensIf e)
+    fits-turns : LineFits turns
+    fits-closes : LineFits closes
+
+  pub data AllFit : List Indented → Type 0 where
+    all-none : AllFit []
+    all-more : {level : ℕ} {line : Line} {lines : List Indented} → LineFits line → AllFit lines → AllFit (indented level line ∷ lines)
+
+  fit-append : {xs ys : List Indented} → AllFit xs → AllFit ys → AllFit (xs ++ ys)
+  fit-append all-none k = k
+  fit-append (all-more f h) k = all-more f (fit-append h k)
+
+  -- ---- a kernel program whose names and constants are within bounds
+
+  atom-fits : {e : Expression} → IsAtom e → NamedExpression Names arrays e → ValuedExpression IsWord e → AtomFits e
+  unfolding NamedExpression ValuedExpression
+  atom-fits constant-atom n v = fits-constant v
+  atom-fits variable-atom n v = fits-variable n
+
+  assignment-fits : {e : Expression} → Assigns e → NamedExpression Names arrays e → ValuedExpression IsWord e → LineFits (single (express e))
+  unfolding NamedExpression ValuedExpression
+  assignment-fits (assigns-atom h) n v = fits-store (n .0) (value-atom (atom-fits h (n .1) (v .1)))
+  assignment-fits (assigns-minus h) n v = fits-store (n .0) (value-minus (atom-fits h (n .1) (v .1)))
+  assignment-fits (assigns-operation h k) n v = fits-store (n .0) (value-binary (atom-fits h (n .1 .0) (v .1 .0)) (atom-fits k (n .1 .1) (v .1 .1)))
+  assignment-fits (assigns-element h) n v = fits-store (n .0) (value-element (n .1 .0) (atom-fits h (n .1 .1) (v .1)))
+  assignment-fits (assigns-to-element h k) n v = fits-put (n .0 .0) (atom-fits h (n .0 .1) (v .0)) (atom-fits k (n .1) (v .1))
+
+  mutual
+    unfolding statementLines NamedStatement ValuedStatement
+
+    statement-fits : {ahead : Items} {s : Statement} → (level : ℕ) → KernelStatement ahead s → NamedStatement Names arrays s → ValuedStatement IsWord s → AllFit (statementLines level s)
+    statement-fits level kernel-empty n v = all-more fits-empty all-none
+    statement-fits level (kernel-assign h) n v = all-more (assignment-fits h n v) all-none
+    statement-fits level (kernel-block h) n v = all-more fits-opens (fit-append (items-fit (level + 1) h n v) (all-more fits-closes all-none))
+    statement-fits level (kernel-if a h k) n v =
+        all-more (fits-if (atom-fits a (n .0) (v .0)))
+        (fit-append (items-fit (level + 1) h (n .1) (v .1)) (all-more fits-turns (fit-append (items-fit (level + 1) k (n .2) (v .2)) (all-more fits-closes all-none))))
+    statement-fits level (kernel-while a h) n v = all-more (fits-while (atom-fits a (n .0) (v .0))) (fit-append (items-fit (level + 1) h (n .1) (v .1)) (all-more fits-closes all-none))
+    statement-fits level (kernel-goto b h) n v = all-more (fits-goto b) all-none
+    statement-fits level kernel-abort n v = all-more fits-abort all-none
+
+    pub items-fit : {ahead is : Items} → (level : ℕ) → KernelItems ahead is → NamedItems Names arrays is → ValuedItems IsWord is → AllFit (itemsLines level is)
+    items-fit level kernel-none n v = all-none
+    items-fit level (kernel-then h hs) n v = fit-append (statement-fits level h (n .0) (v .0)) (items-fit level hs (n .1) (v .1))
+    items-fit level (kernel-label b hs) n v = all-more (fits-label b) (items-fit level hs n (v .1))

@@ -1,0 +1,139 @@
+-- Reading: the program that a page is. The words of each line are read without regard to blanks; then the program's page is printed
+-- again: only the very bytes of a page are read.
+use mathlib.Core.Bool.{Bool, true, false, _&&_}
+use mathlib.Core.List.{List, [], _∷_}
+use mathlib.Core.Option.{Option, none, some}
+use Prim.Native.Nat.{ℕ, _+_}
+use lib.Dec.{eqb}
+use lib.IntN.{ℤ}
+use Rattle.words.specs.Word.{pick}
+use Rattle.words.specs.declared.Operator.{Operator}
+use Rattle.words.specs.declared.Operator.the-variants.{Add, Subtract, Multiply, Divide, Remainder, Less, Greater, LessOrEqual, GreaterOrEqual, Equal, NotEqual}
+use Rattle.text_form.specs.Number.{natural, numberOf}
+use Rattle.text_form.specs.Line.{together, linesOf, Line as TextLine, ended, unended}
+use Rattle.language.specs.Trees.{Expression, constant, read, minus, binary, assign, Place, variable, element, label, empty, express, goto, abort, Items}
+use Rattle.page.specs.Lines.{Line, single, mark, opens, opensWhile, opensIf, turns, closes, readLines}
+use Rattle.page.specs.Page.{blank, semicolon, colon, openingBracket, closingBracket, openingParenthesis, closingParenthesis, variableLetter, arrayLetter, temporaryLetter, labelLetter, emptyWord, openingWord, closingWord, equalsWord, minusWord, ifWord, whileWord, gotoWord, abortWord, operatorWord, pageBytes}
+
+-- ---- words
+
+unfoldable pub same : List ℕ → List ℕ → Bool
+same [] [] = true
+same [] (y ∷ ys) = false
+same (x ∷ xs) [] = false
+same (x ∷ xs) (y ∷ ys) = eqb x y && same xs ys
+
+-- The same pieces with a byte more at the start of the first.
+abbrev pub longer : ℕ → List (List ℕ) → List (List ℕ)
+longer byte [] = (byte ∷ []) ∷ []
+longer byte (piece ∷ pieces) = (byte ∷ piece) ∷ pieces
+
+-- The pieces between separators.
+unfoldable pub pieces : ℕ → List ℕ → List (List ℕ)
+pieces separator [] = [] ∷ []
+pieces separator (byte ∷ bytes) = pick (eqb byte separator) ([] ∷ pieces separator bytes) (longer byte (pieces separator bytes))
+
+-- Those that are not empty.
+unfoldable pub filled : List (List ℕ) → List (List ℕ)
+filled [] = []
+filled ([] ∷ words) = filled words
+filled ((byte ∷ bytes) ∷ words) = (byte ∷ bytes) ∷ filled words
+
+-- The words between blanks.
+abbrev pub wordsOf : List ℕ → List (List ℕ)
+wordsOf bytes = filled (pieces blank bytes)
+
+abbrev pub bind : {A B : Type 0} → Option A → (A → Option B) → Option B
+bind none f = none
+bind (some a) f = f a
+
+-- A word without its last byte, which must be this one.
+unfoldable pub without : ℕ → List ℕ → Option (List ℕ)
+without last [] = none
+without last (byte ∷ []) = pick (eqb byte last) (some []) none
+without last (byte ∷ (second ∷ bytes)) = bind (without last (second ∷ bytes)) (λ word. some (byte ∷ word))
+
+-- ---- what a word says
+
+unfoldable pub readOperator : List ℕ → Option Operator
+readOperator word =
+    pick (same word (operatorWord Add)) (some Add) (pick (same word (operatorWord Subtract)) (some Subtract) (pick (same word (operatorWord Multiply)) (some Multiply)
+    (pick (same word (operatorWord Divide)) (some Divide) (pick (same word (operatorWord Remainder)) (some Remainder) (pick (same word (operatorWord Less)) (some Less)
+    (pick (same word (operatorWord Greater)) (some Greater) (pick (same word (operatorWord LessOrEqual)) (some LessOrEqual) (pick (same word (operatorWord GreaterOrEqual)) (some GreaterOrEqual)
+    (pick (same word (operatorWord Equal)) (some Equal) (pick (same word (operatorWord NotEqual)) (some NotEqual) none))))))))))
+
+abbrev pub readLabel : List ℕ → Option ℕ
+readLabel [] = none
+readLabel (byte ∷ bytes) = pick (eqb byte labelLetter) (natural bytes) none
+
+-- The first, or else the second.
+abbrev pub orElse : {A : Type 0} → Option A → Option A → Option A
+orElse (some a) other = some a
+orElse none other = other
+
+module _ (S : ℕ) where
+  -- The number of a variable.
+  unfoldable pub readName : List ℕ → Option ℕ
+  readName [] = none
+  readName (byte ∷ bytes) = pick (eqb byte variableLetter) (natural bytes) (pick (eqb byte temporaryLetter) (bind (natural bytes) (λ n. some (S + n))) none)
+
+  unfoldable pub readAtom : List ℕ → Option Expression
+  readAtom word = orElse (bind (readName word) (λ i. some (read (variable i)))) (bind (numberOf word) (λ v. some (constant v)))
+
+  -- An element by the pieces around its opening bracket.
+  abbrev pub readElement : List (List ℕ) → Option Place
+  readElement (array ∷ (index ∷ [])) = bind (natural array) (λ a. bind (without closingBracket index) (λ atom. bind (readAtom atom) (λ e. some (element a e))))
+  readElement [] = none
+  readElement (array ∷ []) = none
+  readElement (array ∷ (index ∷ (other ∷ others))) = none
+
+  unfoldable pub readPlace : List ℕ → Option Place
+  readPlace [] = none
+  readPlace (byte ∷ bytes) = pick (eqb byte arrayLetter) (readElement (pieces openingBracket bytes)) (bind (readName (byte ∷ bytes)) (λ i. some (variable i)))
+
+  -- What is assigned, by its words up to the semicolon.
+  abbrev pub readValue : List (List ℕ) → Option Expression
+  readValue (x ∷ []) = bind (without semicolon x) (λ word. orElse (bind (readPlace word) (λ p. some (read p))) (readAtom word))
+  readValue (sign ∷ (x ∷ [])) = pick (same sign minusWord) (bind (without semicolon x) (λ word. bind (readAtom word) (λ e. some (minus e)))) none
+  readValue (x ∷ (operator ∷ (y ∷ []))) =
+      bind (readAtom x) (λ left. bind (readOperator operator) (λ o. bind (without semicolon y) (λ word. bind (readAtom word) (λ right. some (binary o left right)))))
+  readValue [] = none
+  readValue (x ∷ (operator ∷ (y ∷ (other ∷ others)))) = none
+
+  abbrev pub readTest : List ℕ → Option Expression
+  readTest [] = none
+  readTest (byte ∷ bytes) = pick (eqb byte openingParenthesis) (bind (without closingParenthesis bytes) readAtom) none
+
+  -- ---- what a line says
+
+  abbrev pub lineOf : List (List ℕ) → Option Line
+  lineOf [] = none
+  lineOf (w ∷ []) =
+      pick (same w emptyWord) (some (single empty)) (pick (same w openingWord) (some opens) (pick (same w closingWord) (some closes)
+      (pick (same w abortWord) (some (single abort))
+      (bind (without semicolon w) (λ marked. bind (without colon marked) (λ name. bind (readLabel name) (λ l. some (mark (label l)))))))))
+  lineOf (w ∷ (x ∷ [])) = pick (same w gotoWord) (bind (without semicolon x) (λ name. bind (readLabel name) (λ l. some (single (goto l))))) none
+  lineOf (w ∷ (x ∷ (y ∷ ys))) =
+      pick (same x equalsWord) (bind (readPlace w) (λ p. bind (readValue (y ∷ ys)) (λ e. some (single (express (assign p e))))))
+      (pick (same w ifWord) (bind (readTest x) (λ e. some (opensIf e)))
+      (pick (same w whileWord) (bind (readTest x) (λ e. some (opensWhile e)))
+      (pick (same w closingWord) (some turns) none)))
+
+  -- The first word is the line's number.
+  abbrev pub numbered : List (List ℕ) → Option Line
+  numbered [] = none
+  numbered (number ∷ words) = lineOf words
+
+  -- ---- what a page says
+
+  unfoldable pub pageLines : List TextLine → Option (List Line)
+  pageLines [] = some []
+  pageLines (ended line ∷ lines) = together (numbered (wordsOf line)) (pageLines lines)
+  pageLines (unended line ∷ lines) = none
+
+  abbrev pub printedAgain : List ℕ → Items → Option Items
+  printedAgain page contents = pick (same (pageBytes S contents) page) (some contents) none
+
+  -- The items of the program whose page this is.
+  unfoldable pub readPage : List ℕ → Option Items
+  readPage page = bind (pageLines (linesOf page)) (λ lines. bind (readLines lines) (printedAgain page))

@@ -1,0 +1,118 @@
+-- Laws of tables: the page of every legal kernel table has 80 columns, few lines, and gives back its rows, up to numbering; that of a
+-- translation gives back its very rows.
+use mathlib.Core.Path.{_≡_, refl, ap, sym, _∙_}
+use mathlib.Core.Bool.{true}
+use mathlib.Core.List.{List}
+use mathlib.Core.Option.{some}
+use mathlib.Core.Logic.{⊎-elim}
+use Prim.Native.Nat.{ℕ, _+_, _*_, _/_, _^_, _≤_, _<_}
+use native.Mathlib.Omega.{arith}
+use lib.IntN.{ℤ, pos}
+use lib.Signed.{mag}
+use lib.ListN.{length, getD}
+use Rattle.words.specs.Table.{rowCount}
+use Rattle.words.specs.Layout.{Layout, layoutOf, storeSize, storeWords, headerFits}
+use Rattle.words.specs.Laws.{headerFits-facts}
+use Rattle.words.specs.declared.Form.the-variants.{Source, Kernel}
+use Rattle.language.specs.Trees.{block, Items}
+use Rattle.language.specs.Decode.{decode}
+use Rattle.language.specs.Program.{contents}
+use Rattle.language.specs.Sizes.{statementRows, statementDepth}
+use Rattle.language.specs.WellFormed.{SourceTree}
+use Rattle.structure.specs.Fields.{boundsOf}
+use Rattle.structure.specs.declared.Bounds.{Bounds}
+use Rattle.translation.specs.Translate.{translate, temporaries, kernelHeader}
+use Rattle.emission.specs.Emission.{emit}
+use Rattle.emission.specs.EmissionLaws.{length-emit}
+use Rattle.emission.specs.KernelKinds.{a-block}
+use Rattle.emission.specs.ReadBack.{decode-emit}
+use Rattle.emission_legal.specs.FormKinds.{items-kinds}
+use Rattle.emission_legal.specs.EmittedLegal.{translated-legal, translated-decodes}
+use Rattle.kernel_check.specs.Legal.{Legal}
+use Rattle.accepted.specs.Fields.{NamesVariable}
+use Rattle.accepted.specs.Names.{named-contents}
+use Rattle.accepted.specs.Worded.{ValuedStatement, ValuedItems, IsWord}
+use Rattle.accepted.specs.Words.{structured-worded}
+use Rattle.accepted_kernel.specs.Kernel.{legal-block, legal-form, legal-rows}
+use Rattle.page.specs.Page.{name, lineBytes, linesBytes, pageBytes}
+use Rattle.page.specs.LinesLaws.{lines-few}
+use Rattle.page.specs.Reading.{bind, readPage}
+use Rattle.page.specs.Fits.{AllFit, items-fit}
+use Rattle.page.specs.ReadBack.{page-read-back}
+use Rattle.page.specs.Widths.{variable-width, temporary-width, lines-columns}
+use Rattle.page.specs.Tables.{storeOf, tableLines, tablePage, readTable, SameProgram, GivenBack}
+
+-- ---- every legal table
+
+-- The words are words of 32 bits.
+module _ (header rows : List ℤ) (legal : Legal header rows) (words : (i : ℕ) → mag (getD rows i (pos 0)) < 2 ^ 31) where
+  abbrev bounds : Bounds
+  bounds = boundsOf Kernel header
+
+  valued : ValuedItems IsWord (contents rows)
+  unfolding ValuedStatement
+  valued = rw (legal-block header rows legal) at (structured-worded Kernel bounds rows (legal .structured) words)
+
+  pub lines-fit : AllFit (NamesVariable bounds) (bounds .arrays) (tableLines rows)
+  lines-fit =
+      items-fit (NamesVariable bounds) (bounds .arrays) 0 (legal-form header rows legal)
+      (named-contents Kernel bounds rows (legal .structured) (NamesVariable bounds) (λ number n. n)) valued
+
+  -- "Variable .. number outside" is refused: a name has at most five columns.
+  name-width : (i : ℕ) → NamesVariable bounds i → length (name (storeOf header) i) ≤ 5
+  unfolding boundsOf storeWords
+  name-width i =
+      let f = headerFits-facts Kernel header (legal .header-fits) in
+      ⊎-elim (λ v. variable-width (storeOf header) i (omega (arith, f .few-variables))) (λ t. temporary-width (storeOf header) i (t .0) (omega (arith, t .1, f .few-temporaries)))
+
+  few-arrays : bounds .arrays ≤ 32
+  unfolding boundsOf
+  few-arrays = headerFits-facts Kernel header (legal .header-fits) .few-arrays
+
+  -- Row 0 has no line and every other row at most two: five columns hold every line's number.
+  pub lines-of-rows : length (tableLines rows) + 2 ≤ 2 * rowCount rows
+  lines-of-rows = omega (arith, lines-few (legal-form header rows legal), legal-rows header rows legal)
+
+  -- "Lines of 80 columns plus a newline".
+  pub page-columns : rowCount rows ≤ 40980 → length (tablePage header rows) ≡ 81 * length (tableLines rows)
+  unfolding tablePage pageBytes
+  page-columns few = lines-columns (storeOf header) name-width few-arrays 1 (tableLines rows) (omega (arith, lines-of-rows)) lines-fit
+
+  page-gives : readTable header (tablePage header rows) ≡ some (emit (block (contents rows)))
+  unfolding readTable tablePage
+  page-gives = rw (page-read-back (storeOf header) (legal-form header rows legal) lines-fit)
+
+  -- "Read with the header by docs/, the lines give back the same rows, up to numbering."
+  pub gives-back : GivenBack header rows (tablePage header rows)
+  gives-back = record {
+    given = emit (block (contents rows));
+    read = page-gives;
+    same-program = record {
+      same-tree = decode-emit (a-block (items-kinds (legal-form header rows legal))) ∙ sym (legal-block header rows legal);
+      as-many = omega (arith, length-emit (block (contents rows)), legal-rows header rows legal);
+    };
+  }
+
+-- ---- translations
+
+-- A table that was emitted from a tree comes back to the word.
+emitted-gives-back : (header : List ℤ) (program : Items) → Legal header (emit (block program)) → decode (emit (block program)) ≡ block program
+    → ((i : ℕ) → mag (getD (emit (block program)) i (pos 0)) < 2 ^ 31) → readTable header (tablePage header (emit (block program))) ≡ some (emit (block program))
+emitted-gives-back header program legal decodes words =
+    let rows = emit (block program) in
+    page-gives header rows legal words ∙ ap (λ s. some (emit s)) (sym (legal-block header rows legal) ∙ decodes)
+
+-- So does every translation: its header and its table, where the check has found the program's limits and its tree well formed.
+module _ (header : List ℤ) (program : Items) (fit : headerFits Source header ≡ true) (source : SourceTree (layoutOf Source header) program)
+    (few : statementRows (block program) ≤ 2048) (shallow : statementDepth (block program) ≤ 64) where
+  abbrev layout : Layout
+  layout = layoutOf Source header
+
+  abbrev kernelRows : List ℤ
+  kernelRows = emit (block (translate layout program))
+
+  abbrev headerOfKernel : List ℤ
+  headerOfKernel = kernelHeader layout (temporaries program)
+
+  pub translation-gives-back : ((i : ℕ) → mag (getD kernelRows i (pos 0)) < 2 ^ 31) → readTable headerOfKernel (tablePage headerOfKernel kernelRows) ≡ some kernelRows
+  translation-gives-back = emitted-gives-back headerOfKernel (translate layout program) (translated-legal header program fit source few shallow) (translated-decodes header program fit source few shallow)

@@ -1,0 +1,42 @@
+-- Tables: the page of a kernel table, and the rows that a page is read as with the table's header.
+use mathlib.Core.List.{List}
+use mathlib.Core.Option.{Option, some}
+use mathlib.Core.Path.{_≡_}
+use Prim.Native.Nat.{ℕ}
+use lib.IntN.{ℤ}
+use Rattle.words.specs.Table.{rowCount}
+use Rattle.words.specs.Layout.{layoutOf, storeSize}
+use Rattle.words.specs.declared.Form.the-variants.{Kernel}
+use Rattle.language.specs.Trees.{block}
+use Rattle.language.specs.Decode.{decode}
+use Rattle.language.specs.Program.{contents}
+use Rattle.emission.specs.Emission.{emit}
+use Rattle.page.specs.Lines.{Indented, itemsLines}
+use Rattle.page.specs.Page.{pageBytes}
+use Rattle.page.specs.Reading.{bind, readPage}
+
+-- S of a kernel header.
+abbrev pub storeOf : List ℤ → ℕ
+storeOf header = storeSize (layoutOf Kernel header)
+
+-- The lines of a table, in any numbering of its rows: they follow the links.
+abbrev pub tableLines : List ℤ → List Indented
+tableLines rows = itemsLines 0 (contents rows)
+
+unfoldable pub tablePage : List ℤ → List ℤ → List ℕ
+tablePage header rows = pageBytes (storeOf header) (contents rows)
+
+-- The rows are numbered in the order of the page: each statement's row, then those of its parts.
+unfoldable pub readTable : List ℤ → List ℕ → Option (List ℤ)
+readTable header page = bind (readPage (storeOf header) page) (λ items. some (emit (block items)))
+
+-- "The same rows, up to numbering": the same tree, in as many rows.
+pub record SameProgram (rows other : List ℤ) : Type 0 where
+  pub same-tree : decode other ≡ decode rows
+  pub as-many : rowCount other ≡ rowCount rows
+
+-- What a page gives back.
+pub record GivenBack (header rows : List ℤ) (page : List ℕ) : Type 0 where
+  pub given : List ℤ
+  pub read : readTable header page ≡ some given
+  pub same-program : SameProgram rows given

@@ -10,7 +10,7 @@ use Rattle.words.specs.declared.Operator.the-variants.{Add, Subtract, LessOrEqu
 use Rattle.text_form.specs.Number.{digits, digitsWithin, numberBytes, isDigit, decimal, natural, word, positive, negative, numberOf}
 use Rattle.text_form.specs.Line.{together, linesOf}
 use Rattle.language.specs.Trees.{Expression, constant, read, minus, binary, assign, Place, variable, element, label, Statement, empty, express, block, ifElse, while, goto, abort, Items, none as noItem, _then_, _here_}
-use Rattle.page.specs.Lines.{statementLines, itemsLines, plain, readBefore, readLines}
+use Rattle.page.specs.Lines.{closes, indented, statementLines, readBefore, readLines}
 use Rattle.page.specs.Page.{ended, name, blanks, parted, rightSet, padded, lineBytes, linesBytes, pageBytes}
 use Rattle.page.specs.Reading.{same, pieces, filled, without, readOperator, readName, readAtom, readPlace, pageLines, readPage}
 use Rattle.page.specs.Texts.{bytesOf, quoted}
@@ -82,6 +82,15 @@ every-page = refl
 pub every-read : readPage 5 (quoted everyLines) ≡ some every
 unfolding quoted bytesOf digits digitsWithin numberBytes isDigit decimal natural word positive negative numberOf isWord together linesOf statementLines readBefore readLines ended name blanks parted rightSet padded lineBytes linesBytes pageBytes same pieces filled without readOperator readName readAtom readPlace pageLines readPage
 every-read = refl
+
+-- ---- a line deep inside: the indent stops at 36 columns
+
+abbrev deepLine : List String
+deepLine = "40980                                     }                                     " ∷ []
+
+pub deep-line : lineBytes 5 40980 (indented 500 closes) ≡ quoted deepLine
+unfolding quoted bytesOf digits digitsWithin blanks parted rightSet padded lineBytes
+deep-line = refl
 
 -- ---- no pages: a line one column to the right; a block that is not closed
 

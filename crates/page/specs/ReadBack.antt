@@ -1,23 +1,25 @@
 -- Read-back: what is printed is read back, word by word, line by line, then the page.
 use mathlib.Core.Path.{_≡_, refl, ap, ap₂, _∙_}
-use mathlib.Core.Bool.{true, _&&_}
+use mathlib.Core.Bool.{true, false, _&&_}
 use mathlib.Core.List.{List, [], _∷_, _++_, append-assoc}
-use mathlib.Core.Option.{none, some}
+use mathlib.Core.Option.{Option, none, some}
 use mathlib.Core.Logic.{inr}
 use Prim.Native.Nat.{ℕ, zero, suc, _+_, _-_}
 use native.Mathlib.Omega.{arith}
 use lib.ListN.{length}
-use borrow.Author.Tests.{eq-eqb}
+use lib.Dec.{eqb}
+use borrow.Author.Tests.{eq-eqb, eqb-true}
+use Rattle.words.specs.Laws.{by-cases}
 use Rattle.text_form.specs.Number.{digits, numberBytes}
 use Rattle.text_form.specs.NumberLaws.{Free, free-append, not-some, natural-shows, number-shows}
 use Rattle.text_form.specs.Line.{newline, together, linesOf}
 use Rattle.text_form.specs.LineLaws.{lines-ended, lines-none}
 use Rattle.language.specs.Trees.{Expression, constant, read, minus, binary, assign, Place, variable, element, label, empty, express, goto, abort, Items, none as noItem}
 use Rattle.translation.specs.KernelForm.{KernelItems}
-use Rattle.page.specs.Lines.{Line, single, mark, opens, opensWhile, opensIf, turns, closes, Indented, indented, itemsLines, plain}
+use Rattle.page.specs.Lines.{Line, single, mark, opens, opensWhile, opensIf, turns, closes, Indented, indented, itemsLines, plain, readLines}
 use Rattle.page.specs.LinesLaws.{lines-read-back}
 use Rattle.page.specs.Page.{blank, equalsWord, minusWord, ifWord, elseWord, whileWord, gotoWord, abortWord, emptyWord, openingWord, closingWord, endedBy, ended, labelWord, name, atomWord, placeWord, valueWords, lineWords, blanks, parted, rightSet, padded, indent, lineBytes, linesBytes, pageBytes}
-use Rattle.page.specs.Reading.{same, wordsOf, bind, readAtom, readPlace, readValue, lineOf, numbered, pageLines, readPage}
+use Rattle.page.specs.Reading.{same, wordsOf, bind, readAtom, readPlace, readValue, lineOf, numbered, pageLines, printedAgain, readPage}
 use Rattle.page.specs.Fits.{AtomFits, fits-constant, fits-variable, ValueFits, value-atom, value-element, value-minus, value-binary, LineFits, fits-empty, fits-abort, fits-goto, fits-label, fits-store, fits-put, fits-opens, fits-while, fits-if, fits-turns, fits-closes, AllFit, all-none, all-more}
 use Rattle.page.specs.WordLaws.{between-free, digits-between, number-between, name-free, pieces-more, pieces-last, IsWord, AreWords, digits-word, number-word, name-word, inside, spelt, operator-word, led-word, joined-word, ended-word, label-word, line-words, without-last, number-no-name, number-no-place, name-shows, variable-shows, operator-shows}
 
@@ -49,6 +51,30 @@ same-all : (xs : List ℕ) → same xs xs ≡ true
 unfolding same
 same-all [] = refl
 same-all (x ∷ xs) = rw (eq-eqb x x refl) (same-all xs)
+
+same-equal : (xs ys : List ℕ) → same xs ys ≡ true → xs ≡ ys
+unfolding same
+same-equal [] [] e = refl
+same-equal [] (y ∷ ys) e = absurd (let z : _≡_ {A = ℕ} 0 1 = cc in omega arith)
+same-equal (x ∷ xs) [] e = absurd (let z : _≡_ {A = ℕ} 0 1 = cc in omega arith)
+same-equal (x ∷ xs) (y ∷ ys) e =
+    by-cases (eqb x y) (λ t. ap₂ (λ z zs. z ∷ zs) (eqb-true x y t) (same-equal xs ys (rw t at e))) (λ f. absurd (let g : false ≡ true = rw f at e in let z : _≡_ {A = ℕ} 0 1 = cc in omega arith))
+
+-- Only pages are read: what a page was read as, printed again, gives the same bytes.
+pub read-prints : (S : ℕ) (page : List ℕ) (contents : Items) → readPage S page ≡ some contents → pageBytes S contents ≡ page
+unfolding readPage
+read-prints S page contents = from-lines (pageLines S (linesOf page))
+  where
+    from-items : (items : Option Items) → bind items (printedAgain S page) ≡ some contents → pageBytes S contents ≡ page
+    from-items none e = not-some e
+    from-items (some is) e =
+        by-cases (same (pageBytes S is) page)
+        (λ t. let found : some is ≡ some contents = rw t at e in let equal : is ≡ contents = cc in rw (← equal) (same-equal (pageBytes S is) page t))
+        (λ f. not-some (rw f at e))
+
+    from-lines : (lines : Option (List Line)) → bind lines (λ found. bind (readLines found) (printedAgain S page)) ≡ some contents → pageBytes S contents ≡ page
+    from-lines none e = not-some e
+    from-lines (some lines) e = from-items (readLines lines) e
 
 -- A line without its newline.
 abbrev body : ℕ → ℕ → ℕ → Line → List ℕ

@@ -12,7 +12,7 @@ use lib.Signed.{mag}
 use lib.ListN.{length, getD}
 use Rattle.words.specs.Table.{rowCount}
 use Rattle.words.specs.Layout.{Layout, layoutOf, storeSize, storeWords, headerFits}
-use Rattle.words.specs.Laws.{headerFits-facts}
+use Rattle.words.specs.Laws.{headerFits-facts, countFits-facts}
 use Rattle.words.specs.declared.Form.the-variants.{Source, Kernel}
 use Rattle.language.specs.Trees.{block, Items}
 use Rattle.language.specs.Decode.{decode}
@@ -74,9 +74,11 @@ module _ (header rows : List ℤ) (legal : Legal header rows) (words : (i : ℕ)
   lines-of-rows = omega (arith, lines-few (legal-form header rows legal), legal-rows header rows legal)
 
   -- "Lines of 80 columns plus a newline".
-  pub page-columns : rowCount rows ≤ 40980 → length (tablePage header rows) ≡ 81 * length (tableLines rows)
+  pub page-columns : length (tablePage header rows) ≡ 81 * length (tableLines rows)
   unfolding tablePage pageBytes
-  page-columns few = lines-columns (storeOf header) name-width few-arrays 1 (tableLines rows) (omega (arith, lines-of-rows)) lines-fit
+  page-columns =
+      let few = countFits-facts Kernel (length rows) (legal .structured .count-fits) .most in
+      lines-columns (storeOf header) name-width few-arrays 1 (tableLines rows) (omega (arith, lines-of-rows)) lines-fit
 
   page-gives : readTable header (tablePage header rows) ≡ some (emit (block (contents rows)))
   unfolding readTable tablePage

@@ -5,11 +5,15 @@
 pub mod Runs
 -- Previews: the answer of preview, and what it leaves in the store and in the scratch.
 pub mod Previews
+-- Dispatcher runs: the answer of the dispatcher's run, and what it leaves in the words.
+pub mod DispatcherRuns
 -- Acceptance: the second promise of check and kernel check: they accept the legal programs and no others.
 pub mod Acceptance
 -- ---- laws
 -- Laws of previews: the tally, and that a preview tells the run.
 pub mod PreviewLaws
+-- Laws of the dispatcher's run: a store made of its words and of zeros, and the words taken back.
+pub mod DispatcherLaws
 -- Laws of acceptance: the checks' answers keep the second promise.
 pub mod AcceptanceLaws
 -- Laws of accepted programs, of both forms.

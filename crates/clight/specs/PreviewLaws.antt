@@ -86,7 +86,7 @@ none-if-equal before after e = record {
 -- ---- the run on a copy
 
 -- words put over as many words are all that stands there
-over-whole : (words copy : List ℤ) → length words ≡ length copy → over words copy ≡ words
+pub over-whole : (words copy : List ℤ) → length words ≡ length copy → over words copy ≡ words
 unfolding over
 over-whole words copy e = ap (λ (l : List ℤ). words ++ l) (drop-of-length-le copy {i = length words} (omega (arith, e))) ∙ append-nil words
 

@@ -1,5 +1,6 @@
 // The public entries. None has a `requires`: for all words that it is lent, each gives its result or the one refusal that document
 // 01's table of causes names, and a refusal leaves everything lent as it was. `run_accepted` is for callers that have the check's answer.
+pub mod dispatcher; // dispatcher.rt: the kernel run that a dispatcher sees
 pub mod previews; // previews.rt: what a run would do
 pub mod runs; // runs.rt: check, run, kernel check, kernel run
 pub mod texts; // texts.rt: reader and writer of both forms' texts
@@ -18,5 +19,11 @@ pub struct PreviewAnswer {
 // What a preview answers.
 pub enum PreviewVerdict {
     Previewed(PreviewAnswer),
+    Refused(Refusal),
+}
+
+// What the dispatcher's run answers: the ending, without a count.
+pub enum DispatcherVerdict {
+    Shown(Ending),
     Refused(Refusal),
 }

@@ -5,7 +5,7 @@ use mathlib.Core.Option.{Option, none, some}
 use Prim.Native.Nat.{ℕ, _*_}
 use lib.Dec.{leb}
 use lib.IntN.{ℤ}
-use lib.ListN.{length, take}
+use lib.ListN.{length}
 use Rattle.words.specs.Word.{pick}
 use Rattle.words.specs.Layout.{headerFits, countFits, layoutOf, storeSize, storeWords, zeros}
 use Rattle.words.specs.declared.Form.the-variants.{Source, Kernel}
@@ -16,6 +16,7 @@ use Rattle.text_form.specs.Text.{Parsed, parsed, malformed, Program, parse}
 use Rattle.text_form.specs.Answers.{unless}
 use Rattle.report.specs.Lines.{refusedLine, sourceLine, kernelLine}
 use Rattle.fate.specs.KernelForms.{kernelHeaderOf, kernelRowsOf}
+use Rattle.fate.specs.Views.{dispatcherView}
 use Rattle.clight.specs.Runs.{refusalOf}
 
 -- "A text over 16,384 bytes"; "at most 128 rows"; "S at most 1,024"; "with budget 100,000".
@@ -37,11 +38,11 @@ sourceOutput header rows =
     let finished = runProgram Source header rows budget (zeros (storeWords Source header)) in
     sourceLine (finished .ending) (finished .count) (finished .store)
 
--- The kernel's store has S+T words; the first S are printed.
+-- The kernel's store has S+T words; its line is what a dispatcher is shown.
 unfoldable pub kernelOutput : ℕ → List ℤ → List ℤ → List ℕ
 kernelOutput words header rows =
-    let finished = runProgram Kernel header rows budget (zeros (storeWords Kernel header)) in
-    kernelLine (finished .ending) (take words (finished .store))
+    let view = dispatcherView words (runProgram Kernel header rows budget (zeros (storeWords Kernel header))) in
+    kernelLine (view .ending) (view .words)
 
 -- "runs both forms"
 unfoldable pub runsOutput : List ℤ → List ℤ → List ℕ

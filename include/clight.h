@@ -50,7 +50,7 @@ enum clight_cause {
     CLIGHT_REPEATED_MARK = 8,     /* second equal case, or second default, in one switch; the later row */
     CLIGHT_DEPTH = 9,             /* depth over the limit; the row */
     CLIGHT_OUTPUT_TOO_SHORT = 10, /* output table or text shorter than its result needs; place 0 */
-    CLIGHT_STORE = 11,            /* store not S (source) or S+T (kernel) words; place 0 */
+    CLIGHT_STORE = 11,            /* store not S (source, dispatcher) or S+T (kernel) words; place 0 */
     CLIGHT_KERNEL_FORM = 12,      /* statement not of kernel form; the statement's row */
     CLIGHT_LABEL = 13,            /* goto without its label ahead, or label repeated; the row of the goto or the later label */
     CLIGHT_TEXT = 14,             /* text malformed; the line, from 1 */
@@ -105,6 +105,12 @@ clight_answer clight_kernel_check(const int32_t *header, size_t header_words, co
  * Causes 1 to 6, 9, 12, 13, then 11. */
 clight_answer clight_kernel_run(const int32_t *header, size_t header_words, const int32_t *rows, size_t row_words, int32_t *store,
                                 size_t store_words, uint32_t budget);
+
+/* Runs a kernel program on the S words that a dispatcher sees: variables, then the arrays in order. The temporaries begin as zeros and
+ * are kept inside. Done: first is the ending, second is 0, and the words are as the run left them. Of a translation, what the temporaries
+ * of clight_kernel_run begin with does not show here, at any budget. Causes 1 to 6, 9, 12, 13, then 11. */
+clight_answer clight_dispatcher_run(const int32_t *header, size_t header_words, const int32_t *rows, size_t row_words, int32_t *words,
+                                    size_t word_count, uint32_t budget);
 
 /* Read a text into a header and rows. Done: first is the words of the header, second those of the rows; words of both tables
  * beyond these keep their content. Causes 14, then 1, 2, 10. The program that was read is not checked further. */

@@ -89,6 +89,16 @@ extern "C" {
         budget: u32,
     ) -> Answer;
 
+    pub fn clight_dispatcher_run(
+        header: *const i32,
+        header_words: usize,
+        rows: *const i32,
+        row_words: usize,
+        words: *mut i32,
+        word_count: usize,
+        budget: u32,
+    ) -> Answer;
+
     pub fn clight_read_source(
         text: *const u8,
         text_bytes: usize,

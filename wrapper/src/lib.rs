@@ -258,6 +258,17 @@ pub fn kernel_run(
     run_by(foreign::clight_kernel_run, header, rows, store, budget)
 }
 
+/// Runs a kernel program on the S words that a dispatcher sees; its
+/// temporaries begin as zeros and are kept inside. There is no count.
+pub fn dispatcher_run(
+    header: &[i32],
+    rows: &[i32],
+    words: &mut [i32],
+    budget: u32,
+) -> Result<Ending, Refusal> {
+    Ok(run_by(foreign::clight_dispatcher_run, header, rows, words, budget)?.ending)
+}
+
 /// Reads a source text; words of both tables beyond the result keep their content.
 pub fn read_source(text: &[u8], header: &mut [i32], rows: &mut [i32]) -> Result<Tables, Refusal> {
     read_by(foreign::clight_read_source, text, header, rows)

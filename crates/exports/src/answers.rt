@@ -1,10 +1,12 @@
 // The numbers of each answer.
 use super::Answer;
 use super::PreviewAnswer;
+use clight::DispatcherVerdict;
 use clight::PreviewVerdict;
 use text_form::ReadAnswer;
 use text_form::WriteAnswer;
 use translator::TranslateAnswer;
+use words::Ending;
 use words::Refusal;
 use words::RunAnswer;
 use words::RunVerdict;
@@ -14,7 +16,9 @@ ghost use mathlib.Core.Path.{_≡_};
 ghost use Rattle.words.specs.Numbers.{refused as refusedOf, runNumbers};
 ghost use Rattle.words.specs.declared.RunVerdict.the-variants.{Ran};
 ghost use Rattle.text_form.specs.Answers.{readOutcome, writeOutcome};
+ghost use Rattle.clight.specs.declared.DispatcherVerdict.the-variants.{Shown};
 ghost use Rattle.clight.specs.declared.PreviewVerdict.the-variants.{Previewed};
+ghost use Rattle.clight.specs.DispatcherRuns.{dispatcherNumbers};
 ghost use Rattle.clight.specs.Previews.{toldRun, tallyOf};
 ghost use Rattle.exports.specs.Numbers.{answerOf, runAnswer, verdictAnswer, previewAnswer, outcomeAnswer, translateAnswer};
 
@@ -58,6 +62,25 @@ pub fn of_run(verdict: RunVerdict) -> Answer
     match verdict {
         RunVerdict::Ran(run) => ran(run),
         RunVerdict::Refused(refusal) => refused(refusal),
+    }
+}
+
+fn shown(ending: Ending) -> Answer
+    ensures { λ r. ⌜ r ≡ answerOf (dispatcherNumbers (Shown ending)) ⌝ }
+{
+    Answer {
+        cause: 0,
+        first: ending_number(ending) as usize,
+        second: 0,
+    }
+}
+
+pub fn of_dispatcher(verdict: DispatcherVerdict) -> Answer
+    ensures { λ r. ⌜ r ≡ answerOf (dispatcherNumbers verdict) ⌝ }
+{
+    match verdict {
+        DispatcherVerdict::Shown(ending) => shown(ending),
+        DispatcherVerdict::Refused(refusal) => refused(refusal),
     }
 }
 

@@ -3,7 +3,7 @@
 mod answers; // answers.rt: the numbers of each answer
 pub mod kernel_form; // kernel_form.rt: the translation
 pub mod previews; // previews.rt: what a run would do
-pub mod programs; // programs.rt: check, run, kernel check, kernel run
+pub mod programs; // programs.rt: check, run, kernel check, kernel run, dispatcher run
 pub mod texts; // texts.rt: reader and writer of both forms' texts
 
 // What a caller gets: document 01's number of the cause, or 0 where there is none, and two values (specs/Numbers.antt).

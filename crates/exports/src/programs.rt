@@ -1,10 +1,12 @@
-// Check and run of both forms.
+// Check and run of both forms, and the kernel run that a dispatcher sees.
 use super::Answer;
+use super::answers::of_dispatcher;
 use super::answers::of_run;
 use super::answers::of_verdict;
 ghost use mathlib.Core.Path.{_≡_};
 ghost use Rattle.words.specs.declared.Form.the-variants.{Source, Kernel};
 ghost use Rattle.clight.specs.Acceptance.{NoCauseIfLegal};
+ghost use Rattle.clight.specs.DispatcherRuns.{dispatcherResult};
 ghost use Rattle.clight.specs.Runs.{refusalOf, runResult};
 ghost use Rattle.exports.specs.Numbers.{answerOf, verdictAnswer};
 
@@ -47,4 +49,18 @@ pub extern "C" fn clight_kernel_run(
     ensures { λ _. ⌜ now (store .exit) ≡ runResult Kernel (now (header .entry)) (now (rows .entry)) budget (now (store .entry)) .store ⌝ }
 {
     of_run(clight::runs::kernel_run(header, rows, store, budget))
+}
+
+// Runs a kernel program on the S words that a dispatcher sees; the answer has no count.
+#[no_mangle]
+pub extern "C" fn clight_dispatcher_run(
+    header: &[i32],
+    rows: &[i32],
+    words: &mut [i32],
+    budget: u32,
+) -> Answer
+    ensures { λ r. ⌜ r ≡ answerOf (dispatcherResult (now (header .entry)) (now (rows .entry)) budget (now (words .entry)) .numbers) ⌝ }
+    ensures { λ _. ⌜ now (words .exit) ≡ dispatcherResult (now (header .entry)) (now (rows .entry)) budget (now (words .entry)) .words ⌝ }
+{
+    of_dispatcher(clight::dispatcher::dispatcher_run(header, rows, words, budget))
 }

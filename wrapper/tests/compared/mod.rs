@@ -98,6 +98,7 @@ pub fn kernel_program(random: &mut Random, header: &[i32], rows: &[i32], tally: 
         let mut store: Vec<i32> = (0..room).map(|_| random.between(-1, 4)).collect();
         let budget = random.pick(&[0, 1, 5, 30, 200, 3_000]);
         run(&KERNEL, header, rows, &mut store, budget, tally);
+        dispatcher(header, rows, room, budget, tally);
     }
     writer(&KERNEL, header, rows, tally);
     reader(&KERNEL, &text::write(header, rows), tally);
@@ -123,6 +124,33 @@ fn run(
     let ran = mine((entries.run)(header, rows, store, budget), tally).map(same_run);
     assert_eq!(ran, theirs(interpreter::run(entries.form, header, rows, &mut other, budget)));
     assert_eq!(*store, other);
+}
+
+/// The dispatcher's run on so many words, beside the kernel run of the interpreter whose temporaries
+/// begin as zeros; 11 where the words are not S.
+fn dispatcher(header: &[i32], rows: &[i32], room: usize, budget: u32, tally: &mut Tally) {
+    let temporaries = header.get(1).map_or(0, |&words| words.max(0) as usize);
+    for count in [room, room.saturating_sub(temporaries)] {
+        let mut words: Vec<i32> = (0..count).map(|place| place as i32 - 2).collect();
+        let kept = words.clone();
+        let shown = mine(clight::dispatcher_run(header, rows, &mut words, budget), tally);
+        let checked = theirs(interpreter::check(Kernel, header, rows));
+        let size = checked.map_or(0, |()| Kernel.store_words(header) - temporaries);
+        let expected = match checked {
+            Ok(()) if count == size => {
+                let mut store = kept.clone();
+                store.resize(size + temporaries, 0);
+                let outcome = run_checked(Kernel, header, rows, &mut store, budget);
+                assert_eq!(words, store[..size]);
+                Ok(outcome.ending)
+            }
+            Ok(()) => Err((11, 0)),
+            Err(refusal) => Err(refusal),
+        };
+        let ending = |ending| same_run(Run { ending, count: 0 }).ending;
+        assert_eq!(shown.map(ending), expected);
+        assert!(shown.is_ok() || words == kept);
+    }
 }
 
 /// Both previews, with a scratch of just the store's words, of one less, of more and of none; then
@@ -186,6 +214,7 @@ fn kernel_form(header: &[i32], rows: &[i32], kernel_header: &[i32], kernel_rows:
     let mut store: Vec<i32> = (0..size).map(|_| random.between(-2, 4)).collect();
     let mut kernel_store = store.clone();
     kernel_store.extend((0..temporaries).map(|_| random.word() as i32));
+    shown_alike(random, kernel_header, kernel_rows, &store);
     let source = run_checked(Source, header, rows, &mut store, 20_000);
     if source.ending == Ending::Spent {
         return;
@@ -194,6 +223,25 @@ fn kernel_form(header: &[i32], rows: &[i32], kernel_header: &[i32], kernel_rows:
     let kernel = run_checked(Kernel, kernel_header, kernel_rows, &mut kernel_store, most);
     assert_eq!(kernel.ending, source.ending);
     assert_eq!(kernel_store[..size], store);
+}
+
+/// Kernel runs of a translation that start alike but for the temporaries show a dispatcher the same,
+/// at every budget: temporaries of zeros, of the extremes and of random words.
+fn shown_alike(random: &mut Random, header: &[i32], rows: &[i32], store: &[i32]) {
+    let temporaries = header[1] as usize;
+    for _ in 0..6 {
+        let budget = random.pick(&[3, 30, 300, 3_000]);
+        let budget = random.below(budget) as u32;
+        let mut words = store.to_vec();
+        let shown = clight::dispatcher_run(header, rows, &mut words, budget);
+        for fill in [0, i32::MIN, i32::MAX, random.word() as i32] {
+            let mut whole = store.to_vec();
+            whole.extend((0..temporaries).map(|place| fill.wrapping_mul(place as i32 + 1)));
+            let run = clight::kernel_run(header, rows, &mut whole, budget);
+            assert_eq!(run.map(|run| run.ending), shown);
+            assert_eq!(whole[..store.len()], words);
+        }
+    }
 }
 
 /// The writer with room to spare, with just enough, with a byte too few, and with none.

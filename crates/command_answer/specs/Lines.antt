@@ -9,7 +9,9 @@ use Rattle.words.specs.declared.Verdict.the-variants.{Accepted, Refused}
 use Rattle.words.specs.declared.RunVerdict.{RunVerdict}
 use Rattle.words.specs.declared.RunVerdict.the-variants as run-cases
 use Rattle.text_form.specs.Number.{digits, numberBytes}
-use Rattle.report.specs.Lines.{lineOf, refusedLine}
+use Rattle.report.specs.Lines.{lineOf, refusedLine, kernelLine}
+use Rattle.clight.specs.declared.DispatcherVerdict.{DispatcherVerdict}
+use Rattle.clight.specs.declared.DispatcherVerdict.the-variants as dispatcher-cases
 use Rattle.command_request.specs.Ascii.{ascii}
 
 -- A check prints `ok`, or its refusal in the trial's manner.
@@ -25,9 +27,14 @@ unfoldable pub runLine : RunVerdict → List ℤ → List ℕ
 runLine (run-cases.Ran answer) store = endedLine (answer .ending) (answer .count) store
 runLine (run-cases.Refused refusal) store = refusedLine (refusal .number) (refusal .place)
 
+-- A dispatcher's run prints the trial's kernel line: the ending and the S words.
+unfoldable pub dispatcherLine : DispatcherVerdict → List ℤ → List ℕ
+dispatcherLine (dispatcher-cases.Shown ending) words = kernelLine ending words
+dispatcherLine (dispatcher-cases.Refused refusal) words = refusedLine (refusal .number) (refusal .place)
+
 -- "A wrong argument, an unreadable file, too long an input give one clear line."
 abbrev pub usageLine : List ℕ
-usageLine = ascii "misuse: command check | run BUDGET [STORE] | preview BUDGET [STORE] | translate | kernel-check | kernel-run BUDGET [STORE]\n"
+usageLine = ascii "misuse: command check | run BUDGET [STORE] | preview BUDGET [STORE] | translate | kernel-check | kernel-run BUDGET [STORE] | dispatcher-run BUDGET [STORE]\n"
 
 abbrev pub wrongBudgetLine : List ℕ
 wrongBudgetLine = ascii "misuse: the budget is no number from 0 to 4294967295\n"

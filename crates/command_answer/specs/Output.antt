@@ -7,9 +7,9 @@ use lib.Dec.{leb}
 use lib.IntN.{ℤ}
 use lib.ListN.{length}
 use Rattle.words.specs.Word.{pick}
-use Rattle.words.specs.Layout.{leading, rowLimit, storeWords, zeros}
+use Rattle.words.specs.Layout.{leading, rowLimit, layoutOf, storeSize, storeWords, zeros}
 use Rattle.words.specs.declared.Form.{Form}
-use Rattle.words.specs.declared.Form.the-variants.{Source}
+use Rattle.words.specs.declared.Form.the-variants.{Source, Kernel}
 use Rattle.words.specs.declared.Verdict.{Verdict}
 use Rattle.words.specs.declared.Verdict.the-variants.{Accepted, Refused}
 use Rattle.text_form.specs.Text.{textBytes, Parsed, parsed, malformed, Program, parse}
@@ -18,7 +18,8 @@ use Rattle.report.specs.Lines.{refusedLine}
 use Rattle.fate.specs.KernelForms.{kernelHeaderOf, kernelRowsOf}
 use Rattle.clight.specs.Runs.{refusalOf, RunResult, runResult}
 use Rattle.clight.specs.Previews.{PreviewResult, previewResult}
-use Rattle.command_answer.specs.Lines.{verdictLine, runLine, usageLine, wrongBudgetLine, longTextLine, longStoreLine, malformedLine}
+use Rattle.clight.specs.DispatcherRuns.{DispatcherResult, dispatcherResult}
+use Rattle.command_answer.specs.Lines.{verdictLine, runLine, dispatcherLine, usageLine, wrongBudgetLine, longTextLine, longStoreLine, malformedLine}
 use Rattle.command_answer.specs.Changes.{previewLines}
 use Rattle.command_request.specs.StoreFile.{storeIn}
 use Rattle.command_request.specs.declared.request.Task.{Task}
@@ -68,12 +69,19 @@ checkLine form header rows = verdictLine (refusalOf form header rows)
 unfoldable pub checkOutput : Form → List ℕ → List ℕ
 checkOutput form text = textOutput form text (checkLine form)
 
--- ---- run and preview
+-- ---- run, preview and dispatcher run
 
--- A preview is of a source program.
+-- A preview is of a source program, a dispatcher's run of a kernel program.
 abbrev pub formOf : Task → Form
 formOf (task-cases.Run form) = form
 formOf task-cases.Preview = Source
+formOf task-cases.DispatcherRun = Kernel
+
+-- How many words it starts from: a dispatcher has no temporaries.
+abbrev pub startWords : Task → List ℤ → ℕ
+startWords (task-cases.Run form) header = storeWords form header
+startWords task-cases.Preview header = storeWords Source header
+startWords task-cases.DispatcherRun header = storeSize (layoutOf Kernel header)
 
 abbrev pub resultLine : RunResult → List ℕ
 resultLine result = runLine (result .answer) (result .store)
@@ -81,18 +89,22 @@ resultLine result = runLine (result .answer) (result .store)
 abbrev pub resultLines : PreviewResult → List ℕ
 resultLines result = previewLines (result .answer) (result .store) (result .scratch)
 
--- What is printed for a header and rows: the line of the run from this store, or the lines of its preview, in a scratch of as many words as
--- the program's store has, so that 15 does not arise.
+abbrev pub shownLine : DispatcherResult → List ℕ
+shownLine result = dispatcherLine (result .answer) (result .words)
+
+-- What is printed for a header and rows: the line of the run from this store, as the maintainer or the dispatcher sees it, or the lines of
+-- its preview, in a scratch of as many words as the program's store has, so that 15 does not arise.
 abbrev pub taskLines : Task → ℕ → (store header rows : List ℤ) → List ℕ
 taskLines (task-cases.Run form) budget store header rows = resultLine (runResult form header rows budget store)
 taskLines task-cases.Preview budget store header rows = resultLines (previewResult header rows budget store (zeros (storeWords Source header)))
+taskLines task-cases.DispatcherRun budget store header rows = shownLine (dispatcherResult header rows budget store)
 
 unfoldable pub taskOutput : Task → ℕ → List ℕ → List ℤ → List ℕ
 taskOutput task budget text store = textOutput (formOf task) text (taskLines task budget store)
 
 -- "else zeros"
 abbrev pub zerosLines : Task → ℕ → (header rows : List ℤ) → List ℕ
-zerosLines task budget header rows = taskLines task budget (zeros (storeWords (formOf task) header)) header rows
+zerosLines task budget header rows = taskLines task budget (zeros (startWords task header)) header rows
 
 unfoldable pub zerosOutput : Task → ℕ → List ℕ → List ℕ
 zerosOutput task budget text = textOutput (formOf task) text (zerosLines task budget)

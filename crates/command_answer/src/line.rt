@@ -1,8 +1,10 @@
 // Whole lines. A writer puts its line at the start of `text`, and answers how many bytes it has.
+use clight::DispatcherVerdict;
 use report::field::put_bytes;
 use report::field::put_count;
 use report::field::put_ending_name;
 use report::field::put_words;
+use report::line::kernel_line;
 use report::line::refused_line;
 use words::Ending;
 use words::RunVerdict;
@@ -14,7 +16,7 @@ ghost use Rattle.text_form.specs.Number.{digits, numberBytes};
 ghost use Rattle.text_form.specs.Line.{newline};
 ghost use Rattle.text_form.specs.Writer.{Put};
 ghost use Rattle.report.specs.Lines.{spaced, lineRoom};
-ghost use Rattle.command_answer.specs.Lines.{verdictLine, endedLine, runLine, usageLine, wrongBudgetLine, longTextLine, longStoreLine, unreadableTextLine, unreadableStoreLine, malformedLine};
+ghost use Rattle.command_answer.specs.Lines.{verdictLine, endedLine, runLine, dispatcherLine, usageLine, wrongBudgetLine, longTextLine, longStoreLine, unreadableTextLine, unreadableStoreLine, malformedLine};
 
 // The count, the words and the newline at the end of a line.
 fn put_counted(count: u32, words: &[i32], text: &mut [u8]) -> usize
@@ -60,13 +62,24 @@ pub fn run_line(verdict: RunVerdict, store: &[i32], text: &mut [u8]) -> usize
     }
 }
 
+// The line of a dispatcher's run, which left these words.
+pub fn dispatcher_line(verdict: DispatcherVerdict, words: &[i32], text: &mut [u8]) -> usize
+    requires { ⌜ lineRoom (length (now words)) ≤ length (now text) ⌝ }
+    ensures { λ r. ⌜ Put (dispatcherLine verdict (now (words .entry))) (now (text .entry)) r (now (text .exit)) ⌝ }
+{
+    match verdict {
+        DispatcherVerdict::Shown(ending) => kernel_line(ending, words, text),
+        DispatcherVerdict::Refused(refusal) => refused_line(refusal, text),
+    }
+}
+
 // Wrong arguments.
 pub fn usage_line(text: &mut [u8]) -> usize
-    requires { ⌜ lineRoom 7 ≤ length (now text) ⌝ }
+    requires { ⌜ lineRoom 10 ≤ length (now text) ⌝ }
     ensures { λ r. ⌜ Put usageLine (now (text .entry)) r (now (text .exit)) ⌝ }
 {
     put_bytes(
-        b"misuse: command check | run BUDGET [STORE] | preview BUDGET [STORE] | translate | kernel-check | kernel-run BUDGET [STORE]\n",
+        b"misuse: command check | run BUDGET [STORE] | preview BUDGET [STORE] | translate | kernel-check | kernel-run BUDGET [STORE] | dispatcher-run BUDGET [STORE]\n",
         text,
     )
 }

@@ -1,9 +1,11 @@
 // What each verb prints. A writer puts its bytes at the start of `out`, and answers how many they are. The tables `header` and `rows` are
 // lent to read the text into; what stands in them after it is of no use to a caller.
 use super::changes::put_preview;
+use super::line::dispatcher_line;
 use super::line::malformed_line;
 use super::line::run_line;
 use super::line::verdict_line;
+use clight::dispatcher::dispatcher_run;
 use clight::runs;
 use command_request::request::Task;
 use command_request::store_file::StoreRead;
@@ -13,6 +15,7 @@ use text_form::ReadAnswer;
 use words::Form;
 use words::RunVerdict;
 use words::Verdict;
+use words::layout::store_size;
 use words::layout::store_words;
 ghost use mathlib.Core.Path.{_≡_};
 ghost use mathlib.Core.Bool.{true};
@@ -21,9 +24,10 @@ ghost use lib.ListN.{length};
 ghost use Rattle.words.specs.Layout.{headerFits, storeWords, zeros};
 ghost use Rattle.text_form.specs.Writer.{Put};
 ghost use Rattle.report.specs.Lines.{lineRoom};
+ghost use Rattle.clight.specs.DispatcherRuns.{dispatcherResult};
 ghost use Rattle.clight.specs.Runs.{refusalOf, runResult, answerAndStore};
 ghost use Rattle.command_request.specs.StoreFile.{storeIn};
-ghost use Rattle.command_answer.specs.Output.{Roomy, outputRoom, storeLimit, checkOutput, formOf, resultLine, taskLines, taskOutput, zerosLines, zerosOutput, storedOutput, startedOutput};
+ghost use Rattle.command_answer.specs.Output.{Roomy, outputRoom, storeLimit, checkOutput, formOf, startWords, resultLine, shownLine, taskLines, taskOutput, zerosLines, zerosOutput, storedOutput, startedOutput};
 
 fn check_form(form: Form, header: &[i32], rows: &[i32]) -> Verdict
     ensures { λ r. ⌜ r ≡ refusalOf form (now (header .entry)) (now (rows .entry)) ⌝ }
@@ -81,12 +85,40 @@ fn put_run(
     run_line(verdict, store, out)
 }
 
+// Runs a kernel program on the words that a dispatcher sees, and writes the line.
+fn put_dispatcher_run(
+    header: &[i32],
+    rows: &[i32],
+    words: &mut [i32],
+    budget: u32,
+    out: &mut [u8],
+) -> usize
+    requires { ⌜ lineRoom (length (now words)) ≤ length (now out) ⌝ }
+    ensures { λ r. ⌜ Put (shownLine (dispatcherResult (now (header .entry)) (now (rows .entry)) budget (now (words .entry)))) (now (out .entry)) r (now (out .exit)) ⌝ }
+{
+    let verdict = dispatcher_run(header, rows, words, budget);
+    dispatcher_line(verdict, words, out)
+}
+
 fn form_of(task: Task) -> Form
     ensures { λ r. ⌜ r ≡ formOf task ⌝ }
 {
     match task {
         Task::Run(form) => form,
         Task::Preview => Form::Source,
+        Task::DispatcherRun => Form::Kernel,
+    }
+}
+
+// How many words a task starts from.
+fn start_words(task: Task, header: &[i32]) -> usize
+    requires { ⌜ headerFits (formOf task) (now header) ≡ true ⌝ }
+    ensures { λ r. ⌜ r ≡ startWords task (now (header .entry)) ⌝ }
+{
+    match task {
+        Task::Run(form) => store_words(form, header),
+        Task::Preview => store_words(Form::Source, header),
+        Task::DispatcherRun => store_size(Form::Kernel, header),
     }
 }
 
@@ -107,6 +139,7 @@ fn put_task(
     match task {
         Task::Run(form) => put_run(form, header, rows, store, budget, out),
         Task::Preview => put_preview(header, rows, store, budget, out),
+        Task::DispatcherRun => put_dispatcher_run(header, rows, store, budget, out),
     }
 }
 
@@ -145,7 +178,7 @@ fn put_zeros_task(task: Task, header: &[i32], rows: &[i32], budget: u32, out: &m
     requires { ⌜ outputRoom ≤ length (now out) ⌝ }
     ensures { λ r. ⌜ Put (zerosLines task budget (now (header .entry)) (now (rows .entry))) (now (out .entry)) r (now (out .exit)) ⌝ }
 {
-    let count = store_words(form_of(task), header);
+    let count = start_words(task, header);
     let mut store = [0i32; 16384];
     put_task(task, header, rows, &mut store[0..count], budget, out)
 }
@@ -203,7 +236,7 @@ fn start_stored(
     }
 }
 
-// `run`, `kernel-run` and `preview`.
+// `run`, `kernel-run`, `preview` and `dispatcher-run`.
 pub fn start_answer(
     task: Task,
     budget: u32,

@@ -11,7 +11,7 @@ use Rattle.text_form.specs.Number.{natural}
 use Rattle.text_form.specs.Reader.{atMost}
 use Rattle.command_request.specs.Ascii.{ascii}
 use Rattle.command_request.specs.declared.request.Task.{Task}
-use Rattle.command_request.specs.declared.request.Task.the-variants.{Run, Preview}
+use Rattle.command_request.specs.declared.request.Task.the-variants.{Run, Preview, DispatcherRun}
 use Rattle.command_request.specs.declared.request.Verb.{Verb}
 use Rattle.command_request.specs.declared.request.Verb.the-variants as verb-cases
 use Rattle.command_request.specs.declared.request.Request.{Request}
@@ -32,7 +32,8 @@ verbOf name =
     (pick (sameBytes name (ascii "translate")) verb-cases.Translate
     (pick (sameBytes name (ascii "kernel-check")) (verb-cases.Check Kernel)
     (pick (sameBytes name (ascii "kernel-run")) (verb-cases.Start (Run Kernel))
-    verb-cases.Unknown)))))
+    (pick (sameBytes name (ascii "dispatcher-run")) (verb-cases.Start DispatcherRun)
+    verb-cases.Unknown))))))
 
 -- "The budget is any unsigned 32-bit number": decimal digits, no sign, no leading zero.
 unfoldable pub budgetOf : List ℕ → Option ℕ
@@ -42,7 +43,7 @@ unfoldable pub startRequest : Task → Option ℕ → (stored : Bool) → Reques
 startRequest task none stored = WrongBudget
 startRequest task (some budget) stored = Start task budget stored
 
--- A run or a preview has a budget and, where it is not to start from zeros, a store file; the others have no further argument. `count` is
+-- What starts from a store has a budget and, where it is not to start from zeros, a store file; the others have no further argument. `count` is
 -- the number of arguments.
 unfoldable pub requestBy : Verb → (count : ℕ) → (second : List ℕ) → Request
 requestBy (verb-cases.Check form) count second = pick (eqb count 1) (Check form) WrongArguments

@@ -10,10 +10,12 @@ ghost use Rattle.command_request.specs.declared.request.Verb.the-variant
 ghost use Rattle.command_request.specs.declared.request.Request.the-variants.{WrongArguments};
 ghost use Rattle.command_request.specs.Requests.{sameBytes, verbOf, startRequest, requestBy, requestOf, readsText, readsStore};
 
-// What starts from a store: the run of a program, or the preview of a source program's run.
+// What starts from a store: the run of a program, the preview of a source program's run, or the run of a kernel program that a dispatcher
+// sees.
 pub enum Task {
     Run(Form),
     Preview,
+    DispatcherRun,
 }
 
 // What the first argument says.
@@ -69,6 +71,9 @@ fn verb_of(name: &[u8]) -> Verb
     }
     if is_same(name, b"kernel-run") {
         return Verb::Start(Task::Run(Form::Kernel));
+    }
+    if is_same(name, b"dispatcher-run") {
+        return Verb::Start(Task::DispatcherRun);
     }
     Verb::Unknown
 }

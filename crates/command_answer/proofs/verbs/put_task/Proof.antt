@@ -1,4 +1,4 @@
--- `put_task`: the run, or the preview.
+-- `put_task`: the run, the preview, or the dispatcher's run.
 use borrow.Author.Needs.{needs}
 use Rattle.command_answer.proofs.verbs.put_task.Statement.{statement}
 use Rattle.command_answer.proofs.verbs.put_task.Tie as tie
@@ -14,6 +14,12 @@ enum-told c = search needs
 
 put-preview-requires : tie.Need-put-preview-requires
 put-preview-requires c κs = (rw (c .before .before .enum-told .given .1) at (c .before .before .before .before .before .pre .0), c .before .before .before .before .before .pre .1 .1)
+
+enum-told-2 : tie.Need-enum-told-2
+enum-told-2 c = search needs
+
+put-dispatcher-run-requires : tie.Need-put-dispatcher-run-requires
+put-dispatcher-run-requires c κs = search needs
 
 same-length : tie.Need-same-length
 same-length c = search needs
@@ -33,6 +39,15 @@ same-length-4 c = search needs
 returns-2 : tie.Need-returns-2
 returns-2 c = rw (c .before .before .before .before .before .enum-told .given .1) (c .before .before .put-preview .ensures)
 
+same-length-5 : tie.Need-same-length-5
+same-length-5 c = search needs
+
+same-length-6 : tie.Need-same-length-6
+same-length-6 c = search needs
+
+returns-3 : tie.Need-returns-3
+returns-3 c = rw (c .before .before .before .before .before .before .enum-told2 .given .1) (c .before .before .before .put-dispatcher-run .ensures)
+
 pub put-task-spec : {M : Type 1} → statement M
 put-task-spec =
     tie.close
@@ -41,9 +56,14 @@ put-task-spec =
     put-run-requires
     enum-told
     put-preview-requires
+    enum-told-2
+    put-dispatcher-run-requires
     same-length
     same-length-2
     returns
     same-length-3
     same-length-4
-    returns-2)
+    returns-2
+    same-length-5
+    same-length-6
+    returns-3)

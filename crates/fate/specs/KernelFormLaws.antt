@@ -1,7 +1,7 @@
 -- The theorem: every accepted program has a kernel form that is legal, shares its fate, makes the same writes and hides its temporaries. From
 -- the theorems about trees (`translation-preserves`, `translation-writes`, `temporaries-hidden`, `translated-legal`), since decode reads both
 -- tables.
-use mathlib.Core.Path.{_≡_, refl, ap, _∙_}
+use mathlib.Core.Path.{_≡_, refl, ap, ap₂, _∙_}
 use mathlib.Core.List.{List, _++_}
 use Prim.Native.Nat.{ℕ, _+_, _*_, _≤_}
 use native.Mathlib.Omega.{arith}
@@ -12,6 +12,7 @@ use Rattle.words.specs.Table.{rowCount}
 use Rattle.words.specs.Layout.{Layout, layoutOf, storeSize, temporariesOf}
 use Rattle.words.specs.Laws.{countFits-facts}
 use Rattle.words.specs.declared.Form.the-variants.{Source, Kernel}
+use Rattle.words.specs.declared.Ending.{Ending}
 use Rattle.words.specs.declared.Ending.the-variants.{Spent}
 use Rattle.computation.specs.Run.{Result, ok, stopped, spent, fault, steps, run, start, final, endingOf, Settled}
 use Rattle.computation.specs.RunLaws.{store-keeps-length}
@@ -25,7 +26,7 @@ use Rattle.language.specs.WellFormed.{SourceTree}
 use Rattle.translation.specs.Translate.{translate, temporaries}
 use Rattle.translation.specs.TranslatePreserves.{SameWords, SharedFate as TreesShareFate, translation-preserves}
 use Rattle.translation.specs.SameWrites.{SameWrites as TreesWriteAlike, translation-writes}
-use Rattle.translation.specs.TranslateBlind.{temporaries-hidden}
+use Rattle.translation.specs.TranslateBlind.{Shown, temporaries-hidden}
 use Rattle.translation.specs.TranslateBounds.{rows-bound, temporaries-bound}
 use Rattle.translation.specs.Copies.{statementCopies, ownCopies, ownResults, total}
 use Rattle.translation.specs.CopyLaws.{copies-exactly}
@@ -38,7 +39,7 @@ use Rattle.kernel_check.specs.Accepts.{accepts-legal as kernel-accepts}
 use Rattle.accepted.specs.Source.{legal-block, legal-tree, legal-rows, legal-depth}
 use Rattle.fate.specs.Fate.{SourceEnds, KernelEnds, SharedFate}
 use Rattle.fate.specs.SameWrites.{SameWrites}
-use Rattle.fate.specs.Views.{HidesTemporaries}
+use Rattle.fate.specs.Views.{DispatcherView, dispatcherView, HidesTemporaries}
 use Rattle.fate.specs.KernelForms.{kernelHeaderOf, kernelRowsOf, KernelFormOf, HasKernelForm}
 
 -- ---- ended is settled
@@ -52,6 +53,11 @@ ends-settled : {A : Type 0} (r : Result A) → (endingOf r ≡ Spent → ⊥) �
 ends-settled (ok a σ) e = tt
 ends-settled (stopped spent σ) e = e refl
 ends-settled (stopped (fault sort) σ) e = tt
+
+-- ---- results that show the same
+
+same-view : (S : ℕ) (r q : Result Signal) → Shown S r q → dispatcherView S (finished r) ≡ dispatcherView S (finished q)
+same-view S r q h = ap₂ (λ (ending : Ending) (words : List ℤ). record { ending = ending; words = words }) (h .same-ending) (h .same-words)
 
 module _ (header rows : List ℤ) (legal : Legal header rows) where
   abbrev L : Layout
@@ -162,8 +168,7 @@ module _ (header rows : List ℤ) (legal : Legal header rows) where
   hides-temporaries store temporaryWords others words are others-are budget =
       let all-words : length store ≡ storeSize L = rw kernel-layout at words in
       let h = temporaries-hidden L program tree store all-words (steps budget) temporaryWords others (omega (arith, are, others-are)) in
-      let cells : take (length store) ((final (kernel store temporaryWords all-words are budget)) .store) ≡ take (length store) ((final (kernel store others all-words others-are budget)) .store) = rw all-words (h .same-words) in
-      rw (kernel-run store temporaryWords all-words are budget, kernel-run store others all-words others-are budget, h .same-ending, cells)
+      rw (kernel-run store temporaryWords all-words are budget, kernel-run store others all-words others-are budget, all-words) (same-view (storeSize L) _ _ h)
 
   copies-allowed : statementCopies (storeSize L) (decode (kernelRowsOf header rows)) ≡ total ownCopies program + total ownResults program
   unfolding statementCopies

@@ -101,6 +101,10 @@ fn misplace(random: &mut Random, tree: &mut Tree) {
             let branches: Vec<usize> = (0..4)
                 .filter(|&i| fields[i].is_branch() && matches!(owner.parts[i], Part::One(_)))
                 .collect();
+            // An arm that was damaged before may have none.
+            if branches.is_empty() {
+                return;
+            }
             let chosen = random.pick(&branches);
             owner.parts[chosen] = Part::One(Box::new(item.clone()));
         }),

@@ -339,7 +339,7 @@ put-arm-end-requires t c κs =
     let rows = args .rows .now in
     let guard-size = part-size wanted rows (args .guard) (asks .guard-some) in
     let room = room-behind end-at 2 body-table (asks .room) (body-kept ∙ head-kept ∙ guard-kept) (omega (arith, guard-size, past-operand-size .ensures, past-statement-size .ensures)) in
-    (omega (arith, room .inside), asks .target-low)
+    (omega (arith, room .inside), omega (arith, asks .target-low, asks .labels-low))
 
 pub same-length : (t : ℕ) → lts.Need-same-length (write-guarded-claims t) (write-guarded-at t) reads.Post
 same-length t c =

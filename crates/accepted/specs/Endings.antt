@@ -5,7 +5,7 @@ use mathlib.Core.Bool.{Bool, true, false, _||_, false≢true}
 use lib.IntN.{ℤ}
 use Rattle.words.specs.Word.{pick}
 use Rattle.words.specs.Layout.{Layout}
-use Rattle.words.specs.Arithmetic.{isTrue}
+use Rattle.arithmetic.specs.Arithmetic.{isTrue}
 use Rattle.computation.specs.Computation.{Turn, again, leave, Computation, ret, _>>=_, _>>_}
 use Rattle.computation.specs.Run.{State, ok, Limit, roundsFrom, run}
 use Rattle.language.specs.Trees.{Part, absent, present, Mark, case, default, sameMark, has, Statement, empty, express, block, ifThen, ifElse, while, doWhile, for, switch, break, continue, goto, guardedIf, guardedDo, abort, Arms, noArm, arm, Items, none, _then_, _here_}

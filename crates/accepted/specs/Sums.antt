@@ -16,7 +16,7 @@ use Rattle.words.specs.Table.{rowCount}
 use Rattle.words.specs.Links.{link, target}
 use Rattle.structure.specs.Links.{one, linksAmong, linkCount}
 use Rattle.structure.specs.Structured.{Tree}
-use Rattle.structure.specs.GrammarLaws.{kind-links-none}
+use Rattle.grammar.specs.GrammarLaws.{kind-links-none}
 use Rattle.structure.specs.LinkLaws.{word-of}
 
 -- f 0 + .. + f (count − 1)

@@ -27,7 +27,7 @@ use Rattle.words.specs.SearchLaws.{from-on}
 use Rattle.structure.specs.declared.Bounds.{Bounds}
 use Rattle.structure.specs.Structured.{Structured}
 use Rattle.translation.specs.KernelForm.{IsAtom, constant-atom, variable-atom, Assigns, assigns-atom, assigns-minus, assigns-operation, assigns-element, assigns-to-element}
-use Rattle.kernel_check.specs.Statements.{isAtom, isAtomMinus, isAtomOperation, isAtomElement, fitsVariable, isAssignment}
+use Rattle.kernel_statements.specs.Statements.{isAtom, isAtomMinus, isAtomOperation, isAtomElement, fitsVariable, isAssignment}
 use Rattle.accepted.specs.Sorts.{between-true}
 use Rattle.accepted.specs.Fields.{holds, Linked, linked}
 use Rattle.accepted.specs.Expressions.{whole-rows}

@@ -32,7 +32,7 @@ use Rattle.translation.specs.KernelForm.{KernelStatement, kernel-empty, kernel-
 use Rattle.kernel_check.specs.Accepts.{structured-lone, structured-labels}
 use Rattle.kernel_check.specs.Legal.{Owner, part, beside, behind, outward, Legal}
 use Rattle.kernel_check.specs.ListLaws.{owner-earlier}
-use Rattle.kernel_check.specs.Statements.{isAtom, isBlock, isKernelIf, isKernelWhile, isKernelExpression, isKernelStatement}
+use Rattle.kernel_statements.specs.Statements.{isAtom, isBlock, isKernelIf, isKernelWhile, isKernelExpression, isKernelStatement}
 use Rattle.accepted.specs.Sorts.{statementNumber, number-is, statement-kind, block-statement, in-language}
 use Rattle.accepted.specs.Fields.{holds, Linked, MayLink, linked, may-link, next-link}
 use Rattle.accepted.specs.Expressions.{whole-rows}

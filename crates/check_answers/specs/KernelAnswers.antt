@@ -13,7 +13,7 @@ use Rattle.structure.specs.Refusal.{at, unless, _next_, rowCauses, structuralRe
 use Rattle.words.specs.Search.{lowest, some, lowestRow, someField}
 use Rattle.kernel_check.specs.Labels.{isLabel, repeatedLabel, owning, ownerAt, labelBehind, labelAhead, gotoWithoutLabel, labelFault}
 use Rattle.kernel_check.specs.Refusal.{kernelCauses, refusal}
-use Rattle.kernel_check.specs.Statements.{isAtom, isAtomMinus, isAtomOperation, isAtomElement, fitsVariable, isAssignment, isBlock, isKernelIf, isKernelWhile, isKernelExpression, isKernelStatement, notKernelForm}
+use Rattle.kernel_statements.specs.Statements.{isAtom, isAtomMinus, isAtomOperation, isAtomElement, fitsVariable, isAssignment, isBlock, isKernelIf, isKernelWhile, isKernelExpression, isKernelStatement, notKernelForm}
 use Rattle.check_answers.specs.Sample.{Sample}
 use Rattle.check_answers.specs.KernelSamples.{kernelSamples}
 

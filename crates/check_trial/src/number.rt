@@ -1,6 +1,6 @@
 // The decimal numbers of a text; all other bytes part them.
-use words::Computed;
-use words::arithmetic::minus;
+use arithmetic::Computed;
+use arithmetic::minus;
 ghost use Prim.Native.Nat.{_<_, _≤_};
 ghost use lib.ListN.{length};
 

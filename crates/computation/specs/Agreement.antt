@@ -11,7 +11,7 @@ use lib.Seq.{getD-set-other}
 use native.Mathlib.Decide.{ℕ-discrete}
 use Rattle.words.specs.Word.{pick}
 use Rattle.words.specs.declared.FaultSort.{FaultSort}
-use Rattle.words.specs.Arithmetic.{Outcome, value, fault as faulty}
+use Rattle.arithmetic.specs.Arithmetic.{Outcome, value, fault as faulty}
 use Rattle.computation.specs.Computation.{Turn, again, leave, Computation, ret, _>>=_, step, load, save, fail, loop, settle}
 use Rattle.computation.specs.Run.{State, stepped, written, Stop, spent, fault, Result, ok, stopped, Limit, steps, rounds, andThen, hasRoom, runStep, roundsFrom, afterTurn, iterate, run}
 

@@ -2,7 +2,7 @@
 use Prim.Native.Nat.{ℕ}
 use lib.IntN.{ℤ}
 use Rattle.words.specs.declared.FaultSort.{FaultSort}
-use Rattle.words.specs.Arithmetic.{Outcome, value, fault}
+use Rattle.arithmetic.specs.Arithmetic.{Outcome, value, fault}
 
 -- What a round of a loop says.
 pub data Turn (A : Type 0) : Type 0 where

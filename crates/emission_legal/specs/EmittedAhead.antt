@@ -18,7 +18,7 @@ use Rattle.words.specs.Kinds.{sortOf, isLink, kindOf, kindIn, kinds, sortIn, ki
 use Rattle.words.specs.Links.{isStatement, link}
 use Rattle.structure.specs.Structured.{Leads}
 use Rattle.structure.specs.Lists.{Before, adjacent, further}
-use Rattle.kernel_check.specs.Statements.{isKernelStatement}
+use Rattle.kernel_statements.specs.Statements.{isKernelStatement}
 use Rattle.kernel_check.specs.Legal.{Owner, part, beside, Ahead, behind, outward}
 use Rattle.emission.specs.Emission.{listLink}
 use Rattle.emission.specs.Emitted.{Row, EmittedExpression, constant-at, read-at, minus-at, binary-at, assign-at, EmittedPlace, variable-at, element-at, EmittedStatement, empty-at, express-at, block-at, if-at, while-at, goto-at, abort-at, EmittedItems, none-at, then-at, label-at}

@@ -13,23 +13,25 @@ use mir.Facts.{toZ-ofZ}
 use borrow.Author.Tests.{ltb-true, ltb-false, lt-ltb, le-ltb, ne-eqb}
 use Rattle.words.specs.Word.{isWord, natural, pick}
 use lib.ListN.{getD, set}
-use Rattle.words.specs.Arithmetic.{Outcome, value, apply, element}
+use Rattle.arithmetic.specs.Arithmetic.{Outcome, value, apply, element}
 use Rattle.words.specs.declared.Operator.{Operator}
 use Rattle.language.specs.Meaning.{update, oldValue, newValue}
-use Rattle.words.specs.Answers.{computed, located, faultNumber}
-use Rattle.words.specs.Laws.{back, below-least-word, above-greatest-word, between-words, element-inside}
+use Rattle.words.specs.Answers.{faultNumber}
+use Rattle.arithmetic.specs.Answers.{computed, located}
+use Rattle.words.specs.Laws.{back, below-least-word, above-greatest-word, between-words}
+use Rattle.arithmetic.specs.Laws.{element-inside}
 use Rattle.words.specs.declared.FaultSort.{FaultSort}
 use Rattle.words.specs.declared.FaultSort.the-variants.{Index}
 use Rattle.words.specs.AnswerLaws.{faults-apart}
-use Rattle.words.specs.declared.Computed.{Computed}
-use Rattle.words.specs.declared.Computed.the-variants.{Value as Computes, Fails}
+use Rattle.arithmetic.specs.declared.Computed.{Computed}
+use Rattle.arithmetic.specs.declared.Computed.the-variants.{Value as Computes, Fails}
 use Rattle.computation.specs.Computation.{settle}
 use Rattle.computation.specs.Run.{Stop, spent, fault}
 use Rattle.computation.specs.Remaining.{gives, halts, spend, onward}
 use Rattle.evaluator.specs.Answers.{stopNumber, beyond, stopOf, operandOf, answered, placed, Settles, Places}
 use Rattle.evaluator.specs.declared.Operand.the-variants.{Value, Halted}
-use Rattle.words.specs.declared.Located.{Located}
-use Rattle.words.specs.declared.Located.the-variants.{At, Outside}
+use Rattle.arithmetic.specs.declared.Located.{Located}
+use Rattle.arithmetic.specs.declared.Located.the-variants.{At, Outside}
 
 -- a word that was cast to 64 bits, and an answer that was handed on
 abbrev pub wide : ℤ → ℤ

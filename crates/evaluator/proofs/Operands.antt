@@ -12,10 +12,10 @@ use mir.Syntax.{w32}
 use mir.Val.{toZ, ofZ}
 use Rattle.words.specs.Word.{pick}
 use Rattle.words.specs.Table.{rowCount, numberAt}
-use Rattle.words.specs.Arithmetic.{Outcome, isTrue, bit, truth, apply, element}
-use Rattle.words.specs.Answers.{computed}
+use Rattle.arithmetic.specs.Arithmetic.{Outcome, isTrue, bit, truth, apply, element}
+use Rattle.arithmetic.specs.Answers.{computed}
 use Rattle.words.specs.Laws.{back}
-use Rattle.words.specs.declared.Computed.{Computed}
+use Rattle.arithmetic.specs.declared.Computed.{Computed}
 use Rattle.words.specs.declared.Operator.{Operator}
 use Rattle.computation.specs.Computation.{settle}
 use Rattle.computation.specs.Remaining.{Rest, gives, halts, onward, spend}

@@ -9,8 +9,9 @@ use Rattle.words.specs.Table.{numberAt}
 use Rattle.words.specs.Kinds.{kinds, kindIn, kindOf, kindAt}
 use Rattle.words.specs.KindLaws.{kind-numbered, place-cases}
 use Rattle.words.specs.Layout.{arrayBase, arrayLength}
-use Rattle.words.specs.Arithmetic.{Outcome, value, fault, element}
-use Rattle.words.specs.Laws.{element-inside, array-in-store}
+use Rattle.arithmetic.specs.Arithmetic.{Outcome, value, fault, element}
+use Rattle.words.specs.Laws.{array-in-store}
+use Rattle.arithmetic.specs.Laws.{element-inside}
 use Rattle.words.specs.declared.Kind.the-variants.{OfExpression}
 use Rattle.words.specs.declared.ExpressionKind.the-variants.{Variable, Element}
 use Rattle.computation.specs.Computation.{settle}

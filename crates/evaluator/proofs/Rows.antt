@@ -12,7 +12,7 @@ use Rattle.words.specs.Table.{rowCount, wordAt, numberAt}
 use Rattle.words.specs.Kinds.{kindOf, isExpressionKind, place, isRequired, expressionFields, kindRow, sortIn}
 use Rattle.words.specs.KindLaws.{kind-numbered, no-expression}
 use Rattle.words.specs.Layout.{arrayBase, arrayLength}
-use Rattle.words.specs.Arithmetic.{isTrue, truth, logicalNot, apply, minus as minusWord, element as elementWord}
+use Rattle.arithmetic.specs.Arithmetic.{isTrue, truth, logicalNot, apply, minus as minusWord, element as elementWord}
 use Rattle.words.specs.declared.Operator.{Operator}
 use Rattle.words.specs.declared.Kind.{Kind}
 use Rattle.words.specs.declared.Kind.the-variants.{OfExpression}

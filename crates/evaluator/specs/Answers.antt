@@ -6,7 +6,7 @@ use Prim.Native.Nat.{ℕ, _+_, _-_}
 use lib.Dec.{eqb}
 use lib.IntN.{ℤ, pos, negsuc}
 use Rattle.words.specs.Word.{isWord, natural, pick}
-use Rattle.words.specs.Arithmetic.{Outcome}
+use Rattle.arithmetic.specs.Arithmetic.{Outcome}
 use Rattle.words.specs.Answers.{faultNumber, faultNumbered, endingNumber}
 use Rattle.words.specs.declared.Ending.the-variants.{Spent}
 use Rattle.computation.specs.Computation.{settle}

@@ -2,12 +2,12 @@
 use super::GREATEST_WORD;
 use super::Operand;
 use super::Position;
-use words::Computed;
+use arithmetic::Computed;
 use words::FaultSort;
 use words::endings::fault_number;
 use words::table::natural;
 ghost use mathlib.Core.Path.{_≡_};
-ghost use Rattle.words.specs.Answers.{computed as computedOf};
+ghost use Rattle.arithmetic.specs.Answers.{computed as computedOf};
 ghost use Rattle.computation.specs.Run.{fault as faultOf};
 ghost use Rattle.evaluator.specs.Answers.{operandOf, positionOf, stopNumber, beyond as beyondOf, Settles};
 

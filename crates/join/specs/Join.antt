@@ -12,7 +12,7 @@ use Rattle.words.specs.Links.{link}
 use Rattle.words.specs.Search.{lowestRow}
 use Rattle.words.specs.declared.Form.the-variants.{Source}
 use Rattle.words.specs.declared.Verdict.{Verdict}
-use Rattle.structure.specs.Grammar.{tabulate}
+use Rattle.grammar.specs.Grammar.{tabulate}
 use Rattle.structure.specs.Links.{tooDeep}
 use Rattle.structure.specs.Refusal.{at, unless, _next_}
 use Rattle.source_check.specs.Refusal.{refusal}

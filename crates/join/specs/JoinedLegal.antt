@@ -19,7 +19,7 @@ use Rattle.words.specs.declared.Form.{Form}
 use Rattle.words.specs.declared.Form.the-variants.{Source}
 use Rattle.words.specs.declared.Found.the-variants.{Nothing}
 use Rattle.structure.specs.Fields.{numberFits, boundsOf}
-use Rattle.structure.specs.GrammarLaws.{zero-links-none}
+use Rattle.grammar.specs.GrammarLaws.{zero-links-none}
 use Rattle.structure.specs.Links.{tooDeep}
 use Rattle.structure.specs.DepthLaws.{none-deep-shallow}
 use Rattle.structure.specs.Structured.{Leads, EachField, Structured}

@@ -17,7 +17,7 @@ use Rattle.words.specs.Kinds.{kinds, kindIn, kindOf, optionalItem, isLink, kind
 use Rattle.words.specs.Links.{link, target, linker}
 use Rattle.words.specs.declared.Found.the-variants.{At}
 use Rattle.words.specs.declared.Form.{Form}
-use Rattle.structure.specs.GrammarLaws.{kind-links-none, zero-links-none}
+use Rattle.grammar.specs.GrammarLaws.{kind-links-none, zero-links-none}
 use Rattle.structure.specs.Links.{linksAmong, linkCount}
 use Rattle.structure.specs.LinkLaws.{word-of, links-hit, links-miss, linker-of, Owner, owner-of}
 use Rattle.structure.specs.Structured.{Leads, Structured, Tree}

@@ -14,8 +14,8 @@ use Rattle.words.specs.Word.{natural, pick}
 use Rattle.words.specs.Table.{rowCount, Whole, wordAt, numberAt}
 use Rattle.words.specs.Kinds.{isLink, sortAt}
 use Rattle.words.specs.Links.{link}
-use Rattle.structure.specs.Grammar.{tabulate}
-use Rattle.structure.specs.GrammarLaws.{tabulated}
+use Rattle.grammar.specs.Grammar.{tabulate}
+use Rattle.grammar.specs.GrammarLaws.{tabulated}
 use Rattle.structure.specs.LinkLaws.{word-of}
 use Rattle.structure.specs.Structured.{Leads}
 use Rattle.join.specs.Join.{movedWord, movedRows, outerBlock, secondBegins, joinedRows}

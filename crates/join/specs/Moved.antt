@@ -12,7 +12,7 @@ use Rattle.words.specs.Table.{rowCount, Whole, wordAt, numberAt}
 use Rattle.words.specs.Kinds.{kindOf, kindAt, sortOf, sortAt, isLink}
 use Rattle.words.specs.Links.{link}
 use Rattle.words.specs.declared.Form.{Form}
-use Rattle.structure.specs.GrammarLaws.{kind-no-link, zero-links-none}
+use Rattle.grammar.specs.GrammarLaws.{kind-no-link, zero-links-none}
 use Rattle.structure.specs.Structured.{Leads, Structured}
 use Rattle.structure.specs.declared.Bounds.{Bounds}
 

@@ -24,7 +24,7 @@ use Rattle.words.specs.declared.MemberKind.the-variants.{Arm}
 use Rattle.language.specs.Trees.{Expression, constant, Statement, empty, Arms, noArm, Items, none}
 use Rattle.language.specs.Decode.{later, expressionOf, expressionAt, partOf, ifOf, statementOf, itemsOf, armsOf, statementAt, itemsAt, armsAt}
 use Rattle.language.specs.DecodeLaws.{expression-at, statement-at, items-at, arms-at}
-use Rattle.structure.specs.GrammarLaws.{no-kind-has}
+use Rattle.grammar.specs.GrammarLaws.{no-kind-has}
 use Rattle.structure.specs.Structured.{Leads, Structured, Tree}
 use Rattle.structure.specs.StructuredLaws.{structured-tree}
 use Rattle.structure.specs.declared.Bounds.{Bounds}

@@ -30,7 +30,7 @@ use Rattle.kernel_check.specs.Labels.{isLabel, repeatedLabel, labelAhead
 use Rattle.kernel_check.specs.Legal.{Label, Ahead, Legal}
 use Rattle.kernel_check.specs.Passes.{LabelNumbers}
 use Rattle.kernel_check.specs.Refusal.{kernelCauses, refusal}
-use Rattle.kernel_check.specs.Statements.{isKernelStatement, notKernelForm}
+use Rattle.kernel_statements.specs.Statements.{isKernelStatement, notKernelForm}
 
 -- ---- what causes 1 to 6 leave to cause 13
 

@@ -11,7 +11,7 @@ use Rattle.words.specs.Links.{isStatement, link}
 use Rattle.structure.specs.Fields.{boundsOf}
 use Rattle.structure.specs.Structured.{Leads, Structured, Shallow}
 use Rattle.structure.specs.Lists.{Before}
-use Rattle.kernel_check.specs.Statements.{isKernelStatement}
+use Rattle.kernel_statements.specs.Statements.{isKernelStatement}
 
 -- 53 label, with this label number.
 pub record Label (rows : List ℤ) (number row : ℕ) : Type 0 where

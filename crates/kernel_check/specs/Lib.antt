@@ -1,8 +1,6 @@
 -- The check of kernel programs. A line of comment for each file.
 
 -- ---- definitions
--- Statements: cause 12, "statement not of kernel form".
-pub mod Statements
 -- Labels: cause 13, "goto without its label ahead, or label repeated".
 pub mod Labels
 -- Refusal: what the check answers.

@@ -6,7 +6,7 @@ use Rattle.words.specs.declared.Verdict.{Verdict}
 use Rattle.words.specs.Search.{lowestRow}
 use Rattle.structure.specs.Links.{tooDeep}
 use Rattle.structure.specs.Refusal.{at, _next_, structuralRefusal}
-use Rattle.kernel_check.specs.Statements.{notKernelForm}
+use Rattle.kernel_statements.specs.Statements.{notKernelForm}
 use Rattle.kernel_check.specs.Labels.{labelFault}
 
 -- The causes that only kernel programs are tested for, after those that both forms share.

@@ -1,5 +1,5 @@
 // Chains: the gotos and labels of one label number, in order. A number past the table ends a chain.
-use structure::grammar::between;
+use grammar::between;
 use structure::row_number::narrow;
 use words::table::number_at;
 ghost use Prim.Native.Nat.{_+_, _/_, _<_};

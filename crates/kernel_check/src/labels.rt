@@ -2,7 +2,7 @@
 use super::Note;
 use super::chains::chain_rows;
 use super::notes::write_notes;
-use super::statements::number_or_zero;
+use kernel_statements::number_or_zero;
 use structure::row_number::narrow;
 use structure::row_number::wide;
 use words::Found;

@@ -2,14 +2,13 @@
 pub mod chains; // chains.rt: the gotos and labels of one label number, in order
 pub mod labels; // labels.rt: cause 13, one label number at a time
 pub mod notes; // notes.rt: the first row of each row's list, and its owner
-pub mod statements; // statements.rt: cause 12, the statements of the kernel language
 
+use grammar::KINDS;
+use kernel_statements::lowest_not_kernel_form;
 use labels::lowest_label_fault;
-use statements::lowest_not_kernel_form;
 use structure::causes::at;
 use structure::causes::structural_refusal;
 use structure::depth::lowest_deep_by;
-use structure::grammar::KINDS;
 use words::Form;
 use words::Found;
 use words::Refusal;

@@ -1,14 +1,14 @@
 // Notes that each row gets from the row that links it: the first row of its list, and its owner.
 use super::Note;
-use structure::grammar::KINDS;
-use structure::grammar::KindTable;
-use structure::grammar::link;
+use grammar::KINDS;
+use grammar::KindTable;
+use grammar::link;
 use structure::row_number::narrow;
 use structure::row_number::wide;
 ghost use mathlib.Core.Path.{_≡_};
 ghost use Prim.Native.Nat.{_+_, _*_, _/_, _%_, _<_, _≤_};
 ghost use lib.ListN.{length, getD};
-ghost use Rattle.structure.specs.Grammar.{grammar};
+ghost use Rattle.grammar.specs.Grammar.{grammar};
 ghost use Rattle.structure.specs.Passes.{written, Notes};
 ghost use Rattle.structure.specs.Structured.{Tree};
 ghost use Rattle.kernel_check.specs.Passes.{handed, noteAt};

@@ -5,7 +5,7 @@ use Prim.Native.Nat.{ℕ}
 use lib.IntN.{ℤ, pos}
 use Rattle.words.specs.Word.{pick}
 use Rattle.words.specs.Layout.{Layout, arrayBase, arrayLength}
-use Rattle.words.specs.Arithmetic.{isTrue, truth, logicalNot, apply, minus as minusWord, element as elementWord}
+use Rattle.arithmetic.specs.Arithmetic.{isTrue, truth, logicalNot, apply, minus as minusWord, element as elementWord}
 use Rattle.words.specs.declared.Operator.{Operator}
 use Rattle.words.specs.declared.FaultSort.the-variants.{Guard}
 use Rattle.computation.specs.Computation.{Turn, again, leave, Computation, ret, _>>=_, _>>_, step, load, save, fail, loop, settle}

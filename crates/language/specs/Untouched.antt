@@ -11,8 +11,9 @@ use lib.ListN.{getD}
 use lib.Seq.{getD-set-other}
 use Rattle.words.specs.Word.{pick}
 use Rattle.words.specs.Layout.{Layout, arrayBase, arrayLength}
-use Rattle.words.specs.Laws.{neither, element-inside}
-use Rattle.words.specs.Arithmetic.{Outcome, value, fault, isTrue, apply, minus as minusWord, element as elementWord}
+use Rattle.words.specs.Laws.{neither}
+use Rattle.arithmetic.specs.Laws.{element-inside}
+use Rattle.arithmetic.specs.Arithmetic.{Outcome, value, fault, isTrue, apply, minus as minusWord, element as elementWord}
 use Rattle.words.specs.declared.Operator.{Operator}
 use Rattle.computation.specs.Computation.{Computation, ret, _>>=_, step, load, save, settle}
 use Rattle.computation.specs.Run.{State, stepped, Stop, spent, Result, ok, stopped, Limit, hasRoom, andThen, run}

@@ -8,7 +8,7 @@ use Rattle.words.specs.Word.{isWord, sameWord, natural}
 use Rattle.words.specs.Table.{wordAt, numberAt}
 use Rattle.words.specs.Kinds.{kinds, kindIn, kindOf, kindAt}
 use Rattle.words.specs.Layout.{layoutOf, sum, arrayLength, arrayBase}
-use Rattle.words.specs.Arithmetic.{inWord, isTrue, apply, element}
+use Rattle.arithmetic.specs.Arithmetic.{inWord, isTrue, apply, element}
 use Rattle.words.specs.declared.Form.{Form}
 use Rattle.words.specs.declared.Form.the-variants.{Source, Kernel}
 use Rattle.computation.specs.Run.{steps, run}

@@ -14,7 +14,7 @@ use mir.Syntax.{w32}
 use mir.Val.{toZ, ofZ}
 use borrow.Author.Tests.{ltb-true, eq-eqb}
 use Rattle.words.specs.Word.{isWord, sameWord, natural, pick}
-use Rattle.words.specs.Arithmetic.{isTrue}
+use Rattle.arithmetic.specs.Arithmetic.{isTrue}
 use Rattle.words.specs.Laws.{or-right, back, sameWord-refl, sameWord-differ}
 use Rattle.words.specs.Answers.{faultNumbered}
 use Rattle.words.specs.declared.FaultSort.the-variants.{Guard}

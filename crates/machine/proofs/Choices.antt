@@ -14,7 +14,7 @@ use Rattle.words.specs.Word.{natural, pick}
 use Rattle.words.specs.Table.{rowCount, numberAt}
 use Rattle.words.specs.Kinds.{isRequired, statementFields, memberFields, kindRow, sortIn}
 use Rattle.words.specs.Layout.{Layout}
-use Rattle.words.specs.Arithmetic.{isTrue}
+use Rattle.arithmetic.specs.Arithmetic.{isTrue}
 use Rattle.words.specs.declared.Kind.{Kind}
 use Rattle.words.specs.declared.Kind.the-variants.{OfStatement, OfMember}
 use Rattle.words.specs.declared.MemberKind.the-variants.{Arm}

@@ -8,7 +8,7 @@ use native.Mathlib.Omega.{arith}
 use lib.IntN.{ℤ, pos}
 use Rattle.words.specs.Word.{pick}
 use Rattle.words.specs.Layout.{Layout}
-use Rattle.words.specs.Arithmetic.{isTrue}
+use Rattle.arithmetic.specs.Arithmetic.{isTrue}
 use Rattle.computation.specs.Computation.{Turn, again, leave, Computation, ret, _>>=_, loop}
 use Rattle.computation.specs.RunLaws.{turnOf}
 use Rattle.computation.specs.Remaining.{gives, onward, pay, onTurn, spend, spend-unroll}

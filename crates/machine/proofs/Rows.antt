@@ -12,7 +12,7 @@ use Rattle.words.specs.Table.{rowCount, wordAt, numberAt}
 use Rattle.words.specs.Kinds.{kindOf, isStatementKind, isLink, isRequired, statementFields, kindRow, sortIn}
 use Rattle.words.specs.KindLaws.{kind-numbered, no-statement}
 use Rattle.words.specs.Layout.{Layout}
-use Rattle.words.specs.Arithmetic.{isTrue}
+use Rattle.arithmetic.specs.Arithmetic.{isTrue}
 use Rattle.words.specs.declared.Kind.{Kind}
 use Rattle.words.specs.declared.Kind.the-variants.{OfStatement}
 use Rattle.words.specs.declared.StatementKind.the-variants.{Empty, Express, Block, If, While, Do, For, Switch, Break, Continue, Goto}

@@ -6,7 +6,7 @@ use mathlib.Core.List.{List}
 use Prim.Native.Nat.{ℕ}
 use lib.IntN.{ℤ, negsuc}
 use Rattle.words.specs.Word.{sameWord, natural, pick}
-use Rattle.words.specs.Arithmetic.{isTrue}
+use Rattle.arithmetic.specs.Arithmetic.{isTrue}
 use Rattle.computation.specs.Computation.{Turn, again, leave, ret}
 use Rattle.computation.specs.Remaining.{Rest, gives, halts, onward, spend}
 use Rattle.language.specs.Trees.{label}

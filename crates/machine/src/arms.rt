@@ -1,10 +1,10 @@
 // Arms: which block the arms of a guarded statement come to. "Arms are entered from the first until a guard is true".
+use arithmetic::is_true;
 use evaluator::Operand;
 use evaluator::SPENT;
 use evaluator::answers::operand;
 use evaluator::expressions::eval;
 use evaluator::operations::link_at;
-use words::arithmetic::is_true;
 ghost use mathlib.Core.Path.{_≡_};
 ghost use lib.ListN.{length};
 ghost use Rattle.words.specs.declared.Kind.the-variants.{OfMember};

@@ -18,7 +18,7 @@ use Rattle.kernel_check.specs.Accepts.{accepted-legal}
 use Rattle.kernel_check.specs.Labels.{isLabel, repeatedLabel, owning, ownerAt, labelBehind, labelAhead, gotoWithoutLabel, labelFault}
 use Rattle.kernel_check.specs.Legal.{Legal}
 use Rattle.kernel_check.specs.Refusal.{kernelCauses, refusal}
-use Rattle.kernel_check.specs.Statements.{isAtom, isAtomMinus, isAtomOperation, isAtomElement, fitsVariable, isAssignment, isBlock, isKernelIf, isKernelWhile, isKernelExpression, isKernelStatement, notKernelForm}
+use Rattle.kernel_statements.specs.Statements.{isAtom, isAtomMinus, isAtomOperation, isAtomElement, fitsVariable, isAssignment, isBlock, isKernelIf, isKernelWhile, isKernelExpression, isKernelStatement, notKernelForm}
 
 -- What the kernel check answers of a rule's program.
 abbrev pub checked : Rule → Verdict

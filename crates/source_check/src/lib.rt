@@ -1,12 +1,12 @@
 // The check of source programs: the causes that both forms share, then 7, 8 and 9.
+use grammar::KINDS;
+use grammar::KindTable;
 use marks::lowest_repeated;
 use notes::write_notes;
 use places::lowest_misplaced;
 use structure::causes::at;
 use structure::causes::structural_refusal;
 use structure::depth::lowest_deep_by;
-use structure::grammar::KINDS;
-use structure::grammar::KindTable;
 use words::Form;
 use words::Found;
 use words::Refusal;
@@ -21,7 +21,7 @@ ghost use mathlib.Core.Path.{_≡_};
 ghost use Prim.Native.Nat.{_/_, _≤_};
 ghost use lib.ListN.{length};
 ghost use Rattle.structure.specs.Structured.{Tree};
-ghost use Rattle.structure.specs.Grammar.{grammar};
+ghost use Rattle.grammar.specs.Grammar.{grammar};
 ghost use Rattle.structure.specs.Refusal.{structuralRefusal};
 ghost use Rattle.words.specs.declared.Form.the-variants.{Source};
 ghost use Rattle.source_check.specs.Refusal.{laterRefusal, refusal};

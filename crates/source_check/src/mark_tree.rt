@@ -1,7 +1,7 @@
 // A search tree for the marks of each list: its nodes are the marks' rows, its root is the list's first mark, and at each node the next
 // bit of a mark's key, from the lowest on, chooses the child. At most three different marks share a key of 31 bits, so no way down is
 // longer than 34 nodes.
-use structure::grammar::between;
+use grammar::between;
 use structure::row_number::narrow;
 use structure::row_number::wide;
 use words::Found;

@@ -1,8 +1,8 @@
 // What a pass along the links notes of each row.
 use super::Note;
-use structure::grammar::KindTable;
-use structure::grammar::between;
-use structure::grammar::link;
+use grammar::KindTable;
+use grammar::between;
+use grammar::link;
 use structure::row_number::narrow;
 use words::table::number_at;
 ghost use mathlib.Core.Path.{_≡_};
@@ -11,7 +11,7 @@ ghost use Prim.Native.Nat.{_+_, _*_, _/_, _<_, _≤_};
 ghost use lib.Dec.{eqb};
 ghost use lib.ListN.{length, getD};
 ghost use Rattle.words.specs.Word.{pick};
-ghost use Rattle.structure.specs.Grammar.{grammar};
+ghost use Rattle.grammar.specs.Grammar.{grammar};
 ghost use Rattle.structure.specs.Structured.{Tree};
 ghost use Rattle.words.specs.Links.{target};
 ghost use Rattle.structure.specs.Passes.{written};

@@ -1,5 +1,5 @@
 // Cause 7: break, continue, case or default out of place.
-use structure::grammar::between;
+use grammar::between;
 use words::Found;
 use words::table::number_at;
 ghost use mathlib.Core.Path.{_≡_};

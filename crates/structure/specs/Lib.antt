@@ -1,10 +1,6 @@
 -- What the checks of both forms share. A line of comment for each file.
 
 -- ---- definitions
--- Grammar: the table of kinds by number, as the code holds it.
-pub mod Grammar
--- Papers: what documents 01 and 02 say of each kind, in their own lines and ranges.
-pub mod Papers
 -- Fields: the causes that lie in one field of a row: 3, 4 and 6.
 pub mod Fields
 -- Links: how often a row is linked; depth. Causes 5 and 9.
@@ -18,10 +14,6 @@ pub mod Lists
 -- Passes: what the code's loops compute.
 pub mod Passes
 -- ---- laws
--- Laws of the grammar: what holds of every kind is tested over the table.
-pub mod GrammarLaws
--- Laws of the papers: the table of kinds, and the code's array of it, are what documents 01 and 02 say.
-pub mod PaperLaws
 -- Laws of links: in a tree of rows each row but row 0 has one owner, and `linker` finds it.
 pub mod LinkLaws
 -- Laws of notes: in a tree of rows a note is what the owner hands on; and what a pass over the words has written.

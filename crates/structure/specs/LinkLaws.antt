@@ -14,7 +14,7 @@ use Rattle.words.specs.Table.{rowCount}
 use Rattle.words.specs.Layout.{rowLimit}
 use Rattle.words.specs.declared.Form.{Form}
 use Rattle.words.specs.Links.{link, target, linker}
-use Rattle.structure.specs.GrammarLaws.{kind-links-none}
+use Rattle.grammar.specs.GrammarLaws.{kind-links-none}
 use Rattle.words.specs.SearchLaws.{lowest-at}
 use Rattle.structure.specs.Links.{linksAmong, linkCount}
 use Rattle.structure.specs.Structured.{Leads, Tree}

@@ -1,13 +1,13 @@
 // Cause 9: a walk down the links, which stops one level below the limit. It runs on a tree of rows, so each row is met once.
-use super::grammar::KindTable;
-use super::grammar::link;
+use grammar::KindTable;
+use grammar::link;
 use words::Form;
 use words::Found;
 ghost use mathlib.Core.Path.{_≡_};
 ghost use Prim.Native.Nat.{_+_, _/_, _<_, _≤_, min};
 ghost use lib.ListN.{length};
 ghost use Rattle.words.specs.Layout.{depthLimit};
-ghost use Rattle.structure.specs.Grammar.{grammar};
+ghost use Rattle.grammar.specs.Grammar.{grammar};
 ghost use Rattle.words.specs.Search.{lowestRow};
 ghost use Rattle.structure.specs.Links.{depthAt, tooDeep};
 ghost use Rattle.structure.specs.Structured.{Tree};

@@ -1,11 +1,11 @@
 // How often each row is linked, and cause 5.
-use super::grammar::KindTable;
-use super::grammar::link;
+use grammar::KindTable;
+use grammar::link;
 use words::table::number_at;
 ghost use mathlib.Core.Path.{_≡_};
 ghost use Prim.Native.Nat.{_+_, _*_, _/_, _<_};
 ghost use lib.ListN.{length};
-ghost use Rattle.structure.specs.Grammar.{grammar};
+ghost use Rattle.grammar.specs.Grammar.{grammar};
 ghost use Rattle.structure.specs.Links.{notOnce, loneBlock};
 ghost use Rattle.structure.specs.Passes.{marked, markedLink, Marked};
 

@@ -8,8 +8,8 @@ use native.Mathlib.Decide.{ℕ-discrete}
 use lib.IntN.{ℤ, pos}
 use Rattle.words.specs.Word.{pick}
 use Rattle.words.specs.Layout.{Layout, arrayBase, arrayLength}
-use Rattle.words.specs.Arithmetic.{Outcome, value as given, fault as faulty, isTrue, apply, minus as minusWord, element as elementWord}
-use Rattle.words.specs.Laws.{element-inside}
+use Rattle.arithmetic.specs.Arithmetic.{Outcome, value as given, fault as faulty, isTrue, apply, minus as minusWord, element as elementWord}
+use Rattle.arithmetic.specs.Laws.{element-inside}
 use Rattle.words.specs.declared.Operator.{Operator}
 use Rattle.words.specs.declared.FaultSort.the-variants.{Guard}
 use Rattle.computation.specs.Computation.{Turn, again, leave, Computation, ret, _>>=_, _>>_, step, load, save, loop, settle}

@@ -9,7 +9,7 @@ use lib.IntN.{ℤ, pos, negsuc}
 use lib.ListN.{getD}
 use Rattle.words.specs.Word.{sameWord, pick}
 use Rattle.words.specs.Layout.{arrayBase, arrayLength}
-use Rattle.words.specs.Arithmetic.{Outcome, value, isTrue, truth, bit, logicalNot, apply, minus as minusWord, element as elementWord}
+use Rattle.arithmetic.specs.Arithmetic.{Outcome, value, isTrue, truth, bit, logicalNot, apply, minus as minusWord, element as elementWord}
 use Rattle.words.specs.Laws.{by-cases}
 use Rattle.words.specs.declared.Operator.{Operator}
 use Rattle.words.specs.declared.Operator.the-variants.{Equal, NotEqual}

@@ -7,7 +7,7 @@ use mathlib.Core.Bool.{false}
 use native.Mathlib.Omega.{arith}
 use lib.IntN.{ℤ}
 use borrow.Author.Tests.{eq-eqb, ne-eqb}
-use Rattle.words.specs.Arithmetic.{isTrue}
+use Rattle.arithmetic.specs.Arithmetic.{isTrue}
 use Rattle.words.specs.Laws.{by-cases}
 use Rattle.computation.specs.Computation.{Computation, Turn, again, leave, ret, _>>=_, loop, _>>_}
 use Rattle.computation.specs.Run.{State, Result}

@@ -11,8 +11,8 @@ use lib.ListN.{getD, set}
 use lib.Seq.{getD-set-same}
 use Rattle.words.specs.Word.{pick}
 use Rattle.words.specs.Layout.{arrayBase, arrayLength}
-use Rattle.words.specs.Arithmetic.{Outcome, value, element as elementWord}
-use Rattle.words.specs.Laws.{element-inside}
+use Rattle.arithmetic.specs.Arithmetic.{Outcome, value, element as elementWord}
+use Rattle.arithmetic.specs.Laws.{element-inside}
 use Rattle.computation.specs.Computation.{Computation, ret, settle}
 use Rattle.computation.specs.Run.{Write, State, stepped, written, Result}
 use Rattle.language.specs.Trees.{Place, variable, element, Items, none, _then_, _here_, _⧺_}

@@ -8,7 +8,7 @@ use native.Mathlib.Nat.{add-zero}
 use lib.IntN.{ℤ, pos}
 use lib.ListN.{length, getD, length-set}
 use Rattle.words.specs.Layout.{Layout, arrayBase, arrayLength}
-use Rattle.words.specs.Arithmetic.{Outcome, value, fault as faulty}
+use Rattle.arithmetic.specs.Arithmetic.{Outcome, value, fault as faulty}
 use Rattle.words.specs.declared.FaultSort.{FaultSort}
 use Rattle.computation.specs.Computation.{Turn, again, leave}
 use Rattle.computation.specs.Run.{Write, State, stepped, written, spent, fault, Result, ok, stopped, andThen}

@@ -7,7 +7,7 @@ use native.Mathlib.Omega.{arith}
 use lib.IntN.{ℤ, pos}
 use borrow.Author.Tests.{eq-eqb, ne-eqb}
 use Rattle.words.specs.Word.{sameWord}
-use Rattle.words.specs.Arithmetic.{isTrue, bit, apply}
+use Rattle.arithmetic.specs.Arithmetic.{isTrue, bit, apply}
 use Rattle.words.specs.Laws.{by-cases}
 use Rattle.computation.specs.Computation.{Computation, Turn, again, leave, ret, _>>=_, loop, _>>_}
 use Rattle.computation.specs.Run.{State, Result}

@@ -6,7 +6,7 @@ use Prim.Native.Nat.{ℕ}
 use lib.IntN.{pos}
 use Rattle.words.specs.Word.{isWord, natural}
 use Rattle.words.specs.Layout.{Layout, sum, storeSize, arrayBase, arrayLength}
-use Rattle.words.specs.Arithmetic.{inWord, apply, element as elementWord}
+use Rattle.arithmetic.specs.Arithmetic.{inWord, apply, element as elementWord}
 use Rattle.words.specs.declared.Operator.the-variants.{Add, Subtract, Greater, Equal}
 use Rattle.computation.specs.Run.{start, rounds, run, final}
 use Rattle.language.specs.Trees.{Expression, constant, read, minus, not, binary, comma, conditional, assign, compound, prefix, postfix, Place, variable, element, case, default, label, Statement, empty, express, block, ifElse, while, switch, goto, guardedIf, guardedDo, abort, Arms, noArm, arm, Items, none, _then_, _here_, _⧺_, sameMark}

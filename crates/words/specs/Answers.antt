@@ -3,28 +3,13 @@ use mathlib.Core.List.{List, [], _∷_}
 use mathlib.Core.Path.{_≡_}
 use Prim.Native.Nat.{ℕ}
 use lib.Dec.{eqb}
-use lib.IntN.{ℤ}
 use lib.ListN.{length, take}
 use Rattle.words.specs.Word.{pick}
-use Rattle.words.specs.Arithmetic.{Outcome, value, fault}
 use Rattle.words.specs.declared.FaultSort.{FaultSort}
 use Rattle.words.specs.declared.FaultSort.the-variants.{Overflow, ZeroDivisor, Index, Guard}
 use Rattle.words.specs.declared.Ending.{Ending}
 use Rattle.words.specs.declared.Ending.the-variants.{Plain, Spent, Fault}
 use Rattle.words.specs.declared.Name.{Name}
-use Rattle.words.specs.declared.Computed.{Computed}
-use Rattle.words.specs.declared.Computed.the-variants.{Value, Fails}
-use Rattle.words.specs.declared.Located.{Located}
-use Rattle.words.specs.declared.Located.the-variants.{At, Outside}
-
--- What the code's answers to arithmetic and to the bounds test say.
-abbrev pub computed : Computed → Outcome ℤ
-computed (Value v) = value v
-computed (Fails sort) = fault sort
-
-abbrev pub located : Located → Outcome ℕ
-located (At position) = value position
-located Outside = fault Index
 
 -- "A run ends plainly, spent, or with a fault", of one of four sorts. Each ending has a number, in the answers of the library and of
 -- the machine, and a word: "Output: form, ending (ended, spent, overflow, zero, index)", "a fourth fault, printed `guard`", as bytes.

@@ -1,4 +1,4 @@
--- Words, tables and layouts; kinds and links; the answers that the crates share; 32-bit arithmetic. A line of comment for each file.
+-- Words, tables and layouts; kinds and links; the answers that the crates share. A line of comment for each file.
 
 -- ---- definitions
 -- Words: what is one, and the number that one names.
@@ -13,8 +13,6 @@ pub mod Kinds
 pub mod Search
 -- Links: what a row is, which row a field links and which fit there; what is handed along the links.
 pub mod Links
--- Arithmetic: the operations on words, with their faults.
-pub mod Arithmetic
 -- Over: what stands in a table or a buffer after values were written from its start.
 pub mod Over
 -- Answers: the papers' numbers and words for each case of an enum.

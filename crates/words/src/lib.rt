@@ -1,5 +1,4 @@
-// Words, tables, layouts and 32-bit arithmetic: the leaves that every other crate stands on, and the answers they share.
-pub mod arithmetic; // arithmetic.rt: the operations on words, and the bounds test
+// Words, tables and layouts: the leaves that every other crate stands on, and the answers they share.
 pub mod endings; // endings.rt: the numbers and names of endings
 pub mod kinds; // kinds.rt: the kind of a row
 pub mod layout; // layout.rt: the header's limits, and the sizes it gives
@@ -126,18 +125,6 @@ pub enum Kind {
     OfMark(MarkKind),
     OfMember(MemberKind),
     Other,
-}
-
-// What an operation on words gives.
-pub enum Computed {
-    Value(i32),
-    Fails(FaultSort),
-}
-
-// Where an element lies in the store; outside its array it lies nowhere.
-pub enum Located {
-    At(usize),
-    Outside,
 }
 
 // What a search finds: the lowest row that it looks for.

@@ -2,7 +2,7 @@
 use mathlib.Core.Path.{refl}
 use borrow.Author.Needs.{needs}
 use Rattle.words.specs.Kinds.{kindOf, kindIn, kinds, kindRow, expressionFields, statementFields, markFields, memberFields}
-use Rattle.structure.specs.Grammar.{grammar}
+use Rattle.grammar.specs.Grammar.{grammar}
 use Rattle.source_check.proofs.later_refusal.Statement.{statement}
 use Rattle.source_check.proofs.later_refusal.Tie as tie
 

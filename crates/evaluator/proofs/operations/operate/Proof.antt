@@ -2,8 +2,8 @@
 use mathlib.Core.Path.{refl, ap, _∙_}
 use mathlib.Core.Bool.{not}
 use borrow.Author.Needs.{needs}
-use Rattle.words.specs.Arithmetic.{value, bit, apply}
-use Rattle.words.proofs.Signed.{handed-on, compared, equal-bits}
+use Rattle.arithmetic.specs.Arithmetic.{value, bit, apply}
+use Rattle.arithmetic.proofs.Results.{handed-on, compared, equal-bits}
 use Rattle.evaluator.proofs.Decoding.{wide-fits, settles-word}
 use Rattle.evaluator.proofs.Operands.{settled-is}
 use Rattle.evaluator.proofs.operations.operate.Statement.{statement}

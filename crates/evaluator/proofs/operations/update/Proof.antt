@@ -1,5 +1,5 @@
 -- `update` stores what the operation gives, or hands its fault up.
-use Rattle.words.specs.Answers.{computed}
+use Rattle.arithmetic.specs.Answers.{computed}
 use Rattle.evaluator.proofs.Decoding.{handed, wide-fits, update-fails, update-old, update-new, settled-settles}
 use lib.IntN.{pos}
 use lib.ListN.{getD}

@@ -19,7 +19,7 @@ use Rattle.structure.proofs.depth.lowest_deep_parts.Reads as lowest-dee
 use Rattle.structure.proofs.depth.lowest_deep_parts.Kinds as lowest-deep-parts-kinds
 use Rattle.structure.proofs.depth.+lowest_deep+lowest_deep_parts.Lts-lowest_deep_parts as lowest-deep-parts-lts
 use Rattle.structure.proofs.depth.lower.Reads as lower-reads
-use Rattle.structure.proofs.grammar.link.Reads as link-reads
+use Rattle.grammar.proofs.link.Reads as link-reads
 use Rattle.structure.proofs.depth.+lowest_deep+lowest_deep_parts.{statement}
 use Rattle.structure.proofs.depth.+lowest_deep+lowest_deep_parts.Tie.{close}
 

@@ -55,10 +55,10 @@ use Rattle.evaluator.proofs.operations.link_at.Reads as link-at-reads
 use Rattle.evaluator.proofs.operations.operate.Reads as operate-reads
 use Rattle.evaluator.proofs.operations.update.Reads as update-reads
 use Rattle.evaluator.proofs.operations.within.Reads as within-reads
-use Rattle.words.proofs.arithmetic.bit.Reads as bit-reads
-use Rattle.words.proofs.arithmetic.is_true.Reads as is-true-reads
-use Rattle.words.proofs.arithmetic.logical_not.Reads as logical-not-reads
-use Rattle.words.proofs.arithmetic.minus.Reads as minus-reads
+use Rattle.arithmetic.proofs.bit.Reads as bit-reads
+use Rattle.arithmetic.proofs.is_true.Reads as is-true-reads
+use Rattle.arithmetic.proofs.logical_not.Reads as logical-not-reads
+use Rattle.arithmetic.proofs.minus.Reads as minus-reads
 use Rattle.words.proofs.kinds.operator_of.Reads as operator-of-reads
 use Rattle.words.proofs.table.number_at.Reads as number-at-reads
 use Rattle.words.proofs.table.word_at.Reads as word-at-reads

@@ -6,7 +6,7 @@ use native.Mathlib.Omega.{arith}
 use lib.IntN.{ℤ}
 use mathlib.Core.Bool.{not}
 use Rattle.words.specs.Word.{pick}
-use Rattle.words.specs.Arithmetic.{isTrue, bit}
+use Rattle.arithmetic.specs.Arithmetic.{isTrue, bit}
 use Rattle.words.specs.Laws.{back}
 use Rattle.computation.specs.Remaining.{gives}
 use Rattle.evaluator.proofs.Decoding.{wide-fits, answered-wide}

@@ -3,7 +3,7 @@ use borrow.Author.Needs.{needs}
 use mathlib.Core.Path.{refl, sym, ap, _∙_}
 use Prim.Native.Nat.{ℕ, _-_}
 use native.Mathlib.Omega.{arith}
-use Rattle.words.specs.Arithmetic.{isTrue}
+use Rattle.arithmetic.specs.Arithmetic.{isTrue}
 use Rattle.words.specs.Laws.{back}
 use Rattle.evaluator.proofs.Operands.{goes, hands-up, handed-on, link-asks, linked, nearer, chosen-true, chosen-false}
 use Rattle.evaluator.proofs.Rows.{ternary-links, ternary-row}

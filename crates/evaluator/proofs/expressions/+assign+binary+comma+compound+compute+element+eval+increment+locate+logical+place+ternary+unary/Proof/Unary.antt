@@ -4,7 +4,7 @@ use mathlib.Core.Path.{refl, sym, ap, _∙_}
 use Prim.Native.Nat.{ℕ, _-_}
 use native.Mathlib.Omega.{arith}
 use lib.IntN.{ℤ}
-use Rattle.words.specs.Arithmetic.{logicalNot, minus as minusWord}
+use Rattle.arithmetic.specs.Arithmetic.{logicalNot, minus as minusWord}
 use Rattle.words.specs.Laws.{back}
 use Rattle.computation.specs.Remaining.{gives}
 use Rattle.evaluator.proofs.Decoding.{wide-fits, answered-wide}

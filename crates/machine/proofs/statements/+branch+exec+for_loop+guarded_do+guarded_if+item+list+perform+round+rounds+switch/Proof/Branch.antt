@@ -3,7 +3,7 @@ use borrow.Author.Needs.{needs}
 use mathlib.Core.Path.{refl, sym, ap, _∙_}
 use Prim.Native.Nat.{ℕ}
 use native.Mathlib.Omega.{arith}
-use Rattle.words.specs.Arithmetic.{isTrue}
+use Rattle.arithmetic.specs.Arithmetic.{isTrue}
 use Rattle.words.specs.Laws.{back}
 use Rattle.evaluator.specs.Rows.{valueAt}
 use Rattle.evaluator.proofs.Operands.{goes, link-asks, linked, chosen-true, chosen-false}

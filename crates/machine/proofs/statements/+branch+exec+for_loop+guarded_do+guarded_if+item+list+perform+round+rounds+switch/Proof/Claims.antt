@@ -62,7 +62,7 @@ use Rattle.machine.proofs.lists.find_start.Reads as find-start-reads
 use Rattle.machine.proofs.lists.resume.Reads as resume-reads
 use Rattle.machine.proofs.statements.express.Reads as express-reads
 use Rattle.machine.proofs.statements.part.Reads as part-reads
-use Rattle.words.proofs.arithmetic.is_true.Reads as is-true-reads
+use Rattle.arithmetic.proofs.is_true.Reads as is-true-reads
 use Rattle.words.proofs.table.number_at.Reads as number-at-reads
 use Rattle.words.proofs.table.word_at.Reads as word-at-reads
 

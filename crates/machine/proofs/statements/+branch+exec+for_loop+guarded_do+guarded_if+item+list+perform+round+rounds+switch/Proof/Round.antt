@@ -5,7 +5,7 @@ use Prim.Native.Nat.{ℕ}
 use native.Mathlib.Omega.{arith}
 use lib.IntN.{pos}
 use borrow.Author.Tests.{not-true, not-false}
-use Rattle.words.specs.Arithmetic.{isTrue}
+use Rattle.arithmetic.specs.Arithmetic.{isTrue}
 use Rattle.words.specs.Laws.{back}
 use Rattle.computation.specs.Remaining.{spend}
 use Rattle.language.specs.Decode.{partAt}

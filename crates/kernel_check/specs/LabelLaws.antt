@@ -2,28 +2,23 @@
 use mathlib.Core.Path.{_≡_, refl, sym, ap, _∙_}
 use mathlib.Core.Bool.{Bool, true, false, true≢false, false≢true}
 use mathlib.Core.List.{List}
-use Prim.Native.Nat.{ℕ, zero, suc, _+_, _*_, _/_, _≤_, _<_}
+use Prim.Native.Nat.{ℕ, zero, suc, _+_, _≤_, _<_}
 use native.Mathlib.Omega.{arith}
 use native.Mathlib.Decide.{ℕ-discrete, decLt}
 use lib.Dec.{eqb}
-use lib.IntN.{ℤ, pos}
-use lib.ListN.{length, List·getD-eq-default}
+use lib.IntN.{ℤ}
 use borrow.Author.Tests.{eq-eqb, ne-eqb, eqb-true, eqb-false}
-use Rattle.words.specs.Word.{natural, pick}
-use Rattle.words.specs.Table.{rowCount, wordAt, numberAt}
+use Rattle.words.specs.Word.{pick}
+use Rattle.words.specs.Table.{rowCount, numberAt}
 use Rattle.words.specs.Laws.{both}
 use Rattle.words.specs.Links.{link}
 use Rattle.structure.specs.NoteLaws.{above-zero}
 use Rattle.structure.specs.Structured.{Leads, Tree}
 use Rattle.structure.specs.Lists.{Before, adjacent, Step, once, on, before-later, before-inside, before-before, before-step}
+use Rattle.kernel_statements.specs.Laws.{number-beyond}
 use Rattle.kernel_check.specs.Labels.{isLabel, ownerAt, labelBehind, labelAhead}
 use Rattle.kernel_check.specs.Legal.{Label, Owner, part, beside, Ahead, behind, outward}
 use Rattle.kernel_check.specs.ListLaws.{owner-root, owner-is, owner-earlier, owner-of-row, owner-below}
-
--- beyond the table every word is 0
-pub number-beyond : (rows : List ℤ) (row field : ℕ) → 6 * (length rows / 6) ≡ length rows → rowCount rows ≤ row → 0 ≡ numberAt rows row field
-unfolding numberAt wordAt natural
-number-beyond rows row field whole h = let beyond : length rows ≤ 6 * row + field = omega arith in rw (List·getD-eq-default rows (pos 0) beyond)
 
 either-way : (b : Bool) → pick b true true ≡ true
 either-way true = refl

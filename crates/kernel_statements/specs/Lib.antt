@@ -3,3 +3,6 @@
 -- ---- definitions
 -- Statements: cause 12, "statement not of kernel form".
 pub mod Statements
+-- ---- laws
+-- Laws: beyond a table every word is 0.
+pub mod Laws

@@ -1,6 +1,6 @@
 -- `number_or_zero` reads within the table. Beyond it every word is 0.
 use borrow.Author.Needs.{needs}
-use Rattle.kernel_check.specs.LabelLaws.{number-beyond}
+use Rattle.kernel_statements.specs.Laws.{number-beyond}
 use Rattle.kernel_statements.proofs.number_or_zero.Statement.{statement}
 use Rattle.kernel_statements.proofs.number_or_zero.Tie as tie
 

@@ -36,10 +36,13 @@ outerBlock = pos 42 ∷ pos 1 ∷ pos 0 ∷ pos 0 ∷ pos 0 ∷ pos 0 ∷ []
 abbrev pub secondBegins : List ℤ → ℕ
 secondBegins first = 1 + rowCount first
 
--- "The joined rows are the new block, the first's, the second's." The block of the first is followed by that of the second: word 5 of its rows is
--- the next of its row 0.
+-- The first's rows, its block followed by that of the second: word 5 is the next of row 0.
+unfoldable pub firstRows : List ℤ → List ℤ
+firstRows first = set (movedRows 1 first) 5 (pos (secondBegins first))
+
+-- "The joined rows are the new block, the first's, the second's."
 unfoldable pub joinedRows : List ℤ → List ℤ → List ℤ
-joinedRows first second = outerBlock ++ (set (movedRows 1 first) 5 (pos (secondBegins first)) ++ movedRows (secondBegins first) second)
+joinedRows first second = outerBlock ++ (firstRows first ++ movedRows (secondBegins first) second)
 
 -- ---- refusals
 

@@ -1,4 +1,4 @@
--- Laws of joins: what is not refused is joined as promised; the order of a join's own causes; a join worked by hand.
+-- Laws of joins: a join worked by hand; the order of a join's own causes; what is not refused is joined as promised.
 use mathlib.Core.Path.{_≡_, refl, sym, ap₂, subst}
 use mathlib.Core.Bool.{Bool, true, false, false≢true}
 use mathlib.Core.List.{List, [], _∷_}
@@ -23,58 +23,11 @@ use Rattle.structure.specs.RefusalLaws.{next-accepts, at-accepts, unless-accept
 use Rattle.source_check.specs.Refusal.{refusal}
 use Rattle.source_check.specs.Legal.{Legal}
 use Rattle.source_check.specs.AcceptsLegal.{accepts-legal}
-use Rattle.join.specs.Join.{movedWord, movedRows, outerBlock, joinedRows, sameHeader, ownRefusal, joinRefusal}
+use Rattle.join.specs.Join.{movedWord, movedRows, outerBlock, firstRows, joinedRows, sameHeader, ownRefusal, joinRefusal}
 use Rattle.join.specs.JoinFate.{Joins}
 use Rattle.join.specs.JoinedProgram.{joined-run}
 use Rattle.join.specs.JoinFateLaws.{join-fate}
 use Rattle.join.specs.JoinedLegal.{joined-legal}
-
--- ---- what is not refused
-
-pub same-header : (header other : List ℤ) → sameHeader header other ≡ true → header ≡ other
-unfolding sameHeader
-same-header [] [] e = refl
-same-header [] (v ∷ vs) e = absurd (false≢true e)
-same-header (w ∷ ws) [] e = absurd (false≢true e)
-same-header (w ∷ ws) (v ∷ vs) e = let parts = both (sameWord w v) (sameHeader ws vs) e in ap₂ _∷_ (sameWord-equal w v (parts .0)) (same-header ws vs (parts .1))
-
-module _ (header first secondHeader second : List ℤ) where
-  abbrev joined : List ℤ
-  joined = joinedRows first second
-
-  pub accepted-joins : (room : ℕ) → joinRefusal header first secondHeader second room ≡ Accepted → Joins header first second joined
-  unfolding joinRefusal ownRefusal
-  accepted-joins room e =
-      let ofFirst = next-accepts (refusal header first) _ e in
-      let ofSecond = next-accepts (refusal secondHeader second) _ (ofFirst .1) in
-      let ofJoin = next-accepts (ownRefusal header first secondHeader second) _ (ofSecond .1) in
-      let headers = next-accepts (unless (sameHeader header secondHeader) 16) _ (ofJoin .0) in
-      let counts = next-accepts (unless (leb (rowCount joined) (rowLimit Source)) 17) _ (headers .1) in
-      let same = same-header header secondHeader (unless-accepts _ 16 (headers .0)) in
-      let few = leb-true (rowCount joined) (rowLimit Source) (unless-accepts _ 17 (counts .0)) in
-      let flat = at-accepts 9 _ (counts .1) in
-      let legal-first = accepts-legal header first .0 (ofFirst .0) in
-      let legal-second : Legal header second = subst (λ (h : List ℤ). Legal h second) (sym same) (accepts-legal secondHeader second .0 (ofSecond .0)) in
-      record {
-        legal = joined-legal header first second legal-first legal-second few flat;
-        runs = joined-run header first second legal-first legal-second;
-        fate = join-fate header first second legal-first legal-second;
-      }
-
-  -- ---- "unequal headers get 16, joined rows over 2,048 get 17 (both place 0), and a join too deep 9 with its joined row"
-
-  pub unequal-headers : sameHeader header secondHeader ≡ false → ownRefusal header first secondHeader second ≡ Refused (record { number = 16; place = 0 })
-  unfolding ownRefusal unless _next_
-  unequal-headers e = rw e
-
-  pub too-many-rows : sameHeader header secondHeader ≡ true → leb (rowCount joined) 2048 ≡ false → ownRefusal header first secondHeader second ≡ Refused (record { number = 17; place = 0 })
-  unfolding ownRefusal unless _next_
-  too-many-rows e n = rw (e, n)
-
-  pub too-deep : (row : ℕ) → sameHeader header secondHeader ≡ true → leb (rowCount joined) 2048 ≡ true → lowestRow joined (tooDeep Source joined) ≡ At row
-      → ownRefusal header first secondHeader second ≡ Refused (record { number = 9; place = row })
-  unfolding ownRefusal unless at _next_
-  too-deep row e n d = rw (e, n, d)
 
 -- ---- a join worked by hand: v0 = 7, and a switch on v0 whose case 7 breaks
 
@@ -108,5 +61,52 @@ by-hand : joinedRows assigns switches
     pos 2 ∷ pos 0 ∷ pos 0 ∷ pos 0 ∷ pos 0 ∷ pos 0 ∷
     pos 48 ∷ pos 7 ∷ pos 0 ∷ pos 0 ∷ pos 0 ∷ pos 10 ∷  -- 9 case 7, next 10
     pos 50 ∷ pos 0 ∷ pos 0 ∷ pos 0 ∷ pos 0 ∷ pos 0 ∷ [])
-unfolding assigns switches joinedRows movedRows movedWord outerBlock link sortAt sortOf sortIn kindOf kindIn kinds kindRow expressionFields statementFields markFields memberFields isLink numberAt wordAt natural
+unfolding assigns switches joinedRows firstRows movedRows movedWord outerBlock link sortAt sortOf sortIn kindOf kindIn kinds kindRow expressionFields statementFields markFields memberFields isLink numberAt wordAt natural
 by-hand = refl
+
+-- ---- refusals
+
+pub same-header : (header other : List ℤ) → sameHeader header other ≡ true → header ≡ other
+unfolding sameHeader
+same-header [] [] e = refl
+same-header [] (v ∷ vs) e = absurd (false≢true e)
+same-header (w ∷ ws) [] e = absurd (false≢true e)
+same-header (w ∷ ws) (v ∷ vs) e = let parts = both (sameWord w v) (sameHeader ws vs) e in ap₂ _∷_ (sameWord-equal w v (parts .0)) (same-header ws vs (parts .1))
+
+module _ (header first secondHeader second : List ℤ) where
+  abbrev joined : List ℤ
+  joined = joinedRows first second
+
+  -- "unequal headers get 16, joined rows over 2,048 get 17 (both place 0), and a join too deep 9 with its joined row"
+  pub unequal-headers : sameHeader header secondHeader ≡ false → ownRefusal header first secondHeader second ≡ Refused (record { number = 16; place = 0 })
+  unfolding ownRefusal unless _next_
+  unequal-headers e = rw e
+
+  pub too-many-rows : sameHeader header secondHeader ≡ true → leb (rowCount joined) 2048 ≡ false → ownRefusal header first secondHeader second ≡ Refused (record { number = 17; place = 0 })
+  unfolding ownRefusal unless _next_
+  too-many-rows e n = rw (e, n)
+
+  pub too-deep : (row : ℕ) → sameHeader header secondHeader ≡ true → leb (rowCount joined) 2048 ≡ true → lowestRow joined (tooDeep Source joined) ≡ At row
+      → ownRefusal header first secondHeader second ≡ Refused (record { number = 9; place = row })
+  unfolding ownRefusal unless at _next_
+  too-deep row e n d = rw (e, n, d)
+
+  -- What is not refused is joined as promised.
+  pub accepted-joins : (room : ℕ) → joinRefusal header first secondHeader second room ≡ Accepted → Joins header first second joined
+  unfolding joinRefusal ownRefusal
+  accepted-joins room e =
+      let ofFirst = next-accepts (refusal header first) _ e in
+      let ofSecond = next-accepts (refusal secondHeader second) _ (ofFirst .1) in
+      let ofJoin = next-accepts (ownRefusal header first secondHeader second) _ (ofSecond .1) in
+      let headers = next-accepts (unless (sameHeader header secondHeader) 16) _ (ofJoin .0) in
+      let counts = next-accepts (unless (leb (rowCount joined) (rowLimit Source)) 17) _ (headers .1) in
+      let same = same-header header secondHeader (unless-accepts _ 16 (headers .0)) in
+      let few = leb-true (rowCount joined) (rowLimit Source) (unless-accepts _ 17 (counts .0)) in
+      let flat = at-accepts 9 _ (counts .1) in
+      let legal-first = accepts-legal header first .0 (ofFirst .0) in
+      let legal-second : Legal header second = subst (λ (h : List ℤ). Legal h second) (sym same) (accepts-legal secondHeader second .0 (ofSecond .0)) in
+      record {
+        legal = joined-legal header first second legal-first legal-second few flat;
+        runs = joined-run header first second legal-first legal-second;
+        fate = join-fate header first second legal-first legal-second;
+      }

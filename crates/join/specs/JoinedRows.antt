@@ -18,24 +18,32 @@ use Rattle.grammar.specs.Grammar.{tabulate}
 use Rattle.grammar.specs.GrammarLaws.{tabulated}
 use Rattle.structure.specs.LinkLaws.{word-of}
 use Rattle.structure.specs.Structured.{Leads}
-use Rattle.join.specs.Join.{movedWord, movedRows, outerBlock, secondBegins, joinedRows}
+use Rattle.join.specs.Join.{movedWord, movedRows, outerBlock, secondBegins, firstRows, joinedRows}
 use Rattle.join.specs.Moved.{movedLink, Holds, link-is}
 
 -- ---- words of moved rows
 
+moved-absent : (by : ℕ) (rows : List ℤ) (row field : ℕ) → link rows row field ≡ 0 → movedWord by rows row field ≡ wordAt rows row field
+unfolding movedWord
+moved-absent by rows row field e = rw e
+
+moved-present : (by : ℕ) (rows : List ℤ) (row field l : ℕ) → link rows row field ≡ suc l → movedWord by rows row field ≡ pos (by + suc l)
+unfolding movedWord
+moved-present by rows row field l e = rw (e, ne-eqb (suc l) 0 (λ q. omega arith))
+
 moved-stays : (by : ℕ) (rows : List ℤ) (row field : ℕ) → isLink (sortAt rows row field) ≡ false → movedWord by rows row field ≡ wordAt rows row field
-unfolding movedWord link
-moved-stays by rows row field e = rw e
+unfolding link
+moved-stays by rows row field e = moved-absent by rows row field (rw e)
 
 moved-follows : (by : ℕ) (rows : List ℤ) (row field : ℕ) → isLink (sortAt rows row field) ≡ true → natural (movedWord by rows row field) ≡ movedLink (λ r. by + r) (numberAt rows row field)
-unfolding movedWord natural numberAt
+unfolding natural numberAt
 moved-follows by rows row field e = go (numberAt rows row field) refl (link-is rows row field e)
   where
-    go : (l : ℕ) → numberAt rows row field ≡ l → link rows row field ≡ l → natural (pick (eqb (link rows row field) 0) (wordAt rows row field) (pos (by + link rows row field))) ≡ movedLink (λ r. by + r) l
-    go zero n e = rw e n
-    go (suc l) n e = rw (e, ne-eqb (suc l) 0 (λ q. omega arith))
+    go : (l : ℕ) → numberAt rows row field ≡ l → link rows row field ≡ l → natural (movedWord by rows row field) ≡ movedLink (λ r. by + r) l
+    go zero n e = ap natural (moved-absent by rows row field e) ∙ n
+    go (suc l) n e = ap natural (moved-present by rows row field l e)
 
-length-tabulate : {A : Type 0} (entry : ℕ → A) (from count : ℕ) → length (tabulate entry from count) ≡ count
+pub length-tabulate : {A : Type 0} (entry : ℕ → A) (from count : ℕ) → length (tabulate entry from count) ≡ count
 length-tabulate entry from zero = refl
 length-tabulate entry from (suc count) = ap suc (length-tabulate entry (suc from) count)
 
@@ -65,23 +73,21 @@ holds-moved by joined rows whole room words = record {
 
 -- ---- the joined table
 
+pub length-first : (first : List ℤ) → length (firstRows first) ≡ length first
+unfolding firstRows
+length-first first = rw length-set (length-moved 1 first)
+
 module _ (first second : List ℤ) (whole-first : Whole first) (whole-second : Whole second) (some : 0 < rowCount first) where
   abbrev joined : List ℤ
   joined = joinedRows first second
 
-  abbrev firstPart : List ℤ
-  firstPart = set (movedRows 1 first) 5 (pos (secondBegins first))
-
-  length-first : length firstPart ≡ length first
-  length-first = length-set (movedRows 1 first) 5 (pos (secondBegins first)) ∙ length-moved 1 first
-
   pub length-joined : length joined ≡ 6 + length first + length second
   unfolding joinedRows outerBlock
   length-joined =
-      let inner = length-append firstPart (movedRows (secondBegins first) second) in
-      let one = length-first in
+      let inner = length-append (firstRows first) (movedRows (secondBegins first) second) in
+      let one = length-first first in
       let two = length-moved (secondBegins first) second in
-      let outer = length-append outerBlock (firstPart ++ movedRows (secondBegins first) second) in
+      let outer = length-append outerBlock (firstRows first ++ movedRows (secondBegins first) second) in
       omega arith
 
   pub count-joined : rowCount joined ≡ 1 + rowCount first + rowCount second
@@ -96,7 +102,7 @@ module _ (first second : List ℤ) (whole-first : Whole first) (whole-second : W
   unfolding wordAt joinedRows outerBlock
   outer-word field f =
       ap (λ (k : ℕ). getD joined k (pos 0)) (let e : 6 * 0 + field ≡ field = omega arith in e)
-      ∙ List·getD-append outerBlock (firstPart ++ movedRows (secondBegins first) second) (pos 0) field (omega arith)
+      ∙ List·getD-append outerBlock (firstRows first ++ movedRows (secondBegins first) second) (pos 0) field (omega arith)
 
   pub outer-number : (field : ℕ) → field < 6 → numberAt joined 0 field ≡ natural (getD outerBlock field (pos 0))
   unfolding numberAt
@@ -104,15 +110,22 @@ module _ (first second : List ℤ) (whole-first : Whole first) (whole-second : W
 
   -- ---- the first's rows
 
-  behind-outer : (word : ℕ) → getD joined (6 + word) (pos 0) ≡ getD (firstPart ++ movedRows (secondBegins first) second) word (pos 0)
+  behind-outer : (word : ℕ) → getD joined (6 + word) (pos 0) ≡ getD (firstRows first ++ movedRows (secondBegins first) second) word (pos 0)
   unfolding joinedRows outerBlock
-  behind-outer word = getD-append-add outerBlock (firstPart ++ movedRows (secondBegins first) second) word (pos 0)
+  behind-outer word = getD-append-add outerBlock (firstRows first ++ movedRows (secondBegins first) second) word (pos 0)
 
-  in-first : (word : ℕ) → word < length first → getD joined (6 + word) (pos 0) ≡ getD firstPart word (pos 0)
-  in-first word b = behind-outer word ∙ List·getD-append firstPart (movedRows (secondBegins first) second) (pos 0) word (let e = length-first in omega arith)
+  in-first : (word : ℕ) → word < length first → getD joined (6 + word) (pos 0) ≡ getD (firstRows first) word (pos 0)
+  in-first word b = behind-outer word ∙ List·getD-append (firstRows first) (movedRows (secondBegins first) second) (pos 0) word (let e = length-first first in omega arith)
+
+  -- its row 0 is followed by the second's
+  pub first-next : numberAt joined 1 5 ≡ secondBegins first
+  unfolding numberAt wordAt natural firstRows
+  first-next =
+      ap natural (in-first 5 (omega arith)
+      ∙ getD-set-same (movedRows 1 first) 5 (pos (secondBegins first)) (pos 0) (let l = length-moved 1 first in omega arith))
 
   first-word : (row field : ℕ) → row < rowCount first → field < 6 → field < 5 + row → wordAt joined (1 + row) field ≡ movedWord 1 first row field
-  unfolding wordAt
+  unfolding wordAt firstRows
   first-word row field n f own =
       ap (λ (k : ℕ). getD joined k (pos 0)) (let e : 6 * (1 + row) + field ≡ 6 + (6 * row + field) = omega arith in e)
       ∙ in-first (6 * row + field) (omega arith)
@@ -122,20 +135,13 @@ module _ (first second : List ℤ) (whole-first : Whole first) (whole-second : W
   pub first-holds : Holds joined first (λ r. 1 + r)
   first-holds = holds-moved 1 joined first whole-joined (let c = count-joined in omega arith) first-word
 
-  -- its row 0 is followed by the second's
-  pub first-next : numberAt joined 1 5 ≡ secondBegins first
-  unfolding numberAt wordAt natural
-  first-next =
-      ap natural (in-first 5 (omega arith)
-      ∙ getD-set-same (movedRows 1 first) 5 (pos (secondBegins first)) (pos 0) (let l = length-moved 1 first in omega arith))
-
   -- ---- the second's rows
 
   in-second : (word : ℕ) → getD joined (6 + (length first + word)) (pos 0) ≡ getD (movedRows (secondBegins first) second) word (pos 0)
   in-second word =
       behind-outer (length first + word)
-      ∙ ap (λ (k : ℕ). getD (firstPart ++ movedRows (secondBegins first) second) (k + word) (pos 0)) (sym length-first)
-      ∙ getD-append-add firstPart (movedRows (secondBegins first) second) word (pos 0)
+      ∙ ap (λ (k : ℕ). getD (firstRows first ++ movedRows (secondBegins first) second) (k + word) (pos 0)) (sym (length-first first))
+      ∙ getD-append-add (firstRows first) (movedRows (secondBegins first) second) word (pos 0)
 
   -- every word of them, the next of row 0 too
   pub second-word : (row field : ℕ) → row < rowCount second → field < 6 → wordAt joined (secondBegins first + row) field ≡ movedWord (secondBegins first) second row field

@@ -7,9 +7,9 @@ pub mod Join
 pub mod Followed
 -- JoinFate: how a join ends, in the request's words, and all that is promised of one.
 pub mod JoinFate
+-- ---- laws
 -- Moved: a table that holds another one's rows at other places.
 pub mod Moved
--- ---- laws
 -- MovedTrees: the trees at the new place of a row are those at its old one.
 pub mod MovedTrees
 -- JoinedRows: the joined rows hold the first's and the second's.
@@ -26,5 +26,5 @@ pub mod MovedLegal
 pub mod JoinedLinks
 -- JoinedLegal: the join of two legal programs is legal.
 pub mod JoinedLegal
--- JoinLaws: what is not refused is joined as promised; the order of a join's own causes; a join worked by hand.
+-- JoinLaws: a join worked by hand; the order of a join's own causes; what is not refused is joined as promised.
 pub mod JoinLaws

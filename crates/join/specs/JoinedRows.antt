@@ -23,7 +23,7 @@ use Rattle.join.specs.Moved.{movedLink, Holds, link-is}
 
 -- ---- words of moved rows
 
-moved-absent : (by : ℕ) (rows : List ℤ) (row field : ℕ) → link rows row field ≡ 0 → movedWord by rows row field ≡ wordAt rows row field
+pub moved-absent : (by : ℕ) (rows : List ℤ) (row field : ℕ) → link rows row field ≡ 0 → movedWord by rows row field ≡ wordAt rows row field
 unfolding movedWord
 moved-absent by rows row field e = rw e
 

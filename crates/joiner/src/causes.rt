@@ -1,0 +1,92 @@
+// What a join refuses before it writes: the first's own causes, the second's, unequal headers, too many rows, a join too deep.
+use super::headers::same_header;
+use super::rows::put_joined;
+use structure::causes::at;
+use structure::depth::lowest_deep_by;
+use grammar::KINDS;
+use grammar::KindTable;
+use words::Form;
+use words::Refusal;
+use words::Verdict;
+ghost use mathlib.Core.Path.{_≡_};
+ghost use Prim.Native.Nat.{_+_};
+ghost use lib.ListN.{length};
+ghost use Rattle.words.specs.Search.{lowestRow};
+ghost use Rattle.words.specs.declared.Form.the-variants.{Source};
+ghost use Rattle.words.specs.declared.Verdict.the-variants.{Accepted};
+ghost use Rattle.grammar.specs.Grammar.{grammar};
+ghost use Rattle.structure.specs.Links.{tooDeep};
+ghost use Rattle.structure.specs.Refusal.{at as atRow, _next_};
+ghost use Rattle.source_check.specs.Refusal.{refusal};
+ghost use Rattle.join.specs.Join.{joinedRows, ownRefusal};
+ghost use Rattle.joiner.specs.Joinable.{Joinable};
+
+// Cause 9, by the joined rows themselves: they are put into a table lent for them.
+fn deep_in_table(kinds: &KindTable, first: &[i32], second: &[i32], table: &mut [i32]) -> Verdict
+    requires { ⌜ Joinable (now first) (now second) × (length (now table) ≡ 6 + length (now first) + length (now second)) × (now kinds ≡ grammar) ⌝ }
+    ensures { λ r. ⌜ r ≡ atRow 9 (lowestRow (joinedRows (now (first .entry)) (now (second .entry))) (tooDeep Source (joinedRows (now (first .entry)) (now (second .entry))))) ⌝ }
+{
+    put_joined(kinds, first, second, table);
+    at(9, lowest_deep_by(kinds, Form::Source, table))
+}
+
+// The same in a table of its own, so that a join too deep changes no word of the output.
+fn deep_by(kinds: &KindTable, first: &[i32], second: &[i32]) -> Verdict
+    requires { ⌜ Joinable (now first) (now second) × (now kinds ≡ grammar) ⌝ }
+    ensures { λ r. ⌜ r ≡ atRow 9 (lowestRow (joinedRows (now (first .entry)) (now (second .entry))) (tooDeep Source (joinedRows (now (first .entry)) (now (second .entry))))) ⌝ }
+{
+    let words = 6 + first.len() + second.len();
+    let mut table = [0i32; 12288];
+    deep_in_table(kinds, first, second, &mut table[0..words])
+}
+
+// The same, with the table of kinds.
+fn deep_refusal(first: &[i32], second: &[i32]) -> Verdict
+    requires { ⌜ Joinable (now first) (now second) ⌝ }
+    ensures { λ r. ⌜ r ≡ atRow 9 (lowestRow (joinedRows (now (first .entry)) (now (second .entry))) (tooDeep Source (joinedRows (now (first .entry)) (now (second .entry))))) ⌝ }
+{
+    deep_by(&KINDS, first, second)
+}
+
+// The causes of the join of two accepted programs: 16, 17, 9.
+fn own_refusal(header: &[i32], first: &[i32], second_header: &[i32], second: &[i32]) -> Verdict
+    requires { ⌜ (refusal (now header) (now first) ≡ Accepted) × (refusal (now «second_header») (now second) ≡ Accepted) ⌝ }
+    ensures { λ r. ⌜ r ≡ ownRefusal (now (header .entry)) (now (first .entry)) (now («second_header» .entry)) (now (second .entry)) ⌝ }
+{
+    if !same_header(header, second_header) {
+        return Verdict::Refused(Refusal {
+            number: 16,
+            place: 0,
+        });
+    }
+    if 1 + first.len() / 6 + second.len() / 6 > 2048 {
+        return Verdict::Refused(Refusal {
+            number: 17,
+            place: 0,
+        });
+    }
+    deep_refusal(first, second)
+}
+
+// The second's causes, then those of the join.
+fn second_refusal(header: &[i32], first: &[i32], second_header: &[i32], second: &[i32]) -> Verdict
+    requires { ⌜ refusal (now header) (now first) ≡ Accepted ⌝ }
+    ensures { λ r. ⌜ r ≡ (refusal (now («second_header» .entry)) (now (second .entry)) next ownRefusal (now (header .entry)) (now (first .entry)) (now («second_header» .entry)) (now (second .entry))) ⌝ }
+{
+    let verdict = source_check::check(second_header, second);
+    match verdict {
+        Verdict::Accepted => own_refusal(header, first, second_header, second),
+        Verdict::Refused(found) => Verdict::Refused(found),
+    }
+}
+
+// Every cause but 10: the first's, then the second's, then those of the join. "The check takes causes in order".
+pub fn join_refusal(header: &[i32], first: &[i32], second_header: &[i32], second: &[i32]) -> Verdict
+    ensures { λ r. ⌜ r ≡ (refusal (now (header .entry)) (now (first .entry)) next refusal (now («second_header» .entry)) (now (second .entry)) next ownRefusal (now (header .entry)) (now (first .entry)) (now («second_header» .entry)) (now (second .entry))) ⌝ }
+{
+    let verdict = source_check::check(header, first);
+    match verdict {
+        Verdict::Accepted => second_refusal(header, first, second_header, second),
+        Verdict::Refused(found) => Verdict::Refused(found),
+    }
+}

@@ -14,7 +14,7 @@ hasBit n zero = eqb (n % 2) 1
 hasBit n (suc i) = hasBit (n / 2) i
 
 -- a binary digit is 0 or 1
-two : (d : ℕ) → d < 2 → (P : ℕ → Type 0) → P 0 → P 1 → P d
+pub two : (d : ℕ) → d < 2 → (P : ℕ → Type 0) → P 0 → P 1 → P d
 two zero h P p q = p
 two (suc zero) h P p q = q
 two (suc (suc d)) h P p q = absurd (omega arith)

@@ -1,16 +1,35 @@
-// Write sets: which of 256 variables can be written, a bit for each, in four 64-bit words.
+// Write sets: which of 256 variables can be written, a bit for each, in four 64-bit words, and which of 32 arrays, in one 32-bit word.
+pub mod arrays; // arrays.rt: the word of the arrays
+
 ghost use mathlib.Core.Path.{_≡_};
 ghost use Prim.Native.Nat.{_<_, _^_};
 ghost use lib.Dec.{eqb};
 ghost use Rattle.words.specs.Word.{pick};
-ghost use Rattle.write_sets.specs.Sets.{wordOf, member, nothing as nothingOf, single as singleOf, join as joinOf};
+ghost use Rattle.write_sets.specs.Sets.{bitOf, wordOf, member, variableBits, nothing as nothingOf, single as singleOf, join as joinOf};
+ghost use Rattle.write_sets.specs.Counts.{countBelow};
 
-// Variable i is bit i % 64 of word i / 64.
+// Where the bit of a variable stands: its word, and its place in the word.
+pub struct Bit {
+    pub word: usize,
+    pub place: usize,
+}
+
+// The variables, a bit each; `bit_of` says which.
 pub struct WriteSet {
     pub word0: u64,
     pub word1: u64,
     pub word2: u64,
     pub word3: u64,
+}
+
+// Every set is read and made by this. A fifth word, for words beyond the variables, is a word number 4.
+pub fn bit_of(i: usize) -> Bit
+    ensures { λ r. ⌜ r ≡ bitOf i ⌝ }
+{
+    Bit {
+        word: i / 64,
+        place: i % 64,
+    }
 }
 
 // The empty set.
@@ -58,8 +77,9 @@ fn power(i: usize) -> u64
 pub fn single(i: usize) -> WriteSet
     ensures { λ r. ⌜ r ≡ singleOf i ⌝ }
 {
-    let k = i / 64;
-    let bit = power(i % 64);
+    let at = bit_of(i);
+    let k = at.word;
+    let bit = power(at.place);
     WriteSet {
         word0: bit_in(k, 0, bit),
         word1: bit_in(k, 1, bit),
@@ -85,6 +105,18 @@ fn word_at(s: WriteSet, k: usize) -> u64
 pub fn has(s: WriteSet, i: usize) -> bool
     ensures { λ r. ⌜ r ≡ member s i ⌝ }
 {
-    let word = word_at(s, i / 64);
-    (word >> (i % 64)) % 2 == 1
+    let at = bit_of(i);
+    let place = at.place;
+    let word = word_at(s, at.word);
+    (word >> place) % 2 == 1
+}
+
+// How many variables are in the set: the ones in its words.
+pub fn count(s: WriteSet) -> u32
+    ensures { λ r. ⌜ r ≡ countBelow variableBits (member s) ⌝ }
+{
+    u64::count_ones(s.word0)
+        + u64::count_ones(s.word1)
+        + u64::count_ones(s.word2)
+        + u64::count_ones(s.word3)
 }

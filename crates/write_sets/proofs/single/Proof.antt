@@ -1,11 +1,14 @@
 -- `write_sets::single` meets its contract.
 use borrow.Author.Needs.{needs}
-use Rattle.write_sets.specs.SetLaws.{single-words}
+use Rattle.write_sets.specs.SetLaws.{place-below, single-words}
 use Rattle.write_sets.proofs.single.Statement.{statement}
 use Rattle.write_sets.proofs.single.Tie as tie
 
+bit-of-requires : tie.Need-bit-of-requires
+bit-of-requires c κs = search needs
+
 power-requires : tie.Need-power-requires
-power-requires c κs = search needs
+power-requires c κs = place-below (c .before .args .i) (c .bit-of .ensures)
 
 bit-in-requires : tie.Need-bit-in-requires
 bit-in-requires c κs = search needs
@@ -20,7 +23,7 @@ bit-in-requires-4 : tie.Need-bit-in-requires-4
 bit-in-requires-4 c κs = search needs
 
 returns : tie.Need-returns
-returns c = single-words (c .before .before .before .before .before .args .i) (c .before .before .before .before .power .ensures) (c .before .before .before .bit-in .ensures) (c .before .before .bit-in2 .ensures) (c .before .bit-in3 .ensures) (c .bit-in4 .ensures)
+returns c = single-words (c .before .before .before .before .before .before .args .i) (c .before .before .before .before .before .bit-of .ensures) (c .before .before .before .before .power .ensures) (c .before .before .before .bit-in .ensures) (c .before .before .bit-in2 .ensures) (c .before .bit-in3 .ensures) (c .bit-in4 .ensures)
 
 pub single-spec : {M : Type 1} → statement M
-single-spec = tie.close (tie.spec power-requires bit-in-requires bit-in-requires-2 bit-in-requires-3 bit-in-requires-4 returns)
+single-spec = tie.close (tie.spec bit-of-requires power-requires bit-in-requires bit-in-requires-2 bit-in-requires-3 bit-in-requires-4 returns)

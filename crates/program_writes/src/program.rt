@@ -1,0 +1,93 @@
+// What any row of a program can write: the sets of its rows joined.
+use super::Writes;
+use super::arrays::fill_arrays;
+use measures::writes::fill_sets;
+use write_sets::WriteSet;
+use write_sets::arrays::join_arrays;
+use write_sets::count;
+use write_sets::join;
+use write_sets::nothing;
+ghost use mathlib.Core.Path.{_≡_};
+ghost use Prim.Native.Nat.{_+_, _*_, _≤_};
+ghost use lib.ListN.{length};
+ghost use Rattle.words.specs.Table.{rowCount};
+ghost use Rattle.shapes.specs.Source.{Source};
+ghost use Rattle.measures.specs.WriteSets.{SetIs, Sets, setWidth, setOf};
+ghost use Rattle.program_writes.specs.Arrays.{ArraysAre, ArraysFrom};
+ghost use Rattle.program_writes.specs.ProgramWrites.{programWrites, programWritesArray, written, WritesAre};
+
+// The set of a row.
+fn row_set(sets: &[u64], row: usize) -> WriteSet
+    requires { ⌜ setWidth * row + setWidth ≤ length (now sets) ⌝ }
+    ensures { λ r. ⌜ r ≡ setOf (now (sets .entry)) row ⌝ }
+{
+    let at = 4 * row;
+    WriteSet {
+        word0: sets[at],
+        word1: sets[at + 1],
+        word2: sets[at + 2],
+        word3: sets[at + 3],
+    }
+}
+
+fn any_variables(rows: &[i32], sets: &[u64]) -> WriteSet
+    requires { ⌜ Sets (now rows) (now sets) ⌝ }
+    ensures { λ r. ⌜ SetIs r (programWrites (now (rows .entry))) ⌝ }
+{
+    let mut any = nothing();
+    let mut row: usize = 0;
+    while row < rows.len() / 6 {
+        any = join(any, row_set(sets, row));
+        row += 1;
+    }
+    any
+}
+
+fn any_arrays(rows: &[i32], arrays: &[u32]) -> u32
+    requires { ⌜ ArraysFrom (now rows) (now arrays) 0 ⌝ }
+    ensures { λ r. ⌜ ArraysAre r (programWritesArray (now (rows .entry))) ⌝ }
+{
+    let mut any: u32 = 0;
+    let mut row: usize = 0;
+    while row < rows.len() / 6 {
+        any = join_arrays(any, arrays[row]);
+        row += 1;
+    }
+    any
+}
+
+fn variables_written(rows: &[i32]) -> WriteSet
+    requires { ⌜ Source (now rows) ⌝ }
+    ensures { λ r. ⌜ SetIs r (programWrites (now (rows .entry))) ⌝ }
+{
+    let mut sets = [0u64; 8192];
+    fill_sets(rows, &mut sets);
+    any_variables(rows, &sets)
+}
+
+fn arrays_written(rows: &[i32]) -> u32
+    requires { ⌜ Source (now rows) ⌝ }
+    ensures { λ r. ⌜ ArraysAre r (programWritesArray (now (rows .entry))) ⌝ }
+{
+    let mut arrays = [0u32; 2048];
+    fill_arrays(rows, &mut arrays);
+    any_arrays(rows, &arrays)
+}
+
+// What the program can write.
+pub fn program_writes(rows: &[i32]) -> Writes
+    requires { ⌜ Source (now rows) ⌝ }
+    ensures { λ r. ⌜ WritesAre r (now (rows .entry)) ⌝ }
+{
+    let variables = variables_written(rows);
+    let arrays = arrays_written(rows);
+    Writes { variables, arrays }
+}
+
+// How many variables it can write: the ones in the four words.
+pub fn written_count(rows: &[i32]) -> u32
+    requires { ⌜ Source (now rows) ⌝ }
+    ensures { λ r. ⌜ r ≡ written (now (rows .entry)) ⌝ }
+{
+    count(variables_written(rows))
+}

@@ -77,7 +77,7 @@ module _ (form : Form) (bounds : Bounds) (rows : List ℤ) (s : Structured form 
   whole-rows = sym (structured-tree form bounds rows s .whole)
 
   -- a row of a place's kind holds a place
-  read-place : (row : ℕ) → row < rowCount rows → isPlace rows row ≡ true → expressionAt rows row ≡ read (placeAt rows row)
+  pub read-place : (row : ℕ) → row < rowCount rows → isPlace rows row ≡ true → expressionAt rows row ≡ read (placeAt rows row)
   unfolding isPlace sortIn kindRow expressionFields statementFields markFields memberFields isRequired
   read-place row inside e =
       ⊎-elim (λ k. rw (at-variable rows whole-rows row k))

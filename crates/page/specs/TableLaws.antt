@@ -1,17 +1,17 @@
 -- Laws of tables: the page of every legal kernel table has 80 columns, few lines, and gives back its rows, up to numbering; that of a
 -- translation gives back its very rows.
-use mathlib.Core.Path.{_≡_, refl, ap, sym, _∙_}
+use mathlib.Core.Path.{_≡_, ap, sym, subst, _∙_}
 use mathlib.Core.Bool.{true}
 use mathlib.Core.List.{List}
 use mathlib.Core.Option.{some}
 use mathlib.Core.Logic.{⊎-elim}
-use Prim.Native.Nat.{ℕ, _+_, _*_, _/_, _^_, _≤_, _<_}
+use Prim.Native.Nat.{ℕ, _+_, _*_, _-_, _/_, _^_, _≤_, _<_}
 use native.Mathlib.Omega.{arith}
 use lib.IntN.{ℤ, pos}
 use lib.Signed.{mag}
 use lib.ListN.{length, getD}
 use Rattle.words.specs.Table.{rowCount}
-use Rattle.words.specs.Layout.{Layout, layoutOf, storeSize, storeWords, headerFits}
+use Rattle.words.specs.Layout.{Layout, layoutOf, storeSize, storeWords, temporariesOf, headerFits}
 use Rattle.words.specs.Laws.{headerFits-facts, countFits-facts}
 use Rattle.words.specs.declared.Form.the-variants.{Source, Kernel}
 use Rattle.language.specs.Trees.{block, Items}
@@ -21,12 +21,15 @@ use Rattle.language.specs.Sizes.{statementRows, statementDepth}
 use Rattle.language.specs.WellFormed.{SourceTree}
 use Rattle.structure.specs.Fields.{boundsOf}
 use Rattle.structure.specs.declared.Bounds.{Bounds}
+use Rattle.structure.specs.Structured.{Structured}
+use Rattle.translation.specs.KernelForm.{KernelName, name-variable, name-temporary}
 use Rattle.translation.specs.Translate.{translate, temporaries, kernelHeader}
 use Rattle.emission.specs.Emission.{emit}
 use Rattle.emission.specs.EmissionLaws.{length-emit}
 use Rattle.emission.specs.KernelKinds.{a-block}
 use Rattle.emission.specs.ReadBack.{decode-emit}
 use Rattle.emission_legal.specs.FormKinds.{items-kinds}
+use Rattle.emission_legal.specs.EmittedStructured.{emitted-structured}
 use Rattle.emission_legal.specs.EmittedLegal.{translated-legal, translated-decodes}
 use Rattle.kernel_check.specs.Legal.{Legal}
 use Rattle.accepted.specs.Fields.{NamesVariable}
@@ -40,7 +43,8 @@ use Rattle.page.specs.Reading.{bind, readPage}
 use Rattle.page.specs.Fits.{AllFit, items-fit}
 use Rattle.page.specs.ReadBack.{page-read-back}
 use Rattle.page.specs.Widths.{variable-width, temporary-width, lines-columns}
-use Rattle.page.specs.Tables.{storeOf, tableLines, tablePage, readTable, SameProgram, GivenBack}
+use Rattle.page.specs.Tables.{storeOf, tableLines, tablePage, readTable, SameProgram, GivenBack, Renumbered}
+use Rattle.page.specs.Renumbering.{renumbered}
 
 -- ---- every legal table
 
@@ -84,15 +88,39 @@ module _ (header rows : List ℤ) (legal : Legal header rows) (words : (i : ℕ)
   unfolding readTable tablePage
   page-gives = rw (page-read-back (storeOf header) (legal-form header rows legal) lines-fit)
 
+  -- the rows read are a structured table too
+  kernel-name : (i : ℕ) → NamesVariable bounds i → KernelName (layoutOf Kernel header) (temporariesOf Kernel header) i
+  unfolding boundsOf storeWords
+  kernel-name i =
+      let S = storeOf header in
+      ⊎-elim (λ v. name-variable v)
+      (λ n.
+      let h = n .0 in
+      let k = n .1 in
+      let back : S + (i - S) ≡ i = omega arith in
+      let few : i - S < temporariesOf Kernel header = omega arith in
+      subst (KernelName (layoutOf Kernel header) (temporariesOf Kernel header)) back (name-temporary few))
+
+  structured-back : Structured Kernel bounds (emit (block (contents rows)))
+  unfolding boundsOf
+  structured-back =
+      let few = countFits-facts Kernel (length rows) (legal .structured .count-fits) .most in
+      emitted-structured header (omega (arith, legal-rows header rows legal)) (legal-form header rows legal)
+      (named-contents Kernel bounds rows (legal .structured) (KernelName (layoutOf Kernel header) (temporariesOf Kernel header)) kernel-name)
+
+  decodes-back : decode (emit (block (contents rows))) ≡ decode rows
+  decodes-back = decode-emit (a-block (items-kinds (legal-form header rows legal))) ∙ sym (legal-block header rows legal)
+
   -- "Read with the header by docs/, the lines give back the same rows, up to numbering."
   pub gives-back : GivenBack header rows (tablePage header rows)
   gives-back = record {
     given = emit (block (contents rows));
     read = page-gives;
     same-program = record {
-      same-tree = decode-emit (a-block (items-kinds (legal-form header rows legal))) ∙ sym (legal-block header rows legal);
+      same-tree = decodes-back;
       as-many = omega (arith, length-emit (block (contents rows)), legal-rows header rows legal);
     };
+    renumbered = renumbered bounds rows (emit (block (contents rows))) (legal .structured) structured-back (legal .formed) (sym decodes-back);
   }
 
 -- ---- translations

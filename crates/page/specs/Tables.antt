@@ -2,9 +2,15 @@
 use mathlib.Core.List.{List}
 use mathlib.Core.Option.{Option, some}
 use mathlib.Core.Path.{_≡_}
-use Prim.Native.Nat.{ℕ}
+use mathlib.Core.Bool.{false}
+use Prim.Native.Nat.{ℕ, _<_}
 use lib.IntN.{ℤ}
-use Rattle.words.specs.Table.{rowCount}
+use Rattle.words.specs.Table.{rowCount, wordAt, numberAt}
+use Rattle.words.specs.Kinds.{kindAt, isLink, sortAt}
+use Rattle.words.specs.Links.{link}
+use Rattle.words.specs.declared.Kind.the-variants.{OfExpression}
+use Rattle.words.specs.declared.ExpressionKind.the-variants.{Constant}
+use Rattle.structure.specs.Structured.{EachField}
 use Rattle.words.specs.Layout.{layoutOf, storeSize}
 use Rattle.words.specs.declared.Form.the-variants.{Kernel}
 use Rattle.language.specs.Trees.{block}
@@ -30,13 +36,29 @@ tablePage header rows = pageBytes (storeOf header) (contents rows)
 unfoldable pub readTable : List ℤ → List ℕ → Option (List ℤ)
 readTable header page = bind (readPage (storeOf header) page) (λ items. some (emit (block items)))
 
--- "The same rows, up to numbering": the same tree, in as many rows.
+-- "The same rows, up to numbering", twice: the same tree, in as many rows;
 pub record SameProgram (rows other : List ℤ) : Type 0 where
   pub same-tree : decode other ≡ decode rows
   pub as-many : rowCount other ≡ rowCount rows
+
+-- and the same rows under other numbers: a map of the row numbers, one to one, 0 to 0. Links are mapped; every other field names the
+-- same number, and a constant has the same word.
+pub record Renumbered (rows other : List ℤ) : Type 0 where
+  pub to : ℕ → ℕ
+  pub from : ℕ → ℕ
+  pub first : to 0 ≡ 0
+  pub inside : (row : ℕ) → row < rowCount rows → to row < rowCount other
+  pub inside-back : (row : ℕ) → row < rowCount other → from row < rowCount rows
+  pub back : (row : ℕ) → row < rowCount rows → from (to row) ≡ row
+  pub forth : (row : ℕ) → row < rowCount other → to (from row) ≡ row
+  pub same-kind : (row : ℕ) → row < rowCount rows → kindAt other (to row) ≡ kindAt rows row
+  pub links-mapped : EachField rows (λ row field. link other (to row) field ≡ to (link rows row field))
+  pub numbers-kept : EachField rows (λ row field. isLink (sortAt rows row field) ≡ false → numberAt other (to row) field ≡ numberAt rows row field)
+  pub constants-kept : (row : ℕ) → row < rowCount rows → kindAt rows row ≡ OfExpression Constant → wordAt other (to row) 1 ≡ wordAt rows row 1
 
 -- What a page gives back.
 pub record GivenBack (header rows : List ℤ) (page : List ℕ) : Type 0 where
   pub given : List ℤ
   pub read : readTable header page ≡ some given
   pub same-program : SameProgram rows given
+  pub renumbered : Renumbered rows given

@@ -1,0 +1,86 @@
+-- Kinds of trees: in a structured table a row's kind is that of the tree decoded there.
+use mathlib.Core.Path.{_≡_, refl, sym, ap, _∙_}
+use mathlib.Core.Bool.{true, false, true≢false}
+use mathlib.Core.List.{List}
+use Prim.Native.Nat.{ℕ}
+use lib.IntN.{ℤ}
+use Rattle.words.specs.Kinds.{kindAt, isStatementKind}
+use Rattle.words.specs.declared.Kind.{Kind}
+use Rattle.words.specs.declared.Kind.the-variants.{OfExpression, OfStatement, OfMark}
+use Rattle.words.specs.declared.ExpressionKind.the-variants.{Constant, Variable, Element, Minus, Not, Binary, And, Or, Conditional, Comma, Assign, Compound, Prefix, Postfix}
+use Rattle.words.specs.declared.StatementKind.the-variants.{Empty, Express, Block, If, While, Do, For, Switch, Break, Continue, Goto, GuardedIf, GuardedDo, Abort}
+use Rattle.language.specs.Trees.{Expression, constant, read, minus, not, binary, and, or, comma, conditional, assign, compound, prefix, postfix, variable, element, Statement, empty, express, block, ifThen, ifElse, while, doWhile, for, switch, break, continue, goto, guardedIf, guardedDo, abort}
+use Rattle.language.specs.Decode.{expressionAt, statementAt}
+use Rattle.accepted.specs.Expressions.{ExpressionRow, constant-row, variable-row, element-row, minus-row, not-row, binary-row, and-row, or-row, comma-row, conditional-row, assign-row, compound-row, prefix-row, postfix-row}
+use Rattle.accepted.specs.Statements.{StatementRow, empty-row, express-row, block-row, ifThen-row, ifElse-row, while-row, doWhile-row, for-row, switch-row, case-row, default-row, break-row, continue-row, goto-row, label-row, guardedIf-row, guardedDo-row, abort-row}
+
+abbrev pub expressionKind : Expression → Kind
+expressionKind (constant v) = OfExpression Constant
+expressionKind (read (variable i)) = OfExpression Variable
+expressionKind (read (element array e)) = OfExpression Element
+expressionKind (minus e) = OfExpression Minus
+expressionKind (not e) = OfExpression Not
+expressionKind (binary o a b) = OfExpression (Binary o)
+expressionKind (and a b) = OfExpression And
+expressionKind (or a b) = OfExpression Or
+expressionKind (comma a b) = OfExpression Comma
+expressionKind (conditional c a b) = OfExpression Conditional
+expressionKind (assign p e) = OfExpression Assign
+expressionKind (compound o p e) = OfExpression (Compound o)
+expressionKind (prefix o p) = OfExpression (Prefix o)
+expressionKind (postfix o p) = OfExpression (Postfix o)
+
+abbrev pub statementKind : Statement → Kind
+statementKind empty = OfStatement Empty
+statementKind (express e) = OfStatement Express
+statementKind (block is) = OfStatement Block
+statementKind (ifThen e onTrue) = OfStatement If
+statementKind (ifElse e onTrue onFalse) = OfStatement If
+statementKind (while e body) = OfStatement While
+statementKind (doWhile body e) = OfStatement Do
+statementKind (for first test action body) = OfStatement For
+statementKind (switch e is) = OfStatement Switch
+statementKind break = OfStatement Break
+statementKind continue = OfStatement Continue
+statementKind (goto l) = OfStatement Goto
+statementKind (guardedIf arms) = OfStatement GuardedIf
+statementKind (guardedDo arms) = OfStatement GuardedDo
+statementKind abort = OfStatement Abort
+
+module _ (rows : List ℤ) where
+  pub expression-kind : {row : ℕ} → ExpressionRow rows row → kindAt rows row ≡ expressionKind (expressionAt rows row)
+  expression-kind (constant-row k e) = k ∙ sym (ap expressionKind e)
+  expression-kind (variable-row k e) = k ∙ sym (ap expressionKind e)
+  expression-kind (element-row k p e x) = k ∙ sym (ap expressionKind e)
+  expression-kind (minus-row k p e x) = k ∙ sym (ap expressionKind e)
+  expression-kind (not-row k p e x) = k ∙ sym (ap expressionKind e)
+  expression-kind (binary-row k p q e x y) = k ∙ sym (ap expressionKind e)
+  expression-kind (and-row k p q e x y) = k ∙ sym (ap expressionKind e)
+  expression-kind (or-row k p q e x y) = k ∙ sym (ap expressionKind e)
+  expression-kind (comma-row k p q e x y) = k ∙ sym (ap expressionKind e)
+  expression-kind (conditional-row k p q r e x y z) = k ∙ sym (ap expressionKind e)
+  expression-kind (assign-row k p q i e x y) = k ∙ sym (ap expressionKind e)
+  expression-kind (compound-row k p q i e x y) = k ∙ sym (ap expressionKind e)
+  expression-kind (prefix-row k p i e x) = k ∙ sym (ap expressionKind e)
+  expression-kind (postfix-row k p i e x) = k ∙ sym (ap expressionKind e)
+
+  -- Of marks the statement is empty.
+  pub kind-of-statement : {row : ℕ} → StatementRow rows row → isStatementKind (kindAt rows row) ≡ true → kindAt rows row ≡ statementKind (statementAt rows row)
+  kind-of-statement (empty-row k e) t = k ∙ sym (ap statementKind e)
+  kind-of-statement (express-row k p e x) t = k ∙ sym (ap statementKind e)
+  kind-of-statement (block-row k e x) t = k ∙ sym (ap statementKind e)
+  kind-of-statement (ifThen-row k p q z e x y) t = k ∙ sym (ap statementKind e)
+  kind-of-statement (ifElse-row k p q r e x y z) t = k ∙ sym (ap statementKind e)
+  kind-of-statement (while-row k p q e x y) t = k ∙ sym (ap statementKind e)
+  kind-of-statement (doWhile-row k p q e x y) t = k ∙ sym (ap statementKind e)
+  kind-of-statement (for-row k p e x y z w) t = k ∙ sym (ap statementKind e)
+  kind-of-statement (switch-row k p e x y) t = k ∙ sym (ap statementKind e)
+  kind-of-statement (case-row k e) t = absurd (true≢false (sym t ∙ ap isStatementKind k))
+  kind-of-statement (default-row k e) t = absurd (true≢false (sym t ∙ ap isStatementKind k))
+  kind-of-statement (break-row k e) t = k ∙ sym (ap statementKind e)
+  kind-of-statement (continue-row k e) t = k ∙ sym (ap statementKind e)
+  kind-of-statement (goto-row k e) t = k ∙ sym (ap statementKind e)
+  kind-of-statement (label-row k e) t = absurd (true≢false (sym t ∙ ap isStatementKind k))
+  kind-of-statement (guardedIf-row k e x) t = k ∙ sym (ap statementKind e)
+  kind-of-statement (guardedDo-row k e x) t = k ∙ sym (ap statementKind e)
+  kind-of-statement (abort-row k e) t = k ∙ sym (ap statementKind e)

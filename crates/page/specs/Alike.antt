@@ -1,6 +1,6 @@
 -- Alike rows: in two structured tables with the same tree, rows that the same links lead to have the same kind, and the same numbers
 -- where they do not link.
-use mathlib.Core.Path.{_≡_, refl, sym, ap, subst, _∙_}
+use mathlib.Core.Path.{_≡_, refl, sym, ap, _∙_}
 use mathlib.Core.Bool.{Bool, true, false, not, _&&_, _||_, true≢false}
 use mathlib.Core.List.{List}
 use mathlib.Core.Logic.{_⊎_, inl, inr, ⊎-elim}
@@ -13,23 +13,22 @@ use Rattle.words.specs.Word.{natural}
 use Rattle.words.specs.Table.{rowCount, wordAt, numberAt, Whole}
 use Rattle.words.specs.Kinds.{kinds, kindIn, kindOf, kindAt, unused, expression, place, branch, optionalBranch, optionalItem, isLink, isRequired, isStatementKind, sortAt, sortIn, kindRow, expressionFields, statementFields, markFields, memberFields, standsIn}
 use Rattle.words.specs.Laws.{both, either, by-cases}
-use Rattle.words.specs.Links.{isExpression, isStatement, isPlace, link, fits}
+use Rattle.words.specs.Links.{isExpression, isStatement, link, fits}
 use Rattle.words.specs.declared.Form.the-variants.{Kernel}
-use Rattle.words.specs.declared.Operator.{Operator}
 use Rattle.words.specs.declared.Kind.{Kind}
 use Rattle.words.specs.declared.Kind.the-variants.{OfExpression, OfStatement, OfMark}
 use Rattle.words.specs.declared.ExpressionKind.the-variants.{Constant, Variable, Element, Minus, Binary, Assign}
 use Rattle.words.specs.declared.StatementKind.the-variants.{Empty, Express, Block, If, While, Goto, Abort}
 use Rattle.words.specs.declared.MarkKind.the-variants.{Label}
-use Rattle.language.specs.Trees.{Expression, constant, read, minus, binary, assign, variable, element, label, Statement, empty, express, block, ifElse, while, goto, abort, Items, none, _then_, _here_}
+use Rattle.language.specs.Trees.{Expression, read, minus, binary, assign, element, label, Statement, express, block, ifElse, while, none, _then_, _here_}
 use Rattle.language.specs.Decode.{placeOf, expressionAt, statementAt, itemsAt, listAt}
-use Rattle.language.specs.DecodeLaws.{at-constant, at-variable, at-element, at-minus, at-binary, at-assign, at-no-statement, at-empty, at-express, at-block, at-ifThen, at-ifElse, at-while, at-goto, at-abort, at-item, at-case, at-default, at-label}
+use Rattle.language.specs.DecodeLaws.{at-constant, at-variable, at-element, at-minus, at-binary, at-assign, at-no-statement, at-express, at-block, at-ifThen, at-ifElse, at-while, at-goto, at-item, at-case, at-default, at-label}
 use Rattle.structure.specs.NoteLaws.{above-zero}
 use Rattle.structure.specs.declared.Bounds.{Bounds}
 use Rattle.structure.specs.Structured.{Leads, Structured}
 use Rattle.kernel_statements.specs.Statements.{isAtom, isBlock, isKernelIf, isKernelWhile, isKernelExpression, isKernelStatement}
 use Rattle.accepted.specs.Sorts.{sort-is, statement-kind, in-language, statementNumber, number-is}
-use Rattle.accepted.specs.Fields.{holds, noLink, Linked, MayLink, linked, may-link, next-link, link-none}
+use Rattle.accepted.specs.Fields.{holds, noLink, MayLink, linked, may-link, next-link, link-none}
 use Rattle.accepted.specs.Expressions.{ExpressionRow, constant-row, variable-row, element-row, minus-row, not-row, binary-row, and-row, or-row, comma-row, conditional-row, assign-row, compound-row, prefix-row, postfix-row, whole-rows, read-place, expression-row, place-expression}
 use Rattle.accepted.specs.Statements.{StatementRow, empty-row, express-row, block-row, ifThen-row, ifElse-row, while-row, doWhile-row, for-row, switch-row, case-row, default-row, break-row, continue-row, goto-row, label-row, guardedIf-row, guardedDo-row, abort-row, statement-row}
 use Rattle.page.specs.TreeKinds.{expressionKind, expression-kind, statementKind, kind-of-statement}

@@ -1,8 +1,7 @@
 -- Examples: the page of document 01's program in kernel form, one with every statement, and pages that are none. By computation.
 use mathlib.Core.Path.{_≡_, refl}
-use mathlib.Core.List.{List, [], _∷_, _++_}
+use mathlib.Core.List.{List, [], _∷_}
 use mathlib.Core.Option.{none, some}
-use Prim.Native.Nat.{ℕ}
 use Prim.Native.String.{String}
 use lib.IntN.{pos, negsuc}
 use Rattle.words.specs.Word.{isWord}

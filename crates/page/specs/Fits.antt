@@ -5,10 +5,10 @@ use lib.IntN.{ℤ}
 use lib.Signed.{mag}
 use Rattle.words.specs.declared.Operator.{Operator}
 use Rattle.language.specs.Trees.{Expression, constant, read, minus, binary, assign, variable, element, label, Statement, empty, express, goto, abort, Items}
-use Rattle.language.specs.WellFormed.{NamedExpression, NamedPlace, NamedStatement, NamedItems}
+use Rattle.language.specs.WellFormed.{NamedExpression, NamedStatement, NamedItems}
 use Rattle.translation.specs.KernelForm.{IsAtom, constant-atom, variable-atom, Assigns, assigns-atom, assigns-minus, assigns-operation, assigns-element, assigns-to-element, isLabelNumber, KernelStatement, kernel-empty, kernel-assign, kernel-block, kernel-if, kernel-while, kernel-goto, kernel-abort, KernelItems, kernel-none, kernel-then, kernel-label}
-use Rattle.accepted.specs.Worded.{ValuedExpression, ValuedPlace, ValuedStatement, ValuedItems, IsWord}
-use Rattle.page.specs.Lines.{Line, single, mark, opens, opensWhile, opensIf, turns, closes, Indented, indented, statementLines, branchLines, itemsLines}
+use Rattle.accepted.specs.Worded.{ValuedExpression, ValuedStatement, ValuedItems, IsWord}
+use Rattle.page.specs.Lines.{Line, single, mark, opens, opensWhile, opensIf, turns, closes, Indented, indented, statementLines, itemsLines}
 
 -- Variables satisfy Names, arrays are below `arrays`.
 module _ (Names : ℕ → Type 0) (arrays : ℕ) where

@@ -5,10 +5,10 @@ use mathlib.Core.Option.{some}
 use Prim.Native.Nat.{ℕ, _+_, _*_, _≤_}
 use native.Mathlib.Omega.{arith}
 use lib.ListN.{length, length-append}
-use Rattle.language.specs.Trees.{Expression, Statement, block, Items, none as noItem, _then_, _here_, _⧺_}
+use Rattle.language.specs.Trees.{Statement, block, Items, none as noItem, _then_, _here_, _⧺_}
 use Rattle.language.specs.Sizes.{statementRows, itemsRows}
 use Rattle.translation.specs.KernelForm.{KernelStatement, kernel-empty, kernel-assign, kernel-block, kernel-if, kernel-while, kernel-goto, kernel-abort, KernelItems, kernel-none, kernel-then, kernel-label}
-use Rattle.page.specs.Lines.{closes, turns, Indented, indented, statementLines, branchLines, itemsLines, plain, Waiting, outermost, closed, turned, Reading, reading, readLine, readBefore, readLines}
+use Rattle.page.specs.Lines.{closes, turns, Indented, indented, statementLines, itemsLines, plain, Waiting, outermost, closed, turned, Reading, reading, readLine, readBefore, readLines}
 
 -- ---- read back
 

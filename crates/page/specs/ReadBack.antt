@@ -1,6 +1,6 @@
 -- Read-back: what is printed is read back, word by word, line by line, then the page.
 use mathlib.Core.Path.{_≡_, refl, ap, ap₂, _∙_}
-use mathlib.Core.Bool.{true, false, _&&_}
+use mathlib.Core.Bool.{true, false}
 use mathlib.Core.List.{List, [], _∷_, _++_, append-assoc}
 use mathlib.Core.Option.{Option, none, some}
 use mathlib.Core.Logic.{inr}
@@ -13,7 +13,7 @@ use Rattle.words.specs.Laws.{by-cases}
 use Rattle.text_form.specs.Number.{digits, numberBytes}
 use Rattle.text_form.specs.NumberLaws.{Free, free-append, not-some, natural-shows, number-shows}
 use Rattle.text_form.specs.Line.{newline, together, linesOf}
-use Rattle.text_form.specs.LineLaws.{lines-ended, lines-none}
+use Rattle.text_form.specs.LineLaws.{lines-ended}
 use Rattle.language.specs.Trees.{Expression, constant, read, minus, binary, assign, Place, variable, element, label, empty, express, goto, abort, Items, none as noItem}
 use Rattle.translation.specs.KernelForm.{KernelItems}
 use Rattle.page.specs.Lines.{Line, single, mark, opens, opensWhile, opensIf, turns, closes, Indented, indented, itemsLines, plain, readLines}

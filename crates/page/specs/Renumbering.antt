@@ -1,25 +1,30 @@
 -- Renumbering: two structured kernel tables with the same tree are each other's rows under other numbers. The map follows the links: row 0
 -- is row 0, and the row that a field links is the row that the same field of the other table's row links.
-use mathlib.Core.Path.{_≡_, refl, sym, ap, _∙_}
+use mathlib.Core.Path.{_≡_, sym, ap, _∙_}
 use mathlib.Core.Bool.{true}
 use mathlib.Core.List.{List}
-use mathlib.Core.Logic.{_⊎_, inl, inr, ⊎-elim}
+use mathlib.Core.Logic.{_⊎_, ⊎-elim}
 use Prim.Native.Nat.{ℕ, zero, suc, _≤_, _<_}
 use native.Mathlib.Omega.{arith}
 use lib.IntN.{ℤ}
-use Rattle.words.specs.Table.{rowCount}
+use Rattle.words.specs.Table.{rowCount, numberAt}
+use Rattle.words.specs.Kinds.{kinds, kindIn, kindOf, kindAt}
 use Rattle.words.specs.Links.{isStatement, link, note}
 use Rattle.words.specs.declared.Form.the-variants.{Kernel}
+use Rattle.words.specs.declared.Kind.the-variants.{OfExpression}
+use Rattle.words.specs.declared.ExpressionKind.the-variants.{Constant}
 use Rattle.language.specs.Decode.{decode}
 use Rattle.structure.specs.declared.Bounds.{Bounds}
 use Rattle.grammar.specs.GrammarLaws.{kind-links-none}
 use Rattle.structure.specs.LinkLaws.{by-owner}
-use Rattle.structure.specs.NoteLaws.{above-zero, note-root, note-link}
+use Rattle.structure.specs.NoteLaws.{note-root, note-link}
 use Rattle.structure.specs.Structured.{Leads, Tree, Structured}
 use Rattle.structure.specs.StructuredLaws.{structured-tree}
 use Rattle.kernel_statements.specs.Statements.{isKernelStatement}
+use Rattle.accepted.specs.Sorts.{kind-known}
 use Rattle.accepted.specs.Statements.{root-kind, root-inside, root-statement}
-use Rattle.page.specs.Alike.{Alike, items, Child, Same, branch-items, same}
+use Rattle.page.specs.TreeKinds.{kind-number}
+use Rattle.page.specs.Alike.{Alike, items, Same, branch-items, same}
 use Rattle.page.specs.Tables.{Renumbered}
 
 module _ (bounds : Bounds) (rows other : List ℤ) (s : Structured Kernel bounds rows) (t : Structured Kernel bounds other)
@@ -116,6 +121,10 @@ module _ (bounds : Bounds) (rows other : List ℤ) (s : Structured Kernel bounds
       first-field owner zero leads = absurd (omega (arith, kind-links-none other owner, leads .later))
       first-field owner (suc field) leads = omega arith
 
+  constant-kind : (row : ℕ) → numberAt rows row 0 ≡ 1 → kindAt rows row ≡ OfExpression Constant
+  unfolding kindAt kindOf kindIn kinds
+  constant-kind row e = rw e
+
   pub renumbered : Renumbered rows other
   renumbered = record {
     to = to;
@@ -125,9 +134,9 @@ module _ (bounds : Bounds) (rows other : List ℤ) (s : Structured Kernel bounds
     inside-back = λ that m. (let r = reached that m in rw (← r .is, returns (r .row) (r .inside)) (r .inside));
     back = returns;
     forth = λ that m. (let r = reached that m in ap (λ x. to (from x)) (sym (r .is)) ∙ ap to (returns (r .row) (r .inside)) ∙ r .is);
-    same-kind = λ row n. same-at row n (met row n) .kind;
+    kinds-kept = λ row n. kind-number rows other row (to row) (kind-known Kernel rows row (s .known row n)) (same-at row n (met row n) .kind);
     links-mapped = λ row n field l h.
         ⊎-elim (λ z. z .1 ∙ sym (ap to (z .0) ∙ note-root handed 0 rows)) (λ p. sym (to-link row field h (here .forward row field n h (p .0)))) (same-at row n (met row n) .child field l h);
     numbers-kept = λ row n field l h. same-at row n (met row n) .number field l h;
-    constants-kept = λ row n. same-at row n (met row n) .word;
+    constants-kept = λ row n e. same-at row n (met row n) .word (constant-kind row e);
   }

@@ -5,13 +5,13 @@ use mathlib.Core.Bool.{true}
 use mathlib.Core.List.{List}
 use mathlib.Core.Option.{some}
 use mathlib.Core.Logic.{⊎-elim}
-use Prim.Native.Nat.{ℕ, _+_, _*_, _-_, _/_, _^_, _≤_, _<_}
+use Prim.Native.Nat.{ℕ, _+_, _*_, _-_, _^_, _≤_, _<_}
 use native.Mathlib.Omega.{arith}
 use lib.IntN.{ℤ, pos}
 use lib.Signed.{mag}
 use lib.ListN.{length, getD}
 use Rattle.words.specs.Table.{rowCount}
-use Rattle.words.specs.Layout.{Layout, layoutOf, storeSize, storeWords, temporariesOf, headerFits}
+use Rattle.words.specs.Layout.{Layout, layoutOf, storeWords, temporariesOf, headerFits}
 use Rattle.words.specs.Laws.{headerFits-facts, countFits-facts}
 use Rattle.words.specs.declared.Form.the-variants.{Source, Kernel}
 use Rattle.language.specs.Trees.{block, Items}
@@ -37,13 +37,12 @@ use Rattle.accepted.specs.Names.{named-contents}
 use Rattle.accepted.specs.Worded.{ValuedStatement, ValuedItems, IsWord}
 use Rattle.accepted.specs.Words.{structured-worded}
 use Rattle.accepted_kernel.specs.Kernel.{legal-block, legal-form, legal-rows}
-use Rattle.page.specs.Page.{name, lineBytes, linesBytes, pageBytes}
+use Rattle.page.specs.Page.{name, pageBytes}
 use Rattle.page.specs.LinesLaws.{lines-few}
-use Rattle.page.specs.Reading.{bind, readPage}
 use Rattle.page.specs.Fits.{AllFit, items-fit}
 use Rattle.page.specs.ReadBack.{page-read-back}
 use Rattle.page.specs.Widths.{variable-width, temporary-width, lines-columns}
-use Rattle.page.specs.Tables.{storeOf, tableLines, tablePage, readTable, SameProgram, GivenBack, Renumbered}
+use Rattle.page.specs.Tables.{storeOf, tableLines, tablePage, readTable, GivenBack}
 use Rattle.page.specs.Renumbering.{renumbered}
 
 -- ---- every legal table

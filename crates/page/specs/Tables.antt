@@ -6,10 +6,8 @@ use mathlib.Core.Bool.{false}
 use Prim.Native.Nat.{ℕ, _<_}
 use lib.IntN.{ℤ}
 use Rattle.words.specs.Table.{rowCount, wordAt, numberAt}
-use Rattle.words.specs.Kinds.{kindAt, isLink, sortAt}
+use Rattle.words.specs.Kinds.{isLink, sortAt}
 use Rattle.words.specs.Links.{link}
-use Rattle.words.specs.declared.Kind.the-variants.{OfExpression}
-use Rattle.words.specs.declared.ExpressionKind.the-variants.{Constant}
 use Rattle.structure.specs.Structured.{EachField}
 use Rattle.words.specs.Layout.{layoutOf, storeSize}
 use Rattle.words.specs.declared.Form.the-variants.{Kernel}
@@ -51,10 +49,10 @@ pub record Renumbered (rows other : List ℤ) : Type 0 where
   pub inside-back : (row : ℕ) → row < rowCount other → from row < rowCount rows
   pub back : (row : ℕ) → row < rowCount rows → from (to row) ≡ row
   pub forth : (row : ℕ) → row < rowCount other → to (from row) ≡ row
-  pub same-kind : (row : ℕ) → row < rowCount rows → kindAt other (to row) ≡ kindAt rows row
+  pub kinds-kept : (row : ℕ) → row < rowCount rows → numberAt other (to row) 0 ≡ numberAt rows row 0
   pub links-mapped : EachField rows (λ row field. link other (to row) field ≡ to (link rows row field))
   pub numbers-kept : EachField rows (λ row field. isLink (sortAt rows row field) ≡ false → numberAt other (to row) field ≡ numberAt rows row field)
-  pub constants-kept : (row : ℕ) → row < rowCount rows → kindAt rows row ≡ OfExpression Constant → wordAt other (to row) 1 ≡ wordAt rows row 1
+  pub constants-kept : (row : ℕ) → row < rowCount rows → numberAt rows row 0 ≡ 1 → wordAt other (to row) 1 ≡ wordAt rows row 1
 
 -- What a page gives back.
 pub record GivenBack (header rows : List ℤ) (page : List ℕ) : Type 0 where

@@ -1,7 +1,7 @@
 -- Texts: the bytes of quoted lines, for the examples.
 use mathlib.Core.List.{List, [] as noByte, _∷_ as _before_, _++_}
 use Prim.Native.Nat.{ℕ}
-use Prim.Native.Char.{Char, code}
+use Prim.Native.Char.{code}
 use Prim.Native.String.{String, [], _∷_}
 use Rattle.text_form.specs.Line.{newline}
 

@@ -1,16 +1,23 @@
--- Kinds of trees: in a structured table a row's kind is that of the tree decoded there.
+-- Kinds of trees: in a structured table a row's kind is that of the tree decoded there, and rows of one kind have its number.
 use mathlib.Core.Path.{_≡_, refl, sym, ap, _∙_}
-use mathlib.Core.Bool.{true, false, true≢false}
+use mathlib.Core.Bool.{Bool, true, true≢false}
 use mathlib.Core.List.{List}
-use Prim.Native.Nat.{ℕ}
+use Prim.Native.Nat.{ℕ, _+_}
+use lib.Dec.{eqb}
 use lib.IntN.{ℤ}
-use Rattle.words.specs.Kinds.{kindAt, isStatementKind}
+use borrow.Author.Tests.{eqb-true}
+use Rattle.words.specs.Table.{numberAt}
+use Rattle.words.specs.Kinds.{kinds, kindOf, kindAt, isStatementKind}
+use Rattle.words.specs.KindLaws.{everyLine, every-number}
 use Rattle.words.specs.declared.Kind.{Kind}
-use Rattle.words.specs.declared.Kind.the-variants.{OfExpression, OfStatement, OfMark}
+use Rattle.words.specs.declared.Kind.the-variants.{OfExpression, OfStatement, OfMark, OfMember, Other}
+use Rattle.words.specs.declared.ExpressionKind.{ExpressionKind}
 use Rattle.words.specs.declared.ExpressionKind.the-variants.{Constant, Variable, Element, Minus, Not, Binary, And, Or, Conditional, Comma, Assign, Compound, Prefix, Postfix}
 use Rattle.words.specs.declared.StatementKind.the-variants.{Empty, Express, Block, If, While, Do, For, Switch, Break, Continue, Goto, GuardedIf, GuardedDo, Abort}
 use Rattle.language.specs.Trees.{Expression, constant, read, minus, not, binary, and, or, comma, conditional, assign, compound, prefix, postfix, variable, element, Statement, empty, express, block, ifThen, ifElse, while, doWhile, for, switch, break, continue, goto, guardedIf, guardedDo, abort}
 use Rattle.language.specs.Decode.{expressionAt, statementAt}
+use Rattle.emission.specs.Emission.{operatorNumber}
+use Rattle.accepted.specs.Sorts.{statementNumber}
 use Rattle.accepted.specs.Expressions.{ExpressionRow, constant-row, variable-row, element-row, minus-row, not-row, binary-row, and-row, or-row, comma-row, conditional-row, assign-row, compound-row, prefix-row, postfix-row}
 use Rattle.accepted.specs.Statements.{StatementRow, empty-row, express-row, block-row, ifThen-row, ifElse-row, while-row, doWhile-row, for-row, switch-row, case-row, default-row, break-row, continue-row, goto-row, label-row, guardedIf-row, guardedDo-row, abort-row}
 
@@ -84,3 +91,51 @@ module _ (rows : List ℤ) where
   kind-of-statement (guardedIf-row k e x) t = k ∙ sym (ap statementKind e)
   kind-of-statement (guardedDo-row k e x) t = k ∙ sym (ap statementKind e)
   kind-of-statement (abort-row k e) t = k ∙ sym (ap statementKind e)
+
+-- ---- the number of a kind
+
+expressionNumber : ExpressionKind → ℕ
+expressionNumber Constant = 1
+expressionNumber Variable = 2
+expressionNumber Element = 3
+expressionNumber Minus = 4
+expressionNumber Not = 5
+expressionNumber (Binary o) = 6 + operatorNumber o
+expressionNumber And = 17
+expressionNumber Or = 18
+expressionNumber Conditional = 19
+expressionNumber Comma = 20
+expressionNumber Assign = 21
+expressionNumber (Compound o) = 22 + operatorNumber o
+expressionNumber (Prefix o) = 27 + operatorNumber o
+expressionNumber (Postfix o) = 29 + operatorNumber o
+
+kindNumber : Kind → ℕ
+kindNumber (OfExpression kind) = expressionNumber kind
+kindNumber (OfStatement kind) = statementNumber (OfStatement kind)
+kindNumber (OfMark kind) = statementNumber (OfMark kind)
+kindNumber (OfMember kind) = statementNumber (OfMember kind)
+kindNumber Other = 0
+
+abbrev hasNumber : ℕ → Kind → Bool
+hasNumber number (OfExpression kind) = eqb (kindNumber (OfExpression kind)) number
+hasNumber number (OfStatement kind) = eqb (kindNumber (OfStatement kind)) number
+hasNumber number (OfMark kind) = eqb (kindNumber (OfMark kind)) number
+hasNumber number (OfMember kind) = eqb (kindNumber (OfMember kind)) number
+hasNumber number Other = true
+
+number-of : (number : ℕ) → (kindOf number ≡ Other → ⊥) → kindNumber (kindOf number) ≡ number
+unfolding everyLine kinds expressionNumber kindNumber statementNumber
+number-of number known = go (kindOf number) known (every-number hasNumber refl (λ number. refl) number)
+  where
+    go : (kind : Kind) → (kind ≡ Other → ⊥) → hasNumber number kind ≡ true → kindNumber kind ≡ number
+    go (OfExpression kind) f e = eqb-true _ _ e
+    go (OfStatement kind) f e = eqb-true _ _ e
+    go (OfMark kind) f e = eqb-true _ _ e
+    go (OfMember kind) f e = eqb-true _ _ e
+    go Other f e = absurd (f refl)
+
+pub kind-number : (rows other : List ℤ) (row that : ℕ) → (kindAt rows row ≡ Other → ⊥) → kindAt other that ≡ kindAt rows row → numberAt other that 0 ≡ numberAt rows row 0
+unfolding kindAt
+kind-number rows other row that known e =
+    sym (number-of (numberAt other that 0) (λ o. known (sym e ∙ o))) ∙ ap kindNumber e ∙ number-of (numberAt rows row 0) known

@@ -2,20 +2,20 @@
 -- stand at most 5 + 1 + 36.
 use mathlib.Core.Path.{_≡_, refl, ap, _∙_}
 use mathlib.Core.List.{List, [], _∷_, _++_}
-use Prim.Native.Nat.{ℕ, zero, suc, _+_, _*_, _-_, _≤_, _<_, min}
+use Prim.Native.Nat.{ℕ, zero, suc, _+_, _*_, _-_, _≤_, _<_}
 use native.Mathlib.Omega.{arith}
 use lib.Dec.{ltb}
 use lib.ListN.{length, length-append}
 use Rattle.words.specs.Laws.{by-cases}
-use borrow.Author.Tests.{ltb-false, ltb-true}
+use borrow.Author.Tests.{ltb-true}
 use Rattle.words.specs.declared.Operator.{Operator}
 use Rattle.words.specs.declared.Operator.the-variants.{Add, Subtract, Multiply, Divide, Remainder, Less, Greater, LessOrEqual, GreaterOrEqual, Equal, NotEqual}
 use Rattle.text_form.specs.Number.{digits, numberBytes}
 use Rattle.text_form.specs.Line.{newline}
 use Rattle.text_form.specs.PutLaws.{digits-within, number-eleven}
-use Rattle.language.specs.Trees.{Expression, constant, read, minus, binary, assign, variable, element, label, empty, express, goto, abort, Items}
-use Rattle.page.specs.Lines.{Line, single, mark, opens, opensWhile, opensIf, turns, closes, Indented, indented, itemsLines}
-use Rattle.page.specs.Page.{blank, equalsWord, openingWord, operatorWord, endedBy, ended, labelWord, name, atomWord, placeWord, valueWords, lineWords, blanks, parted, rightSet, padded, indent, lineBytes, linesBytes, pageBytes}
+use Rattle.language.specs.Trees.{Expression, constant, read, minus, binary, assign, variable, element, label, empty, express, goto, abort}
+use Rattle.page.specs.Lines.{Line, single, mark, opens, opensWhile, opensIf, turns, closes, Indented, indented}
+use Rattle.page.specs.Page.{blank, equalsWord, openingWord, operatorWord, endedBy, ended, labelWord, name, atomWord, placeWord, valueWords, lineWords, blanks, parted, rightSet, padded, indent, lineBytes, linesBytes}
 use Rattle.page.specs.Fits.{AtomFits, fits-constant, fits-variable, ValueFits, value-atom, value-element, value-minus, value-binary, LineFits, fits-empty, fits-abort, fits-goto, fits-label, fits-store, fits-put, fits-opens, fits-while, fits-if, fits-turns, fits-closes, AllFit, all-none, all-more}
 
 length-blanks : (n : ℕ) → length (blanks n) ≡ n

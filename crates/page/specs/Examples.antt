@@ -1,14 +1,17 @@
 -- Examples: the page of document 01's program in kernel form, one with every statement, and pages that are none. By computation.
-use mathlib.Core.Path.{_≡_, refl}
+use mathlib.Core.Path.{_≡_, refl, ap, _∙_}
 use mathlib.Core.List.{List, [], _∷_}
 use mathlib.Core.Option.{none, some}
 use Prim.Native.String.{String}
 use lib.IntN.{pos, negsuc}
 use Rattle.words.specs.Word.{isWord}
+use Rattle.words.specs.Layout.{Layout}
 use Rattle.words.specs.declared.Operator.the-variants.{Add, Subtract, LessOrEqual}
 use Rattle.text_form.specs.Number.{digits, digitsWithin, numberBytes, isDigit, decimal, natural, word, positive, negative, numberOf}
 use Rattle.text_form.specs.Line.{together, linesOf}
-use Rattle.language.specs.Trees.{Expression, constant, read, minus, binary, assign, Place, variable, element, label, Statement, empty, express, block, ifElse, while, goto, abort, Items, none as noItem, _then_, _here_}
+use Rattle.language.specs.Trees.{Expression, constant, read, minus, binary, assign, compound, postfix, Place, variable, element, label, Statement, empty, express, block, ifElse, while, goto, abort, Items, none as noItem, _then_, _here_}
+use Rattle.translation.specs.Translate.{translate}
+use Rattle.translation.specs.WorkedExamples.{worked-translation}
 use Rattle.page.specs.Lines.{closes, indented, statementLines, readBefore, readLines}
 use Rattle.page.specs.Page.{ended, name, blanks, parted, rightSet, padded, lineBytes, linesBytes, pageBytes}
 use Rattle.page.specs.Reading.{same, pieces, filled, without, readOperator, readName, readAtom, readPlace, pageLines, readPage}
@@ -39,6 +42,16 @@ workedLines =
 pub worked-page : pageBytes 4 worked ≡ quoted workedLines
 unfolding quoted bytesOf digits digitsWithin numberBytes statementLines ended name blanks parted rightSet padded lineBytes linesBytes pageBytes
 worked-page = refl
+
+abbrev layout : Layout
+layout = record { variables = 1; lengths = 3 ∷ [] }
+
+-- v0 = 2; a[v0 -= 1] = v0++;
+abbrev source : Items
+source = set (variable 0) (constant (pos 2)) then set (element 0 (compound Subtract (variable 0) (constant (pos 1)))) (postfix Add (variable 0)) then noItem
+
+pub worked-translated : pageBytes 4 (translate layout source) ≡ quoted workedLines
+worked-translated = ap (pageBytes 4) worked-translation ∙ worked-page
 
 -- ---- every statement: two variables and one array of 3, so S = 5
 

@@ -136,7 +136,7 @@ pub fn bounds_of(form: Form, header: &[i32]) -> Bounds
     }
 }
 
-fn number_fits(bounds: Bounds, sort: u8, number: usize) -> bool
+pub fn number_fits(bounds: Bounds, sort: u8, number: usize) -> bool
     ensures { λ r. ⌜ r ≡ numberFits bounds sort number ⌝ }
 {
     if sort == VARIABLE {

@@ -6,7 +6,7 @@ use native.Mathlib.Omega.{arith}
 use native.Mathlib.Numerals.{add-one}
 use lib.IntN.{ℤ}
 use lib.ListN.{length, getD, take}
-use Rattle.words.specs.Layout.{Layout, sum, arrayLength, arrayBase}
+use Rattle.words.specs.Layout.{Layout, sum, storeSize, arrayLength, arrayBase}
 use Rattle.words.specs.Laws.{arrayBase-next, array-in-store}
 use Rattle.evaluator.specs.Bounds.{boundsFrom, boundsOf, layoutFrom}
 use Rattle.evaluator.specs.Ready.{Bounded, Setting}
@@ -37,19 +37,23 @@ pub record Lies (L : Layout) (bounds : List ℕ) (array : ℕ) : Type 0 where
   pub span : getD bounds (array + 1) 0 - getD bounds array 0 ≡ arrayLength L array
   pub bounded : Bounded bounds array
 
-module _ {rows : List ℤ} {bounds : List ℕ} {words : ℕ} (setting : Setting rows bounds words) (array : ℕ) (h : array < length (layoutFrom bounds .lengths)) where
-  pub lies : Lies (layoutFrom bounds) bounds array
-  lies =
+-- in a store of so many words, which the arrays fit
+module _ (bounds : List ℕ) (words : ℕ) (are : bounds ≡ boundsOf (layoutFrom bounds)) (fits : storeSize (layoutFrom bounds) ≤ words) (few : words < 65536) (array : ℕ)
+    (h : array < length (layoutFrom bounds .lengths)) where
+  pub lies-in : Lies (layoutFrom bounds) bounds array
+  lies-in =
       let L = layoutFrom bounds in
-      let here : getD bounds array 0 ≡ arrayBase L array = ap (λ (l : List ℕ). getD l array 0) (setting .bounds-are) ∙ bound-is L array (omega arith) in
-      let next : getD bounds (array + 1) 0 ≡ arrayBase L (array + 1) = ap (λ (l : List ℕ). getD l (array + 1) 0) (setting .bounds-are) ∙ bound-is L (array + 1) (omega arith) in
-      let count : length bounds ≡ suc (length (L .lengths)) = ap length (setting .bounds-are) ∙ bounds-count L in
+      let here : getD bounds array 0 ≡ arrayBase L array = ap (λ (l : List ℕ). getD l array 0) are ∙ bound-is L array (omega arith) in
+      let next : getD bounds (array + 1) 0 ≡ arrayBase L (array + 1) = ap (λ (l : List ℕ). getD l (array + 1) 0) are ∙ bound-is L (array + 1) (omega arith) in
+      let count : length bounds ≡ suc (length (L .lengths)) = ap length are ∙ bounds-count L in
       let more = arrayBase-next L array h in
       let inside = array-in-store L array h in
-      let fits = setting .sound .store-fits in
-      let few = setting .few-words in
       record {
         base = here;
         span = omega arith;
         bounded = record { inside = omega arith; ordered = omega arith; small = omega arith };
       }
+
+module _ {rows : List ℤ} {bounds : List ℕ} {words : ℕ} (setting : Setting rows bounds words) (array : ℕ) (h : array < length (layoutFrom bounds .lengths)) where
+  pub lies : Lies (layoutFrom bounds) bounds array
+  lies = lies-in bounds words (setting .bounds-are) (setting .sound .store-fits) (setting .few-words) array h

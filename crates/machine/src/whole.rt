@@ -23,7 +23,7 @@ ghost use Rattle.machine.specs.Flows.{ran};
 ghost use Rattle.machine.specs.Whole.{endingOfAnswer, finishedOf, wholeAt, Runnable, Startable};
 
 // The bounds of the arrays: where each begins, and where the last one ends.
-fn fill_bounds(lengths: &[i32], variables: usize, bounds: &mut [usize])
+pub fn fill_bounds(lengths: &[i32], variables: usize, bounds: &mut [usize])
     requires { ⌜ (length (now bounds) ≡ length (now lengths) + 1) × (variables + sum (map naturalOf (now lengths)) ≤ 8192) ⌝ }
     ensures { λ _. ⌜ now (bounds .exit) ≡ boundsFrom variables (map naturalOf (now (lengths .entry))) ⌝ }
 {

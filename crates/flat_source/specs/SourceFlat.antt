@@ -1,0 +1,50 @@
+-- Source and flat: what it is for a source program and a flat list to share their fate; demand 3 and Change 10 in one.
+use mathlib.Core.Path.{_≡_}
+use mathlib.Core.Logic.{_↔_}
+use mathlib.Core.List.{List, _++_}
+use Prim.Native.Nat.{ℕ}
+use lib.IntN.{ℤ}
+use lib.ListN.{length, take}
+use Rattle.words.specs.Layout.{layoutOf, storeSize, temporariesOf}
+use Rattle.words.specs.declared.Form.the-variants.{Source, Kernel}
+use Rattle.words.specs.declared.Ending.the-variants.{Spent}
+use Rattle.words.specs.declared.Verdict.the-variants.{Accepted}
+use Rattle.language.specs.Program.{Finished, runProgram}
+use Rattle.source_check.specs.Refusal.{refusal as sourceRefusal}
+use Rattle.fate.specs.KernelForms.{kernelHeaderOf, kernelRowsOf}
+use Rattle.flat.specs.Refusal.{refusal as flatRefusal}
+use Rattle.flat.specs.Results.{runList}
+use Rattle.flat_fate.specs.FlatWords.{flattened}
+
+-- A source program and a flat list, started on the same variables and arrays, the list with these temporaries.
+module _ (header rows kernelHeader list store temporaries : List ℤ) where
+  abbrev pub sourceRun : ℕ → Finished
+  sourceRun budget = runProgram Source header rows budget store
+
+  abbrev pub flatRun : ℕ → Finished
+  flatRun budget = runList kernelHeader list budget (store ++ temporaries)
+
+  pub record SourceEnds : Type 0 where
+    pub budget : ℕ
+    pub ends : (sourceRun budget) .ending ≡ Spent → ⊥
+
+  pub record FlatEnds : Type 0 where
+    pub budget : ℕ
+    pub ends : (flatRun budget) .ending ≡ Spent → ⊥
+
+  pub record SharedFate : Type 0 where
+    pub end-together : SourceEnds ↔ FlatEnds
+    pub same-ending : (b d : ℕ) → ((sourceRun b) .ending ≡ Spent → ⊥) → ((flatRun d) .ending ≡ Spent → ⊥) → (flatRun d) .ending ≡ (sourceRun b) .ending
+    pub same-cells : (b d : ℕ) → ((sourceRun b) .ending ≡ Spent → ⊥) → ((flatRun d) .ending ≡ Spent → ⊥) → take (length store) ((flatRun d) .store) ≡ (sourceRun b) .store
+
+-- What a flat list has to be for a source program.
+pub record FlatFormOf (header rows kernelHeader list : List ℤ) : Type 0 where
+  -- the list's own check takes it
+  pub accepted : flatRefusal kernelHeader list ≡ Accepted
+  -- "whatever its variables and arrays hold and whatever stands in the temporaries"
+  pub share-fate : (store temporaries : List ℤ) → length store ≡ storeSize (layoutOf Source header) → length temporaries ≡ temporariesOf Kernel kernelHeader
+      → SharedFate header rows kernelHeader list store temporaries
+
+-- What holds of every source program that the check accepts, and of the flat list of its translation.
+abbrev pub HasFlatForm : List ℤ → List ℤ → Type 0
+HasFlatForm header rows = sourceRefusal header rows ≡ Accepted → FlatFormOf header rows (kernelHeaderOf header rows) (flattened (kernelRowsOf header rows))

@@ -101,7 +101,7 @@ module _ (L : Layout) (lines : List Line) (address : ℕ → ℕ) where
     statement-addressed (kernel-goto b c) i other once f = tt
     statement-addressed kernel-abort i other once f = tt
 
-    items-addressed : {ahead is : Items} → KernelItems ahead is → (i : ℕ) (other : ℕ → ℕ) → ((l : ℕ) → itemsTimes l is ≤ 1) → ((l : ℕ) → 1 ≤ itemsTimes l is → address l ≡ itemsAddress l is i (other l))
+    pub items-addressed : {ahead is : Items} → KernelItems ahead is → (i : ℕ) (other : ℕ → ℕ) → ((l : ℕ) → itemsTimes l is ≤ 1) → ((l : ℕ) → 1 ≤ itemsTimes l is → address l ≡ itemsAddress l is i (other l))
         → AddressedItems L lines address is i
     items-addressed kernel-none i other once f = tt
     items-addressed (kernel-then {is = is} {s = s} k ks) i other once f = (

@@ -1,10 +1,10 @@
 // What lines are made of: the numbers and operands of a line, the store of a value, the target of a jump.
 use super::Step;
-use flat::lines::magnitude;
-use flat::lines::word_at;
 use arithmetic::Computed;
 use arithmetic::Located;
 use arithmetic::element;
+use flat::lines::magnitude;
+use flat::lines::word_at;
 ghost use mathlib.Core.Path.{_≡_};
 ghost use Prim.Native.Nat.{_+_, _*_, _-_, _<_};
 ghost use lib.ListN.{length, getD};

@@ -5,6 +5,7 @@
 //! store of zeros.
 
 use crate::form::Form::{self, Kernel, Source};
+use crate::join;
 use crate::machine::{run, Ending, Outcome};
 use crate::preview::preview;
 use crate::table::Refusal;
@@ -124,6 +125,25 @@ pub fn compare_writes(source: &Case, translation: &[u8]) -> Result<Compared, Str
     let count = Kernel.temporaries(&kernel.0) as usize;
     let temporaries: Vec<i32> = values.iter().copied().cycle().take(count).collect();
     compare(&program, &kernel, &store, &temporaries)
+}
+
+/// What is printed for the join of two texts.
+pub fn join_text(first: &[u8], second: &[u8]) -> Vec<u8> {
+    join::join_texts(first, second).unwrap_or_else(|refusal| format!("{refusal}\n").into_bytes())
+}
+
+/// Two cases and what another program printed for their join: how many runs of
+/// the joined rows were held to those of both programs, none after a refusal.
+pub fn compare_join(first: &Case, second: &Case, printed: &[u8]) -> Result<usize, String> {
+    let wanted = join_text(&first.text, &second.text);
+    if wanted != printed {
+        return Err("the text or the refusal".to_string());
+    }
+    let Ok((header, rows)) = text::read(Source, printed) else { return Ok(0) };
+    let refused = |refusal: Refusal| refusal.to_string();
+    let one = text::read(Source, &first.text).map_err(refused)?;
+    let other = text::read(Source, &second.text).map_err(refused)?;
+    join::compare(&one, &other, &rows, &start(Source, &header, first))
 }
 
 pub fn answer(form: Form, case: &Case) -> String {

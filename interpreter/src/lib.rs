@@ -4,14 +4,17 @@
 //! A program is a header and rows of six words, in one of two forms: the source
 //! form, and the kernel form that translations have. There is no translation
 //! here. `check` gives the first cause of refusal, `run` checks and then runs,
-//! `preview` runs on a copy of the store, `writes` tells which words a run stores.
+//! `preview` runs on a copy of the store, `writes` tells which words a run stores,
+//! `join` makes one program of two.
 
 pub mod cases;
 pub mod check;
 pub mod damage;
 pub mod form;
 pub mod generate;
+pub mod generate_joins;
 pub mod generate_kernel;
+pub mod join;
 pub mod machine;
 pub mod preview;
 pub mod random;

@@ -4,7 +4,7 @@ use interpreter::cases::{self, Case};
 use interpreter::generate::{self, Size};
 use interpreter::tally::Tally;
 use interpreter::Form::{self, Kernel, Source};
-use interpreter::{check, damage, generate_kernel, rules, text, trial};
+use interpreter::{check, damage, generate_joins, generate_kernel, rules, text, trial};
 use std::io::{self, Read, Write};
 use std::process::ExitCode;
 
@@ -19,6 +19,8 @@ Texts and case files are read from standard input.
                              PLACE: OLD NEW for each of them, lowest place first
   writes N [WORD ...]        PLACE VALUE for each write to the first S words
                              within N steps, in order, or refused NUMBER PLACE
+  join SECOND                the text that joins the one on standard input and
+                             that of the file SECOND, or refused NUMBER PLACE
   kernel-check               check, run and writes for a text of the kernel form
   kernel-run BUDGET [WORD ...]
   kernel-writes N [WORD ...]
@@ -47,6 +49,12 @@ Texts and case files are read from standard input.
                              that the other has made as its first ones, at many
                              numbers of steps: same PROGRAMS ENDLESS WRITES, or
                              different NUMBER: and what is not made
+  joins SEED COUNT [FIRST]   pairs of cases to join, legal and damaged
+  compare-joins              reads cases three by three, two programs and what
+                             was printed for their join; whether that is the
+                             join, or its refusal, and whether its runs follow
+                             those of both at many budgets: same PAIRS JOINED
+                             RUNS, or different NUMBER: and what
   tally                      reads cases; counts of answers, kinds and sizes
 
 With --tally the counts are printed in place of cases. `answers`, `different`
@@ -86,6 +94,12 @@ fn act(arguments: &[&str], tally: bool) -> Result<Vec<u8>, String> {
             Ok(cases::write_lines(Kernel, &case(budget, words)?).into_bytes())
         }
         ["compare-writes"] => Ok(line(compare_writes(&cases::read_all(&input()?)?))),
+        ["join", second] => {
+            let second = std::fs::read(second).map_err(|error| format!("{second}: {error}"))?;
+            Ok(cases::join_text(&input()?, &second))
+        }
+        ["joins", seed, count, first @ ..] => joins(seed, count, first),
+        ["compare-joins"] => Ok(line(compare_joins(&cases::read_all(&input()?)?))),
         ["kernel-check"] => Ok(check_text(Kernel, &input()?)),
         ["kernel-run", budget, words @ ..] => run_text(Kernel, budget, words),
         ["trial"] => Ok(line(trial::trial(&input()?))),
@@ -120,6 +134,39 @@ fn act(arguments: &[&str], tally: bool) -> Result<Vec<u8>, String> {
         }
         _ => Err(format!("not understood: {}; see --help", arguments.join(" "))),
     }
+}
+
+/// So many pairs to join, from the first number on.
+fn joins(seed: &str, count: &str, first: &[&str]) -> Result<Vec<u8>, String> {
+    let (seed, count): (u64, u64) = (number(seed)?, number(count)?);
+    let first: u64 = match first {
+        [] => 0,
+        [first] => number(first)?,
+        _ => return Err("too many arguments; see --help".to_string()),
+    };
+    let mut bytes = Vec::new();
+    for i in first..first.saturating_add(count) {
+        generate_joins::pair(seed, i).iter().for_each(|case| cases::write(case, &mut bytes));
+    }
+    Ok(bytes)
+}
+
+/// How many pairs, how many of them were joined, and the runs held; or the number
+/// of the first pair that differs, from 0 on, and how.
+fn compare_joins(cases: &[Case]) -> String {
+    let (mut pairs, mut joined, mut runs) = (0, 0, 0);
+    for three in cases.chunks(3) {
+        let [first, second, printed] = three else { return "cut short".to_string() };
+        match cases::compare_join(first, second, &printed.text) {
+            Ok(held) => {
+                pairs += 1;
+                joined += usize::from(held > 0);
+                runs += held;
+            }
+            Err(what) => return format!("different {pairs}: {what}"),
+        }
+    }
+    format!("same {pairs} {joined} {runs}")
 }
 
 /// So many cases of a seed, from the first number on, which is 0 unless it is given.

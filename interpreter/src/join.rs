@@ -1,0 +1,103 @@
+//! Two programs as one, which runs the first and then the second (document 02,
+//! change 8); and the run of a join held to the runs of its programs.
+
+use crate::check::check;
+use crate::form::Form::Source;
+use crate::machine::{run_checked, Ending, Outcome};
+use crate::table::*;
+use crate::text::{self, Program};
+
+/// The joined rows, under the header of both, or the refusal: the first's own
+/// causes, the second's, 16, 17, and 9 with its joined row.
+pub fn join(first: &Program, second: &Program) -> Result<Vec<i32>, Refusal> {
+    check(Source, &first.0, &first.1)?;
+    check(Source, &second.0, &second.1)?;
+    if first.0 != second.0 {
+        return Err(Refusal::new(16, 0));
+    }
+    let rows = joined(rows_of(&first.1), rows_of(&second.1));
+    if rows.len() > MAX_ROWS {
+        return Err(Refusal::new(17, 0));
+    }
+    let rows = rows.concat();
+    match check(Source, &first.0, &rows) {
+        Err(refusal) if refusal.number != 9 => panic!("a join is refused otherwise: {refusal}"),
+        Err(refusal) => Err(refusal),
+        Ok(()) => Ok(rows),
+    }
+}
+
+/// The new block, the first's rows, the second's.
+fn joined(first: &[Row], second: &[Row]) -> Vec<Row> {
+    let behind = 1 + first.len();
+    let mut rows = vec![[BLOCK, 1, 0, 0, 0, 0]];
+    rows.extend(first.iter().map(|row| moved(row, 1)));
+    rows[1][NEXT] = behind as i32;
+    rows.extend(second.iter().map(|row| moved(row, behind as i32)));
+    rows
+}
+
+/// A row whose links lead so many rows further.
+fn moved(row: &Row, by: i32) -> Row {
+    let mut row = *row;
+    let fields = Source.fields_or_unused(row[0]);
+    for (field, word) in fields.iter().zip(&mut row[1..NEXT]) {
+        if field.is_link() && *word != 0 {
+            *word += by;
+        }
+    }
+    if row[NEXT] != 0 {
+        row[NEXT] += by;
+    }
+    row
+}
+
+/// The same of two texts: the second is read once the first has no cause left.
+pub fn join_texts(first: &[u8], second: &[u8]) -> Result<Vec<u8>, Refusal> {
+    let first = text::read(Source, first)?;
+    check(Source, &first.0, &first.1)?;
+    let second = text::read(Source, second)?;
+    Ok(text::write(&first.0, &join(&first, &second)?))
+}
+
+/// Holds the runs of a join to those of its programs, from these words, at many
+/// budgets; how many runs were held, or what differs.
+pub fn compare(
+    first: &Program,
+    second: &Program,
+    rows: &[i32],
+    words: &[i32],
+) -> Result<usize, String> {
+    let mut held = 0;
+    for budget in budgets() {
+        let wanted = followed(first, second, words, budget);
+        let mut store = words.to_vec();
+        let outcome = run_checked(Source, &first.0, rows, &mut store, budget);
+        if wanted != (outcome, store) {
+            return Err(format!("the run of the join with budget {budget}"));
+        }
+        held += 1;
+    }
+    Ok(held)
+}
+
+/// The budgets at which runs are held.
+fn budgets() -> impl Iterator<Item = u32> {
+    (0..=60).chain([100, 333, 1_000, 5_000, 20_000])
+}
+
+/// One step for the new block, then the first; where it ended plainly the
+/// second, on the steps and from the store that are left.
+fn followed(first: &Program, second: &Program, words: &[i32], budget: u32) -> (Outcome, Vec<i32>) {
+    let mut store = words.to_vec();
+    if budget == 0 {
+        return (Outcome { ending: Ending::Spent, count: 0 }, store);
+    }
+    let one = run_checked(Source, &first.0, &first.1, &mut store, budget - 1);
+    if one.ending != Ending::Ended {
+        return (Outcome { ending: one.ending, count: one.count + 1 }, store);
+    }
+    let left = budget - 1 - one.count;
+    let other = run_checked(Source, &second.0, &second.1, &mut store, left);
+    (Outcome { ending: other.ending, count: 1 + one.count + other.count }, store)
+}

@@ -54,7 +54,9 @@ enum clight_cause {
     CLIGHT_KERNEL_FORM = 12,      /* statement not of kernel form; the statement's row */
     CLIGHT_LABEL = 13,            /* goto without its label ahead, or label repeated; the row of the goto or the later label */
     CLIGHT_TEXT = 14,             /* text malformed; the line, from 1 */
-    CLIGHT_SCRATCH = 15           /* scratch shorter than S words; place 0 */
+    CLIGHT_SCRATCH = 15,          /* scratch shorter than S words; place 0 */
+    CLIGHT_UNEQUAL_HEADERS = 16,  /* join of programs with unequal headers; place 0 */
+    CLIGHT_JOINED_ROWS = 17       /* joined rows over 2,048; place 0 */
 };
 
 /* Endings of a run, in the first value of its answer: `endingNumber` (crates/words/specs/Answers.antt). */
@@ -97,6 +99,15 @@ clight_preview_answer clight_preview(const int32_t *header, size_t header_words,
  * makes its writes, in order, also where neither run ends. Causes 1 to 9, then 10. */
 clight_answer clight_translate(const int32_t *header, size_t header_words, const int32_t *rows, size_t row_words,
                                int32_t *kernel_header, size_t kernel_header_words, int32_t *kernel_rows, size_t kernel_row_words);
+
+/* Joins two source programs that have one header into one that runs the first, then the second: the new block, the first's rows, the
+ * second's. Done: first is the words of the joined rows, second is 0; words of the table beyond these keep their content. The words
+ * written are a legal program under that header. It ends as the first does where that faults, otherwise as the second does from the
+ * store the first left, and its count is the sum of those done and one more. Causes 1 to 9 of the first, then of the second, then 16, 17,
+ * 9 with the joined row, then 10. The two programs may be one. */
+clight_answer clight_join(const int32_t *header, size_t header_words, const int32_t *rows, size_t row_words,
+                          const int32_t *second_header, size_t second_header_words, const int32_t *second_rows,
+                          size_t second_row_words, int32_t *out_rows, size_t out_row_words);
 
 /* The check of kernel programs. Done: the program is legal; first and second are 0. Causes 1 to 6, 9, 12, 13. */
 clight_answer clight_kernel_check(const int32_t *header, size_t header_words, const int32_t *rows, size_t row_words);

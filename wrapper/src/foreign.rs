@@ -72,6 +72,19 @@ extern "C" {
         kernel_row_words: usize,
     ) -> Answer;
 
+    pub fn clight_join(
+        header: *const i32,
+        header_words: usize,
+        rows: *const i32,
+        row_words: usize,
+        second_header: *const i32,
+        second_header_words: usize,
+        second_rows: *const i32,
+        second_row_words: usize,
+        out_rows: *mut i32,
+        out_row_words: usize,
+    ) -> Answer;
+
     pub fn clight_kernel_check(
         header: *const i32,
         header_words: usize,

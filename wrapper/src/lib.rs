@@ -46,10 +46,12 @@ pub enum Cause {
     Label = 13,
     Text = 14,
     Scratch = 15,
+    UnequalHeaders = 16,
+    JoinedRows = 17,
 }
 
 /// Every cause, in order of number.
-pub const CAUSES: [Cause; 15] = [
+pub const CAUSES: [Cause; 17] = [
     Cause::Header,
     Cause::RowCount,
     Cause::Kind,
@@ -65,6 +67,8 @@ pub const CAUSES: [Cause; 15] = [
     Cause::Label,
     Cause::Text,
     Cause::Scratch,
+    Cause::UnequalHeaders,
+    Cause::JoinedRows,
 ];
 
 /// A cause and its place: a row, a line of the text from 1, or 0.
@@ -313,4 +317,31 @@ pub fn translate(
         )
     }
     .tables()
+}
+
+/// Joins two source programs that have one header into one that runs the first,
+/// then the second, and gives the words of its rows, which stand under that
+/// header; words of the table beyond them keep their content.
+pub fn join(
+    header: &[i32],
+    rows: &[i32],
+    second_header: &[i32],
+    second_rows: &[i32],
+    out_rows: &mut [i32],
+) -> Result<usize, Refusal> {
+    let answer = unsafe {
+        foreign::clight_join(
+            header.as_ptr(),
+            header.len(),
+            rows.as_ptr(),
+            rows.len(),
+            second_header.as_ptr(),
+            second_header.len(),
+            second_rows.as_ptr(),
+            second_rows.len(),
+            out_rows.as_mut_ptr(),
+            out_rows.len(),
+        )
+    };
+    Ok(answer.values()?.0)
 }

@@ -40,6 +40,8 @@ fn no_header() {
         assert_eq!(clight_write_kernel(null(), 0, rows, 6, null_mut(), 0), refused(1, 0));
         let answer = clight_translate(null(), 0, rows, 6, null_mut(), 0, null_mut(), 0);
         assert_eq!(answer, refused(1, 0));
+        let answer = clight_join(null(), 0, rows, 6, null(), 0, rows, 6, null_mut(), 0);
+        assert_eq!(answer, refused(1, 0));
     }
 }
 
@@ -57,6 +59,8 @@ fn no_rows() {
         assert_eq!(clight_write_source(header, 1, null(), 0, null_mut(), 0), refused(2, 0));
         assert_eq!(clight_write_kernel(kernel, 2, null(), 0, null_mut(), 0), refused(2, 0));
         let answer = clight_translate(header, 1, null(), 0, null_mut(), 0, null_mut(), 0);
+        assert_eq!(answer, refused(2, 0));
+        let answer = clight_join(header, 1, null(), 0, header, 1, null(), 0, null_mut(), 0);
         assert_eq!(answer, refused(2, 0));
     }
 }
@@ -84,6 +88,8 @@ fn nothing_lent() {
         assert_eq!(clight_write_source(header, 1, rows, 6, null_mut(), 0), refused(10, 0));
         assert_eq!(clight_write_kernel(kernel, 2, rows, 6, null_mut(), 0), refused(10, 0));
         let answer = clight_translate(header, 1, rows, 6, null_mut(), 0, null_mut(), 0);
+        assert_eq!(answer, refused(10, 0));
+        let answer = clight_join(header, 1, rows, 6, header, 1, rows, 6, null_mut(), 0);
         assert_eq!(answer, refused(10, 0));
         let (text, n) = (TEXT.as_ptr(), TEXT.len());
         assert_eq!(clight_read_source(text, n, null_mut(), 0, null_mut(), 0), refused(10, 0));

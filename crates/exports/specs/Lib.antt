@@ -6,3 +6,5 @@ pub mod Numbers
 -- ---- laws
 -- NumbersLaws: a translation whose answer has no cause was made.
 pub mod NumbersLaws
+-- JoinNumbersLaws: a join whose answer has no cause was made.
+pub mod JoinNumbersLaws

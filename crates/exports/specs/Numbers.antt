@@ -10,6 +10,8 @@ use Rattle.words.specs.declared.RunVerdict.{RunVerdict}
 use Rattle.text_form.specs.Answers.{Outcome, finished, refused as textRefused}
 use Rattle.translator.specs.Translation.{translateNumbers, WroteKernelForm}
 use Rattle.translator.specs.declared.TranslateAnswer.{TranslateAnswer}
+use Rattle.joiner.specs.Joining.{joinNumbers, WroteJoin}
+use Rattle.joiner.specs.declared.JoinAnswer.{JoinAnswer}
 use Rattle.exports.specs.declared.Answer.{Answer}
 use Rattle.exports.specs.declared.PreviewAnswer.{PreviewAnswer}
 
@@ -40,3 +42,10 @@ translateAnswer answer = answerOf (translateNumbers answer)
 -- Demands 2 and 3 and Change 14 about what stands in both tables after a translation whose answer has no cause.
 abbrev pub WritesIfDone : (header rows : List ℤ) → Answer → (headerLeft rowsLeft : List ℤ) → Type 0
 WritesIfDone header rows answer headerLeft rowsLeft = answer .cause ≡ 0 → WroteKernelForm header rows (answer .first) (answer .second) headerLeft rowsLeft
+
+abbrev pub joinAnswer : JoinAnswer → Answer
+joinAnswer answer = answerOf (joinNumbers answer)
+
+-- What stands in the table after a join whose answer has no cause: a legal program that runs the first, then the second.
+abbrev pub JoinsIfDone : (header first second : List ℤ) → Answer → (left : List ℤ) → Type 0
+JoinsIfDone header first second answer left = answer .cause ≡ 0 → WroteJoin header first second (answer .first) left

@@ -24,7 +24,7 @@ use Rattle.exports.specs.declared.Answer.{Answer}
 use Rattle.exports.specs.Numbers.{translateAnswer, WritesIfDone}
 
 -- the check's refusals have a cause
-check-caused : (header rows : List ℤ) (refusal : Refusal) → refusalOf Source header rows ≡ Refused refusal → refusal .number ≡ 0 → ⊥
+pub check-caused : (header rows : List ℤ) (refusal : Refusal) → refusalOf Source header rows ≡ Refused refusal → refusal .number ≡ 0 → ⊥
 check-caused header rows refusal told none =
     let legal = check-no-cause-if-legal Source header rows .no-cause-legal (ap (λ (v : Verdict). verdictNumbers v .cause) told ∙ none) in
     let both : Refused refusal ≡ Accepted = sym told ∙ check-accepts-legal Source header rows (refusalOf Source header rows) refl .legal-accepted legal in

@@ -3,6 +3,7 @@ use super::Answer;
 use super::PreviewAnswer;
 use clight::DispatcherVerdict;
 use clight::PreviewVerdict;
+use joiner::JoinAnswer;
 use text_form::ReadAnswer;
 use text_form::WriteAnswer;
 use translator::TranslateAnswer;
@@ -20,7 +21,7 @@ ghost use Rattle.clight.specs.declared.DispatcherVerdict.the-variants.{Shown};
 ghost use Rattle.clight.specs.declared.PreviewVerdict.the-variants.{Previewed};
 ghost use Rattle.clight.specs.DispatcherRuns.{dispatcherNumbers};
 ghost use Rattle.clight.specs.Previews.{toldRun, tallyOf};
-ghost use Rattle.exports.specs.Numbers.{answerOf, runAnswer, verdictAnswer, previewAnswer, outcomeAnswer, translateAnswer};
+ghost use Rattle.exports.specs.Numbers.{answerOf, runAnswer, verdictAnswer, previewAnswer, outcomeAnswer, translateAnswer, joinAnswer};
 
 pub fn refused(refusal: Refusal) -> Answer
     ensures { λ r. ⌜ r ≡ answerOf (refusedOf (refusal .number) (refusal .place)) ⌝ }
@@ -146,5 +147,18 @@ pub fn of_translation(answer: TranslateAnswer) -> Answer
             second: row_words,
         },
         TranslateAnswer::Refused(refusal) => refused(refusal),
+    }
+}
+
+pub fn of_join(answer: JoinAnswer) -> Answer
+    ensures { λ r. ⌜ r ≡ joinAnswer answer ⌝ }
+{
+    match answer {
+        JoinAnswer::Joined(words) => Answer {
+            cause: 0,
+            first: words,
+            second: 0,
+        },
+        JoinAnswer::Refused(refusal) => refused(refusal),
     }
 }

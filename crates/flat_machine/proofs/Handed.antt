@@ -1,16 +1,18 @@
 -- Words of a line, handed on: numbers, values, targets.
-use mathlib.Core.Path.{_≡_, refl, sym, ap, _∙_, subst}
-use mathlib.Core.Bool.{Bool, true, false, true≢false}
+use mathlib.Core.Path.{_≡_, refl, sym, ap, ap₂, _∙_, subst}
+use mathlib.Core.Bool.{true}
 use mathlib.Core.List.{List}
-use Prim.Native.Nat.{ℕ, _+_, _-_, _^_, _≤_, _<_}
+use Prim.Native.Nat.{ℕ, suc, _+_, _-_, _^_, _<_}
 use native.Mathlib.Omega.{arith}
 use native.Mathlib.Numerals.{add-one}
-use lib.IntN.{ℤ, pos, negsuc}
+use lib.Dec.{T}
+use lib.IntN.{ℤ, pos, negsuc, natAbs, _+ℤ_}
 use lib.ListN.{set}
-use lib.Signed.{mag, ltZ}
-use mir.Syntax.{w32}
-use mir.Val.{toZ, ofZ}
-use borrow.Author.Tests.{ltb-true, leb-true}
+use lib.Signed.{mag, nonNeg}
+use mir.Syntax.{w32, w64}
+use mir.Val.{SFits, Fits, toZ, ofZ}
+use mir.Facts.{toZ-ofZ, toZ-pos}
+use borrow.Author.Tests.{le-ltb, leb-true}
 use Rattle.words.specs.Laws.{back}
 use Rattle.arithmetic.specs.Answers.{computed}
 use Rattle.words.specs.declared.FaultSort.{FaultSort}
@@ -39,37 +41,60 @@ module _ (s : List ℤ) (line target : ℕ) (result : Computed) where
   pub failed : (sort : FaultSort) → result ≡ FailsWith sort → Makes s (Fails sort) s (onward line (stored target s (computed result)))
   failed sort e = rw e (refl, refl)
 
--- ---- the target of a jump
+-- ---- the target of a jump: the following line's number and the distance, added at 64 bits
 
-module _ (line lines : ℕ) where
-  back-far : (z : ℤ) → ltZ z (pos 0) ≡ true → landsInside line lines z ≡ true → mag z ≤ line
-  back-far (pos n) e l = absurd (omega (arith, ltb-true n 0 e))
-  back-far (negsuc n) e l = leb-true n line l
+abbrev handed : ℤ → ℤ
+handed z = toZ w64 (ofZ w64 z)
 
-  back-is : (z : ℤ) → ltZ z (pos 0) ≡ true → line - mag z ≡ targetOf line z
-  back-is (pos n) e = absurd (omega (arith, ltb-true n 0 e))
-  back-is (negsuc n) e = refl
+module _ (line : ℕ) (small : line < 2 ^ 62) where
+  abbrev following : ℤ
+  following = toZ w64 line +ℤ pos 1
 
-  onward-is : (z : ℤ) → ltZ z (pos 0) ≡ false → line + 1 + mag z ≡ targetOf line z
-  onward-is (pos n) e = omega arith
-  onward-is (negsuc n) e = absurd (true≢false e)
+  number-is : toZ w64 line ≡ pos line
+  number-is = toZ-pos w64 (omega arith)
 
--- a distance z that was read as w, and handed on
-module _ (line lines : ℕ) (z w : ℤ) (h : mag w < 2 ^ 31) (e : w ≡ z) (far : ℕ) (f : far ≡ mag (again w)) where
-  far-is : far ≡ mag z
-  far-is = f ∙ ap mag (back w h ∙ e)
+  following-is : following ≡ pos (line + 1)
+  following-is = ap (λ (x : ℤ). x +ℤ pos 1) number-is
 
-  sign : (b : Bool) → ltZ (again w) (pos 0) ≡ b → ltZ z (pos 0) ≡ b
-  sign b t = ap (λ (x : ℤ). ltZ x (pos 0)) (sym (back w h ∙ e)) ∙ t
+  pub line-fits : SFits w64 (pos line)
+  line-fits = record { sfits = omega arith }
 
-  pub far-small : far < 2147483648
-  far-small = rw (f ∙ ap mag (back w h)) h
+  pub following-fits : SFits w64 following
+  following-fits = subst (λ (x : ℤ). SFits w64 x) (sym following-is) (record { sfits = omega arith })
 
-  pub far-back : ltZ (again w) (pos 0) ≡ true → landsInside line lines z ≡ true → far ≤ line
-  far-back t l = rw far-is (back-far line lines z (sign true t) l)
+  sum-is : (lines : ℕ) (z : ℤ) → landsInside line lines z ≡ true → pos (line + 1) +ℤ z ≡ pos (targetOf line z)
+  sum-is lines (pos d) l = ap pos (let e : line + 1 + d ≡ suc line + d = omega arith in e)
+  sum-is lines (negsuc d) l = let e : line + 1 - suc d ≡ line - d = omega arith in rw (le-ltb (line + 1) (suc d) (omega (arith, leb-true d line l)), e)
 
-  pub target-back : ltZ (again w) (pos 0) ≡ true → line - far ≡ targetOf line z
-  target-back t = rw far-is (back-is line lines z (sign true t))
+  target-small : (z : ℤ) → mag z < 2 ^ 31 → targetOf line z < 2 ^ 63
+  target-small (pos d) h = omega arith
+  target-small (negsuc d) h = omega arith
 
-  pub target-onward : ltZ (again w) (pos 0) ≡ false → line + 1 + far ≡ targetOf line z
-  target-onward t = rw far-is (onward-is line lines z (sign false t))
+  -- a distance z that was read as w, and cast
+  module _ (lines : ℕ) (z w : ℤ) (h : mag w < 2 ^ 31) (e : w ≡ z) (lands : landsInside line lines z ≡ true) where
+    abbrev total : ℤ
+    total = handed following +ℤ handed (again w)
+
+    distance-is : handed (again w) ≡ z
+    distance-is = ap handed (back w h) ∙ toZ-ofZ (record { sfits = omega arith }) ∙ e
+
+    total-is : total ≡ pos (targetOf line z)
+    total-is = ap₂ _+ℤ_ (toZ-ofZ following-fits ∙ following-is) distance-is ∙ sum-is lines z lands
+
+    target-fits : SFits w64 (pos (targetOf line z))
+    target-fits = record { sfits = target-small z (subst (λ (x : ℤ). mag x < 2 ^ 31) e h) }
+
+    pub distance-fits : SFits w64 (again w)
+    distance-fits = subst (λ (x : ℤ). SFits w64 x) (sym (back w h)) (record { sfits = omega arith })
+
+    pub total-fits : SFits w64 total
+    total-fits = subst (λ (x : ℤ). SFits w64 x) (sym total-is) target-fits
+
+    handed-total : handed total ≡ pos (targetOf line z)
+    handed-total = toZ-ofZ total-fits ∙ total-is
+
+    pub total-casts : T (nonNeg (handed total)) × Fits w64 (natAbs (handed total))
+    total-casts = subst (λ (x : ℤ). T (nonNeg x) × Fits w64 (natAbs x)) (sym handed-total) (tt, record { fits = omega (arith, target-fits .sfits) })
+
+    pub target-is : natAbs (handed total) ≡ targetOf line z
+    target-is = ap natAbs handed-total

@@ -7,19 +7,26 @@ use super::operands::operand;
 use super::operands::target_of;
 use arithmetic::Computed;
 use arithmetic::Located;
-use arithmetic::apply;
+use arithmetic::add;
+use arithmetic::bit;
+use arithmetic::divide;
 use arithmetic::is_true;
 use arithmetic::minus;
+use arithmetic::multiply;
+use arithmetic::remainder;
+use arithmetic::subtract;
 use evaluator::operations::is_binary;
 use flat::lines::kind_of;
 use flat::lines::left_constant;
 use flat::lines::right_constant;
 use words::FaultSort;
-use words::kinds::operator_of;
 ghost use mathlib.Core.Path.{_≡_};
 ghost use mathlib.Core.Bool.{true};
 ghost use lib.ListN.{length};
-ghost use Rattle.words.specs.Kinds.{between};
+ghost use Prim.Native.Nat.{_-_};
+ghost use Rattle.words.specs.Kinds.{between, operatorOf};
+ghost use Rattle.arithmetic.specs.Arithmetic.{apply as applyOf};
+ghost use Rattle.arithmetic.specs.Answers.{computed as computedOf};
 ghost use Rattle.evaluator.specs.Bounds.{layoutFrom};
 ghost use Rattle.flat.specs.Lines.{nextOf};
 ghost use Rattle.flat.specs.Words.{lineAt};
@@ -48,6 +55,27 @@ fn negate(list: &[i32], bounds: &[usize], line: usize, operation: usize, store: 
     assign(minus(value), number_at(list, line, 1), line, store)
 }
 
+// What an operation gives. This is for `operate` alone, so that the compiler builds it in: what `apply` gives would come back through
+// memory.
+fn outcome(kind: usize, left: i32, right: i32) -> Computed
+    requires { ⌜ between 6 16 kind ≡ true ⌝ }
+    ensures { λ r. ⌜ computedOf r ≡ applyOf (operatorOf (kind - 6)) left right ⌝ }
+{
+    match kind {
+        6 => add(left, right),
+        7 => subtract(left, right),
+        8 => multiply(left, right),
+        9 => divide(left, right),
+        10 => remainder(left, right),
+        11 => Computed::Value(bit(left < right)),
+        12 => Computed::Value(bit(right < left)),
+        13 => Computed::Value(bit(left <= right)),
+        14 => Computed::Value(bit(right <= left)),
+        15 => Computed::Value(bit(left == right)),
+        _ => Computed::Value(bit(left != right)),
+    }
+}
+
 // Kinds 6 to 16.
 fn operate(
     list: &[i32],
@@ -62,7 +90,7 @@ fn operate(
 {
     let left = operand(list, line, 2, left_constant(operation), store);
     let right = operand(list, line, 3, right_constant(operation), store);
-    let result = apply(operator_of(kind - 6), left, right);
+    let result = outcome(kind, left, right);
     assign(result, number_at(list, line, 1), line, store)
 }
 
@@ -123,21 +151,22 @@ fn jump_other(list: &[i32], bounds: &[usize], line: usize, operation: usize, sto
     Step::At(line + 1)
 }
 
-// A line is made. Kinds 6 to 16 are the most frequent; kind 4, the last, is the most seldom.
+// A line is made. Kind 43 and kinds 6 to 16 are the most frequent, and have no table of places in front; kind 4, the last, is the most
+// seldom.
 pub fn make(list: &[i32], bounds: &[usize], line: usize, store: &mut [i32]) -> Step
     requires { ⌜ ReadyLine (now bounds) (now list) (length (now store)) line ⌝ }
     ensures { λ r. ⌜ Makes (now (store .entry)) r (now (store .exit)) (nextOf (layoutFrom (now (bounds .entry))) (lineAt (now (list .entry)) line) line (now (store .entry))) ⌝ }
 {
     let operation = number_at(list, line, 0);
     let kind = kind_of(operation);
+    if kind == 43 {
+        return jump_zero(list, bounds, line, operation, store);
+    }
     if is_binary(kind) {
         return operate(list, bounds, line, operation, kind, store);
     }
     if kind == 1 {
         return copy(list, bounds, line, operation, store);
-    }
-    if kind == 43 {
-        return jump_zero(list, bounds, line, operation, store);
     }
     if kind == 52 {
         return Step::At(target_of(list, line));

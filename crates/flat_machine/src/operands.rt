@@ -3,7 +3,6 @@ use super::Step;
 use arithmetic::Computed;
 use arithmetic::Located;
 use arithmetic::element;
-use flat::lines::magnitude;
 use flat::lines::word_at;
 ghost use mathlib.Core.Path.{_≡_};
 ghost use Prim.Native.Nat.{_+_, _*_, _-_, _<_};
@@ -50,17 +49,13 @@ pub fn assign(result: Computed, target: usize, line: usize, store: &mut [i32]) -
     }
 }
 
-// Where a jump goes: "a signed jump distance counted from the following line".
+// Where a jump goes: "a signed jump distance counted from the following line". One sum, since the next line's words wait for it.
 pub fn target_of(list: &[i32], line: usize) -> usize
     requires { ⌜ ReadyJump (now list) line ⌝ }
     ensures { λ r. ⌜ r ≡ targetOf line (fieldAt (now (list .entry)) line 4) ⌝ }
 {
-    let distance = word_at(list, line, 4);
-    let far = magnitude(distance);
-    if distance < 0 {
-        return line - far;
-    }
-    line + 1 + far
+    let following = line as i64 + 1;
+    (following + word_at(list, line, 4) as i64) as usize
 }
 
 // The bounds test: an array lies from its own bound up to the next.

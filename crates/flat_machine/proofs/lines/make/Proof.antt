@@ -12,35 +12,35 @@ number-at-requires c κs = (omega (arith, c .before .pre .inside), omega (arith,
 kind-of-requires : tie.Need-kind-of-requires
 kind-of-requires c κs = search needs
 
-is-binary-requires : tie.Need-is-binary-requires
-is-binary-requires c κs = search needs
-
-operate-requires : tie.Need-operate-requires
-operate-requires c κs = (of-kind (c .before .before .before .before .before .before .pre) (c .before .before .before .before .number-at .ensures) (sym (c .before .before .before .kind-of .ensures)), sym (c .before .before .is-binary .ensures) ∙ c .before .if1 .taken)
+jump-zero-requires : tie.Need-jump-zero-requires
+jump-zero-requires c κs = of-kind (c .before .before .before .before .before .pre) (c .before .before .before .number-at .ensures) (sym (c .before .before .kind-of .ensures) ∙ c .before .if1 .taken)
 
 same-length : tie.Need-same-length
 same-length c = search needs
 
 returns : tie.Need-returns
-returns c = c .before .operate .ensures
+returns c = c .jump-zero .ensures
 
-copy-requires : tie.Need-copy-requires
-copy-requires c κs = of-kind (c .before .before .before .before .before .before .before .pre) (c .before .before .before .before .before .number-at .ensures) (sym (c .before .before .before .before .kind-of .ensures) ∙ c .before .if2 .taken)
+is-binary-requires : tie.Need-is-binary-requires
+is-binary-requires c κs = search needs
+
+operate-requires : tie.Need-operate-requires
+operate-requires c κs = (of-kind (c .before .before .before .before .before .before .before .pre) (c .before .before .before .before .before .number-at .ensures) (sym (c .before .before .before .before .kind-of .ensures)), sym (c .before .before .is-binary .ensures) ∙ c .before .if2 .taken)
 
 same-length-2 : tie.Need-same-length-2
 same-length-2 c = search needs
 
 returns-2 : tie.Need-returns-2
-returns-2 c = c .before .copy .ensures
+returns-2 c = c .before .operate .ensures
 
-jump-zero-requires : tie.Need-jump-zero-requires
-jump-zero-requires c κs = of-kind (c .before .before .before .before .before .before .before .before .pre) (c .before .before .before .before .before .before .number-at .ensures) (sym (c .before .before .before .before .before .kind-of .ensures) ∙ c .before .if3 .taken)
+copy-requires : tie.Need-copy-requires
+copy-requires c κs = of-kind (c .before .before .before .before .before .before .before .before .pre) (c .before .before .before .before .before .before .number-at .ensures) (sym (c .before .before .before .before .before .kind-of .ensures) ∙ c .before .if3 .taken)
 
 same-length-3 : tie.Need-same-length-3
 same-length-3 c = search needs
 
 returns-3 : tie.Need-returns-3
-returns-3 c = c .jump-zero .ensures
+returns-3 c = c .before .copy .ensures
 
 target-of-requires : tie.Need-target-of-requires
 target-of-requires c κs = jump-ready (of-kind (c .before .before .before .before .before .before .before .before .pre) (c .before .before .before .before .before .before .number-at .ensures) (sym (c .before .before .before .before .before .kind-of .ensures)))
@@ -79,7 +79,7 @@ returns-8 : tie.Need-returns-8
 returns-8 c = abort-fails (c .before .before .before .before .before .before .before .before .before .before .before .before .args .store .now) (of-kind (c .before .before .before .before .before .before .before .before .before .before .before .before .pre) (c .before .before .before .before .before .before .before .before .before .before .number-at .ensures) (sym (c .before .before .before .before .before .before .before .before .before .kind-of .ensures) ∙ c .if8 .taken))
 
 negate-requires : tie.Need-negate-requires
-negate-requires c κs = of-kind (c .before .before .before .before .before .before .before .before .before .before .before .before .before .pre) (c .before .before .before .before .before .before .before .before .before .before .before .number-at .ensures) (sym (c .before .before .before .before .before .before .before .before .before .before .kind-of .ensures) ∙ last-kind (kind-known (c .before .before .before .before .before .before .before .before .before .before .before .before .before .pre) (c .before .before .before .before .before .before .before .before .before .before .before .number-at .ensures) (c .before .before .before .before .before .before .before .before .before .before .kind-of .ensures)) (sym (c .before .before .before .before .before .before .before .before .before .is-binary .ensures) ∙ c .before .before .before .before .before .before .before .before .if1 .left) (c .before .before .before .before .before .before .before .if2 .left) (c .before .before .before .before .before .before .if3 .left) (c .before .before .before .before .before .if4 .left) (c .before .before .before .before .if5 .left) (c .before .before .before .if6 .left) (c .before .before .if7 .left) (c .before .if8 .left))
+negate-requires c κs = of-kind (c .before .before .before .before .before .before .before .before .before .before .before .before .before .pre) (c .before .before .before .before .before .before .before .before .before .before .before .number-at .ensures) (sym (c .before .before .before .before .before .before .before .before .before .before .kind-of .ensures) ∙ last-kind (kind-known (c .before .before .before .before .before .before .before .before .before .before .before .before .before .pre) (c .before .before .before .before .before .before .before .before .before .before .before .number-at .ensures) (c .before .before .before .before .before .before .before .before .before .before .kind-of .ensures)) (sym (c .before .before .before .before .before .before .before .before .is-binary .ensures) ∙ c .before .before .before .before .before .before .before .if2 .left) (c .before .before .before .before .before .before .if3 .left) (c .before .before .before .before .before .before .before .before .before .if1 .left) (c .before .before .before .before .before .if4 .left) (c .before .before .before .before .if5 .left) (c .before .before .before .if6 .left) (c .before .before .if7 .left) (c .before .if8 .left))
 
 same-length-7 : tie.Need-same-length-7
 same-length-7 c = search needs
@@ -88,4 +88,33 @@ returns-9 : tie.Need-returns-9
 returns-9 c = c .before .negate .ensures
 
 pub make-spec : {M : Type 1} → statement M
-make-spec = tie.close (tie.spec number-at-requires kind-of-requires is-binary-requires operate-requires same-length returns copy-requires same-length-2 returns-2 jump-zero-requires same-length-3 returns-3 target-of-requires returns-4 fetch-requires same-length-4 returns-5 put-requires same-length-5 returns-6 jump-other-requires same-length-6 returns-7 returns-8 negate-requires same-length-7 returns-9)
+make-spec =
+    tie.close
+    (tie.spec
+    number-at-requires
+    kind-of-requires
+    jump-zero-requires
+    same-length
+    returns
+    is-binary-requires
+    operate-requires
+    same-length-2
+    returns-2
+    copy-requires
+    same-length-3
+    returns-3
+    target-of-requires
+    returns-4
+    fetch-requires
+    same-length-4
+    returns-5
+    put-requires
+    same-length-5
+    returns-6
+    jump-other-requires
+    same-length-6
+    returns-7
+    returns-8
+    negate-requires
+    same-length-7
+    returns-9)

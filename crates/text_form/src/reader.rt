@@ -31,7 +31,7 @@ pub enum Shape {
 }
 
 // How many numbers a first line has.
-fn header_numbers(form: Form, line: &[u8]) -> Count
+pub fn header_numbers(form: Form, line: &[u8]) -> Count
     ensures { λ r. ⌜ countSays r ≡ sizeOf (headerLine form (ended (now (line .entry)))) ⌝ }
 {
     let counted = count_numbers(line);

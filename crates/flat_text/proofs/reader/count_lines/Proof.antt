@@ -1,0 +1,94 @@
+-- `count_lines` passes the lines one by one; the invariant is `Walked`.
+use mathlib.Core.Path.{sym, ap, _∙_}
+use Prim.Native.Nat.{_-_}
+use native.Mathlib.Omega.{arith}
+use borrow.Author.Needs.{needs}
+use borrow.Author.Tests.{not-true, not-false}
+use lib.ListN.{length}
+use Rattle.text_form.specs.Reader.{wordsOf}
+use Rattle.text_form.proofs.Pieces.{Piece, piece-of}
+use Rattle.text_form.proofs.Rows.{found-row, found-none}
+use Rattle.flat_text.proofs.Lines.{Walked, walked-start, walked-says, walked-unended, walked-bad, walked-next}
+use Rattle.flat_text.proofs.reader.count_lines.Statement.{statement}
+use Rattle.flat_text.proofs.reader.count_lines.Tie as tie
+
+abbrev Inv-loop : tie.InvT-loop
+Inv-loop text at₀ count₀ at count = Walked text at count
+
+abbrev μ-loop : tie.MeasureT-loop
+μ-loop text at₀ count₀ at count = length text - at
+
+loop-holds : tie.Need-loop-holds Inv-loop μ-loop
+loop-holds c = walked-start _
+
+piece-end-requires : tie.Need-piece-end-requires Inv-loop μ-loop
+piece-end-requires c κs = omega (arith, c .loop-test .taken)
+
+-- where a line was found to end
+line-ends : (c : tie.After-piece-end Inv-loop μ-loop) → Piece 10 (c .before .before .before .before .args .text .now) (c .before .before .loop .at) (c .piece-end .result)
+line-ends c = piece-of 10 _ _ _ (omega (arith, c .before .loop-test .taken)) (c .piece-end .ensures)
+
+add-t7 : tie.Need-add-t7 Inv-loop μ-loop
+add-t7 c = omega (arith, c .before .before .before .loop .inv .fewer, c .before .before .loop-test .taken)
+
+returns : tie.Need-returns Inv-loop μ-loop
+returns c = sym (ap wordsOf (walked-unended (c .before .before .before .loop .inv) (line-ends (c .before)) (c .before .before .loop-test .taken) (omega (arith, c .if1 .taken))))
+
+sub-is-line : tie.Need-sub-is-line Inv-loop μ-loop
+sub-is-line c = line-ends (c .before) .from
+
+part-is-line-start : tie.Need-part-is-line-start Inv-loop μ-loop
+part-is-line-start c = omega (arith, line-ends (c .before) .from, line-ends (c .before) .inside)
+
+part-is-line-end : tie.Need-part-is-line-end Inv-loop μ-loop
+part-is-line-end c = omega (arith, line-ends (c .before) .inside)
+
+is-line-requires : tie.Need-is-line-requires Inv-loop μ-loop
+is-line-requires c κs = search needs
+
+add-t12 : tie.Need-add-t12 Inv-loop μ-loop
+add-t12 c = omega (arith, c .before .before .before .before .before .before .loop .inv .fewer, c .before .before .before .before .before .loop-test .taken)
+
+returns-2 : tie.Need-returns-2 Inv-loop μ-loop
+returns-2 c = sym (ap wordsOf (walked-bad (c .before .before .before .before .before .before .loop .inv) (line-ends (c .before .before .before .before)) (c .before .before .before .before .before .loop-test .taken) (let other = c .before .before .before .if1 .left in omega (arith, line-ends (c .before .before .before .before) .inside)) (found-none _ (sym (c .before .is-line .ensures) ∙ not-true _ (c .if2 .taken)))))
+
+add-count : tie.Need-add-count Inv-loop μ-loop
+add-count c = omega (arith, c .before .before .before .before .before .before .loop .inv .fewer, c .before .before .before .before .before .loop-test .taken)
+
+add-at : tie.Need-add-at Inv-loop μ-loop
+add-at c = let other = c .before .before .before .if1 .left in omega (arith, line-ends (c .before .before .before .before) .inside)
+
+loop-less : tie.Need-loop-less Inv-loop μ-loop
+loop-less c = omega (arith, c .before .before .before .before .before .loop-test .taken, line-ends (c .before .before .before .before) .from)
+
+loop-again : tie.Need-loop-again Inv-loop μ-loop
+loop-again c = let r = found-row _ (sym (c .before .is-line .ensures) ∙ not-false _ (c .if2 .left)) in walked-next (c .before .before .before .before .before .before .loop .inv) (line-ends (c .before .before .before .before)) (c .before .before .before .before .before .loop-test .taken) (let other = c .before .before .before .if1 .left in omega (arith, line-ends (c .before .before .before .before) .inside)) (r .row) (r .is)
+
+mul-t13 : tie.Need-mul-t13 Inv-loop μ-loop
+mul-t13 c = omega (arith, c .before .loop .inv .fewer, c .before .loop .inv .inside, c .before .before .before .good)
+
+returns-3 : tie.Need-returns-3 Inv-loop μ-loop
+returns-3 c = walked-says (c .before .loop .inv) (c .loop-test .left)
+
+pub count-lines-spec : {M : Type 1} → statement M
+count-lines-spec =
+    tie.close
+    (tie.spec
+    Inv-loop
+    μ-loop
+    loop-holds
+    piece-end-requires
+    add-t7
+    returns
+    sub-is-line
+    part-is-line-start
+    part-is-line-end
+    is-line-requires
+    add-t12
+    returns-2
+    add-count
+    add-at
+    loop-less
+    loop-again
+    mul-t13
+    returns-3)

@@ -1,0 +1,27 @@
+-- `is_line`: five numbers.
+use mathlib.Core.Path.{sym, ap, _∙_}
+use Rattle.text_form.specs.Reader.{countSays}
+use Rattle.text_form.proofs.Rows.{size-none, size-some}
+use Rattle.flat_text.proofs.Lines.{row-none, row-sized}
+use borrow.Author.Needs.{needs}
+use Rattle.flat_text.proofs.reader.is_line.Statement.{statement}
+use Rattle.flat_text.proofs.reader.is_line.Tie as tie
+
+count-numbers-requires : tie.Need-count-numbers-requires
+count-numbers-requires c κs = search needs
+
+enum-known-counted : tie.Need-enum-known-counted
+enum-known-counted c = search needs
+
+enum-told : tie.Need-enum-told
+enum-told c = search needs
+
+returns : tie.Need-returns
+returns c = row-none _ (size-none _ (ap countSays (sym (c .enum-told .given .1)) ∙ c .before .before .count-numbers .ensures))
+
+returns-2 : tie.Need-returns-2
+returns-2 c = row-sized _ (size-some _ _ (ap countSays (sym (c .before .counted .given .1)) ∙ c .before .before .before .count-numbers .ensures))
+
+pub is-line-spec : {M : Type 1} → statement M
+is-line-spec =
+    tie.close (tie.spec count-numbers-requires enum-known-counted enum-told returns returns-2)

@@ -1,0 +1,24 @@
+// Texts of flat lists: their reader.
+pub mod reader; // reader.rt: the shape of a text, and its words
+
+use self::reader::read_lines;
+use self::reader::shape_of;
+use text_form::ReadAnswer;
+use text_form::reader::Shape;
+use words::Refusal;
+ghost use Rattle.text_form.specs.Answers.{Reads};
+ghost use Rattle.flat_text.specs.Answers.{flatReadResult};
+
+// Reads a text into a header and a list: causes 14, 1 and 10, in this order.
+pub fn read(text: &[u8], header: &mut [i32], list: &mut [i32]) -> ReadAnswer
+    ensures { λ r. ⌜ Reads (flatReadResult (now (text .entry)) (now (header .entry)) (now (list .entry))) r (now (header .exit)) (now (list .exit)) ⌝ }
+{
+    let shape = shape_of(text);
+    match shape {
+        Shape::Malformed(line) => ReadAnswer::Refused(Refusal {
+            number: 14,
+            place: line,
+        }),
+        Shape::Lines(end, numbers, words) => read_lines(text, end, numbers, words, header, list),
+    }
+}

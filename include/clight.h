@@ -41,16 +41,16 @@ typedef struct clight_preview_answer {
 enum clight_cause {
     CLIGHT_DONE = 0,
     CLIGHT_HEADER = 1,            /* header outside its limits; place 0 */
-    CLIGHT_ROW_COUNT = 2,         /* no rows, too many, or words not a multiple of 6; place 0 */
-    CLIGHT_KIND = 3,              /* kind not in the language, or unused field not 0; the row */
-    CLIGHT_LINK = 4,              /* link not to a later row of the fitting sort, or a branch or body with next not 0; the row */
+    CLIGHT_ROW_COUNT = 2,         /* no rows, too many, or words not a multiple of 6 (flat list: of 5); place 0 */
+    CLIGHT_KIND = 3,              /* kind not in the language, or unused field not 0; the row. Flat list: unknown operation; the line */
+    CLIGHT_LINK = 4,              /* link not to a later row of the fitting sort, or a branch or body with next not 0; the row. Flat list: jump outside; the line */
     CLIGHT_LINKED_ONCE = 5,       /* row 0 not a lone block, or a row not linked exactly once; that row */
-    CLIGHT_NUMBER = 6,            /* variable, array or label number outside; the row */
+    CLIGHT_NUMBER = 6,            /* variable, array or label number outside; the row, of a flat list the line */
     CLIGHT_OUT_OF_PLACE = 7,      /* break, continue, case or default out of place; the row */
     CLIGHT_REPEATED_MARK = 8,     /* second equal case, or second default, in one switch; the later row */
     CLIGHT_DEPTH = 9,             /* depth over the limit; the row */
     CLIGHT_OUTPUT_TOO_SHORT = 10, /* output table or text shorter than its result needs; place 0 */
-    CLIGHT_STORE = 11,            /* store not S (source, dispatcher) or S+T (kernel) words; place 0 */
+    CLIGHT_STORE = 11,            /* store not S (source, dispatcher) or S+T (kernel, flat list) words; place 0 */
     CLIGHT_KERNEL_FORM = 12,      /* statement not of kernel form; the statement's row */
     CLIGHT_LABEL = 13,            /* goto without its label ahead, or label repeated; the row of the goto or the later label */
     CLIGHT_TEXT = 14,             /* text malformed; the line, from 1 */
@@ -72,6 +72,7 @@ enum clight_ending {
 /* Limits. n source rows give at most CLIGHT_KERNEL_ROWS(n) kernel rows, and the kernel header has one word more. */
 enum clight_limit {
     CLIGHT_ROW_WORDS = 6,
+    CLIGHT_LINE_WORDS = 5,
     CLIGHT_SOURCE_HEADER_WORDS = 33,
     CLIGHT_KERNEL_HEADER_WORDS = 34,
     CLIGHT_SOURCE_ROWS_LIMIT = 2048,
@@ -122,6 +123,12 @@ clight_answer clight_kernel_run(const int32_t *header, size_t header_words, cons
  * of clight_kernel_run begin with does not show here, at any budget. Causes 1 to 6, 9, 12, 13, then 11. */
 clight_answer clight_dispatcher_run(const int32_t *header, size_t header_words, const int32_t *rows, size_t row_words, int32_t *words,
                                     size_t word_count, uint32_t budget);
+
+/* Runs a flat list, lines of five words (docs/FLAT.md), with a kernel header, on the store, which has S+T words: variables, the arrays in
+ * order, temporaries. Lines are numbered from 0. Done: first is the ending, second the count of lines, at most budget, and the store is
+ * as the run left it. Causes 1, 2, 3, 4, 6, then 11. */
+clight_answer clight_flat_run(const int32_t *header, size_t header_words, const int32_t *list, size_t list_words, int32_t *store,
+                              size_t store_words, uint32_t budget);
 
 /* Read a text into a header and rows. Done: first is the words of the header, second those of the rows; words of both tables
  * beyond these keep their content. Causes 14, then 1, 2, 10. The program that was read is not checked further. */

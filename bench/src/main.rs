@@ -47,6 +47,10 @@ fn everything() {
     for program in programs::long_running() {
         run(&KERNEL, "kernel", &programs::translated(&program)).print_rate();
     }
+    println!("Flat: million source steps per second, the flat run of the translation and the interpreter's source run");
+    for program in programs::long_running() {
+        flat(&program).print_rate();
+    }
     println!("Rows: nanoseconds per row");
     let (sized, one_switch) = (programs::sized, programs::one_switch);
     let kernel_sized = programs::kernel_sized;
@@ -118,6 +122,28 @@ fn run(entries: &Entries, form: &str, program: &Program) -> Row {
     );
     assert_eq!(mine, theirs);
     per(format!("{form} {}", program.name), count as usize, times)
+}
+
+/// The flat run of a program's translation beside the interpreter's run of the program itself.
+fn flat(program: &Program) -> Row {
+    let kernel = programs::translated(program);
+    let list = interpreter::flat::flatten(&kernel.rows);
+    let mut store = vec![0; KERNEL.form.store_words(&kernel.header)];
+    let mut theirs = vec![0; SOURCE.form.store_words(&program.header)];
+    let source = clight::run(&program.header, &program.rows, &mut theirs, u32::MAX).unwrap();
+    let times = both(
+        || {
+            store.fill(0);
+            clight::flat_run(&kernel.header, &list, &mut store, u32::MAX).unwrap();
+        },
+        || {
+            theirs.fill(0);
+            interpreter::run(SOURCE.form, &program.header, &program.rows, &mut theirs, u32::MAX)
+                .unwrap();
+        },
+    );
+    assert_eq!(store[..theirs.len()], theirs);
+    per(format!("flat {}", program.name), source.count as usize, times)
 }
 
 fn check(entries: &Entries, program: &Program) -> Row {

@@ -171,6 +171,12 @@ fn call_translate(_: &Entries, program: &Program) {
     clight::translate(&program.header, &program.rows, &mut header, &mut rows).unwrap();
 }
 
+fn call_flat_run(_: &Entries, program: &Program) {
+    let list = interpreter::flat::flatten(&program.rows);
+    let mut store = vec![1; Kernel.store_words(&program.header)];
+    clight::flat_run(&program.header, &list, &mut store, 10_000).unwrap();
+}
+
 fn call_read(entries: &Entries, program: &Program) {
     let text = text::write(&program.header, &program.rows);
     let (mut header, mut rows) = (program.header.clone(), program.rows.clone());
@@ -188,7 +194,7 @@ pub fn print_all() {
     kernels.extend(sources.iter().map(crate::programs::translated));
     kernels.push(crate::programs::kernel_sized(40_980));
     sources.push(crate::programs::sized(2_048));
-    let calls: [(&str, Call, &'static Entries); 11] = [
+    let calls: [(&str, Call, &'static Entries); 12] = [
         ("nothing, for comparison", |_, _| {}, &SOURCE),
         ("check", call_check, &SOURCE),
         ("run", call_run, &SOURCE),
@@ -196,6 +202,7 @@ pub fn print_all() {
         ("translate", call_translate, &SOURCE),
         ("kernel check", call_check, &KERNEL),
         ("kernel run", call_run, &KERNEL),
+        ("flat run", call_flat_run, &KERNEL),
         ("read source", call_read, &SOURCE),
         ("read kernel", call_read, &KERNEL),
         ("write source", call_write, &SOURCE),

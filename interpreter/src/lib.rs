@@ -5,11 +5,12 @@
 //! form, and the kernel form that translations have. There is no translation
 //! here. `check` gives the first cause of refusal, `run` checks and then runs,
 //! `preview` runs on a copy of the store, `writes` tells which words a run stores,
-//! `join` makes one program of two.
+//! `join` makes one program of two, `flat` checks and runs flat lists.
 
 pub mod cases;
 pub mod check;
 pub mod damage;
+pub mod flat;
 pub mod form;
 pub mod generate;
 pub mod generate_joins;

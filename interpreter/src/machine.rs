@@ -102,7 +102,7 @@ pub struct Write {
 
 /// Why a run stops before its end.
 #[derive(Clone, Copy)]
-enum Stop {
+pub(crate) enum Stop {
     Spent,
     Fault(Fault),
 }
@@ -115,14 +115,14 @@ enum Flow {
     Continue,
 }
 
-struct Array {
+pub(crate) struct Array {
     start: usize,
     length: i32,
 }
 
 impl Array {
     /// The arrays lie behind the variables, in order.
-    fn all(variables: i32, lengths: &[i32]) -> Vec<Array> {
+    pub(crate) fn all(variables: i32, lengths: &[i32]) -> Vec<Array> {
         let mut arrays = Vec::with_capacity(MAX_ARRAYS);
         let mut start = variables as usize;
         for &length in lengths {
@@ -130,6 +130,11 @@ impl Array {
             start += length as usize;
         }
         arrays
+    }
+
+    /// The store word of an element; none where the index is outside.
+    pub(crate) fn word(&self, index: i32) -> Option<usize> {
+        (0..self.length).contains(&index).then(|| self.start + index as usize)
     }
 }
 
@@ -226,12 +231,7 @@ impl Machine<'_> {
             return Ok(a as usize);
         }
         let index = self.expression(b)?;
-        let array = &self.arrays[a as usize];
-        if (0..array.length).contains(&index) {
-            Ok(array.start + index as usize)
-        } else {
-            Err(Stop::Fault(Fault::Index))
-        }
+        self.arrays[a as usize].word(index).ok_or(Stop::Fault(Fault::Index))
     }
 
     fn statement(&mut self, at: i32) -> Result<Flow, Stop> {
@@ -371,7 +371,7 @@ impl Machine<'_> {
 const OVERFLOW: Stop = Stop::Fault(Fault::Overflow);
 
 /// One of the kinds 6 to 16 on two values.
-fn operate(kind: i32, left: i32, right: i32) -> Result<i32, Stop> {
+pub(crate) fn operate(kind: i32, left: i32, right: i32) -> Result<i32, Stop> {
     match kind {
         ADD => left.checked_add(right).ok_or(OVERFLOW),
         SUBTRACT => left.checked_sub(right).ok_or(OVERFLOW),

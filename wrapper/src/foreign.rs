@@ -112,6 +112,16 @@ extern "C" {
         budget: u32,
     ) -> Answer;
 
+    pub fn clight_flat_run(
+        header: *const i32,
+        header_words: usize,
+        list: *const i32,
+        list_words: usize,
+        store: *mut i32,
+        store_words: usize,
+        budget: u32,
+    ) -> Answer;
+
     pub fn clight_read_source(
         text: *const u8,
         text_bytes: usize,

@@ -273,6 +273,17 @@ pub fn dispatcher_run(
     Ok(run_by(foreign::clight_dispatcher_run, header, rows, words, budget)?.ending)
 }
 
+/// Runs a flat list, lines of five words with a kernel header, on a store of
+/// S+T words. The budget and the count are of lines.
+pub fn flat_run(
+    header: &[i32],
+    list: &[i32],
+    store: &mut [i32],
+    budget: u32,
+) -> Result<Run, Refusal> {
+    run_by(foreign::clight_flat_run, header, list, store, budget)
+}
+
 /// Reads a source text; words of both tables beyond the result keep their content.
 pub fn read_source(text: &[u8], header: &mut [i32], rows: &mut [i32]) -> Result<Tables, Refusal> {
     read_by(foreign::clight_read_source, text, header, rows)

@@ -34,6 +34,7 @@ fn no_header() {
         assert_eq!(clight_run(null(), 0, rows, 6, null_mut(), 0, 9), refused(1, 0));
         assert_eq!(clight_kernel_run(null(), 0, rows, 6, null_mut(), 0, 9), refused(1, 0));
         assert_eq!(clight_dispatcher_run(null(), 0, rows, 6, null_mut(), 0, 9), refused(1, 0));
+        assert_eq!(clight_flat_run(null(), 0, null(), 0, null_mut(), 0, 9), refused(1, 0));
         let answer = clight_preview(null(), 0, rows, 6, null(), 0, 9, null_mut(), 0);
         assert_eq!(answer, previewed(refused(1, 0)));
         assert_eq!(clight_write_source(null(), 0, rows, 6, null_mut(), 0), refused(1, 0));
@@ -85,6 +86,7 @@ fn nothing_lent() {
         assert_eq!(clight_kernel_run(kernel, 2, rows, 6, null_mut(), 0, 9), done(0, 1));
         assert_eq!(clight_dispatcher_run(kernel, 2, rows, 6, null_mut(), 0, 9), done(0, 0));
         assert_eq!(clight_dispatcher_run(kernel, 2, rows, 6, null_mut(), 0, 0), done(1, 0));
+        assert_eq!(clight_flat_run(kernel, 2, null(), 0, null_mut(), 0, 0), done(0, 0));
         assert_eq!(clight_write_source(header, 1, rows, 6, null_mut(), 0), refused(10, 0));
         assert_eq!(clight_write_kernel(kernel, 2, rows, 6, null_mut(), 0), refused(10, 0));
         let answer = clight_translate(header, 1, rows, 6, null_mut(), 0, null_mut(), 0);

@@ -1,8 +1,8 @@
 // The public entries. None has a `requires`: for all words that it is lent, each gives its result or the one refusal that document
 // 01's table of causes names, and a refusal leaves everything lent as it was. `run_accepted` is for callers that have the check's answer.
 pub mod dispatcher; // dispatcher.rt: the kernel run that a dispatcher sees
-pub mod joins; // joins.rt: two source programs as one
 pub mod flat_lists; // flat_lists.rt: check and run of flat lists
+pub mod joins; // joins.rt: two source programs as one
 pub mod previews; // previews.rt: what a run would do
 pub mod runs; // runs.rt: check, run, kernel check, kernel run
 pub mod texts; // texts.rt: reader and writer of both forms' texts

@@ -2,6 +2,7 @@
 //! lent, with guard words behind it.
 
 mod entries;
+mod lists;
 
 pub use entries::{Entries, KERNEL, SOURCE};
 

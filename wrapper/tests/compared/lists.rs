@@ -1,0 +1,120 @@
+//! Flat lists: the library's runs and refusals beside those of the
+//! interpreter's own flat machine, on lists made and damaged at random.
+
+use super::{mine, same_run, theirs, Tally};
+use interpreter::flat::{self, damage, generate as lists};
+use interpreter::generate::Size;
+use interpreter::random::Random;
+use interpreter::Form::{Kernel, Source};
+use interpreter::{generate, generate_kernel, text};
+
+/// The runs of a flat list, which may be damaged.
+fn flat_list(random: &mut Random, header: &[i32], list: &[i32], tally: &mut Tally) {
+    let words = match flat::check(header, list) {
+        Ok(()) => Kernel.store_words(header),
+        Err(_) => random.below(9),
+    };
+    for room in [words, words, words, words + 1, words.saturating_sub(1)] {
+        let mut store: Vec<i32> = (0..room).map(|_| random.between(-1, 4)).collect();
+        let budget = random.pick(&[0, 1, 5, 30, 200, 3_000]);
+        let mut other = store.clone();
+        let ran = mine(clight::flat_run(header, list, &mut store, budget), tally).map(same_run);
+        assert_eq!(ran, theirs(flat::run(header, list, &mut other, budget)));
+        assert_eq!(store, other);
+    }
+}
+
+#[test]
+fn generated_lists() {
+    let mut tally = Tally::default();
+    for number in 0..40_000 {
+        let random = &mut Random::new(51, number);
+        let made = lists::list(random);
+        flat_list(random, &made.header, &made.words, &mut tally);
+    }
+    tally.expect(&[0, 11]);
+}
+
+#[test]
+fn damaged_lists() {
+    let mut tally = Tally::default();
+    for number in 0..60_000 {
+        let random = &mut Random::new(52, number);
+        let made = lists::list(random);
+        let (mut header, mut words) = (made.header, made.words);
+        damage::damage(random, &mut header, &mut words);
+        flat_list(random, &header, &words, &mut tally);
+    }
+    tally.expect(&[0, 1, 2, 3, 4, 6, 11]);
+}
+
+/// Lists of any words, of every length from 0 on.
+#[test]
+fn random_lists() {
+    let mut tally = Tally::default();
+    for number in 0..20_000 {
+        let random = &mut Random::new(53, number);
+        let words = |random: &mut Random, most: usize| -> Vec<i32> {
+            let length = random.below(most + 1);
+            (0..length)
+                .map(|_| match random.below(3) {
+                    0 => random.between(0, 6),
+                    1 => random.between(-1, 60),
+                    _ => random.word() as i32,
+                })
+                .collect()
+        };
+        let (header, list) = (words(random, 4), words(random, 22));
+        flat_list(random, &header, &list, &mut tally);
+    }
+    tally.expect(&[0, 1, 2, 3, 4, 6]);
+}
+
+/// The lists of kernel programs: the check accepts them, and a list's run and its program's run, with budget enough, end alike.
+#[test]
+fn lists_of_kernel_programs() {
+    let mut tally = Tally::default();
+    for number in 0..4_000 {
+        let random = &mut Random::new(54, number);
+        let program = generate_kernel::program(random);
+        flattened(random, &program.header, &program.rows.concat(), &mut tally);
+    }
+    tally.expect(&[0]);
+}
+
+/// The lists of translations: some 200,000 runs.
+#[test]
+fn lists_of_translations() {
+    let mut tally = Tally::default();
+    for number in 0..40_000 {
+        let random = &mut Random::new(55, number);
+        let case = generate::case(56, number, Size::Mixed);
+        let (header, rows) = text::read(Source, &case.text).unwrap();
+        let mut kernel_header = vec![0; header.len() + 1];
+        let mut kernel_rows = vec![0; 6 * clight::kernel_rows(rows.len() / 6)];
+        let tables =
+            clight::translate(&header, &rows, &mut kernel_header, &mut kernel_rows).unwrap();
+        kernel_rows.truncate(tables.row_words);
+        flattened(random, &kernel_header, &kernel_rows, &mut tally);
+    }
+    tally.expect(&[0]);
+}
+
+fn flattened(random: &mut Random, header: &[i32], rows: &[i32], tally: &mut Tally) {
+    let list = flat::flatten(rows);
+    assert!(list.len() / 5 < rows.len() / 6);
+    assert_eq!(flat::check(header, &list), Ok(()));
+    flat_list(random, header, &list, tally);
+    let mut store: Vec<i32> =
+        (0..Kernel.store_words(header)).map(|_| random.between(-2, 4)).collect();
+    let mut kernel_store = store.clone();
+    let ran = clight::flat_run(header, &list, &mut store, 20_000).unwrap();
+    if ran.ending == clight::Ending::Spent {
+        return;
+    }
+    // a line takes few steps of the kernel; an if or a block without lines takes some, too
+    let steps = (rows.len() as u32).saturating_mul(ran.count + 1);
+    let kernel = clight::kernel_run(header, rows, &mut kernel_store, steps).unwrap();
+    assert_eq!(kernel.ending, ran.ending);
+    assert_eq!(kernel_store, store);
+}

@@ -5,7 +5,8 @@
 //! form, and the kernel form that translations have. There is no translation
 //! here. `check` gives the first cause of refusal, `run` checks and then runs,
 //! `preview` runs on a copy of the store, `writes` tells which words a run stores,
-//! `join` makes one program of two, `flat` checks and runs flat lists.
+//! `join` makes one program of two, `flat` checks and runs flat lists, `page` prints
+//! a kernel program and reads it again.
 
 pub mod cases;
 pub mod check;
@@ -17,6 +18,7 @@ pub mod generate_joins;
 pub mod generate_kernel;
 pub mod join;
 pub mod machine;
+pub mod page;
 pub mod preview;
 pub mod random;
 pub mod rules;

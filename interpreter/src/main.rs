@@ -4,7 +4,7 @@ use interpreter::cases::{self, Case};
 use interpreter::generate::{self, Size};
 use interpreter::tally::Tally;
 use interpreter::Form::{self, Kernel, Source};
-use interpreter::{check, damage, generate_joins, generate_kernel, rules, text, trial};
+use interpreter::{check, damage, generate_joins, generate_kernel, page, rules, text, trial};
 use std::io::{self, Read, Write};
 use std::process::ExitCode;
 
@@ -24,6 +24,9 @@ Texts and case files are read from standard input.
   kernel-check               check, run and writes for a text of the kernel form
   kernel-run BUDGET [WORD ...]
   kernel-writes N [WORD ...]
+  page                       the page of a kernel text, or refused NUMBER PLACE
+  read-page V T [LENGTH ...] reads a page; the kernel text of its rows with this
+                             header, or `no page`
   trial                      the trial program's line for the source form, or
                              its refusal. The kernel's line is not printed:
                              there is no translation here, and whether its run
@@ -101,6 +104,8 @@ fn act(arguments: &[&str], tally: bool) -> Result<Vec<u8>, String> {
         ["joins", seed, count, first @ ..] => joins(seed, count, first),
         ["compare-joins"] => Ok(line(compare_joins(&cases::read_all(&input()?)?))),
         ["kernel-check"] => Ok(check_text(Kernel, &input()?)),
+        ["page"] => Ok(page_text(&input()?)),
+        ["read-page", header @ ..] => read_page(header),
         ["kernel-run", budget, words @ ..] => run_text(Kernel, budget, words),
         ["trial"] => Ok(line(trial::trial(&input()?))),
         ["rules"] => Ok(output(Source, rules::rules().into_iter().map(|rule| rule.case), tally)),
@@ -241,6 +246,26 @@ fn check_text(form: Form, bytes: &[u8]) -> Vec<u8> {
         Ok(()) => line("ok".to_string()),
         Err(refusal) => line(refusal.to_string()),
     }
+}
+
+fn page_text(bytes: &[u8]) -> Vec<u8> {
+    let program = text::read(Kernel, bytes)
+        .and_then(|(header, rows)| check(Kernel, &header, &rows).map(|()| (header, rows)));
+    match program {
+        Ok((header, rows)) => page::print(&header, &rows),
+        Err(refusal) => line(refusal.to_string()),
+    }
+}
+
+fn read_page(header: &[&str]) -> Result<Vec<u8>, String> {
+    let header: Vec<i32> = header.iter().map(|word| number(word)).collect::<Result<_, _>>()?;
+    if header.len() < Kernel.leading_words() {
+        return Err("a header has V and T; see --help".to_string());
+    }
+    Ok(match page::read(&header, &input()?) {
+        Some(rows) => text::write(&header, &rows),
+        None => line("no page".to_string()),
+    })
 }
 
 /// The text on standard input, with this budget and these words.

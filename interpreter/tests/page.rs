@@ -1,0 +1,79 @@
+//! Pages: what is printed is read back, and damage is never read as the same program.
+
+use interpreter::generate_kernel::program;
+use interpreter::page::{print, read, COLUMNS};
+use interpreter::random::Random;
+use interpreter::table::{rows_of, Row, NEXT};
+use interpreter::Form::Kernel;
+
+/// The rows numbered in the order of the page: a statement's row, then its parts in the order of their fields, then the row behind it.
+fn in_page_order(rows: &[Row]) -> Vec<i32> {
+    let (mut order, mut ahead) = (Vec::new(), vec![0]);
+    while let Some(at) = ahead.pop() {
+        order.push(at);
+        let row = rows[at];
+        let fields = Kernel.fields_or_unused(row[0]);
+        let links = (1..NEXT).filter(|&field| fields[field - 1].is_link()).chain([NEXT]);
+        ahead.extend(links.rev().map(|field| row[field] as usize).filter(|&link| link != 0));
+    }
+    let place = |link: i32| order.iter().position(|&at| at == link as usize).unwrap() as i32;
+    let renumbered = order.iter().map(|&at| {
+        let mut row = rows[at];
+        let fields = Kernel.fields_or_unused(row[0]);
+        for field in 1..=NEXT {
+            let links = field == NEXT || fields[field - 1].is_link();
+            if links && row[field] != 0 {
+                row[field] = place(row[field]);
+            }
+        }
+        row
+    });
+    renumbered.collect::<Vec<Row>>().concat()
+}
+
+#[test]
+fn pages_are_read_back() {
+    for number in 0..3_000 {
+        let program = program(&mut Random::new(51, number));
+        let rows = program.rows.concat();
+        let page = print(&program.header, &rows);
+        assert_eq!(page.len() % (COLUMNS + 1), 0);
+        assert!(page.chunks(COLUMNS + 1).all(|line| line[COLUMNS] == b'\n'));
+        assert_eq!(read(&program.header, &page), Some(in_page_order(rows_of(&rows))));
+    }
+}
+
+/// Each column of the first lines of some pages is damaged, with each of some bytes: the damaged bytes are no page, or the page of
+/// another program.
+#[test]
+fn damaged_pages() {
+    let (mut refused, mut other) = (0, 0);
+    for number in 0..40 {
+        let program = program(&mut Random::new(52, number));
+        let rows = program.rows.concat();
+        let page = print(&program.header, &rows);
+        let whole = read(&program.header, &page);
+        for at in 0..page.len().min(4 * (COLUMNS + 1)) {
+            for byte in *b" 019vatL;:{}[]()=-+<%\n\0" {
+                if page[at] == byte {
+                    continue;
+                }
+                let mut damaged = page.clone();
+                damaged[at] = byte;
+                match read(&program.header, &damaged) {
+                    None => refused += 1,
+                    Some(read_rows) => {
+                        other += 1;
+                        assert_ne!(Some(&read_rows), whole.as_ref());
+                        assert_eq!(print(&program.header, &read_rows), damaged);
+                    }
+                }
+            }
+        }
+        for cut in [0, 1, COLUMNS, COLUMNS + 1].into_iter().filter(|&cut| cut < page.len()) {
+            let read_rows = read(&program.header, &page[cut + 1..]);
+            assert!(read_rows.is_none() || page.len() == cut + 1);
+        }
+    }
+    assert!(refused > 10_000 && other > 100, "{refused} refused, {other} others");
+}

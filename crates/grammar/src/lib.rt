@@ -1,4 +1,4 @@
-// The table of kinds.
+// How a table of kinds is read: the names of its sorts, and what a row's number says of its fields.
 use words::Form;
 use words::table::number_at;
 ghost use mathlib.Core.Path.{_≡_};
@@ -58,68 +58,6 @@ pub const KERNEL: u8 = 3;
 pub const KIND_LIMIT: usize = 58;
 
 pub type KindTable = [[u8; 7]; KIND_LIMIT];
-
-// The table of kinds, a row for each number: what a row of the kind is, what a, b, c, d and next hold, and the forms that have the kind.
-pub const KINDS: KindTable = [
-    [NO_ROW, NONE, NONE, NONE, NONE, NONE, NEITHER], // 0
-    [EXPRESSION, VALUE, NONE, NONE, NONE, NONE, BOTH], // 1 constant
-    [PLACE_ROW, VARIABLE, NONE, NONE, NONE, NONE, BOTH], // 2 variable
-    [PLACE_ROW, ARRAY, OPERAND, NONE, NONE, NONE, BOTH], // 3 element
-    [EXPRESSION, OPERAND, NONE, NONE, NONE, NONE, BOTH], // 4 minus
-    [EXPRESSION, OPERAND, NONE, NONE, NONE, NONE, SOURCE], // 5 not
-    [EXPRESSION, OPERAND, OPERAND, NONE, NONE, NONE, BOTH], // 6 +
-    [EXPRESSION, OPERAND, OPERAND, NONE, NONE, NONE, BOTH], // 7 −
-    [EXPRESSION, OPERAND, OPERAND, NONE, NONE, NONE, BOTH], // 8 ×
-    [EXPRESSION, OPERAND, OPERAND, NONE, NONE, NONE, BOTH], // 9 /
-    [EXPRESSION, OPERAND, OPERAND, NONE, NONE, NONE, BOTH], // 10 %
-    [EXPRESSION, OPERAND, OPERAND, NONE, NONE, NONE, BOTH], // 11 <
-    [EXPRESSION, OPERAND, OPERAND, NONE, NONE, NONE, BOTH], // 12 >
-    [EXPRESSION, OPERAND, OPERAND, NONE, NONE, NONE, BOTH], // 13 <=
-    [EXPRESSION, OPERAND, OPERAND, NONE, NONE, NONE, BOTH], // 14 >=
-    [EXPRESSION, OPERAND, OPERAND, NONE, NONE, NONE, BOTH], // 15 ==
-    [EXPRESSION, OPERAND, OPERAND, NONE, NONE, NONE, BOTH], // 16 !=
-    [EXPRESSION, OPERAND, OPERAND, NONE, NONE, NONE, SOURCE], // 17 and
-    [EXPRESSION, OPERAND, OPERAND, NONE, NONE, NONE, SOURCE], // 18 or
-    [EXPRESSION, OPERAND, OPERAND, OPERAND, NONE, NONE, SOURCE], // 19 conditional
-    [EXPRESSION, OPERAND, OPERAND, NONE, NONE, NONE, SOURCE], // 20 comma
-    [EXPRESSION, PLACE, OPERAND, NONE, NONE, NONE, BOTH], // 21 assign
-    [EXPRESSION, PLACE, OPERAND, NONE, NONE, NONE, SOURCE], // 22 +=
-    [EXPRESSION, PLACE, OPERAND, NONE, NONE, NONE, SOURCE], // 23 −=
-    [EXPRESSION, PLACE, OPERAND, NONE, NONE, NONE, SOURCE], // 24 ×=
-    [EXPRESSION, PLACE, OPERAND, NONE, NONE, NONE, SOURCE], // 25 /=
-    [EXPRESSION, PLACE, OPERAND, NONE, NONE, NONE, SOURCE], // 26 %=
-    [EXPRESSION, PLACE, NONE, NONE, NONE, NONE, SOURCE], // 27 ++e
-    [EXPRESSION, PLACE, NONE, NONE, NONE, NONE, SOURCE], // 28 −−e
-    [EXPRESSION, PLACE, NONE, NONE, NONE, NONE, SOURCE], // 29 e++
-    [EXPRESSION, PLACE, NONE, NONE, NONE, NONE, SOURCE], // 30 e−−
-    [NO_ROW, NONE, NONE, NONE, NONE, NONE, NEITHER], // 31
-    [NO_ROW, NONE, NONE, NONE, NONE, NONE, NEITHER], // 32
-    [NO_ROW, NONE, NONE, NONE, NONE, NONE, NEITHER], // 33
-    [NO_ROW, NONE, NONE, NONE, NONE, NONE, NEITHER], // 34
-    [NO_ROW, NONE, NONE, NONE, NONE, NONE, NEITHER], // 35
-    [NO_ROW, NONE, NONE, NONE, NONE, NONE, NEITHER], // 36
-    [NO_ROW, NONE, NONE, NONE, NONE, NONE, NEITHER], // 37
-    [NO_ROW, NONE, NONE, NONE, NONE, NONE, NEITHER], // 38
-    [NO_ROW, NONE, NONE, NONE, NONE, NONE, NEITHER], // 39
-    [STATEMENT, NONE, NONE, NONE, NONE, ITEM, BOTH], // 40 empty
-    [STATEMENT, OPERAND, NONE, NONE, NONE, ITEM, BOTH], // 41 expression statement
-    [STATEMENT, ITEM, NONE, NONE, NONE, ITEM, BOTH], // 42 block
-    [STATEMENT, OPERAND, BODY, OPTIONAL_BODY, NONE, ITEM, BOTH], // 43 if
-    [STATEMENT, OPERAND, BODY, NONE, NONE, ITEM, BOTH], // 44 while
-    [STATEMENT, BODY, OPERAND, NONE, NONE, ITEM, SOURCE], // 45 do
-    [STATEMENT, OPTIONAL, OPTIONAL, OPTIONAL, BODY, ITEM, SOURCE], // 46 for
-    [STATEMENT, OPERAND, ITEM, NONE, NONE, ITEM, SOURCE], // 47 switch
-    [STATEMENT, VALUE, NONE, NONE, NONE, ITEM, SOURCE], // 48 case
-    [STATEMENT, NONE, NONE, NONE, NONE, ITEM, SOURCE], // 49 default
-    [STATEMENT, NONE, NONE, NONE, NONE, ITEM, SOURCE], // 50 break
-    [STATEMENT, NONE, NONE, NONE, NONE, ITEM, SOURCE], // 51 continue
-    [STATEMENT, LABEL, NONE, NONE, NONE, ITEM, KERNEL], // 52 goto
-    [STATEMENT, LABEL, NONE, NONE, NONE, ITEM, KERNEL], // 53 label
-    [STATEMENT, ARM, NONE, NONE, NONE, ITEM, SOURCE], // 54 guarded if
-    [STATEMENT, ARM, NONE, NONE, NONE, ITEM, SOURCE], // 55 guarded do
-    [ARM_ROW, OPERAND, BODY_BLOCK, NONE, NONE, ARM, SOURCE], // 56 arm
-    [STATEMENT, NONE, NONE, NONE, NONE, ITEM, KERNEL], // 57 abort
-];
 
 // What a field of a kind holds; for field 0, what a row of the kind is. The table is lent: borrowed where it is read, the constant would
 // be built anew at each look.

@@ -1,10 +1,10 @@
 // What a join refuses before it writes: the first's own causes, the second's, unequal headers, too many rows, a join too deep.
 use super::headers::same_header;
 use super::rows::put_joined;
-use grammar::KINDS;
 use grammar::KindTable;
 use structure::causes::at;
 use structure::depth::lowest_deep_by;
+use structure::kinds::KINDS;
 use words::Form;
 use words::Refusal;
 use words::Verdict;

@@ -1,8 +1,8 @@
 // The joined rows, written into a table: "The joined rows are the new block, the first's, the second's."
-use grammar::KINDS;
 use grammar::KindTable;
 use grammar::link;
 use leaves::control::put_block;
+use structure::kinds::KINDS;
 use words::table::word_at;
 ghost use mathlib.Core.Path.{_≡_};
 ghost use Prim.Native.Nat.{_+_, _/_, _<_, _≤_};

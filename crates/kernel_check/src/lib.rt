@@ -3,12 +3,12 @@ pub mod chains; // chains.rt: the gotos and labels of one label number, in order
 pub mod labels; // labels.rt: cause 13, one label number at a time
 pub mod notes; // notes.rt: the first row of each row's list, and its owner
 
-use grammar::KINDS;
 use kernel_statements::lowest_not_kernel_form;
 use labels::lowest_label_fault;
 use structure::causes::at;
 use structure::causes::structural_refusal;
 use structure::depth::lowest_deep_by;
+use structure::kinds::KINDS;
 use words::Form;
 use words::Found;
 use words::Refusal;

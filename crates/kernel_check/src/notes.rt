@@ -1,8 +1,8 @@
 // Notes that each row gets from the row that links it: the first row of its list, and its owner.
 use super::Note;
-use grammar::KINDS;
 use grammar::KindTable;
 use grammar::link;
+use structure::kinds::KINDS;
 use structure::row_number::narrow;
 use structure::row_number::wide;
 ghost use mathlib.Core.Path.{_≡_};

@@ -1,8 +1,8 @@
 // Cause 12: the statements of the kernel language. Each test is true where the row is what it is named after.
-use grammar::KINDS;
 use grammar::KindTable;
 use grammar::between;
 use grammar::is_statement;
+use structure::kinds::KINDS;
 use words::Found;
 use words::table::number_at;
 ghost use mathlib.Core.Path.{_≡_};

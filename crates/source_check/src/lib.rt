@@ -1,5 +1,4 @@
 // The check of source programs: the causes that both forms share, then 7, 8 and 9.
-use grammar::KINDS;
 use grammar::KindTable;
 use marks::lowest_repeated;
 use notes::write_notes;
@@ -7,6 +6,7 @@ use places::lowest_misplaced;
 use structure::causes::at;
 use structure::causes::structural_refusal;
 use structure::depth::lowest_deep_by;
+use structure::kinds::KINDS;
 use words::Form;
 use words::Found;
 use words::Refusal;

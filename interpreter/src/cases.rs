@@ -4,6 +4,7 @@
 //! words), then exactly that many bytes of program text. No start words mean a
 //! store of zeros.
 
+use crate::check::check;
 use crate::form::Form::{self, Kernel, Source};
 use crate::join;
 use crate::machine::{run, Ending, Outcome};
@@ -11,6 +12,8 @@ use crate::preview::preview;
 use crate::table::Refusal;
 use crate::text;
 use crate::writes::{compare, writes, Compared};
+use crate::written::{written, Written};
+use std::collections::BTreeSet;
 use std::fmt::Write;
 
 #[derive(Clone, Debug, PartialEq, Eq)]
@@ -162,11 +165,37 @@ pub fn answer_lines(case: &Case) -> String {
         Ok(evaluated) => evaluated,
         Err(refusal) => return format!("{refusal}\n"),
     };
-    let source = answer_line(outcome, &store);
+    let rows = match text::read(Source, &case.text) {
+        Ok((_, rows)) => rows,
+        Err(refusal) => return format!("{refusal}\n"),
+    };
+    let source = source_line(outcome, &store, &rows);
     match outcome.ending {
-        Ending::Spent => format!("source {source}\n"),
-        ending => format!("source {source}\nkernel {}{}\n", ending.name(), spaced(&store)),
+        Ending::Spent => format!("{source}\n"),
+        ending => format!("{source}\nkernel {}{}\n", ending.name(), spaced(&store)),
     }
+}
+
+/// The trial's first line: its last field is the number of variables that the
+/// program can write.
+pub fn source_line(outcome: Outcome, store: &[i32], rows: &[i32]) -> String {
+    format!("source {} {}", answer_line(outcome, store), written(rows).variables.len())
+}
+
+/// The variables and the arrays that a program can write, by number.
+pub fn written_lines(text: &[u8]) -> String {
+    let (header, rows) = match text::read(Source, text) {
+        Ok(read) => read,
+        Err(refusal) => return format!("{refusal}\n"),
+    };
+    if let Err(refusal) = check(Source, &header, &rows) {
+        return format!("{refusal}\n");
+    }
+    let Written { variables, arrays } = written(&rows);
+    let spaced = |numbers: BTreeSet<i32>| -> String {
+        numbers.iter().map(|number| format!(" {number}")).collect()
+    };
+    format!("variables{}\narrays{}\n", spaced(variables), spaced(arrays))
 }
 
 /// Ending, count and store words, parted by single blanks.

@@ -5,8 +5,9 @@
 //! form, and the kernel form that translations have. There is no translation
 //! here. `check` gives the first cause of refusal, `run` checks and then runs,
 //! `preview` runs on a copy of the store, `writes` tells which words a run stores,
-//! `join` makes one program of two, `flat` checks and runs flat lists, `page` prints
-//! a kernel program and reads it again.
+//! `written` which variables and arrays a program can write, `join` makes one
+//! program of two, `flat` checks and runs flat lists, `page` prints a kernel program
+//! and reads it again.
 
 pub mod cases;
 pub mod check;
@@ -28,6 +29,7 @@ pub mod text;
 pub mod tree;
 pub mod trial;
 pub mod writes;
+pub mod written;
 
 pub use check::check;
 pub use form::Form;

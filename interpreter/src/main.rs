@@ -21,6 +21,9 @@ Texts and case files are read from standard input.
                              within N steps, in order, or refused NUMBER PLACE
   join SECOND                the text that joins the one on standard input and
                              that of the file SECOND, or refused NUMBER PLACE
+  can-write                  the numbers of the variables, and in a second line
+                             of the arrays, that the program can write, or
+                             refused NUMBER PLACE
   kernel-check               check, run and writes for a text of the kernel form
   kernel-run BUDGET [WORD ...]
   kernel-writes N [WORD ...]
@@ -96,6 +99,7 @@ fn act(arguments: &[&str], tally: bool) -> Result<Vec<u8>, String> {
         ["kernel-writes", budget, words @ ..] => {
             Ok(cases::write_lines(Kernel, &case(budget, words)?).into_bytes())
         }
+        ["can-write"] => Ok(cases::written_lines(&input()?).into_bytes()),
         ["compare-writes"] => Ok(line(compare_writes(&cases::read_all(&input()?)?))),
         ["join", second] => {
             let second = std::fs::read(second).map_err(|error| format!("{second}: {error}"))?;

@@ -7,6 +7,7 @@ mod guarded;
 mod refusals;
 mod shelf;
 mod statements;
+mod written;
 
 pub use shelf::EXAMPLE;
 
@@ -28,6 +29,7 @@ pub fn rules() -> Vec<Rule> {
     expressions::add(&mut rules);
     statements::add(&mut rules);
     guarded::add(&mut rules);
+    written::add(&mut rules);
     refusals::add(&mut rules);
     rules
 }

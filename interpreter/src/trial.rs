@@ -1,6 +1,6 @@
 //! The source line of the trial program, or its refusal.
 
-use crate::cases::answer_line;
+use crate::cases;
 use crate::check::{check_header, check_row_count};
 use crate::form::Form::Source;
 use crate::machine::run;
@@ -34,5 +34,5 @@ fn source_line(bytes: &[u8]) -> Result<String, Refusal> {
     }
     let mut store = vec![0; Source.store_words(&header)];
     let outcome = run(Source, &header, &rows, &mut store, BUDGET)?;
-    Ok(format!("source {}", answer_line(outcome, &store)))
+    Ok(cases::source_line(outcome, &store, &rows))
 }

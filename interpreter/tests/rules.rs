@@ -25,7 +25,7 @@ fn rules_survive_the_case_format() {
 
 #[test]
 fn the_worked_example_as_a_trial() {
-    assert_eq!(trial(EXAMPLE.as_bytes()), "source ended 13 2 0 0 2");
+    assert_eq!(trial(EXAMPLE.as_bytes()), "source ended 13 2 0 0 2 1");
 }
 
 /// A spent run and a refusal have one line.
@@ -35,7 +35,7 @@ fn lines_of_an_answer() {
         let text = EXAMPLE.as_bytes().to_vec();
         answer_lines(&Case { budget, words: words.to_vec(), text })
     };
-    assert_eq!(lines(13, &[]), "source ended 13 2 0 0 2\nkernel ended 2 0 0 2\n");
-    assert_eq!(lines(12, &[]), "source spent 12 3 0 0 0\n");
+    assert_eq!(lines(13, &[]), "source ended 13 2 0 0 2 1\nkernel ended 2 0 0 2\n");
+    assert_eq!(lines(12, &[]), "source spent 12 3 0 0 0 1\n");
     assert_eq!(lines(12, &[0]), "refused 11 0\n");
 }

@@ -133,11 +133,11 @@ fn trial_limits() {
     assert_eq!(trial(&vec![b'x'; 16_384]), "refused 14 1");
     assert_eq!(trial(&vec![b'x'; 16_385]), "refused 2 0");
     assert_eq!(trial(b""), "refused 14 1");
-    assert_eq!(trial(&empties(&[0], 128)), "source ended 128");
+    assert_eq!(trial(&empties(&[0], 128)), "source ended 128 0");
     assert_eq!(trial(&empties(&[0], 129)), "refused 2 0");
     assert_eq!(trial(&empties(&[1, 1024], 129)), "refused 1 0");
     assert_eq!(trial(&empties(&[1, 1024], 1)), "refused 1 0");
-    assert_eq!(trial(&empties(&[0, 1024], 1)), format!("source ended 1{}", " 0".repeat(1024)));
+    assert_eq!(trial(&empties(&[0, 1024], 1)), format!("source ended 1{} 0", " 0".repeat(1024)));
     assert_eq!(trial(b"1\t1024\n"), "refused 1 0");
     assert_eq!(trial(b"0\n"), "refused 2 0");
     // 2 comes before 3.
@@ -150,10 +150,10 @@ fn trial_limits() {
 fn trial_endings() {
     let endless =
         write(&[1], &rows_in_order(&block(vec![for_loop(None, None, None, plain(EMPTY))])));
-    assert_eq!(trial(&endless), "source spent 100000 0");
+    assert_eq!(trial(&endless), "source spent 100000 0 0");
     let fault = binary(DIVIDE, constant(1), constant(0));
     let fault = write(&[0], &rows_in_order(&block(vec![expression(fault)])));
-    assert_eq!(trial(&fault), "source zero 5");
-    assert_eq!(trial(b"0\n42\t0\t0\t0\t0\t0\n"), "source ended 1");
+    assert_eq!(trial(&fault), "source zero 5 0");
+    assert_eq!(trial(b"0\n42\t0\t0\t0\t0\t0\n"), "source ended 1 0");
     assert_eq!(trial(b"0\n50\t0\t0\t0\t0\t0\n"), "refused 5 0");
 }

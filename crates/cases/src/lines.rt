@@ -15,18 +15,18 @@ pub fn print_refusal(refusal: Refusal) {
     io::write_all(STDOUT_FILENO, &line[..n]);
 }
 
-pub fn print_source_run(ending: Ending, count: u32, store: &[i32])
+pub fn print_source_run(ending: Ending, count: u32, store: &[i32], written: u32)
     requires { ⌜ length (now store) ≤ 8192 ⌝ }
 {
-    let mut line = [0u8; 98344];
-    let n = source_line(ending, count, store, &mut line);
+    let mut line = [0u8; 98352];
+    let n = source_line(ending, count, store, written, &mut line);
     io::write_all(STDOUT_FILENO, &line[..n]);
 }
 
 pub fn print_kernel_run(ending: Ending, store: &[i32])
     requires { ⌜ length (now store) ≤ 8192 ⌝ }
 {
-    let mut line = [0u8; 98344];
+    let mut line = [0u8; 98352];
     let n = kernel_line(ending, store, &mut line);
     io::write_all(STDOUT_FILENO, &line[..n]);
 }

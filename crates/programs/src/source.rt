@@ -11,6 +11,7 @@ use words::Form;
 use words::RunVerdict;
 use words::Verdict;
 use words::layout::store_words;
+use writes::count_of;
 ghost use mathlib.Core.Path.{_≡_};
 ghost use Prim.Native.Nat.{_≤_};
 ghost use lib.ListN.{length};
@@ -48,7 +49,7 @@ fn answer_run(
         RunVerdict::Refused(refusal) => print_refusal(refusal),
         RunVerdict::Ran(answer) => {
             let ending = answer.ending;
-            print_source_run(ending, answer.count, store);
+            print_source_run(ending, answer.count, store, count_of(header, rows));
             answer_translation(header, rows, start, answer, kernel_rows, text, read_rows);
         }
     }

@@ -147,10 +147,17 @@ pub refused-is : (number place : ℕ) → ((refusedName ++ (blank ∷ digits num
 unfolding refusedLine lineOf
 refused-is number place = rw (spaced-two (digits number) (digits place)) (simp append-assoc)
 
-pub source-is : (ending : Ending) (count : ℕ) (words : List ℤ)
-    → ((sourceName ++ (blank ∷ endingName ending)) ++ (blank ∷ digits count)) ++ (spacedWords words ++ (newline ∷ [])) ≡ sourceLine ending count words
-unfolding sourceLine lineOf spaced
-source-is ending count words = simp append-assoc
+source-fields : (ending : Ending) (count : ℕ) (fields : List (List ℕ))
+    → ((sourceName ++ (blank ∷ endingName ending)) ++ (blank ∷ digits count)) ++ (spaced fields ++ (newline ∷ [])) ≡ lineOf sourceName (endingName ending ∷ digits count ∷ fields)
+unfolding lineOf spaced
+source-fields ending count fields = simp append-assoc
+
+pub source-is : (ending : Ending) (count : ℕ) (words : List ℤ) (written : ℕ)
+    → ((sourceName ++ (blank ∷ endingName ending)) ++ (blank ∷ digits count)) ++ ((spacedWords words ++ (blank ∷ digits written)) ++ (newline ∷ [])) ≡ sourceLine ending count words written
+unfolding sourceLine
+source-is ending count words written =
+    let e : spacedWords words ++ (blank ∷ digits written) ≡ spaced (map numberBytes words ++ (digits written ∷ [])) = sym (spaced-append (map numberBytes words) (digits written ∷ []) ∙ ap (λ (l : List ℕ). spacedWords words ++ l) (spaced-one (digits written))) in
+    ap (λ (l : List ℕ). ((sourceName ++ (blank ∷ endingName ending)) ++ (blank ∷ digits count)) ++ (l ++ (newline ∷ []))) e ∙ source-fields ending count (map numberBytes words ++ (digits written ∷ []))
 
 pub kernel-is : (ending : Ending) (words : List ℤ) → (kernelName ++ (blank ∷ endingName ending)) ++ (spacedWords words ++ (newline ∷ [])) ≡ kernelLine ending words
 unfolding kernelLine lineOf spaced

@@ -34,12 +34,13 @@ unfoldable pub refusedLine : ℕ → ℕ → List ℕ
 refusedLine number place = lineOf refusedName (digits number ∷ digits place ∷ [])
 
 -- "Output: form, ending (ended, spent, overflow, zero, index), source count on the first line only, S words, parted by single blanks."
-unfoldable pub sourceLine : Ending → ℕ → List ℤ → List ℕ
-sourceLine ending count words = lineOf sourceName (endingName ending ∷ digits count ∷ map numberBytes words)
+-- Change 7: "The trial's first line gains a last field": how many variables the program can write.
+unfoldable pub sourceLine : Ending → ℕ → List ℤ → ℕ → List ℕ
+sourceLine ending count words written = lineOf sourceName (endingName ending ∷ digits count ∷ (map numberBytes words ++ (digits written ∷ [])))
 
 unfoldable pub kernelLine : Ending → List ℤ → List ℕ
 kernelLine ending words = lineOf kernelName (endingName ending ∷ map numberBytes words)
 
--- Bytes enough for a line with so many words: at most twelve for each with its blank, and forty for what else it has.
+-- Bytes enough for a line with so many words: at most twelve for each with its blank, and forty-eight for what else it has.
 abbrev pub lineRoom : ℕ → ℕ
-lineRoom words = 12 * words + 40
+lineRoom words = 12 * words + 48

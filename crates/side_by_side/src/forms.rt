@@ -15,6 +15,7 @@ use text_form::WriteAnswer;
 use translator::TranslateAnswer;
 use words::RunVerdict;
 use words::table::natural;
+use writes::count_of;
 ghost use Prim.Native.Nat.{_≤_};
 ghost use lib.ListN.{length};
 
@@ -43,7 +44,7 @@ fn show_source_run(header: &[i32], rows: &[i32], store: &mut [i32])
         RunVerdict::Refused(refusal) => print_refusal(refusal),
         RunVerdict::Ran(answer) => {
             let ending = answer.ending;
-            print_source_run(ending, answer.count, store);
+            print_source_run(ending, answer.count, store, count_of(header, rows));
         }
     }
 }

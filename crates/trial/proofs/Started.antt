@@ -16,6 +16,7 @@ use Rattle.text_form.specs.Writer.{Put}
 use Rattle.words.specs.OverLaws.{part, first-of}
 use Rattle.report.specs.Lines.{lineRoom, refusedLine, sourceLine, kernelLine}
 use Rattle.report.proofs.Spacing.{SoFar, far-space}
+use Rattle.program_writes.specs.ProgramWrites.{written}
 use Rattle.fate.specs.KernelForms.{kernelHeaderOf, kernelRowsOf}
 use Rattle.machine.specs.Whole.{finishedOf}
 use Rattle.clight.specs.Runs.{refusalOf}
@@ -57,10 +58,10 @@ unfolding checkedOutput
 refused-output header rows refusal e = rw e
 
 module _ {header rows store : List ℤ} {starts : store ≡ zeros (storeWords Source header)} {answer : RunAnswer} {left : List ℤ} (m : RunMade Source header rows store starts answer left) where
-  pub both-lines : sourceLine (answer .ending) (answer .count) left ++ kernelOutput (storeSize (layoutOf Source header)) (kernelHeaderOf header rows) (kernelRowsOf header rows)
+  pub both-lines : {n : ℕ} → n ≡ written rows → sourceLine (answer .ending) (answer .count) left n ++ kernelOutput (storeSize (layoutOf Source header)) (kernelHeaderOf header rows) (kernelRowsOf header rows)
       ≡ runsOutput header rows
   unfolding runsOutput sourceOutput
-  both-lines = rw (m .ending, m .count, m .store-left)
+  both-lines e = rw (m .ending, m .count, m .store-left, e)
 
 module _ {header rows store : List ℤ} {starts : store ≡ zeros (storeWords Kernel header)} {answer : RunAnswer} {left : List ℤ} (m : RunMade Kernel header rows store starts answer left) where
   pub second-line : (words : ℕ) → kernelLine (answer .ending) (take (words - 0) left) ≡ kernelOutput words header rows

@@ -14,7 +14,7 @@ use Rattle.report.specs.Lines.{lineRoom}
 use Rattle.clight.specs.Runs.{refusalOf}
 use Rattle.trial.specs.Output.{mostRows, mostWords, trialCause}
 
--- Bytes enough for both lines: 24,656.
+-- Bytes enough for both lines: 24,672.
 abbrev pub outputRoom : ℕ
 outputRoom = 2 * lineRoom mostWords
 

@@ -15,6 +15,7 @@ use Rattle.language.specs.Program.{runProgram}
 use Rattle.text_form.specs.Text.{Parsed, parsed, malformed, Program, parse}
 use Rattle.text_form.specs.Answers.{unless}
 use Rattle.report.specs.Lines.{refusedLine, sourceLine, kernelLine}
+use Rattle.program_writes.specs.ProgramWrites.{written}
 use Rattle.fate.specs.KernelForms.{kernelHeaderOf, kernelRowsOf}
 use Rattle.fate.specs.Views.{dispatcherView}
 use Rattle.clight.specs.Runs.{refusalOf}
@@ -32,11 +33,11 @@ mostWords = 1024
 abbrev pub budget : ℕ
 budget = 100000
 
--- "Output: form, ending .., source count on the first line only, S words".
+-- "Output: form, ending .., source count on the first line only, S words", and last the number of variables that the program can write.
 unfoldable pub sourceOutput : List ℤ → List ℤ → List ℕ
 sourceOutput header rows =
     let finished = runProgram Source header rows budget (zeros (storeWords Source header)) in
-    sourceLine (finished .ending) (finished .count) (finished .store)
+    sourceLine (finished .ending) (finished .count) (finished .store) (written rows)
 
 -- The kernel's store has S+T words; its line is what a dispatcher is shown.
 unfoldable pub kernelOutput : ℕ → List ℤ → List ℤ → List ℕ

@@ -13,7 +13,7 @@ fn main() {
     // One byte more than a text may have, so that a longer one is seen to be longer.
     let mut text = [0u8; 16385];
     let length = io::read_full(STDIN_FILENO, &mut text);
-    let mut printed = [0u8; 24656];
+    let mut printed = [0u8; 24672];
     let size = trial(&text[..length], &mut printed);
     io::write_all(STDOUT_FILENO, &printed[..size]);
 }

@@ -1,6 +1,7 @@
 // Both runs of a program, each from zeros with budget 100,000, and their lines at the start of `output`.
 use clight::runs::check;
 use clight::runs::run_accepted;
+use program_writes::program::written_count;
 use report::line::kernel_line;
 use report::line::refused_line;
 use report::line::source_line;
@@ -74,7 +75,8 @@ fn run_source_on(header: &[i32], rows: &[i32], store: &mut [i32], output: &mut [
 {
     let answer = run_accepted(Form::Source, header, rows, store, 100000);
     let ending = answer.ending;
-    let end = source_line(ending, answer.count, store, output);
+    let written = written_count(rows);
+    let end = source_line(ending, answer.count, store, written, output);
     end + run_translation(header, rows, &mut output[end..])
 }
 

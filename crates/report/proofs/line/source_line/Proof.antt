@@ -57,26 +57,26 @@ counted c = far-next (ended (c .before .before .before .before)) _ 11 (count-few
 add-counted : tie.Need-add-counted
 add-counted c = omega (arith, far-below (counted c))
 
-sub-put-rest : tie.Need-sub-put-rest
-sub-put-rest c = far-inside (counted c)
+sub-put-written : tie.Need-sub-put-written
+sub-put-written c = far-inside (counted c)
 
-part-put-rest-start : tie.Need-part-put-rest-start
-part-put-rest-start c = omega (arith, far-inside (counted c))
+part-put-written-start : tie.Need-part-put-written-start
+part-put-written-start c = omega (arith, far-inside (counted c))
 
-part-put-rest-end : tie.Need-part-put-rest-end
-part-put-rest-end c = search needs
+part-put-written-end : tie.Need-part-put-written-end
+part-put-written-end c = search needs
 
-put-rest-requires : tie.Need-put-rest-requires
-put-rest-requires c κs = far-space (counted (c .before)) _ (omega (arith, c .before .before .before .before .before .before .before .before .before .before .before .before .before .before .before .pre))
+put-written-requires : tie.Need-put-written-requires
+put-written-requires c κs = far-space (counted (c .before)) _ (omega (arith, c .before .before .before .before .before .before .before .before .before .before .before .before .before .before .before .pre))
 
 add-result : tie.Need-add-result
-add-result c = omega (arith, far-total (counted (c .before .before .before .before)) (c .before .before .put-rest .ensures .0) (c .before .before .put-rest .kept .1 .0), c .before .before .before .before .before .before .before .before .before .before .before .before .before .before .before .before .before .before .good)
+add-result c = omega (arith, far-total (counted (c .before .before .before .before)) (c .before .before .put-written .ensures .0) (c .before .before .put-written .kept .1 .1 .0), c .before .before .before .before .before .before .before .before .before .before .before .before .before .before .before .before .before .before .good)
 
 same-length : tie.Need-same-length
-same-length c = put-back (counted (c .before .before .before .before) .put) (c .before .before .put-rest .last .1 .0) (omega (arith, counted (c .before .before .before .before) .few, counted (c .before .before .before .before) .room)) (c .before .before .put-rest .kept .1 .0)
+same-length c = put-back (counted (c .before .before .before .before) .put) (c .before .before .put-written .last .1 .1 .0) (omega (arith, counted (c .before .before .before .before) .few, counted (c .before .before .before .before) .room)) (c .before .before .put-written .kept .1 .1 .0)
 
 returns : tie.Need-returns
-returns c = (put-as (source-is _ _ _) (put-next (counted (c .before .before .before .before) .put) _ _ _ (c .before .before .put-rest .ensures .0)), omega (arith, far-below (counted (c .before .before .before .before)), c .before .before .put-rest .ensures .1))
+returns c = (put-as (source-is _ _ _ _) (put-next (counted (c .before .before .before .before) .put) _ _ _ (c .before .before .put-written .ensures .0)), omega (arith, far-below (counted (c .before .before .before .before)), c .before .before .put-written .ensures .1))
 
 pub source-line-spec : {M : Type 1} → statement M
 source-line-spec =
@@ -94,10 +94,10 @@ source-line-spec =
     part-put-count-end
     put-count-requires
     add-counted
-    sub-put-rest
-    part-put-rest-start
-    part-put-rest-end
-    put-rest-requires
+    sub-put-written
+    part-put-written-start
+    part-put-written-end
+    put-written-requires
     add-result
     same-length
     returns)

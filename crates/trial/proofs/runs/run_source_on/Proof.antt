@@ -4,6 +4,7 @@ use native.Mathlib.Omega.{arith}
 use Rattle.words.specs.declared.Form.the-variants.{Source}
 use Rattle.text_form.specs.PutLaws.{put-as, put-next}
 use Rattle.report.proofs.Spacing.{far-inside, far-total}
+use Rattle.translator.specs.AcceptedLaws.{accepted-source}
 use Rattle.trial.proofs.Started.{started-length, run-made, both-lines, first-room, first-put, first-translates}
 use borrow.Author.Needs.{needs}
 use Rattle.trial.proofs.runs.run_source_on.Statement.{statement}
@@ -14,30 +15,35 @@ run-accepted-requires c κs =
     let s = c .before .before in
     (s .pre .accepted, started-length Source (s .args .header .now) (s .args .rows .now) (s .args .store .now) (s .pre .starts))
 
+written-count-requires : tie.Need-written-count-requires
+written-count-requires c κs =
+    let s = c .before .before .before .before in
+    accepted-source (s .args .header .now) (s .args .rows .now) (s .pre .accepted)
+
 source-line-requires : tie.Need-source-line-requires
-source-line-requires c κs = first-room (c .before .before .before .before .before .before .pre) (c .before .before .before .run-accepted .kept .1 .1 .1 .0)
+source-line-requires c κs = first-room (c .before .before .before .before .before .before .before .pre) (c .before .before .before .before .run-accepted .kept .1 .1 .1 .0)
 
 sub-run-translation : tie.Need-sub-run-translation
 sub-run-translation c =
-    let s = c .before .before .before .before .before .before .before .before .before in
-    far-inside (first-put (s .pre) (c .before .before .before .before .before .before .run-accepted .kept .1 .1 .1 .0) (c .before .before .source-line .ensures .0) (c .before .before .source-line .ensures .1) refl)
+    let s = c .before .before .before .before .before .before .before .before .before .before in
+    far-inside (first-put (s .pre) (c .before .before .before .before .before .before .before .run-accepted .kept .1 .1 .1 .0) (c .before .before .source-line .ensures .0) (c .before .before .source-line .ensures .1) refl)
 
 part-run-translation-start : tie.Need-part-run-translation-start
 part-run-translation-start c =
-    let s = c .before .before .before .before .before .before .before .before .before in
-    omega (arith, far-inside (first-put (s .pre) (c .before .before .before .before .before .before .run-accepted .kept .1 .1 .1 .0) (c .before .before .source-line .ensures .0) (c .before .before .source-line .ensures .1) refl))
+    let s = c .before .before .before .before .before .before .before .before .before .before in
+    omega (arith, far-inside (first-put (s .pre) (c .before .before .before .before .before .before .before .run-accepted .kept .1 .1 .1 .0) (c .before .before .source-line .ensures .0) (c .before .before .source-line .ensures .1) refl))
 
 part-run-translation-end : tie.Need-part-run-translation-end
 part-run-translation-end c = search needs
 
 run-translation-requires : tie.Need-run-translation-requires
 run-translation-requires c κs =
-    first-translates (c .before .before .before .before .before .before .before .before .before .before .pre) (c .before .before .before .before .before .before .before .run-accepted .kept .1 .1 .1 .0) (c .before .before .before .source-line .ensures .0) (c .before .before .before .source-line .ensures .1) refl
+    first-translates (c .before .before .before .before .before .before .before .before .before .before .before .pre) (c .before .before .before .before .before .before .before .before .run-accepted .kept .1 .1 .1 .0) (c .before .before .before .source-line .ensures .0) (c .before .before .before .source-line .ensures .1) refl
 
 add-result : tie.Need-add-result
 add-result c =
-    let s = c .before .before .before .before .before .before .before .before .before .before .before .before .before in
-    let line = first-put (s .pre) (c .before .before .before .before .before .before .before .before .before .before .run-accepted .kept .1 .1 .1 .0) (c .before .before .before .before .before .before .source-line .ensures .0) (c .before .before .before .before .before .before .source-line .ensures .1) refl in
+    let s = c .before .before .before .before .before .before .before .before .before .before .before .before .before .before in
+    let line = first-put (s .pre) (c .before .before .before .before .before .before .before .before .before .before .before .run-accepted .kept .1 .1 .1 .0) (c .before .before .before .before .before .before .source-line .ensures .0) (c .before .before .before .before .before .before .source-line .ensures .1) refl in
     omega (arith, far-total line (c .before .before .run-translation .ensures) (c .before .before .run-translation .kept .1 .1 .0), s .good)
 
 same-length : tie.Need-same-length
@@ -48,15 +54,16 @@ same-length-2 c = search needs
 
 returns : tie.Need-returns
 returns c =
-    let s = c .before .before .before .before .before .before .before .before .before .before .before .before .before in
-    let made = run-made Source (s .args .header .now) (s .args .rows .now) (s .args .store .now) (s .pre .starts) _ _ (c .before .before .before .before .before .before .before .before .before .before .run-accepted .ensures) in
-    put-as (both-lines made) (put-next (c .before .before .before .before .before .before .source-line .ensures .0) _ _ _ (c .before .before .run-translation .ensures))
+    let s = c .before .before .before .before .before .before .before .before .before .before .before .before .before .before in
+    let made = run-made Source (s .args .header .now) (s .args .rows .now) (s .args .store .now) (s .pre .starts) _ _ (c .before .before .before .before .before .before .before .before .before .before .before .run-accepted .ensures) in
+    put-as (both-lines made (c .before .before .before .before .before .before .before .before .before .written-count .ensures)) (put-next (c .before .before .before .before .before .before .source-line .ensures .0) _ _ _ (c .before .before .run-translation .ensures))
 
 pub run-source-on-spec : {M : Type 1} → statement M
 run-source-on-spec =
     tie.close
     (tie.spec
     run-accepted-requires
+    written-count-requires
     source-line-requires
     sub-run-translation
     part-run-translation-start

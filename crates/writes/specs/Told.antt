@@ -1,0 +1,20 @@
+-- Told: what is answered for any words, by the check's answer.
+use mathlib.Core.List.{List}
+use Prim.Native.Nat.{ℕ}
+use lib.IntN.{ℤ}
+use Rattle.words.specs.declared.Refusal.{Refusal}
+use Rattle.words.specs.declared.Verdict.{Verdict}
+use Rattle.words.specs.declared.Verdict.the-variants as verdict
+use Rattle.program_writes.specs.ProgramWrites.{written, WritesAre}
+use Rattle.program_writes.specs.declared.Writes.{Writes}
+use Rattle.writes.specs.declared.WritesVerdict.{WritesVerdict}
+use Rattle.writes.specs.declared.WritesVerdict.the-variants.{Written, Refused}
+
+-- The check's refusal, or the sets of an accepted program: each bit is 1 exactly where `variable-bit` and `array-bit` of crate program_writes say.
+pub data Told (rows : List ℤ) : Verdict → WritesVerdict → Type 0 where
+  sets : {w : Writes} → WritesAre w rows → Told rows verdict.Accepted (Written w)
+  refusal : {refused : Refusal} → Told rows (verdict.Refused refused) (Refused refused)
+
+abbrev pub countOf : Verdict → List ℤ → ℕ
+countOf verdict.Accepted rows = written rows
+countOf (verdict.Refused refused) rows = 0

@@ -1,0 +1,36 @@
+// What a source program can write, for any words: the check's refusal, or the sets of an accepted program.
+use program_writes::Writes;
+use program_writes::program::program_writes;
+use program_writes::program::written_count;
+use words::Refusal;
+use words::Verdict;
+ghost use mathlib.Core.Path.{_≡_};
+ghost use Rattle.source_check.specs.Refusal.{refusal};
+ghost use Rattle.writes.specs.Told.{Told, countOf};
+
+pub enum WritesVerdict {
+    Written(Writes),
+    Refused(Refusal),
+}
+
+// The variables and the arrays that the program can write.
+pub fn writes_of(header: &[i32], rows: &[i32]) -> WritesVerdict
+    ensures { λ r. ⌜ Told (now (rows .entry)) (refusal (now (header .entry)) (now (rows .entry))) r ⌝ }
+{
+    let verdict = source_check::check(header, rows);
+    match verdict {
+        Verdict::Accepted => WritesVerdict::Written(program_writes(rows)),
+        Verdict::Refused(refusal) => WritesVerdict::Refused(refusal),
+    }
+}
+
+// How many variables it can write; none, where the check refuses it.
+pub fn count_of(header: &[i32], rows: &[i32]) -> u32
+    ensures { λ r. ⌜ r ≡ countOf (refusal (now (header .entry)) (now (rows .entry))) (now (rows .entry)) ⌝ }
+{
+    let verdict = source_check::check(header, rows);
+    match verdict {
+        Verdict::Accepted => written_count(rows),
+        Verdict::Refused(_) => 0,
+    }
+}

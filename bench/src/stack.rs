@@ -172,9 +172,8 @@ fn call_translate(_: &Entries, program: &Program) {
 }
 
 fn call_flat_run(_: &Entries, program: &Program) {
-    let list = interpreter::flat::flatten(&program.rows);
     let mut store = vec![1; Kernel.store_words(&program.header)];
-    clight::flat_run(&program.header, &list, &mut store, 10_000).unwrap();
+    clight::flat_run(&program.header, &program.rows, &mut store, 10_000).unwrap();
 }
 
 fn call_read(entries: &Entries, program: &Program) {
@@ -208,8 +207,18 @@ pub fn print_all() {
         ("write source", call_write, &SOURCE),
         ("write kernel", call_write, &KERNEL),
     ];
+    // The flat lists of the kernel programs, in the place of their rows.
+    let flat = |program: &Program| Program {
+        rows: interpreter::flat::flatten(&program.rows),
+        ..program.clone()
+    };
+    let lists: Vec<Program> = kernels.iter().map(flat).collect();
     for (name, call, entries) in calls {
-        let programs = if entries.form == Source { &sources } else { &kernels };
+        let programs = match entries.form {
+            Source => &sources,
+            Kernel if name == "flat run" => &lists,
+            Kernel => &kernels,
+        };
         let (bytes, program) = largest(call, entries, programs);
         assert!(bytes <= 1 << 20, "{name} takes more than 1 MiB of stack: {bytes}");
         println!("  {name:24} {bytes:8} ({program})");

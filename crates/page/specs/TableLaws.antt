@@ -62,13 +62,13 @@ module _ (header rows : List ℤ) (legal : Legal header rows) (words : (i : ℕ)
       (named-contents Kernel bounds rows (legal .structured) (NamesVariable bounds) (λ number n. n)) valued
 
   -- "Variable .. number outside" is refused: a name has at most five columns.
-  name-width : (i : ℕ) → NamesVariable bounds i → length (name (storeOf header) i) ≤ 5
+  pub name-width : (i : ℕ) → NamesVariable bounds i → length (name (storeOf header) i) ≤ 5
   unfolding boundsOf storeWords
   name-width i =
       let f = headerFits-facts Kernel header (legal .header-fits) in
       ⊎-elim (λ v. variable-width (storeOf header) i (omega (arith, f .few-variables))) (λ t. temporary-width (storeOf header) i (t .0) (omega (arith, t .1, f .few-temporaries)))
 
-  few-arrays : bounds .arrays ≤ 32
+  pub few-arrays : bounds .arrays ≤ 32
   unfolding boundsOf
   few-arrays = headerFits-facts Kernel header (legal .header-fits) .few-arrays
 

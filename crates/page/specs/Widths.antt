@@ -18,7 +18,7 @@ use Rattle.page.specs.Lines.{Line, single, mark, opens, opensWhile, open
 use Rattle.page.specs.Page.{blank, equalsWord, openingWord, operatorWord, endedBy, ended, labelWord, name, atomWord, placeWord, valueWords, lineWords, blanks, parted, rightSet, padded, indent, lineBytes, linesBytes}
 use Rattle.page.specs.Fits.{AtomFits, fits-constant, fits-variable, ValueFits, value-atom, value-element, value-minus, value-binary, LineFits, fits-empty, fits-abort, fits-goto, fits-label, fits-store, fits-put, fits-opens, fits-while, fits-if, fits-turns, fits-closes, AllFit, all-none, all-more}
 
-length-blanks : (n : ℕ) → length (blanks n) ≡ n
+pub length-blanks : (n : ℕ) → length (blanks n) ≡ n
 unfolding blanks
 length-blanks zero = refl
 length-blanks (suc n) = omega (arith, length-blanks n)
@@ -65,7 +65,7 @@ unfolding parted
 parted-assigned x [] = omega (arith, length-append x (blank ∷ equalsWord))
 parted-assigned x (y ∷ ys) = omega (arith, length-append x (blank ∷ (equalsWord ++ (blank ∷ parted (y ∷ ys)))))
 
-length-set : (columns : ℕ) (xs : List ℕ) → length xs ≤ columns → length (rightSet columns xs) ≡ columns
+pub length-set : (columns : ℕ) (xs : List ℕ) → length xs ≤ columns → length (rightSet columns xs) ≡ columns
 unfolding rightSet
 length-set columns xs h = omega (arith, length-append (blanks (columns - length xs)) xs, length-blanks (columns - length xs))
 
@@ -106,7 +106,7 @@ module _ {Names : ℕ → Type 0} {arrays : ℕ} (S : ℕ) (names : (i : ℕ) �
         atom-width b k,
       )
 
-  line-width : (line : Line) → LineFits Names arrays line → length (parted (lineWords S line)) ≤ 35
+  pub line-width : (line : Line) → LineFits Names arrays line → length (parted (lineWords S line)) ≤ 35
   unfolding parted
   line-width (single empty) fits-empty = omega arith
   line-width (single abort) fits-abort = omega arith

@@ -1,0 +1,53 @@
+-- What a shape is as an expression.
+use borrow.Author.Needs.{needs}
+use Rattle.page_line.proofs.shapes_at.expression_of.Statement.{statement}
+use Rattle.page_line.proofs.shapes_at.expression_of.Tie as tie
+
+enum-known-shape : tie.Need-enum-known-shape
+enum-known-shape c = search needs
+
+enum-told : tie.Need-enum-told
+enum-told c = search needs
+
+enum-told-2 : tie.Need-enum-told-2
+enum-told-2 c = search needs
+
+enum-told-3 : tie.Need-enum-told-3
+enum-told-3 c = search needs
+
+enum-told-4 : tie.Need-enum-told-4
+enum-told-4 c = search needs
+
+returns : tie.Need-returns
+returns c = search needs
+
+returns-2 : tie.Need-returns-2
+returns-2 c =
+    cc
+
+returns-3 : tie.Need-returns-3
+returns-3 c =
+    cc
+
+returns-4 : tie.Need-returns-4
+returns-4 c =
+    cc
+
+returns-5 : tie.Need-returns-5
+returns-5 c =
+    cc
+
+pub expression-of-spec : {M : Type 1} → statement M
+expression-of-spec =
+    tie.close
+    (tie.spec
+    enum-known-shape
+    enum-told
+    enum-told-2
+    enum-told-3
+    enum-told-4
+    returns
+    returns-2
+    returns-3
+    returns-4
+    returns-5)

@@ -1,0 +1,141 @@
+-- Laws of contents: the bytes of each form of line, piece by piece, and what has none.
+use mathlib.Core.Path.{_≡_, refl, sym, ap, _∙_}
+use mathlib.Core.Bool.{true, false, true≢false}
+use mathlib.Core.List.{List, [], _∷_, _++_, append-assoc, append-nil}
+use Prim.Native.Nat.{ℕ, _-_, _≤_, _<_}
+use native.Mathlib.Omega.{arith}
+use lib.ListN.{length}
+use borrow.Author.Tests.{lt-ltb, le-ltb}
+use lib.IntN.{ℤ}
+use Rattle.words.specs.declared.Operator.{Operator}
+use Rattle.words.specs.declared.Operator.the-variants.{Add, Subtract, Multiply, Divide, Remainder, Less, Greater, LessOrEqual, GreaterOrEqual, Equal, NotEqual}
+use Rattle.text_form.specs.Number.{digits}
+use Rattle.language.specs.Trees.{Expression, Place, minus, binary, assign, element, label, goto}
+use Rattle.shapes.specs.Shapes.{operationTree, choiceTree}
+use Rattle.shapes.specs.declared.OperationShape.{OperationShape}
+use Rattle.shapes.specs.declared.OperationShape.the-variants as operation
+use Rattle.shapes.specs.declared.ChoiceShape.{ChoiceShape}
+use Rattle.shapes.specs.declared.ChoiceShape.the-variants as choice
+use Rattle.page.specs.Lines.{opensWhile, opensIf, single, mark}
+use Rattle.page.specs.Page.{blank, equalsWord, operatorWord, endedBy, labelWord, name, atomWord, placeWord, ended, valueWords, assignmentWords, lineWords, markWords, parted}
+use Rattle.page_line.specs.Contents.{led, operatorByte, isTwoBytes, gotoBytes, labelBytes, testBytes}
+
+-- ---- names
+
+pub name-variable : (S i : ℕ) → i < S → name S i ≡ 118 ∷ digits i
+unfolding name
+name-variable S i h = rw (lt-ltb i S h)
+
+pub name-temporary : (S i : ℕ) → S ≤ i → name S i ≡ 116 ∷ digits (i - S)
+unfolding name
+name-temporary S i h = rw (le-ltb i S h)
+
+-- ---- piece by piece
+
+pub parted-led : (word : List ℕ) (words : List (List ℕ)) → parted (word ∷ words) ≡ word ++ led words
+unfolding parted
+parted-led word [] = sym (append-nil word)
+parted-led word (second ∷ words) = refl
+
+module _ (S : ℕ) where
+  pub stored-bytes : (p : Place) (e : Expression) → placeWord S p ++ ((32 ∷ 61 ∷ []) ++ led (ended (valueWords S e))) ≡ parted (assignmentWords S (assign p e))
+  unfolding parted
+  stored-bytes p e = ap (λ (l : List ℕ). placeWord S p ++ (blank ∷ l)) (sym (parted-led equalsWord (ended (valueWords S e))))
+
+  pub binary-bytes : (o : Operator) (a b : Expression)
+      → (32 ∷ []) ++ (atomWord S a ++ ((32 ∷ []) ++ (operatorWord o ++ ((32 ∷ []) ++ (atomWord S b ++ (59 ∷ [])))))) ≡ led (ended (valueWords S (binary o a b)))
+  unfolding parted ended
+  binary-bytes o a b = refl
+
+  pub minus-bytes : (e : Expression) → (32 ∷ 45 ∷ 32 ∷ []) ++ (atomWord S e ++ (59 ∷ [])) ≡ led (ended (valueWords S (minus e)))
+  unfolding parted ended
+  minus-bytes e = refl
+
+  pub word-bytes : (word : List ℕ) → blank ∷ endedBy 59 word ≡ led (ended (word ∷ []))
+  unfolding parted ended
+  word-bytes word = refl
+
+  pub while-bytes : (e : Expression) → (119 ∷ 104 ∷ 105 ∷ 108 ∷ 101 ∷ 32 ∷ 40 ∷ []) ++ testBytes S e ≡ parted (lineWords S (opensWhile e))
+  unfolding parted
+  while-bytes e = ap (λ (l : List ℕ). 119 ∷ 104 ∷ 105 ∷ 108 ∷ 101 ∷ 32 ∷ 40 ∷ l) (sym (append-assoc (atomWord S e) (41 ∷ []) (32 ∷ 123 ∷ [])))
+
+  pub if-bytes : (e : Expression) → (105 ∷ 102 ∷ 32 ∷ 40 ∷ []) ++ testBytes S e ≡ parted (lineWords S (opensIf e))
+  unfolding parted
+  if-bytes e = ap (λ (l : List ℕ). 105 ∷ 102 ∷ 32 ∷ 40 ∷ l) (sym (append-assoc (atomWord S e) (41 ∷ []) (32 ∷ 123 ∷ [])))
+
+  pub goto-bytes : (l : ℕ) → gotoBytes l ≡ parted (lineWords S (single (goto l)))
+  unfolding parted
+  goto-bytes l = refl
+
+  pub label-bytes : (l : ℕ) → labelBytes l ≡ parted (markWords S (label l))
+  unfolding parted
+  label-bytes l = sym (append-assoc (labelWord l) (58 ∷ []) (59 ∷ []))
+
+pub two-bytes : (o : Operator) → isTwoBytes o ≡ true → (operatorByte o ∷ []) ++ (61 ∷ []) ≡ operatorWord o
+two-bytes LessOrEqual e = refl
+two-bytes GreaterOrEqual e = refl
+two-bytes Equal e = refl
+two-bytes NotEqual e = refl
+two-bytes Add e = absurd (true≢false (sym e))
+two-bytes Subtract e = absurd (true≢false (sym e))
+two-bytes Multiply e = absurd (true≢false (sym e))
+two-bytes Divide e = absurd (true≢false (sym e))
+two-bytes Remainder e = absurd (true≢false (sym e))
+two-bytes Less e = absurd (true≢false (sym e))
+two-bytes Greater e = absurd (true≢false (sym e))
+
+pub one-byte : (o : Operator) → isTwoBytes o ≡ false → operatorByte o ∷ [] ≡ operatorWord o
+one-byte Add e = refl
+one-byte Subtract e = refl
+one-byte Multiply e = refl
+one-byte Divide e = refl
+one-byte Remainder e = refl
+one-byte Less e = refl
+one-byte Greater e = refl
+one-byte LessOrEqual e = absurd (true≢false e)
+one-byte GreaterOrEqual e = absurd (true≢false e)
+one-byte Equal e = absurd (true≢false e)
+one-byte NotEqual e = absurd (true≢false e)
+
+pub operator-some : (o : Operator) → 1 ≤ length (operatorWord o)
+operator-some Add = omega arith
+operator-some Subtract = omega arith
+operator-some Multiply = omega arith
+operator-some Divide = omega arith
+operator-some Remainder = omega arith
+operator-some Less = omega arith
+operator-some Greater = omega arith
+operator-some LessOrEqual = omega arith
+operator-some GreaterOrEqual = omega arith
+operator-some Equal = omega arith
+operator-some NotEqual = omega arith
+
+-- ---- what the kernel does not have
+
+module _ (S : ℕ) (rows : List ℤ) where
+  pub no-atom : (o : OperationShape) → atomWord S (operationTree rows o) ≡ []
+  no-atom (operation.Minus a) = refl
+  no-atom (operation.Not a) = refl
+  no-atom (operation.Binary o a b) = refl
+  no-atom (operation.Comma a b) = refl
+  no-atom (operation.Assign p e) = refl
+  no-atom (operation.Compound o p e) = refl
+  no-atom (operation.Prefix o p) = refl
+  no-atom (operation.Postfix o p) = refl
+
+  pub no-atom-chosen : (c : ChoiceShape) → atomWord S (choiceTree rows c) ≡ []
+  no-atom-chosen (choice.And a b) = refl
+  no-atom-chosen (choice.Or a b) = refl
+  no-atom-chosen (choice.Conditional c a b) = refl
+
+  pub no-value-chosen : (c : ChoiceShape) → led (ended (valueWords S (choiceTree rows c))) ≡ []
+  unfolding ended
+  no-value-chosen (choice.And a b) = refl
+  no-value-chosen (choice.Or a b) = refl
+  no-value-chosen (choice.Conditional c a b) = refl
+
+  pub no-assignment-chosen : (c : ChoiceShape) → parted (assignmentWords S (choiceTree rows c)) ≡ []
+  unfolding parted
+  no-assignment-chosen (choice.And a b) = refl
+  no-assignment-chosen (choice.Or a b) = refl
+  no-assignment-chosen (choice.Conditional c a b) = refl

@@ -1,0 +1,84 @@
+-- Contents: the line that a value of the enum stands for, and parts of its bytes, in the order in which they are laid.
+use mathlib.Core.Bool.{Bool, true, false}
+use mathlib.Core.List.{List, [], _∷_, _++_}
+use Prim.Native.Nat.{ℕ, _<_}
+use lib.IntN.{ℤ}
+use Rattle.words.specs.declared.Operator.{Operator}
+use Rattle.words.specs.declared.Operator.the-variants.{Add, Subtract, Multiply, Divide, Remainder, Less, Greater, LessOrEqual, GreaterOrEqual, Equal, NotEqual}
+use Rattle.language.specs.Trees.{Expression, empty, express, goto, abort}
+use Rattle.language.specs.Decode.{expressionAt}
+use Rattle.shapes.specs.Shapes.{markTree}
+use Rattle.page.specs.Lines.{Line as PageLine, single, mark, opens, opensWhile, opensIf, turns, closes}
+use Rattle.page.specs.Page.{blank, labelWord, atomWord, parted}
+use Rattle.page_line.specs.declared.Line.{Line}
+use Rattle.page_line.specs.declared.Line.the-variants.{Empty, Express, Goto, Abort, Mark, Opens, While, If, Turns, Closes}
+
+-- The line of the definition.
+abbrev pub lineTree : List ℤ → Line → PageLine
+lineTree rows Empty = single empty
+lineTree rows (Express row) = single (express (expressionAt rows row))
+lineTree rows (Goto l) = single (goto l)
+lineTree rows Abort = single abort
+lineTree rows (Mark m) = mark (markTree [] m)
+lineTree rows Opens = opens
+lineTree rows (While row) = opensWhile (expressionAt rows row)
+lineTree rows (If row) = opensIf (expressionAt rows row)
+lineTree rows Turns = turns
+lineTree rows Closes = closes
+
+-- Its expression is a row of the table, of which there are `count`.
+abbrev pub LineInside : ℕ → Line → Type 0
+LineInside count Empty = Unit {0}
+LineInside count (Express row) = row < count
+LineInside count (Goto l) = Unit {0}
+LineInside count Abort = Unit {0}
+LineInside count (Mark m) = Unit {0}
+LineInside count Opens = Unit {0}
+LineInside count (While row) = row < count
+LineInside count (If row) = row < count
+LineInside count Turns = Unit {0}
+LineInside count Closes = Unit {0}
+
+-- Words behind others: with a blank before them.
+abbrev pub led : List (List ℕ) → List ℕ
+led [] = []
+led (word ∷ words) = blank ∷ parted (word ∷ words)
+
+-- `goto L7;`
+abbrev pub gotoBytes : ℕ → List ℕ
+gotoBytes l = (103 ∷ 111 ∷ 116 ∷ 111 ∷ 32 ∷ []) ++ (labelWord l ++ (59 ∷ []))
+
+-- `L7:;`
+abbrev pub labelBytes : ℕ → List ℕ
+labelBytes l = labelWord l ++ (58 ∷ 59 ∷ [])
+
+-- `X) {`
+abbrev pub testBytes : ℕ → Expression → List ℕ
+testBytes S e = atomWord S e ++ (41 ∷ 32 ∷ 123 ∷ [])
+
+-- An operator's first byte, and whether `=` stands behind it.
+abbrev pub operatorByte : Operator → ℕ
+operatorByte Add = 43
+operatorByte Subtract = 45
+operatorByte Multiply = 42
+operatorByte Divide = 47
+operatorByte Remainder = 37
+operatorByte Less = 60
+operatorByte Greater = 62
+operatorByte LessOrEqual = 60
+operatorByte GreaterOrEqual = 62
+operatorByte Equal = 61
+operatorByte NotEqual = 33
+
+abbrev pub isTwoBytes : Operator → Bool
+isTwoBytes Add = false
+isTwoBytes Subtract = false
+isTwoBytes Multiply = false
+isTwoBytes Divide = false
+isTwoBytes Remainder = false
+isTwoBytes Less = false
+isTwoBytes Greater = false
+isTwoBytes LessOrEqual = true
+isTwoBytes GreaterOrEqual = true
+isTwoBytes Equal = true
+isTwoBytes NotEqual = true

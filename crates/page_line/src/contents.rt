@@ -1,0 +1,86 @@
+// What each line says.
+use super::Line;
+use super::bytes::lay_byte;
+use super::bytes::lay_bytes;
+use super::bytes::lay_lettered;
+use super::expressions::lay_assignment;
+use super::expressions::lay_atom;
+use shapes::MarkShape;
+ghost use mathlib.Core.List.{[], _++_};
+ghost use Prim.Native.Nat.{_+_, _≤_, _<_};
+ghost use lib.ListN.{length};
+ghost use Rattle.words.specs.Table.{rowCount};
+ghost use Rattle.language.specs.Decode.{expressionAt};
+ghost use Rattle.shapes.specs.Shapes.{markTree};
+ghost use Rattle.page.specs.Page.{markWords, lineWords, parted};
+ghost use Rattle.page_line.specs.Laid.{Laid};
+ghost use Rattle.page_line.specs.Reads.{Readable};
+ghost use Rattle.page_line.specs.Contents.{lineTree, LineInside, gotoBytes, labelBytes, testBytes};
+
+// `goto L7;`
+fn lay_goto(number: usize, at: usize, text: &mut [u8]) -> usize
+    requires { ⌜ at + length (gotoBytes number) ≤ length (now text) ⌝ }
+    ensures { λ r. ⌜ Laid (gotoBytes number) (now (text .entry)) at r (now (text .exit)) ⌝ }
+{
+    let start = lay_bytes(b"goto ", at, text);
+    let end = lay_lettered(b'L', number, start, text);
+    lay_byte(b';', end, text)
+}
+
+// `L7:;`
+fn lay_label(number: usize, at: usize, text: &mut [u8]) -> usize
+    requires { ⌜ at + length (labelBytes number) ≤ length (now text) ⌝ }
+    ensures { λ r. ⌜ Laid (labelBytes number) (now (text .entry)) at r (now (text .exit)) ⌝ }
+{
+    let end = lay_lettered(b'L', number, at, text);
+    lay_bytes(b":;", end, text)
+}
+
+fn lay_mark(store: usize, mark: MarkShape, at: usize, text: &mut [u8]) -> usize
+    requires { ⌜ at + length (parted (markWords store (markTree [] mark))) ≤ length (now text) ⌝ }
+    ensures { λ r. ⌜ Laid (parted (markWords store (markTree [] mark))) (now (text .entry)) at r (now (text .exit)) ⌝ }
+{
+    match mark {
+        MarkShape::Case(_) => at,
+        MarkShape::Default => at,
+        MarkShape::Label(number) => lay_label(number, at, text),
+    }
+}
+
+// `while (X) {`, `if (X) {`
+fn lay_test(
+    opening: &[u8],
+    store: usize,
+    rows: &[i32],
+    row: usize,
+    at: usize,
+    text: &mut [u8],
+) -> usize
+    requires { ⌜ Readable (now rows) × (row < rowCount (now rows)) ⌝ }
+    requires { ⌜ at + length (now opening ++ testBytes store (expressionAt (now rows) row)) ≤ length (now text) ⌝ }
+    ensures { λ r. ⌜ Laid (now (opening .entry) ++ testBytes store (expressionAt (now (rows .entry)) row)) (now (text .entry)) at r (now (text .exit)) ⌝ }
+{
+    let start = lay_bytes(opening, at, text);
+    let end = lay_atom(store, rows, row, start, text);
+    lay_bytes(b") {", end, text)
+}
+
+// What a line says, its words parted by blanks.
+pub fn lay_content(store: usize, rows: &[i32], line: Line, at: usize, text: &mut [u8]) -> usize
+    requires { ⌜ Readable (now rows) × LineInside (rowCount (now rows)) line ⌝ }
+    requires { ⌜ at + length (parted (lineWords store (lineTree (now rows) line))) ≤ length (now text) ⌝ }
+    ensures { λ r. ⌜ Laid (parted (lineWords store (lineTree (now (rows .entry)) line))) (now (text .entry)) at r (now (text .exit)) ⌝ }
+{
+    match line {
+        Line::Empty => lay_byte(b';', at, text),
+        Line::Express(row) => lay_assignment(store, rows, row, at, text),
+        Line::Goto(number) => lay_goto(number, at, text),
+        Line::Abort => lay_bytes(b"abort();", at, text),
+        Line::Mark(mark) => lay_mark(store, mark, at, text),
+        Line::Opens => lay_byte(b'{', at, text),
+        Line::While(row) => lay_test(b"while (", store, rows, row, at, text),
+        Line::If(row) => lay_test(b"if (", store, rows, row, at, text),
+        Line::Turns => lay_bytes(b"} else {", at, text),
+        Line::Closes => lay_byte(b'}', at, text),
+    }
+}

@@ -1,0 +1,174 @@
+-- Laws of outlines: an item's lines are those of its outline, and its blocks are rows of the table.
+use mathlib.Core.Path.{_≡_, refl, sym, ap, subst, _∙_}
+use mathlib.Core.List.{List, [], _∷_, _++_}
+use Prim.Native.Nat.{ℕ, zero, suc, _<_}
+use native.Mathlib.Omega.{arith}
+use lib.IntN.{ℤ}
+use Rattle.words.specs.Table.{rowCount, numberAt}
+use Rattle.language.specs.Trees.{Statement, Items, _then_}
+use Rattle.language.specs.Decode.{statementAt, itemsAt, listAt}
+use Rattle.shapes.specs.Shapes.{shapeAt, statementIn, itemIn, Onward, statementTree, markTree, StatementOnward, StatementAt, ItemAt}
+use Rattle.shapes.specs.ShapeLaws.{statement-found, item-found, stated, itemed}
+use Rattle.shapes.specs.declared.Shape.{Shape}
+use Rattle.shapes.specs.declared.Shape.the-variants.{OfExpression, OfStatement, OfMark, OfArm, Other}
+use Rattle.shapes.specs.declared.StatementShape.{StatementShape}
+use Rattle.shapes.specs.declared.StatementShape.the-variants as statement
+use Rattle.shapes.specs.declared.MarkShape.{MarkShape}
+use Rattle.shapes.specs.declared.MarkShape.the-variants.{Case, Default, Label}
+use Rattle.shapes.specs.declared.Item.{Item}
+use Rattle.shapes.specs.declared.Item.the-variants as item
+use Rattle.page.specs.Lines.{Indented, indented, mark, statementLines, branchLines, itemsLines}
+use Rattle.page_line.specs.Reads.{Readable}
+use Rattle.page_printer.specs.declared.Outline.{Outline}
+use Rattle.page_printer.specs.Outlines.{statementOutline, outlineOf, outlineAt, listOf, listIn, blockList, outlined, OutlineInside}
+
+-- a mark's tree does not hang on the table
+mark-same : (rows : List ℤ) (m : MarkShape) → markTree rows m ≡ markTree [] m
+mark-same rows (Case v) = refl
+mark-same rows Default = refl
+mark-same rows (Label l) = refl
+
+module _ {rows : List ℤ} (readable : Readable rows) {row : ℕ} (inside : row < rowCount rows) where
+  at-statement : (s : Shape) → shapeAt rows row ≡ s → StatementAt rows row (statementIn s)
+  at-statement s e = stated (statement-found (readable .sound) inside) (ap statementIn e)
+
+  -- ---- lines
+
+  statement-outlined : (level : ℕ) (s : StatementShape) → statementAt rows row ≡ statementTree rows s → statementLines level (statementTree rows s) ≡ outlined rows level (statementOutline row s)
+  unfolding statementLines
+  statement-outlined level statement.Empty e = refl
+  statement-outlined level (statement.Express a) e = refl
+  statement-outlined level (statement.Block list) e = rw e
+  statement-outlined level (statement.If a b zero) e = refl
+  statement-outlined level (statement.If a b (suc c)) e = refl
+  statement-outlined level (statement.While a b) e = refl
+  statement-outlined level (statement.Do a b) e = refl
+  statement-outlined level (statement.For a b c d) e = refl
+  statement-outlined level (statement.Switch a b) e = refl
+  statement-outlined level statement.Break e = refl
+  statement-outlined level statement.Continue e = refl
+  statement-outlined level (statement.Goto a) e = refl
+  statement-outlined level (statement.GuardedIf a) e = refl
+  statement-outlined level (statement.GuardedDo a) e = refl
+  statement-outlined level statement.Abort e = refl
+
+  module _ (level : ℕ) where
+    abbrev behind : List Indented
+    behind = itemsLines level (listAt rows (numberAt rows row 5))
+
+    as-statement : (s : Shape) → shapeAt rows row ≡ s → itemIn s ≡ item.Statement → itemsLines level (itemsAt rows row) ≡ outlined rows level (statementOutline row (statementIn s)) ++ behind
+    unfolding statementLines
+    as-statement s e g =
+        let found = itemed (item-found (readable .sound) inside) (ap itemIn e ∙ g) in
+        let own = at-statement s e in
+        ap (itemsLines level) (found .is) ∙ ap (λ (x : Statement). statementLines level x ++ behind) (own .is)
+        ∙ ap (λ (x : List Indented). x ++ behind) (statement-outlined level (statementIn s) (own .is))
+
+    pub item-lines : itemsLines level (itemsAt rows row) ≡ outlined rows level (outlineAt rows row) ++ behind
+    unfolding outlineAt statementLines
+    item-lines = go (shapeAt rows row) refl
+      where
+        go : (s : Shape) → shapeAt rows row ≡ s → itemsLines level (itemsAt rows row) ≡ outlined rows level (outlineOf row s) ++ behind
+        go (OfExpression x) e = as-statement (OfExpression x) e refl
+        go (OfStatement x) e = as-statement (OfStatement x) e refl
+        go (OfMark m) e =
+            let found = itemed (item-found (readable .sound) inside) (ap itemIn e) in
+            ap (itemsLines level) (found .is) ∙ ap (λ x. indented level (mark x) ∷ behind) (mark-same rows m)
+        go (OfArm guard body) e = as-statement (OfArm guard body) e refl
+        go Other e = as-statement Other e refl
+
+    list-lines : (s : StatementShape) → branchLines level (statementTree rows s) ≡ itemsLines level (listAt rows (listOf s))
+    unfolding statementLines
+    list-lines statement.Empty = refl
+    list-lines (statement.Express a) = refl
+    list-lines (statement.Block list) = refl
+    list-lines (statement.If a b zero) = refl
+    list-lines (statement.If a b (suc c)) = refl
+    list-lines (statement.While a b) = refl
+    list-lines (statement.Do a b) = refl
+    list-lines (statement.For a b c d) = refl
+    list-lines (statement.Switch a b) = refl
+    list-lines statement.Break = refl
+    list-lines statement.Continue = refl
+    list-lines (statement.Goto a) = refl
+    list-lines (statement.GuardedIf a) = refl
+    list-lines (statement.GuardedDo a) = refl
+    list-lines statement.Abort = refl
+
+    pub block-lines : branchLines level (statementAt rows row) ≡ itemsLines level (listAt rows (blockList rows row))
+    unfolding blockList
+    block-lines = go (shapeAt rows row) refl
+      where
+        go : (s : Shape) → shapeAt rows row ≡ s → branchLines level (statementAt rows row) ≡ itemsLines level (listAt rows (listIn s))
+        go (OfExpression x) e = ap (branchLines level) (at-statement (OfExpression x) e .is) ∙ list-lines statement.Empty
+        go (OfStatement x) e = ap (branchLines level) (at-statement (OfStatement x) e .is) ∙ list-lines x
+        go (OfMark m) e = ap (branchLines level) (at-statement (OfMark m) e .is) ∙ list-lines statement.Empty
+        go (OfArm guard body) e = ap (branchLines level) (at-statement (OfArm guard body) e .is) ∙ list-lines statement.Empty
+        go Other e = ap (branchLines level) (at-statement Other e .is) ∙ list-lines statement.Empty
+
+  -- ---- rows
+
+  optional-inside : (link : ℕ) → (0 < link → Onward rows row link) → link < rowCount rows
+  optional-inside zero o = omega arith
+  optional-inside (suc n) o = o (omega arith) .inside
+
+  pub next-inside : numberAt rows row 5 < rowCount rows
+  next-inside = optional-inside (numberAt rows row 5) (item-found (readable .sound) inside .onward)
+
+  pub next-later : 0 < numberAt rows row 5 → row < numberAt rows row 5
+  next-later h = item-found (readable .sound) inside .onward h .later
+
+  statement-inside : (s : StatementShape) → StatementOnward rows row s → OutlineInside (rowCount rows) (statementOutline row s)
+  statement-inside statement.Empty o = tt
+  statement-inside (statement.Express a) o = o .inside
+  statement-inside (statement.Block list) o = (tt, inside)
+  statement-inside (statement.If a b zero) o = tt
+  statement-inside (statement.If a b (suc c)) o = (o .0 .inside, o .1 .inside, o .2 (omega arith) .inside)
+  statement-inside (statement.While a b) o = (o .0 .inside, o .1 .inside)
+  statement-inside (statement.Do a b) o = tt
+  statement-inside (statement.For a b c d) o = tt
+  statement-inside (statement.Switch a b) o = tt
+  statement-inside statement.Break o = tt
+  statement-inside statement.Continue o = tt
+  statement-inside (statement.Goto a) o = tt
+  statement-inside (statement.GuardedIf a) o = tt
+  statement-inside (statement.GuardedDo a) o = tt
+  statement-inside statement.Abort o = tt
+
+  pub outline-inside : OutlineInside (rowCount rows) (outlineAt rows row)
+  unfolding outlineAt
+  outline-inside = go (shapeAt rows row) refl
+    where
+      go : (s : Shape) → shapeAt rows row ≡ s → OutlineInside (rowCount rows) (outlineOf row s)
+      go (OfExpression x) e = tt
+      go (OfStatement x) e = statement-inside x (at-statement (OfStatement x) e .onward)
+      go (OfMark m) e = tt
+      go (OfArm guard body) e = tt
+      go Other e = tt
+
+  list-inside : (s : StatementShape) → StatementOnward rows row s → listOf s < rowCount rows
+  list-inside statement.Empty o = omega arith
+  list-inside (statement.Express a) o = omega arith
+  list-inside (statement.Block list) o = optional-inside list o
+  list-inside (statement.If a b c) o = omega arith
+  list-inside (statement.While a b) o = omega arith
+  list-inside (statement.Do a b) o = omega arith
+  list-inside (statement.For a b c d) o = omega arith
+  list-inside (statement.Switch a b) o = omega arith
+  list-inside statement.Break o = omega arith
+  list-inside statement.Continue o = omega arith
+  list-inside (statement.Goto a) o = omega arith
+  list-inside (statement.GuardedIf a) o = omega arith
+  list-inside (statement.GuardedDo a) o = omega arith
+  list-inside statement.Abort o = omega arith
+
+  pub block-inside : blockList rows row < rowCount rows
+  unfolding blockList
+  block-inside = go (shapeAt rows row) refl
+    where
+      go : (s : Shape) → shapeAt rows row ≡ s → listIn s < rowCount rows
+      go (OfExpression x) e = omega arith
+      go (OfStatement x) e = list-inside x (at-statement (OfStatement x) e .onward)
+      go (OfMark m) e = omega arith
+      go (OfArm guard body) e = omega arith
+      go Other e = omega arith

@@ -1,0 +1,91 @@
+// Which lines an item has of its own, and where a block's list begins.
+use super::Outline;
+use page_line::Line;
+use shapes::Shape;
+use shapes::StatementShape;
+use shapes::rows::shape_at;
+ghost use mathlib.Core.Path.{_≡_};
+ghost use Prim.Native.Nat.{_+_, _*_, _<_};
+ghost use lib.ListN.{length};
+ghost use Rattle.page_printer.specs.Outlines.{ifOutline, statementOutline, outlineAt, listOf, blockList};
+
+fn if_outline(test: usize, first: usize, second: usize) -> Outline
+    ensures { λ r. ⌜ r ≡ ifOutline test first second ⌝ }
+{
+    if second == 0 {
+        return Outline::Nothing;
+    }
+    Outline::Split(Line::If(test), first, second)
+}
+
+fn statement_outline(row: usize, statement: StatementShape) -> Outline
+    ensures { λ r. ⌜ r ≡ statementOutline row statement ⌝ }
+{
+    match statement {
+        StatementShape::Empty => Outline::Single(Line::Empty),
+        StatementShape::Express(expression) => Outline::Single(Line::Express(expression)),
+        StatementShape::Block(_) => Outline::Enclosed(Line::Opens, row),
+        StatementShape::If(test, first, second) => if_outline(test, first, second),
+        StatementShape::While(test, body) => Outline::Enclosed(Line::While(test), body),
+        StatementShape::Do(_, _) => Outline::Nothing,
+        StatementShape::For(_, _, _, _) => Outline::Nothing,
+        StatementShape::Switch(_, _) => Outline::Nothing,
+        StatementShape::Break => Outline::Nothing,
+        StatementShape::Continue => Outline::Nothing,
+        StatementShape::Goto(number) => Outline::Single(Line::Goto(number)),
+        StatementShape::GuardedIf(_) => Outline::Nothing,
+        StatementShape::GuardedDo(_) => Outline::Nothing,
+        StatementShape::Abort => Outline::Single(Line::Abort),
+    }
+}
+
+// The lines of the item at a row. A row that is no item counts as an empty statement.
+pub fn outline_at(rows: &[i32], row: usize) -> Outline
+    requires { ⌜ 6 * row + 5 < length (now rows) ⌝ }
+    ensures { λ r. ⌜ r ≡ outlineAt (now (rows .entry)) row ⌝ }
+{
+    let shape = shape_at(rows, row);
+    match shape {
+        Shape::OfExpression(_) => Outline::Single(Line::Empty),
+        Shape::OfStatement(statement) => statement_outline(row, statement),
+        Shape::OfMark(mark) => Outline::Single(Line::Mark(mark)),
+        Shape::OfArm(_, _) => Outline::Single(Line::Empty),
+        Shape::Other => Outline::Single(Line::Empty),
+    }
+}
+
+fn list_of(statement: StatementShape) -> usize
+    ensures { λ r. ⌜ r ≡ listOf statement ⌝ }
+{
+    match statement {
+        StatementShape::Empty => 0,
+        StatementShape::Express(_) => 0,
+        StatementShape::Block(list) => list,
+        StatementShape::If(_, _, _) => 0,
+        StatementShape::While(_, _) => 0,
+        StatementShape::Do(_, _) => 0,
+        StatementShape::For(_, _, _, _) => 0,
+        StatementShape::Switch(_, _) => 0,
+        StatementShape::Break => 0,
+        StatementShape::Continue => 0,
+        StatementShape::Goto(_) => 0,
+        StatementShape::GuardedIf(_) => 0,
+        StatementShape::GuardedDo(_) => 0,
+        StatementShape::Abort => 0,
+    }
+}
+
+// The first item of the block at a row, or 0.
+pub fn block_list(rows: &[i32], row: usize) -> usize
+    requires { ⌜ 6 * row + 5 < length (now rows) ⌝ }
+    ensures { λ r. ⌜ r ≡ blockList (now (rows .entry)) row ⌝ }
+{
+    let shape = shape_at(rows, row);
+    match shape {
+        Shape::OfExpression(_) => 0,
+        Shape::OfStatement(statement) => list_of(statement),
+        Shape::OfMark(_) => 0,
+        Shape::OfArm(_, _) => 0,
+        Shape::Other => 0,
+    }
+}

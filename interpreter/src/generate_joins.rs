@@ -60,7 +60,8 @@ pub fn pair(seed: u64, number: u64) -> [Case; 2] {
         [matches!(pick, Pair::First | Pair::Both), matches!(pick, Pair::Second | Pair::Both)];
     [0, 1].map(|i| Case {
         budget: 0,
-        words: if i == 0 { words.clone() } else { Vec::new() },
+        // A damaged program starts from zeros: it may have another header.
+        words: if i == 0 && !damaged[0] { words.clone() } else { Vec::new() },
         text: match damaged[i] {
             true => damage::case(seed.wrapping_add(i as u64), number).text,
             false => texts[i].clone(),

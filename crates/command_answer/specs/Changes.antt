@@ -39,4 +39,4 @@ previewLines (Refused refusal) store left = refusedLine (refusal .number) (refus
 -- There is room for the lines, and a word to compare with each of the store.
 abbrev pub Showable : PreviewVerdict → (store left : List ℤ) → (room : ℕ) → Type 0
 Showable (Previewed preview) store left room = (length store ≤ length left) × (41 + 46 * length store ≤ room)
-Showable (Refused refusal) store left room = 41 ≤ room
+Showable (Refused refusal) store left room = 48 ≤ room

@@ -18,7 +18,7 @@ enum-known-verdict-2 c = search needs
 
 refused-line-requires : tie.Need-refused-line-requires
 refused-line-requires c κs =
-    let room : 41 ≤ length (c .before .before .before .before .before .args .text .now) = rw (c .before .before .verdict2 .given .1) at (c .before .before .before .before .before .pre) in
+    let room : 48 ≤ length (c .before .before .before .before .before .args .text .now) = rw (c .before .before .verdict2 .given .1) at (c .before .before .before .before .before .pre) in
     omega (arith, room)
 
 same-length : tie.Need-same-length

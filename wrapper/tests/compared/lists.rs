@@ -14,7 +14,7 @@ fn flat_list(random: &mut Random, header: &[i32], list: &[i32], tally: &mut Tall
         Ok(()) => Kernel.store_words(header),
         Err(_) => random.below(9),
     };
-    for room in [words, words, words, words + 1, words.saturating_sub(1)] {
+    for room in [words, words, words, words, words, words + 1, words.saturating_sub(1)] {
         let mut store: Vec<i32> = (0..room).map(|_| random.between(-1, 4)).collect();
         let budget = random.pick(&[0, 1, 5, 30, 200, 3_000]);
         let mut other = store.clone();

@@ -1,0 +1,45 @@
+-- Tree: the tree of a legal kernel program is a kernel tree: form, labels, names and limits.
+use mathlib.Core.Path.{_≡_, subst}
+use mathlib.Core.List.{List}
+use mathlib.Core.Logic.{⊎-elim}
+use Prim.Native.Nat.{ℕ, _+_, _-_, _≤_, _<_}
+use native.Mathlib.Omega.{arith}
+use lib.IntN.{ℤ}
+use Rattle.words.specs.Layout.{layoutOf, storeSize, storeWords, temporariesOf}
+use Rattle.words.specs.Laws.{headerFits-facts}
+use Rattle.words.specs.declared.Form.the-variants.{Kernel}
+use Rattle.language.specs.Program.{contents}
+use Rattle.structure.specs.Fields.{boundsOf, boundsIn}
+use Rattle.structure.specs.StructuredLaws.{structured-tree}
+use Rattle.translation.specs.KernelForm.{KernelName, name-variable, name-temporary, KernelTree}
+use Rattle.kernel_check.specs.Legal.{Legal}
+use Rattle.accepted.specs.Fields.{NamesVariable}
+use Rattle.accepted.specs.Names.{named-contents}
+use Rattle.accepted_kernel.specs.Kernel.{legal-form, legal-rows, legal-depth}
+use Rattle.kernel_rows.specs.Labels.{legal-once}
+
+module _ (header rows : List ℤ) (legal : Legal header rows) where
+  -- "T temporaries, which are variable numbers S to S+T−1; numbers V to S−1 name nothing."
+  named : (number : ℕ) → NamesVariable (boundsOf Kernel header) number → KernelName (layoutOf Kernel header) (temporariesOf Kernel header) number
+  unfolding boundsOf storeWords
+  named number =
+      ⊎-elim (λ h. name-variable h)
+      (λ h.
+      let S = storeSize (layoutOf Kernel header) in
+      let least = h .0 in
+      let most = h .1 in
+      let there : S + (number - S) ≡ number = omega arith in
+      subst (KernelName (layoutOf Kernel header) (temporariesOf Kernel header)) there (name-temporary {t = number - S} (omega arith)))
+
+  -- A legal kernel program is a kernel tree.
+  pub legal-tree : KernelTree (layoutOf Kernel header) (temporariesOf Kernel header) (contents rows)
+  unfolding boundsOf
+  legal-tree =
+      record {
+        form = legal-form header rows legal;
+        labels-once = λ l. legal-once header rows legal l;
+        named = named-contents Kernel (boundsOf Kernel header) rows (legal .structured) (KernelName (layoutOf Kernel header) (temporariesOf Kernel header)) named;
+        few-temporaries = headerFits-facts Kernel header (legal .header-fits) .few-temporaries;
+        few-rows = omega (arith, legal-rows header rows legal, structured-tree Kernel (boundsOf Kernel header) rows (legal .structured) .few);
+        shallow = legal-depth header rows legal;
+      }

@@ -357,6 +357,49 @@ module _ (header rows : List ℤ) (legal : Legal header rows) where
         (either (eqb number 57) _ h)) (either (eqb number 53) _ h)) (either (eqb number 52) _ h)) (either (isKernelWhile rows row) _ h)) (either (isKernelIf rows row) _ h))
         (either (eqb number 42) _ h)) (either (eqb number 40) _ (legal .formed row n t))
 
+    -- What stands at a row of a kind.
+    pub assign-of : numberAt rows row 0 ≡ 41 → AssignRow rows row
+    unfolding isStatement sortAt sortOf kindOf kindIn kinds sortIn kindRow statementFields
+    assign-of k = by (kernel-row (rw k))
+      where
+        by : KernelRow rows row → AssignRow rows row
+        by (empty-row e r) = absurd (omega arith)
+        by (assign-row e r) = r
+        by (block-row e r) = absurd (omega arith)
+        by (if-row e r) = absurd (omega arith)
+        by (while-row e r) = absurd (omega arith)
+        by (goto-row e r) = absurd (omega arith)
+        by (label-row e r) = absurd (omega arith)
+        by (abort-row e r) = absurd (omega arith)
+
+    pub if-of : numberAt rows row 0 ≡ 43 → IfRow rows row
+    unfolding isStatement sortAt sortOf kindOf kindIn kinds sortIn kindRow statementFields
+    if-of k = by (kernel-row (rw k))
+      where
+        by : KernelRow rows row → IfRow rows row
+        by (empty-row e r) = absurd (omega arith)
+        by (assign-row e r) = absurd (omega arith)
+        by (block-row e r) = absurd (omega arith)
+        by (if-row e r) = r
+        by (while-row e r) = absurd (omega arith)
+        by (goto-row e r) = absurd (omega arith)
+        by (label-row e r) = absurd (omega arith)
+        by (abort-row e r) = absurd (omega arith)
+
+    pub while-of : numberAt rows row 0 ≡ 44 → WhileRow rows row
+    unfolding isStatement sortAt sortOf kindOf kindIn kinds sortIn kindRow statementFields
+    while-of k = by (kernel-row (rw k))
+      where
+        by : KernelRow rows row → WhileRow rows row
+        by (empty-row e r) = absurd (omega arith)
+        by (assign-row e r) = absurd (omega arith)
+        by (block-row e r) = absurd (omega arith)
+        by (if-row e r) = absurd (omega arith)
+        by (while-row e r) = r
+        by (goto-row e r) = absurd (omega arith)
+        by (label-row e r) = absurd (omega arith)
+        by (abort-row e r) = absurd (omega arith)
+
     -- ---- lists
 
     -- The list from a statement's row on.

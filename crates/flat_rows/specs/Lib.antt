@@ -12,3 +12,7 @@ pub mod Standing
 pub mod Written
 -- Filled: where each row's own lines are written, every line is.
 pub mod Filled
+-- Atoms: the operand that an atom's row holds.
+pub mod Atoms
+-- Operations: the line of an assignment, read from its rows.
+pub mod Operations

@@ -28,13 +28,14 @@ use Rattle.structure.specs.LinkLaws.{by-owner}
 use Rattle.structure.specs.NoteLaws.{above-zero, note-root, note-link}
 use Rattle.kernel_check.specs.Legal.{Legal}
 use Rattle.accepted.specs.Statements.{list-some, root-inside, root-statement, program-contents}
-use Rattle.accepted_kernel.specs.Kernel.{legal-form}
+use Rattle.accepted_kernel.specs.Kernel.{legal-form, legal-rows}
 use Rattle.kernel_rows.specs.Rows.{Lone, Listed, BlockRow, IfRow, WhileRow, KernelRow, empty-row, assign-row, block-row, if-row, while-row, goto-row, label-row, abort-row, StatementLink, next-item, first-item, true-branch, false-branch, loop-body, expression-or-statement, statement-link, next-at, kernel-row, label-list, statement-list, lone-list, linking-statement, label-statement, as-expression, block-at, if-of, while-of}
 use Rattle.kernel_rows.specs.Labels.{legal-once}
 use Rattle.flat.specs.Lines.{Line}
 use Rattle.flat_fate.specs.Code.{operandOf, operationOf, always, ifLines, statementLines, itemsLines, statementCode, itemsCode}
 use Rattle.flat_fate.specs.CodeStands.{firstAt, secondAt, bodyAt, Addressed, AddressedItems, statement-length, items-length}
-use Rattle.flat_fate.specs.Addresses.{addressIn, flatOf, items-addressed}
+use Rattle.flat_fate.specs.Addresses.{addressIn, flatOf, flat-size, items-addressed}
+use Rattle.flat_fate.specs.LineCount.{lines-below-rows}
 use Rattle.flat_rows.specs.Places.{listLines, testOf, handed, lineOf, ownLines, Each}
 use Rattle.flat_rows.specs.Lies.{nothing, Lies, There, lies-whole, lies-first, lies-second, lies-head, lies-cast, if-first, if-second, if-own, while-body, while-own}
 
@@ -335,3 +336,14 @@ module _ (header rows : List ℤ) (legal : Legal header rows) where
   label-address row n k =
       let t = label-statement rows row k in
       (subst (λ is. Stands is (lineOf rows row)) (label-list header rows legal row n k t) (row-stands row n t)) .labelled .0
+
+  -- ---- limits
+
+  pub list-few : length list < 40980
+  list-few =
+      let rows-few = tree .few in
+      omega (arith, flat-size L (contents rows) (legal-form header rows legal) (λ l. legal-once header rows legal l), lines-below-rows (contents rows) (legal-form header rows legal), legal-rows header rows legal)
+
+  -- The lines from a row on lie in the list.
+  pub row-within : (row : ℕ) → row < rowCount rows → isStatement rows row ≡ true → lineOf rows row + itemsLines (itemsAt rows row) ≤ length list
+  row-within row n t = let w = row-stands row n t .lies .within in omega (arith, items-length L list address (itemsAt rows row) (lineOf rows row))

@@ -5,9 +5,9 @@ use mathlib.Core.List.{List}
 use mathlib.Core.Logic.{_⊎_, inl, inr, ⊎-elim}
 use Prim.Native.Nat.{ℕ, zero, suc, _<_, _≤_}
 use native.Mathlib.Omega.{arith}
-use lib.Dec.{eqb}
+use lib.Dec.{ltb, eqb}
 use lib.IntN.{ℤ}
-use borrow.Author.Tests.{eqb-true, eq-eqb, ne-eqb}
+use borrow.Author.Tests.{ltb-false, le-ltb, eqb-true, eq-eqb, ne-eqb}
 use Rattle.words.specs.Table.{rowCount, numberAt, Whole}
 use Rattle.words.specs.Kinds.{kinds, kindIn, kindOf, kindAt, expression, place, branch, optionalBranch, optionalItem, bodyBlock, optionalArm, expressionRow, placeRow, statementRow, armRow, between, sortAt, sortOf, isLink, isRequired, sortIn, kindRow, expressionFields, statementFields, markFields, memberFields, standsIn, isStatementKind}
 use Rattle.words.specs.KindLaws.{everyLine, every-number}
@@ -169,6 +169,11 @@ module _ (rows : List ℤ) (row : ℕ) where
       (λ h. from-on SortOf sort 11 h (λ f t. refl)
       (λ h. from-on SortOf sort 12 h (λ f t. never (as-arm f) t)
       (λ h. absurd (omega arith)))))))))
+
+-- A table of rows that is legal with some header.
+pub record KernelTable (rows : List ℤ) : Type 0 where
+  pub header : List ℤ
+  pub legal : Legal header rows
 
 module _ (header rows : List ℤ) (legal : Legal header rows) where
   abbrev bounds : Bounds
@@ -427,6 +432,36 @@ module _ (header rows : List ℤ) (legal : Legal header rows) where
 
   pub lone-branch : {row field : ℕ} → Lone rows row field → listAt rows (numberAt rows row field) ≡ statementAt rows (numberAt rows row field) then none
   lone-branch {row} {field} l = list-some rows (numberAt rows row field) (let later = l .later in omega arith) ∙ lone-list l
+
+-- ---- statements have numbers from 40 on
+
+abbrev rowTested : ℕ → Kind → Bool
+rowTested number kind = pick (ltb number 40) (not (eqb (sortIn kind 0) statementRow)) (not (between expressionRow placeRow (sortIn kind 0)))
+
+row-tested : (number : ℕ) → rowTested number (kindOf number) ≡ true
+unfolding everyLine kinds sortIn kindRow expressionFields statementFields markFields memberFields
+row-tested number = every-number rowTested refl other-passes number
+  where
+    other-passes : (number : ℕ) → rowTested number Other ≡ true
+    other-passes number = by (ltb number 40)
+      where
+        by : (b : Bool) → pick b (not (eqb (sortIn Other 0) statementRow)) (not (between expressionRow placeRow (sortIn Other 0))) ≡ true
+        by true = refl
+        by false = refl
+
+pub statement-number : (rows : List ℤ) (row : ℕ) → isStatement rows row ≡ true → 40 ≤ numberAt rows row 0
+unfolding isStatement sortAt sortOf
+statement-number rows row t = by (ltb (numberAt rows row 0) 40) refl
+  where
+    by : (b : Bool) → ltb (numberAt rows row 0) 40 ≡ b → 40 ≤ numberAt rows row 0
+    by true e = absurd (true≢false (sym (rw (e, t) at (row-tested (numberAt rows row 0)))))
+    by false e = ltb-false (numberAt rows row 0) 40 e
+
+pub number-statement : (header rows : List ℤ) (legal : Legal header rows) (row : ℕ) → row < rowCount rows → 40 ≤ numberAt rows row 0 → isStatement rows row ≡ true
+unfolding isExpression sortAt sortOf
+number-statement header rows legal row n h =
+    let tested-row = rw (le-ltb (numberAt rows row 0) 40 h) at (row-tested (numberAt rows row 0)) in
+    ⊎-elim (λ e. absurd (true≢false (sym tested-row ∙ ap not e))) (λ t. t) (expression-or-statement header rows legal row n)
 
 -- A row that links a statement is one.
 pub linking-statement : (rows : List ℤ) (row : ℕ) {field : ℕ} → StatementLink rows row field → isStatement rows row ≡ true

@@ -9,3 +9,5 @@ pub mod Starts
 pub mod Kernels
 -- Changed: the lines of a preview, one place after the other, and that they have room.
 pub mod Changed
+-- ToldLines: the lines of what a program can write.
+pub mod ToldLines

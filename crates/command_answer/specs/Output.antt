@@ -15,6 +15,8 @@ use Rattle.words.specs.declared.Verdict.the-variants.{Accepted, Refused}
 use Rattle.text_form.specs.Text.{textBytes, Parsed, parsed, malformed, Program, parse}
 use Rattle.text_form.specs.Answers.{causeOf}
 use Rattle.report.specs.Lines.{refusedLine}
+use Rattle.program_writes.specs.ProgramWrites.{programWrites, programWritesArray}
+use Rattle.written_lines.specs.Lines.{bothLines}
 use Rattle.fate.specs.KernelForms.{kernelHeaderOf, kernelRowsOf}
 use Rattle.clight.specs.Runs.{refusalOf, RunResult, runResult}
 use Rattle.clight.specs.Previews.{PreviewResult, previewResult}
@@ -25,7 +27,7 @@ use Rattle.command_request.specs.StoreFile.{storeIn}
 use Rattle.command_request.specs.declared.request.Task.{Task}
 use Rattle.command_request.specs.declared.request.Task.the-variants as task-cases
 use Rattle.command_request.specs.declared.request.Request.{Request}
-use Rattle.command_request.specs.declared.request.Request.the-variants.{Check, Start, Translate, WrongArguments, WrongBudget}
+use Rattle.command_request.specs.declared.request.Request.the-variants.{Check, Start, Translate, Writes, WrongArguments, WrongBudget}
 
 -- ---- limits
 
@@ -131,12 +133,26 @@ kernelText header rows = verdictText (refusalOf Source header rows) header rows
 unfoldable pub translateOutput : List ℕ → List ℕ
 translateOutput text = textOutput Source text kernelText
 
+-- ---- writes
+
+-- What the program can write, by number: its variables, then the arrays of which it can write an element.
+abbrev pub verdictWrites : Verdict → (rows : List ℤ) → List ℕ
+verdictWrites (Refused refusal) rows = refusedLine (refusal .number) (refusal .place)
+verdictWrites Accepted rows = bothLines (programWrites rows) (programWritesArray rows)
+
+abbrev pub writesLines : (header rows : List ℤ) → List ℕ
+writesLines header rows = verdictWrites (refusalOf Source header rows) rows
+
+unfoldable pub writesOutput : List ℕ → List ℕ
+writesOutput text = textOutput Source text writesLines
+
 -- ---- all requests
 
 unfoldable pub requestOutput : Request → (text stored : List ℕ) → List ℕ
 requestOutput (Check form) text stored = checkOutput form text
 requestOutput (Start task budget given) text stored = startedOutput task budget text given stored
 requestOutput Translate text stored = translateOutput text
+requestOutput Writes text stored = writesOutput text
 requestOutput WrongArguments text stored = usageLine
 requestOutput WrongBudget text stored = wrongBudgetLine
 

@@ -9,6 +9,7 @@ use super::line::usage_line;
 use super::line::wrong_budget_line;
 use super::verbs::check_answer;
 use super::verbs::start_answer;
+use super::written::writes_answer;
 use command_request::request::Request;
 ghost use mathlib.Core.Path.{_≡_};
 ghost use Prim.Native.Nat.{_≤_};
@@ -38,6 +39,7 @@ fn request_answer(
             start_answer(task, budget, text, given, stored, header, rows, out)
         }
         Request::Translate => translate_answer(text, header, rows, out),
+        Request::Writes => writes_answer(text, header, rows, out),
         Request::WrongArguments => usage_line(out),
         Request::WrongBudget => wrong_budget_line(out),
     }

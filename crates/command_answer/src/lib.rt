@@ -4,6 +4,7 @@ mod changes; // changes.rt: the lines that a preview prints
 mod kernel_text; // kernel_text.rt: what `translate` prints
 mod line; // line.rt: whole lines
 mod verbs; // verbs.rt: what the checks and the runs print
+mod written; // written.rt: what `writes` prints
 
 // What came of reading standard input, or the store file: nothing was to be read, or so many bytes were, or none could be.
 pub enum Input {

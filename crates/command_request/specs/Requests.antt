@@ -15,7 +15,7 @@ use Rattle.command_request.specs.declared.request.Task.the-variants.{Run
 use Rattle.command_request.specs.declared.request.Verb.{Verb}
 use Rattle.command_request.specs.declared.request.Verb.the-variants as verb-cases
 use Rattle.command_request.specs.declared.request.Request.{Request}
-use Rattle.command_request.specs.declared.request.Request.the-variants.{Check, Start, Translate, WrongArguments, WrongBudget}
+use Rattle.command_request.specs.declared.request.Request.the-variants.{Check, Start, Translate, Writes, WrongArguments, WrongBudget}
 
 unfoldable pub sameBytes : List ℕ → List ℕ → Bool
 sameBytes [] [] = true
@@ -33,7 +33,8 @@ verbOf name =
     (pick (sameBytes name (ascii "kernel-check")) (verb-cases.Check Kernel)
     (pick (sameBytes name (ascii "kernel-run")) (verb-cases.Start (Run Kernel))
     (pick (sameBytes name (ascii "dispatcher-run")) (verb-cases.Start DispatcherRun)
-    verb-cases.Unknown))))))
+    (pick (sameBytes name (ascii "writes")) verb-cases.Writes
+    verb-cases.Unknown)))))))
 
 -- "The budget is any unsigned 32-bit number": decimal digits, no sign, no leading zero.
 unfoldable pub budgetOf : List ℕ → Option ℕ
@@ -49,6 +50,7 @@ unfoldable pub requestBy : Verb → (count : ℕ) → (second : List ℕ) → Re
 requestBy (verb-cases.Check form) count second = pick (eqb count 1) (Check form) WrongArguments
 requestBy (verb-cases.Start task) count second = pick (leb 2 count && leb count 3) (startRequest task (budgetOf second) (eqb count 3)) WrongArguments
 requestBy verb-cases.Translate count second = pick (eqb count 1) Translate WrongArguments
+requestBy verb-cases.Writes count second = pick (eqb count 1) Writes WrongArguments
 requestBy verb-cases.Unknown count second = WrongArguments
 
 unfoldable pub requestOf : (count : ℕ) → (first second : List ℕ) → Request
@@ -59,6 +61,7 @@ abbrev pub readsText : Request → Bool
 readsText (Check form) = true
 readsText (Start task budget stored) = true
 readsText Translate = true
+readsText Writes = true
 readsText WrongArguments = false
 readsText WrongBudget = false
 
@@ -66,5 +69,6 @@ abbrev pub readsStore : Request → Bool
 readsStore (Check form) = false
 readsStore (Start task budget stored) = stored
 readsStore Translate = false
+readsStore Writes = false
 readsStore WrongArguments = false
 readsStore WrongBudget = false

@@ -23,6 +23,7 @@ pub enum Verb {
     Check(Form),
     Start(Task),
     Translate,
+    Writes,
     Unknown,
 }
 
@@ -31,6 +32,7 @@ pub enum Request {
     Check(Form),
     Start(Task, u32, bool),
     Translate,
+    Writes,
     WrongArguments,
     WrongBudget,
 }
@@ -75,6 +77,9 @@ fn verb_of(name: &[u8]) -> Verb
     if is_same(name, b"dispatcher-run") {
         return Verb::Start(Task::DispatcherRun);
     }
+    if is_same(name, b"writes") {
+        return Verb::Writes;
+    }
     Verb::Unknown
 }
 
@@ -117,6 +122,7 @@ fn request_by(verb: Verb, count: usize, second: &[u8]) -> Request
         Verb::Check(form) => alone(Request::Check(form), count),
         Verb::Start(task) => start_arguments(task, count, second),
         Verb::Translate => alone(Request::Translate, count),
+        Verb::Writes => alone(Request::Writes, count),
         Verb::Unknown => Request::WrongArguments,
     }
 }
@@ -136,6 +142,7 @@ pub fn reads_text(request: Request) -> bool
         Request::Check(_) => true,
         Request::Start(_, _, _) => true,
         Request::Translate => true,
+        Request::Writes => true,
         Request::WrongArguments => false,
         Request::WrongBudget => false,
     }
@@ -149,6 +156,7 @@ pub fn reads_store(request: Request) -> bool
         Request::Check(_) => false,
         Request::Start(_, _, stored) => stored,
         Request::Translate => false,
+        Request::Writes => false,
         Request::WrongArguments => false,
         Request::WrongBudget => false,
     }

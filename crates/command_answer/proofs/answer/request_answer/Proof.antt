@@ -1,5 +1,6 @@
 -- `request_answer`: an arm for each request.
 use native.Mathlib.Omega.{arith}
+use Rattle.words.specs.declared.Form.the-variants.{Source}
 use Rattle.command_answer.specs.Output.{requestOutput}
 use Rattle.command_answer.proofs.Kernels.{roomy-any}
 use borrow.Author.Needs.{needs}
@@ -27,11 +28,17 @@ translate-answer-requires c κs = (c .before .before .before .before .before .be
 enum-told-2 : tie.Need-enum-told-2
 enum-told-2 c = search needs
 
-usage-line-requires : tie.Need-usage-line-requires
-usage-line-requires c κs = omega (arith, c .before .before .before .before .before .before .pre .1 .1)
+writes-answer-requires : tie.Need-writes-answer-requires
+writes-answer-requires c κs = (roomy-any Source (c .before .before .before .before .before .before .before .before .pre .0), c .before .before .before .before .before .before .before .before .pre .1 .1)
 
 enum-told-3 : tie.Need-enum-told-3
 enum-told-3 c = search needs
+
+usage-line-requires : tie.Need-usage-line-requires
+usage-line-requires c κs = omega (arith, c .before .before .before .before .before .before .pre .1 .1)
+
+enum-told-4 : tie.Need-enum-told-4
+enum-told-4 c = search needs
 
 wrong-budget-line-requires : tie.Need-wrong-budget-line-requires
 wrong-budget-line-requires c κs = omega (arith, c .before .before .before .before .before .before .pre .1 .1)
@@ -78,16 +85,29 @@ returns-3 c = rw (c .before .before .before .before .before .before .before .bef
 same-length-10 : tie.Need-same-length-10
 same-length-10 c = search needs
 
-returns-4 : tie.Need-returns-4
-unfolding requestOutput
-returns-4 c = rw (c .before .before .before .before .enum-told2 .given .1) (c .before .before .usage-line .ensures)
-
 same-length-11 : tie.Need-same-length-11
 same-length-11 c = search needs
 
+same-length-12 : tie.Need-same-length-12
+same-length-12 c = search needs
+
+returns-4 : tie.Need-returns-4
+unfolding requestOutput
+returns-4 c = rw (c .before .before .before .before .before .before .before .before .enum-told2 .given .1) (c .before .before .before .before .writes-answer .ensures)
+
+same-length-13 : tie.Need-same-length-13
+same-length-13 c = search needs
+
 returns-5 : tie.Need-returns-5
 unfolding requestOutput
-returns-5 c = rw (c .before .before .before .before .enum-told3 .given .1) (c .before .before .wrong-budget-line .ensures)
+returns-5 c = rw (c .before .before .before .before .enum-told3 .given .1) (c .before .before .usage-line .ensures)
+
+same-length-14 : tie.Need-same-length-14
+same-length-14 c = search needs
+
+returns-6 : tie.Need-returns-6
+unfolding requestOutput
+returns-6 c = rw (c .before .before .before .before .enum-told4 .given .1) (c .before .before .wrong-budget-line .ensures)
 
 pub request-answer-spec : {M : Type 1} → statement M
 request-answer-spec =
@@ -100,8 +120,10 @@ request-answer-spec =
     enum-told
     translate-answer-requires
     enum-told-2
-    usage-line-requires
+    writes-answer-requires
     enum-told-3
+    usage-line-requires
+    enum-told-4
     wrong-budget-line-requires
     same-length
     same-length-2
@@ -116,6 +138,10 @@ request-answer-spec =
     same-length-9
     returns-3
     same-length-10
-    returns-4
     same-length-11
-    returns-5)
+    same-length-12
+    returns-4
+    same-length-13
+    returns-5
+    same-length-14
+    returns-6)

@@ -25,6 +25,12 @@ alone-requires-2 c κs = search needs
 enum-told-2 : tie.Need-enum-told-2
 enum-told-2 c = search needs
 
+alone-requires-3 : tie.Need-alone-requires-3
+alone-requires-3 c κs = search needs
+
+enum-told-3 : tie.Need-enum-told-3
+enum-told-3 c = search needs
+
 returns : tie.Need-returns
 unfolding requestBy
 returns c = rw (c .before .before .verb .given .1) (c .alone .ensures)
@@ -38,7 +44,11 @@ returns-3 c = rw (c .before .enum-told .given .1) (c .alone2 .ensures)
 
 returns-4 : tie.Need-returns-4
 unfolding requestBy
-returns-4 c = rw (c .enum-told2 .given .1)
+returns-4 c = rw (c .before .enum-told2 .given .1) (c .alone3 .ensures)
+
+returns-5 : tie.Need-returns-5
+unfolding requestBy
+returns-5 c = rw (c .enum-told3 .given .1)
 
 pub request-by-spec : {M : Type 1} → statement M
 request-by-spec =
@@ -51,7 +61,10 @@ request-by-spec =
     enum-told
     alone-requires-2
     enum-told-2
+    alone-requires-3
+    enum-told-3
     returns
     returns-2
     returns-3
-    returns-4)
+    returns-4
+    returns-5)

@@ -26,7 +26,7 @@ use Rattle.translator.specs.declared.TranslateAnswer.the-variants.{Translated, 
 use Rattle.translator.specs.Translation.{answerAndTables, translateResult}
 use Rattle.translator.specs.TranslationLaws.{HasRoom, translation-made, translation-refused}
 use Rattle.clight.specs.AcceptedLaws.{accepted-header, accepted-count}
-use Rattle.command_answer.specs.Output.{Roomy, outputRoom, verdictText, kernelText}
+use Rattle.command_answer.specs.Output.{Roomy, outputRoom, Printable, verdictText, kernelText}
 
 -- tables for a kernel program serve either form
 pub roomy-any : (form : Form) {header rows : List ℤ} → Roomy Kernel header rows → Roomy form header rows
@@ -52,12 +52,12 @@ put-first bytes buffer size count lent h p =
           ∙ ap (λ (l : List ℕ). bytes ++ l) (sym (drop-append-le (length bytes) first rest h) ∙ ap (λ (l : List ℕ). drop (length bytes) l) (take-append-drop (size - 0) buffer));
     }
 
-module _ (header rows : List ℤ) (p : Passes Kernel header (length rows)) where
+module _ (header rows : List ℤ) (p : Printable header rows) where
   pub rows-few : length rows ≤ 245880
-  rows-few = omega (arith, countFits-facts Kernel (length rows) (p .count-fits) .most)
+  rows-few = omega (arith, countFits-facts (p .form) (length rows) (p .passes .count-fits) .most, rowLimit-most (p .form))
 
   pub header-few : length header ≤ 34
-  header-few = omega (arith, headerFits-facts Kernel header (p .header-fits) .most)
+  header-few = omega (arith, headerFits-facts (p .form) header (p .passes .header-fits) .most, leading-limits (p .form))
 
   module _ {first others : ℕ} (h : Measured header first) (r : Measured rows others) where
     pub few-bytes : first + others ≤ outputRoom
@@ -66,7 +66,7 @@ module _ (header rows : List ℤ) (p : Passes Kernel header (length rows)) where
     -- the bytes that both sizes add up to hold the text
     pub sizes-fill : (out : List ℕ) → outputRoom ≤ length out → Fills header rows (midOf 0 (first + others - 0) out)
     sizes-fill out o =
-        sized-fills (record { passes = passes-cause Kernel header (length rows) true p refl; header-size = h; rows-size = r }) (midOf 0 (first + others - 0) out)
+        sized-fills (record { passes = passes-cause (p .form) header (length rows) true (p .passes) refl; header-size = h; rows-size = r }) (midOf 0 (first + others - 0) out)
         (omega (arith, mid-len 0 (first + others) out (omega (arith, few-bytes))))
 
 -- ---- translating
@@ -75,7 +75,7 @@ module _ (header rows : List ℤ) (p : Passes Kernel header (length rows)) where
 pub record TranslatedTables (header rows headerLeft rowsLeft : List ℤ) (numbers words : ℕ) : Type 0 where
   pub header-inside : numbers ≤ length headerLeft
   pub rows-inside : words ≤ length rowsLeft
-  pub passes : Passes Kernel (take (numbers - 0) headerLeft) (length (take (words - 0) rowsLeft))
+  pub printable : Printable (take (numbers - 0) headerLeft) (take (words - 0) rowsLeft)
   pub is : textBytes (take (numbers - 0) headerLeft) (take (words - 0) rowsLeft) ≡ kernelText header rows
 
 module _ (header rows : List ℤ) {headerTable rowsTable : List ℤ} (r : Roomy Kernel headerTable rowsTable) (k : HasKernelForm header rows) where
@@ -103,6 +103,6 @@ module _ (header rows : List ℤ) {headerTable rowsTable : List ℤ} (r : Roomy 
       record {
         header-inside = omega (arith, made .header-room, h);
         rows-inside = omega (arith, made .rows-room, g);
-        passes = rw (made .header-written, made .rows-written) (kernel-passes (made .accepted));
+        printable = record { form = Kernel; passes = rw (made .header-written, made .rows-written) (kernel-passes (made .accepted)) };
         is = rw (made .header-written, made .rows-written) (ap (λ (v : Verdict). verdictText v header rows) (sym (made .accepted)));
       }

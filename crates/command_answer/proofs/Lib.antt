@@ -11,3 +11,5 @@ pub mod Kernels
 pub mod Changed
 -- ToldLines: the lines of what a program can write.
 pub mod ToldLines
+-- JoinedTexts: what a join wrote is a source program whose text has room.
+pub mod JoinedTexts

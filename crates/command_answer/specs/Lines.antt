@@ -34,7 +34,7 @@ dispatcherLine (dispatcher-cases.Refused refusal) words = refusedLine (refusal .
 
 -- "A wrong argument, an unreadable file, too long an input give one clear line."
 abbrev pub usageLine : List ℕ
-usageLine = ascii "misuse: command check | run BUDGET [STORE] | preview BUDGET [STORE] | translate | kernel-check | kernel-run BUDGET [STORE] | dispatcher-run BUDGET [STORE] | writes\n"
+usageLine = ascii "misuse: command check | run BUDGET [STORE] | preview BUDGET [STORE] | translate | kernel-check | kernel-run BUDGET [STORE] | dispatcher-run BUDGET [STORE] | writes | join SECOND\n"
 
 abbrev pub wrongBudgetLine : List ℕ
 wrongBudgetLine = ascii "misuse: the budget is no number from 0 to 4294967295\n"
@@ -43,13 +43,13 @@ abbrev pub longTextLine : List ℕ
 longTextLine = ascii "misuse: the input is over 2097152 bytes\n"
 
 abbrev pub longStoreLine : List ℕ
-longStoreLine = ascii "misuse: the store file is over 196608 bytes\n"
+longStoreLine = ascii "misuse: the file is over 196608 bytes\n"
 
 abbrev pub unreadableTextLine : List ℕ
 unreadableTextLine = ascii "misuse: the input is unreadable\n"
 
 abbrev pub unreadableStoreLine : List ℕ
-unreadableStoreLine = ascii "misuse: the store file is unreadable\n"
+unreadableStoreLine = ascii "misuse: the file is unreadable\n"
 
 abbrev pub malformedName : List ℕ
 malformedName = ascii "misuse: malformed word in the store file, number"

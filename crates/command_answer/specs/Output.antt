@@ -1,4 +1,4 @@
--- Output: the bytes that the command prints for a request, the text on standard input and the bytes of a store file.
+-- Output: the bytes that the command prints for a request, the text on standard input and the bytes of a file.
 use mathlib.Core.Bool.{Bool, true}
 use mathlib.Core.List.{List}
 use mathlib.Core.Option.{Option, none, some}
@@ -14,9 +14,11 @@ use Rattle.words.specs.declared.Verdict.{Verdict}
 use Rattle.words.specs.declared.Verdict.the-variants.{Accepted, Refused}
 use Rattle.text_form.specs.Text.{textBytes, Parsed, parsed, malformed, Program, parse}
 use Rattle.text_form.specs.Answers.{causeOf}
+use Rattle.text_form.specs.AnswerLaws.{Passes}
 use Rattle.report.specs.Lines.{refusedLine}
 use Rattle.program_writes.specs.ProgramWrites.{programWrites, programWritesArray}
 use Rattle.written_lines.specs.Lines.{bothLines}
+use Rattle.join.specs.Join.{joinedRows, joinRefusal}
 use Rattle.fate.specs.KernelForms.{kernelHeaderOf, kernelRowsOf}
 use Rattle.clight.specs.Runs.{refusalOf, RunResult, runResult}
 use Rattle.clight.specs.Previews.{PreviewResult, previewResult}
@@ -27,7 +29,7 @@ use Rattle.command_request.specs.StoreFile.{storeIn}
 use Rattle.command_request.specs.declared.request.Task.{Task}
 use Rattle.command_request.specs.declared.request.Task.the-variants as task-cases
 use Rattle.command_request.specs.declared.request.Request.{Request}
-use Rattle.command_request.specs.declared.request.Request.the-variants.{Check, Start, Translate, Writes, WrongArguments, WrongBudget}
+use Rattle.command_request.specs.declared.request.Request.the-variants.{Check, Start, Translate, Writes, Join, WrongArguments, WrongBudget}
 
 -- ---- limits
 
@@ -35,7 +37,8 @@ use Rattle.command_request.specs.declared.request.Request.the-variants.{Check, 
 abbrev pub textLimit : ℕ
 textLimit = 2097152
 
--- Bytes of a store file: 16,384 words of at most eleven bytes, each with a byte that parts it from the next.
+-- Bytes of a store file: 16,384 words of at most eleven bytes, each with a byte that parts it from the next. Every source text that the reader
+-- does not refuse is shorter.
 abbrev pub storeLimit : ℕ
 storeLimit = 196608
 
@@ -47,6 +50,11 @@ outputRoom = 2950968
 pub record Roomy (form : Form) (header rows : List ℤ) : Type 0 where
   pub header-room : leading form + 32 ≤ length header
   pub rows-room : 6 * rowLimit form ≤ length rows
+
+-- A program whose text can be written, of either form: the writer has no cause but 10.
+pub record Printable (header rows : List ℤ) : Type 0 where
+  pub form : Form
+  pub passes : Passes form header (length rows)
 
 -- ---- a text
 
@@ -146,6 +154,24 @@ writesLines header rows = verdictWrites (refusalOf Source header rows) rows
 unfoldable pub writesOutput : List ℕ → List ℕ
 writesOutput text = textOutput Source text writesLines
 
+-- ---- join
+
+-- The first's own causes come before all that follows.
+abbrev pub afterCheck : Verdict → List ℕ → List ℕ
+afterCheck (Refused refusal) rest = refusedLine (refusal .number) (refusal .place)
+afterCheck Accepted rest = rest
+
+-- The joined rows under the header of both programs, or the refusal. The table has 2,048 rows, so that 10 does not arise.
+abbrev pub joinText : (header rows secondHeader secondRows : List ℤ) → List ℕ
+joinText header rows secondHeader secondRows = afterCheck (joinRefusal header rows secondHeader secondRows 12288) (textBytes header (joinedRows rows secondRows))
+
+-- "After the first's own causes, then the second's": those of its text among them.
+unfoldable pub secondOutput : (second : List ℕ) → (header rows : List ℤ) → List ℕ
+secondOutput second header rows = afterCheck (refusalOf Source header rows) (textOutput Source second (joinText header rows))
+
+unfoldable pub joinOutput : (text second : List ℕ) → List ℕ
+joinOutput text second = textOutput Source text (secondOutput second)
+
 -- ---- all requests
 
 unfoldable pub requestOutput : Request → (text stored : List ℕ) → List ℕ
@@ -153,6 +179,7 @@ requestOutput (Check form) text stored = checkOutput form text
 requestOutput (Start task budget given) text stored = startedOutput task budget text given stored
 requestOutput Translate text stored = translateOutput text
 requestOutput Writes text stored = writesOutput text
+requestOutput Join text stored = joinOutput text stored
 requestOutput WrongArguments text stored = usageLine
 requestOutput WrongBudget text stored = wrongBudgetLine
 

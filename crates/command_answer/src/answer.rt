@@ -1,5 +1,6 @@
 // What is printed for a request and what was read for it. The bytes stand at the start of `out`, and the answer is how many they are.
 use super::Input;
+use super::joined_text::join_answer;
 use super::kernel_text::translate_answer;
 use super::line::long_store_line;
 use super::line::long_text_line;
@@ -40,6 +41,7 @@ fn request_answer(
         }
         Request::Translate => translate_answer(text, header, rows, out),
         Request::Writes => writes_answer(text, header, rows, out),
+        Request::Join => join_answer(text, stored, out),
         Request::WrongArguments => usage_line(out),
         Request::WrongBudget => wrong_budget_line(out),
     }

@@ -1,28 +1,15 @@
 // What `translate` prints. A writer puts its bytes at the start of `out`, and answers how many they are.
+use super::program_text::put_program;
 use clight::translate::translate;
 use report::line::refused_line;
 use text_form::ReadAnswer;
-use text_form::writer::put_text;
-use text_form::writer::size_of;
 use translator::TranslateAnswer;
 use words::Form;
 ghost use Prim.Native.Nat.{_≤_};
 ghost use lib.ListN.{length};
 ghost use Rattle.words.specs.declared.Form.the-variants.{Kernel};
-ghost use Rattle.text_form.specs.AnswerLaws.{Passes};
-ghost use Rattle.text_form.specs.Text.{textBytes};
 ghost use Rattle.text_form.specs.Writer.{Put};
 ghost use Rattle.command_answer.specs.Output.{Roomy, outputRoom, kernelText, translateOutput};
-
-// Writes a kernel program's text into as many bytes as it takes. They have room: a word takes at most twelve.
-fn put_kernel(header: &[i32], rows: &[i32], out: &mut [u8]) -> usize
-    requires { ⌜ Passes Kernel (now header) (length (now rows)) ⌝ }
-    requires { ⌜ outputRoom ≤ length (now out) ⌝ }
-    ensures { λ r. ⌜ Put (textBytes (now (header .entry)) (now (rows .entry))) (now (out .entry)) r (now (out .exit)) ⌝ }
-{
-    let size = size_of(header) + size_of(rows);
-    put_text(header, rows, &mut out[0..size])
-}
 
 // Translates a program into the lent tables, and writes their text.
 fn put_translation(
@@ -40,7 +27,7 @@ fn put_translation(
     match answer {
         TranslateAnswer::Refused(refusal) => refused_line(refusal, out),
         TranslateAnswer::Translated(numbers, words) => {
-            put_kernel(&kernel_header[0..numbers], &kernel_rows[0..words], out)
+            put_program(&kernel_header[0..numbers], &kernel_rows[0..words], out)
         }
     }
 }

@@ -75,11 +75,11 @@ pub fn dispatcher_line(verdict: DispatcherVerdict, words: &[i32], text: &mut [u8
 
 // Wrong arguments.
 pub fn usage_line(text: &mut [u8]) -> usize
-    requires { ⌜ lineRoom 10 ≤ length (now text) ⌝ }
+    requires { ⌜ lineRoom 12 ≤ length (now text) ⌝ }
     ensures { λ r. ⌜ Put usageLine (now (text .entry)) r (now (text .exit)) ⌝ }
 {
     put_bytes(
-        b"misuse: command check | run BUDGET [STORE] | preview BUDGET [STORE] | translate | kernel-check | kernel-run BUDGET [STORE] | dispatcher-run BUDGET [STORE] | writes\n",
+        b"misuse: command check | run BUDGET [STORE] | preview BUDGET [STORE] | translate | kernel-check | kernel-run BUDGET [STORE] | dispatcher-run BUDGET [STORE] | writes | join SECOND\n",
         text,
     )
 }
@@ -103,12 +103,12 @@ pub fn long_text_line(text: &mut [u8]) -> usize
     put_bytes(b"misuse: the input is over 2097152 bytes\n", text)
 }
 
-// A store file over the limit.
+// A store file, or a second text, over the limit.
 pub fn long_store_line(text: &mut [u8]) -> usize
     requires { ⌜ lineRoom 5 ≤ length (now text) ⌝ }
     ensures { λ r. ⌜ Put longStoreLine (now (text .entry)) r (now (text .exit)) ⌝ }
 {
-    put_bytes(b"misuse: the store file is over 196608 bytes\n", text)
+    put_bytes(b"misuse: the file is over 196608 bytes\n", text)
 }
 
 // Standard input that cannot be read.
@@ -119,12 +119,12 @@ pub fn unreadable_text_line(text: &mut [u8]) -> usize
     put_bytes(b"misuse: the input is unreadable\n", text)
 }
 
-// A store file that cannot be read.
+// A store file, or a second text, that cannot be read.
 pub fn unreadable_store_line(text: &mut [u8]) -> usize
     requires { ⌜ lineRoom 5 ≤ length (now text) ⌝ }
     ensures { λ r. ⌜ Put unreadableStoreLine (now (text .entry)) r (now (text .exit)) ⌝ }
 {
-    put_bytes(b"misuse: the store file is unreadable\n", text)
+    put_bytes(b"misuse: the file is unreadable\n", text)
 }
 
 // The line of a store file's first malformed word.

@@ -1,4 +1,4 @@
-// The command: reads the arguments, standard input and the store file, has `command_answer` put the bytes together, and writes them to
+// The command: reads the arguments, standard input and the file that is named, has `command_answer` put the bytes together, and writes them to
 // standard output. What is read and written is C's to say; all that this crate makes of it is in the contracts.
 pub mod buffers; // buffers.rt: the tables and buffers that a request is answered in
 
@@ -10,6 +10,7 @@ use self::buffers::text_buffer;
 use command_answer::Input;
 use command_answer::answer::inputs_answer;
 use command_request::request::Request;
+use command_request::request::file_argument;
 use command_request::request::reads_store;
 use command_request::request::reads_text;
 use command_request::request::request_of;
@@ -73,15 +74,15 @@ fn read_text(request: Request, buffer: &mut [u8]) -> Input
     read_all(STDIN_FILENO, buffer)
 }
 
-// Reads the store file that the third argument names, where one is wanted.
-fn read_store(wanted: bool, buffer: &mut [u8]) -> Input
+// Reads the file that an argument names, where one is wanted.
+fn read_file(wanted: bool, argument: usize, buffer: &mut [u8]) -> Input
     ensures { λ r. ⌜ Fetched wanted r (length (now (buffer .entry))) ⌝ }
 {
     if !wanted {
         return Input::Absent;
     }
     let mut path = io::buffer();
-    let length = os::arg(3, &mut path);
+    let length = os::arg(argument, &mut path);
     read_opened(os::open_read(&path[..length]), buffer)
 }
 
@@ -100,7 +101,7 @@ fn respond_in(
     ensures { λ r. ⌜ Responds request r (now (text .exit)) (now (stored .exit)) (now (out .entry)) (now (out .exit)) ⌝ }
 {
     let text_input = read_text(request, text);
-    let store_input = read_store(reads_store(request), stored);
+    let store_input = read_file(reads_store(request), file_argument(request), stored);
     let bytes = inputs_answer(
         request,
         text_input,

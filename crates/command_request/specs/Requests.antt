@@ -15,7 +15,7 @@ use Rattle.command_request.specs.declared.request.Task.the-variants.{Run
 use Rattle.command_request.specs.declared.request.Verb.{Verb}
 use Rattle.command_request.specs.declared.request.Verb.the-variants as verb-cases
 use Rattle.command_request.specs.declared.request.Request.{Request}
-use Rattle.command_request.specs.declared.request.Request.the-variants.{Check, Start, Translate, Writes, WrongArguments, WrongBudget}
+use Rattle.command_request.specs.declared.request.Request.the-variants.{Check, Start, Translate, Writes, Join, WrongArguments, WrongBudget}
 
 unfoldable pub sameBytes : List ℕ → List ℕ → Bool
 sameBytes [] [] = true
@@ -34,7 +34,8 @@ verbOf name =
     (pick (sameBytes name (ascii "kernel-run")) (verb-cases.Start (Run Kernel))
     (pick (sameBytes name (ascii "dispatcher-run")) (verb-cases.Start DispatcherRun)
     (pick (sameBytes name (ascii "writes")) verb-cases.Writes
-    verb-cases.Unknown)))))))
+    (pick (sameBytes name (ascii "join")) verb-cases.Join
+    verb-cases.Unknown))))))))
 
 -- "The budget is any unsigned 32-bit number": decimal digits, no sign, no leading zero.
 unfoldable pub budgetOf : List ℕ → Option ℕ
@@ -44,24 +45,26 @@ unfoldable pub startRequest : Task → Option ℕ → (stored : Bool) → Reques
 startRequest task none stored = WrongBudget
 startRequest task (some budget) stored = Start task budget stored
 
--- What starts from a store has a budget and, where it is not to start from zeros, a store file; the others have no further argument. `count` is
--- the number of arguments.
+-- What starts from a store has a budget and, where it is not to start from zeros, a store file; a join has a file with the second text; the
+-- others have no further argument. `count` is the number of arguments.
 unfoldable pub requestBy : Verb → (count : ℕ) → (second : List ℕ) → Request
 requestBy (verb-cases.Check form) count second = pick (eqb count 1) (Check form) WrongArguments
 requestBy (verb-cases.Start task) count second = pick (leb 2 count && leb count 3) (startRequest task (budgetOf second) (eqb count 3)) WrongArguments
 requestBy verb-cases.Translate count second = pick (eqb count 1) Translate WrongArguments
 requestBy verb-cases.Writes count second = pick (eqb count 1) Writes WrongArguments
+requestBy verb-cases.Join count second = pick (eqb count 2) Join WrongArguments
 requestBy verb-cases.Unknown count second = WrongArguments
 
 unfoldable pub requestOf : (count : ℕ) → (first second : List ℕ) → Request
 requestOf count first second = requestBy (verbOf first) count second
 
--- Whether standard input is read, and whether a store file is. With wrong arguments nothing is read.
+-- Whether standard input is read, and whether a file is, the store or the second text of a join. With wrong arguments nothing is read.
 abbrev pub readsText : Request → Bool
 readsText (Check form) = true
 readsText (Start task budget stored) = true
 readsText Translate = true
 readsText Writes = true
+readsText Join = true
 readsText WrongArguments = false
 readsText WrongBudget = false
 
@@ -70,5 +73,16 @@ readsStore (Check form) = false
 readsStore (Start task budget stored) = stored
 readsStore Translate = false
 readsStore Writes = false
+readsStore Join = true
 readsStore WrongArguments = false
 readsStore WrongBudget = false
+
+-- Which argument names that file.
+abbrev pub fileArgument : Request → ℕ
+fileArgument (Check form) = 3
+fileArgument (Start task budget stored) = 3
+fileArgument Translate = 3
+fileArgument Writes = 3
+fileArgument Join = 2
+fileArgument WrongArguments = 3
+fileArgument WrongBudget = 3

@@ -8,7 +8,7 @@ ghost use Rattle.words.specs.Word.{pick};
 ghost use Rattle.text_form.specs.Reader.{digitsValue};
 ghost use Rattle.command_request.specs.declared.request.Verb.the-variants.{Start as StartVerb};
 ghost use Rattle.command_request.specs.declared.request.Request.the-variants.{WrongArguments};
-ghost use Rattle.command_request.specs.Requests.{sameBytes, verbOf, startRequest, requestBy, requestOf, readsText, readsStore};
+ghost use Rattle.command_request.specs.Requests.{sameBytes, verbOf, startRequest, requestBy, requestOf, readsText, readsStore, fileArgument};
 
 // What starts from a store: the run of a program, the preview of a source program's run, or the run of a kernel program that a dispatcher
 // sees.
@@ -24,15 +24,18 @@ pub enum Verb {
     Start(Task),
     Translate,
     Writes,
+    Join,
     Unknown,
 }
 
-// What all arguments ask for; what starts from a store has its budget, and says whether a store file is named.
+// What all arguments ask for; what starts from a store has its budget, and says whether a store file is named. A join names a file with the
+// second text.
 pub enum Request {
     Check(Form),
     Start(Task, u32, bool),
     Translate,
     Writes,
+    Join,
     WrongArguments,
     WrongBudget,
 }
@@ -80,6 +83,9 @@ fn verb_of(name: &[u8]) -> Verb
     if is_same(name, b"writes") {
         return Verb::Writes;
     }
+    if is_same(name, b"join") {
+        return Verb::Join;
+    }
     Verb::Unknown
 }
 
@@ -97,6 +103,16 @@ fn alone(request: Request, count: usize) -> Request
     ensures { λ r. ⌜ r ≡ pick (eqb count 1) request WrongArguments ⌝ }
 {
     if count != 1 {
+        return Request::WrongArguments;
+    }
+    request
+}
+
+// A request that has one further argument, which names a file.
+fn with_file(request: Request, count: usize) -> Request
+    ensures { λ r. ⌜ r ≡ pick (eqb count 2) request WrongArguments ⌝ }
+{
+    if count != 2 {
         return Request::WrongArguments;
     }
     request
@@ -123,6 +139,7 @@ fn request_by(verb: Verb, count: usize, second: &[u8]) -> Request
         Verb::Start(task) => start_arguments(task, count, second),
         Verb::Translate => alone(Request::Translate, count),
         Verb::Writes => alone(Request::Writes, count),
+        Verb::Join => with_file(Request::Join, count),
         Verb::Unknown => Request::WrongArguments,
     }
 }
@@ -143,12 +160,13 @@ pub fn reads_text(request: Request) -> bool
         Request::Start(_, _, _) => true,
         Request::Translate => true,
         Request::Writes => true,
+        Request::Join => true,
         Request::WrongArguments => false,
         Request::WrongBudget => false,
     }
 }
 
-// Whether a store file is read.
+// Whether a file is read: the store, or the second text of a join.
 pub fn reads_store(request: Request) -> bool
     ensures { λ r. ⌜ r ≡ readsStore request ⌝ }
 {
@@ -157,7 +175,23 @@ pub fn reads_store(request: Request) -> bool
         Request::Start(_, _, stored) => stored,
         Request::Translate => false,
         Request::Writes => false,
+        Request::Join => true,
         Request::WrongArguments => false,
         Request::WrongBudget => false,
+    }
+}
+
+// Which argument names that file.
+pub fn file_argument(request: Request) -> usize
+    ensures { λ r. ⌜ r ≡ fileArgument request ⌝ }
+{
+    match request {
+        Request::Check(_) => 3,
+        Request::Start(_, _, _) => 3,
+        Request::Translate => 3,
+        Request::Writes => 3,
+        Request::Join => 2,
+        Request::WrongArguments => 3,
+        Request::WrongBudget => 3,
     }
 }

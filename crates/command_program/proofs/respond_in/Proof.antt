@@ -12,8 +12,11 @@ read-text-requires c κs = search needs
 reads-store-requires : tie.Need-reads-store-requires
 reads-store-requires c κs = search needs
 
-read-store-requires : tie.Need-read-store-requires
-read-store-requires c κs = search needs
+file-argument-requires : tie.Need-file-argument-requires
+file-argument-requires c κs = search needs
+
+read-file-requires : tie.Need-read-file-requires
+read-file-requires c κs = search needs
 
 inputs-answer-requires : tie.Need-inputs-answer-requires
 inputs-answer-requires c κs = search needs
@@ -35,11 +38,11 @@ same-length-5 c = search needs
 
 returns : tie.Need-returns
 returns c =
-    let text = c .before .before .before .before .before .before .before .before .before .before .before .before .before .before .before .before .before .read-text in
-    let store = c .before .before .before .before .before .before .before .before .before .before .before .before .read-store in
+    let text = c .before .before .before .before .before .before .before .before .before .before .before .before .before .before .before .before .before .before .read-text in
+    let store = c .before .before .before .before .before .before .before .before .before .before .before .before .read-file in
     record {
       text-read = record { absent = text .ensures .absent; inside = omega (arith, text .ensures .inside, text .kept .1 .0) };
-      store-read = record { absent = store .ensures .absent ∙ ap not (c .before .before .before .before .before .before .before .before .before .before .before .before .before .before .reads-store .ensures); inside = omega (arith, store .ensures .inside, store .kept .1 .0) };
+      store-read = record { absent = store .ensures .absent ∙ ap not (c .before .before .before .before .before .before .before .before .before .before .before .before .before .before .before .reads-store .ensures); inside = omega (arith, store .ensures .inside, store .kept .1 .1 .0) };
       printed = c .before .before .before .before .inputs-answer .ensures;
     }
 
@@ -49,7 +52,8 @@ respond-in-spec =
     (tie.spec
     read-text-requires
     reads-store-requires
-    read-store-requires
+    file-argument-requires
+    read-file-requires
     inputs-answer-requires
     same-length
     same-length-2

@@ -34,11 +34,17 @@ writes-answer-requires c κs = (roomy-any Source (c .before .before .before .bef
 enum-told-3 : tie.Need-enum-told-3
 enum-told-3 c = search needs
 
-usage-line-requires : tie.Need-usage-line-requires
-usage-line-requires c κs = omega (arith, c .before .before .before .before .before .before .pre .1 .1)
+join-answer-requires : tie.Need-join-answer-requires
+join-answer-requires c κs = c .before .before .before .before .before .before .pre .1 .1
 
 enum-told-4 : tie.Need-enum-told-4
 enum-told-4 c = search needs
+
+usage-line-requires : tie.Need-usage-line-requires
+usage-line-requires c κs = omega (arith, c .before .before .before .before .before .before .pre .1 .1)
+
+enum-told-5 : tie.Need-enum-told-5
+enum-told-5 c = search needs
 
 wrong-budget-line-requires : tie.Need-wrong-budget-line-requires
 wrong-budget-line-requires c κs = omega (arith, c .before .before .before .before .before .before .pre .1 .1)
@@ -100,14 +106,21 @@ same-length-13 c = search needs
 
 returns-5 : tie.Need-returns-5
 unfolding requestOutput
-returns-5 c = rw (c .before .before .before .before .enum-told3 .given .1) (c .before .before .usage-line .ensures)
+returns-5 c = rw (c .before .before .before .before .enum-told3 .given .1) (c .before .before .join-answer .ensures)
 
 same-length-14 : tie.Need-same-length-14
 same-length-14 c = search needs
 
 returns-6 : tie.Need-returns-6
 unfolding requestOutput
-returns-6 c = rw (c .before .before .before .before .enum-told4 .given .1) (c .before .before .wrong-budget-line .ensures)
+returns-6 c = rw (c .before .before .before .before .enum-told4 .given .1) (c .before .before .usage-line .ensures)
+
+same-length-15 : tie.Need-same-length-15
+same-length-15 c = search needs
+
+returns-7 : tie.Need-returns-7
+unfolding requestOutput
+returns-7 c = rw (c .before .before .before .before .enum-told5 .given .1) (c .before .before .wrong-budget-line .ensures)
 
 pub request-answer-spec : {M : Type 1} → statement M
 request-answer-spec =
@@ -122,8 +135,10 @@ request-answer-spec =
     enum-told-2
     writes-answer-requires
     enum-told-3
-    usage-line-requires
+    join-answer-requires
     enum-told-4
+    usage-line-requires
+    enum-told-5
     wrong-budget-line-requires
     same-length
     same-length-2
@@ -144,4 +159,6 @@ request-answer-spec =
     same-length-13
     returns-5
     same-length-14
-    returns-6)
+    returns-6
+    same-length-15
+    returns-7)

@@ -18,26 +18,26 @@ refused-line-requires c κs = omega (arith, c .before .before .before .before .b
 enum-known-answer-2 : tie.Need-enum-known-answer-2
 enum-known-answer-2 c = search needs
 
-sub-put-kernel : tie.Need-sub-put-kernel
-sub-put-kernel c = search needs
+sub-put-program : tie.Need-sub-put-program
+sub-put-program c = search needs
 
-part-put-kernel-start : tie.Need-part-put-kernel-start
-part-put-kernel-start c = search needs
+part-put-program-start : tie.Need-part-put-program-start
+part-put-program-start c = search needs
 
-part-put-kernel-end : tie.Need-part-put-kernel-end
-part-put-kernel-end c = translated (c .before .before .before .before .before .before .before .before .before .before .args .header .now) (c .before .before .before .before .before .before .before .before .before .before .args .rows .now) (c .before .before .before .before .before .before .before .before .before .before .pre .0) (c .before .before .before .before .before .before .translate .ensures .1 .0) (rw (c .before .before .answer2 .given .1) at (c .before .before .before .before .before .before .translate .ensures .0)) (c .before .before .before .before .before .before .translate .kept .1 .1 .0) (c .before .before .before .before .before .before .translate .kept .1 .1 .1 .0) .header-inside
+part-put-program-end : tie.Need-part-put-program-end
+part-put-program-end c = translated (c .before .before .before .before .before .before .before .before .before .before .args .header .now) (c .before .before .before .before .before .before .before .before .before .before .args .rows .now) (c .before .before .before .before .before .before .before .before .before .before .pre .0) (c .before .before .before .before .before .before .translate .ensures .1 .0) (rw (c .before .before .answer2 .given .1) at (c .before .before .before .before .before .before .translate .ensures .0)) (c .before .before .before .before .before .before .translate .kept .1 .1 .0) (c .before .before .before .before .before .before .translate .kept .1 .1 .1 .0) .header-inside
 
-sub-put-kernel-2 : tie.Need-sub-put-kernel-2
-sub-put-kernel-2 c = search needs
+sub-put-program-2 : tie.Need-sub-put-program-2
+sub-put-program-2 c = search needs
 
-part-put-kernel-start-2 : tie.Need-part-put-kernel-start-2
-part-put-kernel-start-2 c = search needs
+part-put-program-start-2 : tie.Need-part-put-program-start-2
+part-put-program-start-2 c = search needs
 
-part-put-kernel-end-2 : tie.Need-part-put-kernel-end-2
-part-put-kernel-end-2 c = translated (c .before .before .before .before .before .before .before .before .before .before .before .before .args .header .now) (c .before .before .before .before .before .before .before .before .before .before .before .before .args .rows .now) (c .before .before .before .before .before .before .before .before .before .before .before .before .pre .0) (c .before .before .before .before .before .before .before .before .translate .ensures .1 .0) (rw (c .before .before .before .before .answer2 .given .1) at (c .before .before .before .before .before .before .before .before .translate .ensures .0)) (c .before .before .before .before .before .before .before .before .translate .kept .1 .1 .0) (c .before .before .before .before .before .before .before .before .translate .kept .1 .1 .1 .0) .rows-inside
+part-put-program-end-2 : tie.Need-part-put-program-end-2
+part-put-program-end-2 c = translated (c .before .before .before .before .before .before .before .before .before .before .before .before .args .header .now) (c .before .before .before .before .before .before .before .before .before .before .before .before .args .rows .now) (c .before .before .before .before .before .before .before .before .before .before .before .before .pre .0) (c .before .before .before .before .before .before .before .before .translate .ensures .1 .0) (rw (c .before .before .before .before .answer2 .given .1) at (c .before .before .before .before .before .before .before .before .translate .ensures .0)) (c .before .before .before .before .before .before .before .before .translate .kept .1 .1 .0) (c .before .before .before .before .before .before .before .before .translate .kept .1 .1 .1 .0) .rows-inside
 
-put-kernel-requires : tie.Need-put-kernel-requires
-put-kernel-requires c κs = (translated (c .before .before .before .before .before .before .before .before .before .before .before .before .before .before .args .header .now) (c .before .before .before .before .before .before .before .before .before .before .before .before .before .before .args .rows .now) (c .before .before .before .before .before .before .before .before .before .before .before .before .before .before .pre .0) (c .before .before .before .before .before .before .before .before .before .before .translate .ensures .1 .0) (rw (c .before .before .before .before .before .before .answer2 .given .1) at (c .before .before .before .before .before .before .before .before .before .before .translate .ensures .0)) (c .before .before .before .before .before .before .before .before .before .before .translate .kept .1 .1 .0) (c .before .before .before .before .before .before .before .before .before .before .translate .kept .1 .1 .1 .0) .passes, c .before .before .before .before .before .before .before .before .before .before .before .before .before .before .pre .1)
+put-program-requires : tie.Need-put-program-requires
+put-program-requires c κs = (translated (c .before .before .before .before .before .before .before .before .before .before .before .before .before .before .args .header .now) (c .before .before .before .before .before .before .before .before .before .before .before .before .before .before .args .rows .now) (c .before .before .before .before .before .before .before .before .before .before .before .before .before .before .pre .0) (c .before .before .before .before .before .before .before .before .before .before .translate .ensures .1 .0) (rw (c .before .before .before .before .before .before .answer2 .given .1) at (c .before .before .before .before .before .before .before .before .before .before .translate .ensures .0)) (c .before .before .before .before .before .before .before .before .before .before .translate .kept .1 .1 .0) (c .before .before .before .before .before .before .before .before .before .before .translate .kept .1 .1 .1 .0) .printable, c .before .before .before .before .before .before .before .before .before .before .before .before .before .before .pre .1)
 
 same-length : tie.Need-same-length
 same-length c = search needs
@@ -61,7 +61,7 @@ same-length-6 : tie.Need-same-length-6
 same-length-6 c = search needs
 
 returns-2 : tie.Need-returns-2
-returns-2 c = put-as (translated (c .before .before .before .before .before .before .before .before .before .before .before .before .before .before .before .before .before .args .header .now) (c .before .before .before .before .before .before .before .before .before .before .before .before .before .before .before .before .before .args .rows .now) (c .before .before .before .before .before .before .before .before .before .before .before .before .before .before .before .before .before .pre .0) (c .before .before .before .before .before .before .before .before .before .before .before .before .before .translate .ensures .1 .0) (rw (c .before .before .before .before .before .before .before .before .before .answer2 .given .1) at (c .before .before .before .before .before .before .before .before .before .before .before .before .before .translate .ensures .0)) (c .before .before .before .before .before .before .before .before .before .before .before .before .before .translate .kept .1 .1 .0) (c .before .before .before .before .before .before .before .before .before .before .before .before .before .translate .kept .1 .1 .1 .0) .is) (c .before .before .put-kernel .ensures)
+returns-2 c = put-as (translated (c .before .before .before .before .before .before .before .before .before .before .before .before .before .before .before .before .before .args .header .now) (c .before .before .before .before .before .before .before .before .before .before .before .before .before .before .before .before .before .args .rows .now) (c .before .before .before .before .before .before .before .before .before .before .before .before .before .before .before .before .before .pre .0) (c .before .before .before .before .before .before .before .before .before .before .before .before .before .translate .ensures .1 .0) (rw (c .before .before .before .before .before .before .before .before .before .answer2 .given .1) at (c .before .before .before .before .before .before .before .before .before .before .before .before .before .translate .ensures .0)) (c .before .before .before .before .before .before .before .before .before .before .before .before .before .translate .kept .1 .1 .0) (c .before .before .before .before .before .before .before .before .before .before .before .before .before .translate .kept .1 .1 .1 .0) .is) (c .before .before .put-program .ensures)
 
 pub put-translation-spec : {M : Type 1} → statement M
 put-translation-spec =
@@ -71,13 +71,13 @@ put-translation-spec =
     enum-known-answer
     refused-line-requires
     enum-known-answer-2
-    sub-put-kernel
-    part-put-kernel-start
-    part-put-kernel-end
-    sub-put-kernel-2
-    part-put-kernel-start-2
-    part-put-kernel-end-2
-    put-kernel-requires
+    sub-put-program
+    part-put-program-start
+    part-put-program-end
+    sub-put-program-2
+    part-put-program-start-2
+    part-put-program-end-2
+    put-program-requires
     same-length
     same-length-2
     same-length-3

@@ -1,6 +1,6 @@
 -- `request_by`: an arm for each verb.
-use borrow.Author.Needs.{needs}
 use Rattle.command_request.specs.Requests.{requestBy}
+use borrow.Author.Needs.{needs}
 use Rattle.command_request.proofs.request.request_by.Statement.{statement}
 use Rattle.command_request.proofs.request.request_by.Tie as tie
 
@@ -31,6 +31,12 @@ alone-requires-3 c κs = search needs
 enum-told-3 : tie.Need-enum-told-3
 enum-told-3 c = search needs
 
+with-file-requires : tie.Need-with-file-requires
+with-file-requires c κs = search needs
+
+enum-told-4 : tie.Need-enum-told-4
+enum-told-4 c = search needs
+
 returns : tie.Need-returns
 unfolding requestBy
 returns c = rw (c .before .before .verb .given .1) (c .alone .ensures)
@@ -48,7 +54,11 @@ returns-4 c = rw (c .before .enum-told2 .given .1) (c .alone3 .ensures)
 
 returns-5 : tie.Need-returns-5
 unfolding requestBy
-returns-5 c = rw (c .enum-told3 .given .1)
+returns-5 c = rw (c .before .enum-told3 .given .1) (c .with-file .ensures)
+
+returns-6 : tie.Need-returns-6
+unfolding requestBy
+returns-6 c = rw (c .enum-told4 .given .1)
 
 pub request-by-spec : {M : Type 1} → statement M
 request-by-spec =
@@ -63,8 +73,11 @@ request-by-spec =
     enum-told-2
     alone-requires-3
     enum-told-3
+    with-file-requires
+    enum-told-4
     returns
     returns-2
     returns-3
     returns-4
-    returns-5)
+    returns-5
+    returns-6)

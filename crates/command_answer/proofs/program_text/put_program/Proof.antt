@@ -1,10 +1,10 @@
--- `put_kernel`: the sizes of both tables add up to the bytes of the text, which have room.
+-- `put_program`: the sizes of both tables add up to the bytes of the text, which have room.
 use Prim.Native.Nat.{_+_}
 use native.Mathlib.Omega.{arith}
 use Rattle.command_answer.proofs.Kernels.{rows-few, header-few, few-bytes, sizes-fill, put-first}
 use borrow.Author.Needs.{needs}
-use Rattle.command_answer.proofs.kernel_text.put_kernel.Statement.{statement}
-use Rattle.command_answer.proofs.kernel_text.put_kernel.Tie as tie
+use Rattle.command_answer.proofs.program_text.put_program.Statement.{statement}
+use Rattle.command_answer.proofs.program_text.put_program.Tie as tie
 
 size-of-requires : tie.Need-size-of-requires
 size-of-requires c κs = omega (arith, header-few (c .before .args .header .now) (c .before .args .rows .now) (c .before .pre .0))
@@ -40,8 +40,8 @@ returns c =
     put-first _ (start .args .out .now) (header-size .result + rows-size .result) _ _
     (sizes-fill _ _ (start .pre .0) (header-size .ensures) (rows-size .ensures) (start .args .out .now) (start .pre .1) .room) (c .before .before .put-text .ensures)
 
-pub put-kernel-spec : {M : Type 1} → statement M
-put-kernel-spec =
+pub put-program-spec : {M : Type 1} → statement M
+put-program-spec =
     tie.close
     (tie.spec
     size-of-requires

@@ -4,6 +4,7 @@
 
 use crate::entries::{Entries, KERNEL, SOURCE};
 use crate::programs::{n, v, Program};
+use clight::Cause;
 use interpreter::random::Random;
 use interpreter::table::*;
 use interpreter::tree::*;
@@ -176,6 +177,15 @@ fn call_flat_run(_: &Entries, program: &Program) {
     clight::flat_run(&program.header, &program.rows, &mut store, 10_000).unwrap();
 }
 
+/// A program and itself; the deepest are refused by 9, and 2,048 rows by 17.
+fn call_join(_: &Entries, program: &Program) {
+    let mut rows = vec![0; 6 * 2_048];
+    let (header, own) = (&program.header, &program.rows);
+    if let Err(refusal) = clight::join(header, own, header, own, &mut rows) {
+        assert!(matches!(refusal.cause, Cause::Depth | Cause::JoinedRows));
+    }
+}
+
 fn call_read(entries: &Entries, program: &Program) {
     let text = text::write(&program.header, &program.rows);
     let (mut header, mut rows) = (program.header.clone(), program.rows.clone());
@@ -199,6 +209,7 @@ pub fn print_all() {
         ("run", call_run, &SOURCE),
         ("preview", call_preview, &SOURCE),
         ("translate", call_translate, &SOURCE),
+        ("join", call_join, &SOURCE),
         ("kernel check", call_check, &KERNEL),
         ("kernel run", call_run, &KERNEL),
         ("flat run", call_flat_run, &KERNEL),

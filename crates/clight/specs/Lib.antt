@@ -7,6 +7,8 @@ pub mod Runs
 pub mod Previews
 -- Dispatcher runs: the answer of the dispatcher's run, and what it leaves in the words.
 pub mod DispatcherRuns
+-- Prints: what the printing of a kernel program answers, and what it leaves in the page.
+pub mod Prints
 -- Acceptance: the second promise of check and kernel check: they accept the legal programs and no others.
 pub mod Acceptance
 -- ---- laws

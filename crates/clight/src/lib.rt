@@ -3,6 +3,7 @@
 pub mod dispatcher; // dispatcher.rt: the kernel run that a dispatcher sees
 pub mod flat_lists; // flat_lists.rt: check and run of flat lists
 pub mod joins; // joins.rt: two source programs as one
+pub mod pages; // pages.rt: the kernel on paper
 pub mod previews; // previews.rt: what a run would do
 pub mod runs; // runs.rt: check, run, kernel check, kernel run
 pub mod texts; // texts.rt: reader and writer of both forms' texts

@@ -143,6 +143,12 @@ clight_answer clight_write_source(const int32_t *header, size_t header_words, co
 clight_answer clight_write_kernel(const int32_t *header, size_t header_words, const int32_t *rows, size_t row_words, uint8_t *text,
                                   size_t text_bytes);
 
+/* Prints a kernel program as a page: lines of 80 columns and a newline, 81 bytes each (docs/PAGES.md). Done: first is its bytes, second 0;
+   bytes beyond these keep their content. The causes of the kernel check, then 10. Read with the header, the page gives back the same rows, up
+   to numbering. */
+clight_answer clight_print_kernel(const int32_t *header, size_t header_words, const int32_t *rows, size_t row_words, uint8_t *page,
+                                  size_t page_bytes);
+
 #ifdef __cplusplus
 }
 #endif

@@ -157,4 +157,13 @@ extern "C" {
         text: *mut u8,
         text_bytes: usize,
     ) -> Answer;
+
+    pub fn clight_print_kernel(
+        header: *const i32,
+        header_words: usize,
+        rows: *const i32,
+        row_words: usize,
+        page: *mut u8,
+        page_bytes: usize,
+    ) -> Answer;
 }

@@ -304,6 +304,13 @@ pub fn write_kernel(header: &[i32], rows: &[i32], text: &mut [u8]) -> Result<usi
     write_by(foreign::clight_write_kernel, header, rows, text)
 }
 
+/// Prints a kernel program as a page of 81 bytes a line and gives its bytes;
+/// those beyond keep their content. Read with the header, the page gives back
+/// the same rows, up to numbering.
+pub fn print_kernel(header: &[i32], rows: &[i32], page: &mut [u8]) -> Result<usize, Refusal> {
+    write_by(foreign::clight_print_kernel, header, rows, page)
+}
+
 /// Writes the kernel form of a source program, a legal kernel program that
 /// shares its fate and makes its writes, in order, also where neither run ends;
 /// words of both tables beyond the result keep their content.

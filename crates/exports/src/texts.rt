@@ -1,10 +1,11 @@
-// Reader and writer of both forms' texts.
+// Reader and writer of both forms' texts, and the printer of pages.
 use super::Answer;
 use super::answers::of_read;
 use super::answers::of_write;
 ghost use mathlib.Core.Path.{_≡_};
 ghost use Rattle.words.specs.declared.Form.the-variants.{Source, Kernel};
 ghost use Rattle.text_form.specs.Answers.{readResult, writeResult};
+ghost use Rattle.clight.specs.Prints.{printResult};
 ghost use Rattle.exports.specs.Numbers.{outcomeAnswer};
 
 // Reads a source text into a header and rows.
@@ -43,4 +44,13 @@ pub extern "C" fn clight_write_kernel(header: &[i32], rows: &[i32], text: &mut [
     ensures { λ _. ⌜ now (text .exit) ≡ writeResult Kernel (now (header .entry)) (now (rows .entry)) (now (text .entry)) .text ⌝ }
 {
     of_write(clight::texts::write_kernel(header, rows, text))
+}
+
+// Prints a kernel program as a page.
+#[no_mangle]
+pub extern "C" fn clight_print_kernel(header: &[i32], rows: &[i32], page: &mut [u8]) -> Answer
+    ensures { λ r. ⌜ r ≡ outcomeAnswer (printResult (now (header .entry)) (now (rows .entry)) (now (page .entry)) .outcome) ⌝ }
+    ensures { λ _. ⌜ now (page .exit) ≡ printResult (now (header .entry)) (now (rows .entry)) (now (page .entry)) .text ⌝ }
+{
+    of_write(clight::pages::print_kernel(header, rows, page))
 }

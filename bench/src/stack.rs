@@ -172,6 +172,18 @@ fn call_translate(_: &Entries, program: &Program) {
     clight::translate(&program.header, &program.rows, &mut header, &mut rows).unwrap();
 }
 
+/// The words that a dispatcher sees: the store without the temporaries.
+fn call_dispatcher_run(_: &Entries, program: &Program) {
+    let temporaries = program.header[1] as usize;
+    let mut words = vec![1; Kernel.store_words(&program.header) - temporaries];
+    clight::dispatcher_run(&program.header, &program.rows, &mut words, 10_000).unwrap();
+}
+
+fn call_print_kernel(_: &Entries, program: &Program) {
+    let mut page = vec![0; 81 * 2 * program.row_count()];
+    clight::print_kernel(&program.header, &program.rows, &mut page).unwrap();
+}
+
 fn call_flat_run(_: &Entries, program: &Program) {
     let mut store = vec![1; Kernel.store_words(&program.header)];
     clight::flat_run(&program.header, &program.rows, &mut store, 10_000).unwrap();
@@ -203,7 +215,7 @@ pub fn print_all() {
     kernels.extend(sources.iter().map(crate::programs::translated));
     kernels.push(crate::programs::kernel_sized(40_980));
     sources.push(crate::programs::sized(2_048));
-    let calls: [(&str, Call, &'static Entries); 12] = [
+    let calls: [(&str, Call, &'static Entries); 15] = [
         ("nothing, for comparison", |_, _| {}, &SOURCE),
         ("check", call_check, &SOURCE),
         ("run", call_run, &SOURCE),
@@ -212,6 +224,8 @@ pub fn print_all() {
         ("join", call_join, &SOURCE),
         ("kernel check", call_check, &KERNEL),
         ("kernel run", call_run, &KERNEL),
+        ("dispatcher run", call_dispatcher_run, &KERNEL),
+        ("print kernel", call_print_kernel, &KERNEL),
         ("flat run", call_flat_run, &KERNEL),
         ("read source", call_read, &SOURCE),
         ("read kernel", call_read, &KERNEL),

@@ -20,10 +20,10 @@ use Rattle.shapes.specs.Source.{Source}
 use Rattle.translation.specs.declared.Use.{Use}
 use Rattle.translation.specs.Translate.{atomOf, operandCode}
 use Rattle.translation.specs.HeldCode.{holdBy}
-use Rattle.measures.specs.Parts.{firstOperand, aboveFirst, firstCopied, secondUse, usePassed, UseFits, OwnAt}
-use Rattle.measures.specs.MeasureLaws.{passed-fits, size-parts, first-copied-most, own-copies}
-use Rattle.measures.specs.declared.Own.{Own}
-use Rattle.measures.proofs.ExpressionLaws.{above-most}
+use Rattle.measure_table.specs.Parts.{firstOperand, aboveFirst, firstCopied, secondUse, usePassed, UseFits, OwnAt}
+use Rattle.measure_table.specs.MeasureLaws.{passed-fits, size-parts, first-copied-most, own-copies}
+use Rattle.measure_table.specs.declared.Own.{Own}
+use Rattle.expression_measures.proofs.ExpressionLaws.{above-most}
 use Rattle.leaves.specs.Room.{Room, moreRows}
 use Rattle.leaves.specs.Straight.{lastSize}
 use Rattle.leaves.specs.Asks.{Writing, LastAsks}

@@ -9,7 +9,7 @@ use Rattle.translation.specs.declared.Use.{Use}
 use Rattle.translation.specs.declared.Use.the-variants.{Wanted as wanted}
 use Rattle.translation.specs.Translate.{Atom as Held, number, word, top}
 use Rattle.translation.specs.TranslateSize.{operandSize}
-use Rattle.measures.specs.Parts.{UseFits}
+use Rattle.measure_table.specs.Parts.{UseFits}
 use Rattle.leaves.specs.Room.{Room}
 use Rattle.leaves.specs.Atoms.{AtomFits}
 use Rattle.leaves.specs.Straight.{lastSize}

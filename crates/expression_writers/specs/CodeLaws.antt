@@ -24,8 +24,8 @@ use Rattle.translation.specs.TranslateSize.{expressionSize, operandSize}
 use Rattle.translation.specs.TranslateRows.{rows-append, rows-expression}
 use Rattle.emission.specs.Emission.{rowOf, emitStatement, emitItems}
 use Rattle.emission.specs.EmissionLaws.{emit-append}
-use Rattle.measures.specs.Parts.{firstOperand, secondOperand, aboveFirst, firstCopied, firstUse, secondUse}
-use Rattle.measures.specs.MeasureLaws.{size-parts, first-copied-most, own-copies}
+use Rattle.measure_table.specs.Parts.{firstOperand, secondOperand, aboveFirst, firstCopied, firstUse, secondUse}
+use Rattle.measure_table.specs.MeasureLaws.{size-parts, first-copied-most, own-copies}
 use Rattle.words.specs.Over.{over}
 use Rattle.leaves.specs.Room.{moreRows}
 use Rattle.leaves.specs.Straight.{lastSize}

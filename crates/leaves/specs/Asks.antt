@@ -12,8 +12,8 @@ use Rattle.translation.specs.declared.Use.{Use}
 use Rattle.translation.specs.Translate.{atomOf, atom, targetWord, kernelPlace}
 use Rattle.translation.specs.TranslateSize.{indexRows as indexRowsOf, storeRows, copied}
 use Rattle.translation.specs.HeldCode.{heldBy}
-use Rattle.measures.specs.Parts.{UseFits}
-use Rattle.measures.specs.Measures.{Measured}
+use Rattle.measure_table.specs.Parts.{UseFits}
+use Rattle.measure_table.specs.Measures.{Measured}
 use Rattle.shapes.specs.Source.{mostVariables, mostArrays}
 use Rattle.shapes.specs.Shapes.{placeTree as placeShapeTree}
 use Rattle.shapes.specs.declared.PlaceShape.{PlaceShape}

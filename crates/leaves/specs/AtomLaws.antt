@@ -19,8 +19,8 @@ use Rattle.translation.specs.TranslateSize.{updateRows, postfixRows, copied}
 use Rattle.translation.specs.HeldCode.{taken-held, held-variable as held-no-index, heldBy, held-by, holdBy}
 use Rattle.shapes.specs.Shapes.{choiceTree, expressionTree, PlaceOnward}
 use Rattle.shapes.specs.Source.{mostVariables, mostArrays, ExpressionAt, PlaceAt as ShapePlaceAt}
-use Rattle.measures.specs.Parts.{UseFits, Holding}
-use Rattle.measures.specs.declared.Holder.the-variants.{Number as NumberHolder, Variable as VariableHolder, Temporary}
+use Rattle.measure_table.specs.Parts.{UseFits, Holding}
+use Rattle.measure_table.specs.declared.Holder.the-variants.{Number as NumberHolder, Variable as VariableHolder, Temporary}
 use Rattle.shapes.specs.declared.PlaceShape.{PlaceShape}
 use Rattle.shapes.specs.declared.PlaceShape.the-variants.{Variable as VariableShape, Element as ElementShape}
 use Rattle.shapes.specs.declared.ChoiceShape.{ChoiceShape}

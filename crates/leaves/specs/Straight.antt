@@ -14,7 +14,7 @@ use Rattle.translation.specs.declared.Use.the-variants.{Wanted as wanted}
 use Rattle.translation.specs.Translate.{held, landed, atomOf, taken, placeTaken, atom, assigning, target, readCode, storeCode, kernelPlace, updateCode, postfixCode}
 use Rattle.translation.specs.TranslateSize.{operandSize, ownRows}
 use Rattle.emission.specs.Emission.{rowOf}
-use Rattle.measures.specs.Parts.{thirdOperand, fourthOperand, firstCopied}
+use Rattle.measure_table.specs.Parts.{thirdOperand, fourthOperand, firstCopied}
 
 module _ (S : ℕ) where
   -- What an expression does with the values of its first two operands, where its own has the use u.

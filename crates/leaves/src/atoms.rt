@@ -1,13 +1,13 @@
 // Kernel atoms and places, from the source rows.
 use super::Atom;
 use super::KernelPlace;
-use measures::COPIED;
-use measures::Holder;
-use measures::WIDTH;
-use measures::holders::holder_at;
-use measures::holders::taken_at;
-use measures::table::measure_at;
-use measures::uses::rows_for;
+use expression_measures::holders::holder_at;
+use expression_measures::holders::taken_at;
+use measure_table::COPIED;
+use measure_table::Holder;
+use measure_table::WIDTH;
+use measure_table::table::measure_at;
+use measure_table::uses::rows_for;
 use shapes::PlaceShape;
 use shapes::rows::place_at;
 use translation::Use;
@@ -17,8 +17,8 @@ ghost use Rattle.words.specs.Table.{rowCount};
 ghost use Rattle.language.specs.Decode.{placeOf, expressionAt, partAt};
 ghost use Rattle.translation.specs.Translate.{placeTaken};
 ghost use Rattle.translation.specs.TranslateSize.{operandSize};
-ghost use Rattle.measures.specs.Parts.{firstCopied, UseFits};
-ghost use Rattle.measures.specs.Measures.{Measured};
+ghost use Rattle.measure_table.specs.Parts.{firstCopied, UseFits};
+ghost use Rattle.measure_table.specs.Measures.{Measured};
 ghost use Rattle.leaves.specs.Asks.{Writing, AtomAt, TargetIs, HeldAt, PlaceInside, HeldPlace, PlaceAt};
 
 // The atom of the expression at a row, worked out at a level.

@@ -20,11 +20,11 @@ use Rattle.shapes.specs.declared.MarkShape.the-variants.{Case, Default, Label}
 use Rattle.shapes.specs.declared.Item.the-variants as item
 use Rattle.shapes.specs.declared.ArmShape.{ArmShape}
 use Rattle.shapes.specs.declared.ArmShape.the-variants.{Arm, NoArm}
-use Rattle.measures.specs.Measures.{limited, pastLabels, defaultPlace, rowsSlot, levelsSlot, droppedRowsSlot, droppedLevelsSlot, rowsFor, levelsFor, statementRowsSlot, statementLevelsSlot, statementLabelsSlot, listRowsSlot, listLevelsSlot, listLabelsSlot, listCasesSlot, listDefaultSlot, armsRowsSlot, armsLevelsSlot, armsLabelsSlot, slotAt, testSlots, MeasuredFrom, StatementMeasured, ListMeasured, ArmsMeasured, markMeasures, statementMeasures, plainMeasures, noMeasures, aroundArms, expressMeasures, blockMeasures, ifMeasures, loopMeasures, switchMeasures, guardedMeasures, roundsMeasures, armMeasures}
-use Rattle.measures.specs.declared.StatementMeasures.{StatementMeasures}
-use Rattle.measures.specs.declared.ListMeasures.{ListMeasures}
-use Rattle.measures.specs.MeasureLaws.{part-rows, part-levels, list-rows, list-levels, list-labels, list-cases, list-default, arms-rows, arms-levels, arms-labels, body-rows, body-levels, body-labels}
-use Rattle.measures.proofs.ExpressionLaws.{limited-max, limited-twice}
+use Rattle.measure_table.specs.Measures.{limited, pastLabels, defaultPlace, rowsSlot, levelsSlot, droppedRowsSlot, droppedLevelsSlot, rowsFor, levelsFor, statementRowsSlot, statementLevelsSlot, statementLabelsSlot, listRowsSlot, listLevelsSlot, listLabelsSlot, listCasesSlot, listDefaultSlot, armsRowsSlot, armsLevelsSlot, armsLabelsSlot, slotAt, testSlots, MeasuredFrom, StatementMeasured, ListMeasured, ArmsMeasured, markMeasures, statementMeasures, plainMeasures, noMeasures, aroundArms, expressMeasures, blockMeasures, ifMeasures, loopMeasures, switchMeasures, guardedMeasures, roundsMeasures, armMeasures}
+use Rattle.measure_table.specs.declared.StatementMeasures.{StatementMeasures}
+use Rattle.measure_table.specs.declared.ListMeasures.{ListMeasures}
+use Rattle.measure_table.specs.MeasureLaws.{part-rows, part-levels, list-rows, list-levels, list-labels, list-cases, list-default, arms-rows, arms-levels, arms-labels, body-rows, body-levels, body-labels}
+use Rattle.expression_measures.proofs.ExpressionLaws.{limited-max, limited-twice}
 
 small : (n : ℕ) → n ≤ 2 → n ≡ limited n
 unfolding limited

@@ -1,14 +1,14 @@
 // The measures of a list, from those of its first item and of the list behind it.
-use super::LIST_CASES;
-use super::LIST_DEFAULT;
-use super::LIST_LABELS;
-use super::LIST_LEVELS;
-use super::LIST_ROWS;
-use super::ListMeasures;
-use super::StatementMeasures;
-use super::table::larger;
-use super::table::limited;
-use super::table::measure_at;
+use measure_table::LIST_CASES;
+use measure_table::LIST_DEFAULT;
+use measure_table::LIST_LABELS;
+use measure_table::LIST_LEVELS;
+use measure_table::LIST_ROWS;
+use measure_table::ListMeasures;
+use measure_table::StatementMeasures;
+use measure_table::table::larger;
+use measure_table::table::limited;
+use measure_table::table::measure_at;
 use shapes::Item;
 use shapes::MarkShape;
 use shapes::rows::item_at;
@@ -19,7 +19,7 @@ ghost use Rattle.words.specs.Table.{rowCount};
 ghost use Rattle.language.specs.Decode.{statementAt, itemsAt};
 ghost use Rattle.shapes.specs.Shapes.{ItemAt};
 ghost use Rattle.shapes.specs.declared.Item.the-variants.{Mark};
-ghost use Rattle.measures.specs.Measures.{limited as limitedTo, pastLabels, MarkAsks, markMeasures, StatementAsks, statementMeasures, MeasuredFrom, StatementMeasured, ListMeasured};
+ghost use Rattle.measure_table.specs.Measures.{limited as limitedTo, pastLabels, MarkAsks, markMeasures, StatementAsks, statementMeasures, MeasuredFrom, StatementMeasured, ListMeasured};
 
 // The place of a default that stands behind `more` labels; 0 stays 0.
 fn past_labels(more: usize, place: usize) -> usize

@@ -1,16 +1,16 @@
 // The pass over the rows, from the last to the first: every link leads to a row that is measured already.
 use super::arms::measured_arms;
-use super::expressions::measured_expression;
 use super::lists::measured_list;
 use super::statements::measured_statement;
-use super::table::set_measures;
-use super::writes::fill_sets;
+use expression_measures::expressions::measured_expression;
+use measure_table::table::set_measures;
+use row_writes::writes::fill_sets;
 ghost use Prim.Native.Nat.{_+_, _*_, _≤_, _<_};
 ghost use lib.ListN.{length};
 ghost use Rattle.words.specs.Table.{rowCount};
 ghost use Rattle.shapes.specs.Source.{Source};
-ghost use Rattle.measures.specs.WriteSets.{Sets};
-ghost use Rattle.measures.specs.Measures.{width, MeasuredFrom, Measured};
+ghost use Rattle.row_writes.specs.WriteSets.{Sets};
+ghost use Rattle.measure_table.specs.Measures.{width, MeasuredFrom, Measured};
 
 fn measure_row(rows: &[i32], sets: &[u64], table: &mut [usize], row: usize)
     requires { ⌜ Sets (now rows) (now sets) × MeasuredFrom (now rows) (now table) (row + 1) × (row < rowCount (now rows)) ⌝ }

@@ -1,30 +1,30 @@
 // The measures of a statement, by its shape, from those of the rows that its links lead to.
-use super::ARMS_LABELS;
-use super::ARMS_LEVELS;
-use super::ARMS_ROWS;
-use super::DROPPED_LEVELS;
-use super::DROPPED_ROWS;
-use super::LEVELS;
-use super::LIST_CASES;
-use super::LIST_LABELS;
-use super::LIST_LEVELS;
-use super::LIST_ROWS;
-use super::ROWS;
-use super::STATEMENT_LABELS;
-use super::STATEMENT_LEVELS;
-use super::STATEMENT_ROWS;
-use super::StatementMeasures;
-use super::holders::taken_at;
-use super::table::larger;
-use super::table::limited;
-use super::table::measure_at;
+use expression_measures::holders::taken_at;
+use measure_table::ARMS_LABELS;
+use measure_table::ARMS_LEVELS;
+use measure_table::ARMS_ROWS;
+use measure_table::DROPPED_LEVELS;
+use measure_table::DROPPED_ROWS;
+use measure_table::LEVELS;
+use measure_table::LIST_CASES;
+use measure_table::LIST_LABELS;
+use measure_table::LIST_LEVELS;
+use measure_table::LIST_ROWS;
+use measure_table::ROWS;
+use measure_table::STATEMENT_LABELS;
+use measure_table::STATEMENT_LEVELS;
+use measure_table::STATEMENT_ROWS;
+use measure_table::StatementMeasures;
+use measure_table::table::larger;
+use measure_table::table::limited;
+use measure_table::table::measure_at;
 use shapes::StatementShape;
 use shapes::rows::statement_at;
 ghost use mathlib.Core.Path.{_≡_};
 ghost use Prim.Native.Nat.{_+_, _≤_, _<_};
 ghost use Rattle.words.specs.Table.{rowCount};
 ghost use Rattle.language.specs.Decode.{statementAt};
-ghost use Rattle.measures.specs.Measures.{plainMeasures, expressMeasures, blockMeasures, ifMeasures, loopMeasures, switchMeasures, guardedMeasures, roundsMeasures, LinkMeasured, TestIs, MeasuredFrom, StatementMeasured};
+ghost use Rattle.measure_table.specs.Measures.{plainMeasures, expressMeasures, blockMeasures, ifMeasures, loopMeasures, switchMeasures, guardedMeasures, roundsMeasures, LinkMeasured, TestIs, MeasuredFrom, StatementMeasured};
 
 // The test of a loop takes 5 rows beside its code, where there is one.
 fn test_rows(table: &[usize], test: usize) -> usize

@@ -12,7 +12,7 @@ use Rattle.words.specs.Table.{rowCount}
 use Rattle.language.specs.Decode.{expressionAt}
 use Rattle.language.specs.Writes.{writes}
 use Rattle.shapes.specs.Source.{mostVariables}
-use Rattle.measures.specs.WriteSets.{SetIs, Sets, setWidth, setOf}
+use Rattle.row_writes.specs.WriteSets.{SetIs, Sets, setWidth, setOf}
 use Rattle.write_sets.specs.Sets.{member, nothing, join}
 use Rattle.write_sets.specs.SetLaws.{member-nothing, member-join}
 use Rattle.write_sets.specs.Counts.{countBelow, count-same}

@@ -7,7 +7,7 @@ use Rattle.words.specs.Table.{rowCount}
 use Rattle.language.specs.Trees.{Expression}
 use Rattle.language.specs.Decode.{expressionAt}
 use Rattle.language.specs.Writes.{writes}
-use Rattle.measures.specs.WriteSets.{SetIs}
+use Rattle.row_writes.specs.WriteSets.{SetIs}
 use Rattle.write_sets.specs.Sets.{variableBits}
 use Rattle.write_sets.specs.Counts.{countBelow}
 use Rattle.program_writes.specs.ArrayWrites.{writesArray}

@@ -1,7 +1,7 @@
 // What any row of a program can write: the sets of its rows joined.
 use super::Writes;
 use super::arrays::fill_arrays;
-use measures::writes::fill_sets;
+use row_writes::writes::fill_sets;
 use write_sets::WriteSet;
 use write_sets::arrays::join_arrays;
 use write_sets::count;
@@ -12,7 +12,7 @@ ghost use Prim.Native.Nat.{_+_, _*_, _≤_};
 ghost use lib.ListN.{length};
 ghost use Rattle.words.specs.Table.{rowCount};
 ghost use Rattle.shapes.specs.Source.{Source};
-ghost use Rattle.measures.specs.WriteSets.{SetIs, Sets, setWidth, setOf};
+ghost use Rattle.row_writes.specs.WriteSets.{SetIs, Sets, setWidth, setOf};
 ghost use Rattle.program_writes.specs.Arrays.{ArraysAre, ArraysFrom};
 ghost use Rattle.program_writes.specs.ProgramWrites.{programWrites, programWritesArray, written, WritesAre};
 

@@ -32,7 +32,7 @@ use Rattle.accepted.specs.Names.{source-variable}
 use Rattle.accepted.specs.Source.{legal-sound, legal-rows}
 use Rattle.accepted.specs.Statements.{root-kind}
 use Rattle.shapes.specs.Source.{mostVariables, Source}
-use Rattle.measures.specs.Measures.{statementRowsSlot, statementLevelsSlot, slot, Measured}
+use Rattle.measure_table.specs.Measures.{statementRowsSlot, statementLevelsSlot, slot, Measured}
 use Rattle.writers.specs.Program.{ProgramAsks, kernelProgram}
 use Rattle.writers.specs.WholeProgram.{is-translation, program-rows, program-levels}
 use Rattle.fate.specs.KernelForms.{kernelHeaderOf, kernelRowsOf}

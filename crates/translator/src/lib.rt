@@ -1,7 +1,7 @@
 // The translator: writes the kernel header and the kernel rows of a source program that the check accepts.
 use header::write_header;
-use measures::STATEMENT_LEVELS;
-use measures::STATEMENT_ROWS;
+use measure_table::STATEMENT_LEVELS;
+use measure_table::STATEMENT_ROWS;
 use measures::pass::measure;
 use words::Form;
 use words::Refusal;
@@ -11,7 +11,7 @@ use writers::program::write_program;
 ghost use mathlib.Core.Path.{_≡_};
 ghost use Rattle.words.specs.declared.Verdict.the-variants.{Accepted};
 ghost use Rattle.source_check.specs.Refusal.{refusal as sourceRefusal};
-ghost use Rattle.measures.specs.Measures.{Measured};
+ghost use Rattle.measure_table.specs.Measures.{Measured};
 ghost use Rattle.fate.specs.KernelForms.{HasKernelForm};
 ghost use Rattle.translator.specs.Translation.{answerAndTables, translateAfter, translateResult, WritesKernelForm};
 

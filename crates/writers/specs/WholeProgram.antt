@@ -17,8 +17,8 @@ use Rattle.language.specs.SoundLaws.{optional-link-of}
 use Rattle.translation.specs.Translate.{statementLevels, temporaries, translate}
 use Rattle.translation.specs.TranslateSize.{statementSize, itemsSize}
 use Rattle.shapes.specs.Source.{Source}
-use Rattle.measures.specs.Measures.{statementRowsSlot, statementLevelsSlot, slot, Measured}
-use Rattle.measures.specs.MeasureLaws.{limited-small, whole-row}
+use Rattle.measure_table.specs.Measures.{statementRowsSlot, statementLevelsSlot, slot, Measured}
+use Rattle.measure_table.specs.MeasureLaws.{limited-small, whole-row}
 use Rattle.writers.specs.Program.{kernelProgram}
 
 pub is-translation : (L : Layout) (program : Items) → kernelProgram (storeSize L) program ≡ block (translate L program)

@@ -1,13 +1,13 @@
 // What statements, items, lists and arms take, by the table of measures: rows, labels, cases.
-use measures::ARMS_LABELS;
-use measures::ARMS_ROWS;
-use measures::LIST_CASES;
-use measures::LIST_DEFAULT;
-use measures::LIST_ROWS;
-use measures::STATEMENT_LABELS;
-use measures::STATEMENT_ROWS;
-use measures::WIDTH;
-use measures::table::measure_at;
+use measure_table::ARMS_LABELS;
+use measure_table::ARMS_ROWS;
+use measure_table::LIST_CASES;
+use measure_table::LIST_DEFAULT;
+use measure_table::LIST_ROWS;
+use measure_table::STATEMENT_LABELS;
+use measure_table::STATEMENT_ROWS;
+use measure_table::WIDTH;
+use measure_table::table::measure_at;
 use shapes::Item;
 use shapes::rows::item_at;
 ghost use mathlib.Core.Path.{_≡_};
@@ -17,7 +17,7 @@ ghost use Rattle.language.specs.Trees.{default};
 ghost use Rattle.language.specs.Decode.{statementAt, itemsAt, listAt, armListAt};
 ghost use Rattle.translation.specs.Translate.{labels, armsLabels, labelOf};
 ghost use Rattle.translation.specs.TranslateSize.{statementSize, armsSize, itemsSize, cases};
-ghost use Rattle.measures.specs.Measures.{Measured};
+ghost use Rattle.measure_table.specs.Measures.{Measured};
 ghost use Rattle.writers.specs.Items.{itemSize, itemLabels};
 ghost use Rattle.writers.specs.Asks.{bodySize, ListInside};
 

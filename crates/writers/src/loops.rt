@@ -18,7 +18,7 @@ ghost use Rattle.language.specs.Decode.{partAt};
 ghost use Rattle.translation.specs.Translate.{testCode};
 ghost use Rattle.translation.specs.TranslateSize.{testSize as testSizeOf};
 ghost use Rattle.emission.specs.Emission.{emitItems};
-ghost use Rattle.measures.specs.Measures.{Measured};
+ghost use Rattle.measure_table.specs.Measures.{Measured};
 ghost use Rattle.words.specs.Over.{over};
 ghost use Rattle.leaves.specs.Asks.{Writing};
 ghost use Rattle.writers.specs.Code.{roundEnd};

@@ -17,7 +17,7 @@ ghost use Rattle.language.specs.Decode.{itemsAt, listAt};
 ghost use Rattle.translation.specs.Translate.{caseTests};
 ghost use Rattle.emission.specs.Emission.{emitItems};
 ghost use Rattle.shapes.specs.Source.{Source};
-ghost use Rattle.measures.specs.Measures.{Measured};
+ghost use Rattle.measure_table.specs.Measures.{Measured};
 ghost use Rattle.words.specs.Over.{over};
 ghost use Rattle.leaves.specs.Room.{Room};
 ghost use Rattle.leaves.specs.Atoms.{atomTree, AtomFits};

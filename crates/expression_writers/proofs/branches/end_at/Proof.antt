@@ -2,11 +2,11 @@
 use native.Mathlib.Omega.{arith}
 use Rattle.language.specs.Decode.{expressionAt}
 use Rattle.translation.specs.Translate.{atomOf}
-use Rattle.measures.specs.MeasureLaws.{whole-asks}
+use Rattle.measure_table.specs.MeasureLaws.{whole-asks}
 use Rattle.expression_writers.proofs.Choices.{end-stays, end-copy}
 use Rattle.expression_writers.proofs.branches.end_at.Statement.{statement}
 use Rattle.expression_writers.proofs.branches.end_at.Tie as tie
-use Rattle.measures.proofs.holders.taken_at.Reads as taken-at-reads
+use Rattle.expression_measures.proofs.holders.taken_at.Reads as taken-at-reads
 
 taken-at-requires : tie.Need-taken-at-requires
 taken-at-requires c κs = whole-asks (c .before .pre .0) (c .before .pre .1)

@@ -2,8 +2,8 @@
 use native.Mathlib.Omega.{arith}
 use mir.Syntax.{w32}
 use mir.Facts.{toZ-ofZ}
-use Rattle.measures.specs.MeasureLaws.{whole-asks}
-use Rattle.measures.proofs.HolderLaws.{held-as}
+use Rattle.measure_table.specs.MeasureLaws.{whole-asks}
+use Rattle.expression_measures.proofs.HolderLaws.{held-as}
 use Rattle.leaves.specs.AtomLaws.{atom-number, atom-variable, atom-temporary}
 use borrow.Author.Needs.{needs}
 use Rattle.leaves.proofs.atoms.atom_at.Statement.{statement}

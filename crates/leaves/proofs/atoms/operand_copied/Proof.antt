@@ -1,5 +1,5 @@
 -- The copy of the first operand's value, from the table.
-use Rattle.measures.specs.MeasureLaws.{whole-row}
+use Rattle.measure_table.specs.MeasureLaws.{whole-row}
 use borrow.Author.Needs.{needs}
 use Rattle.leaves.proofs.atoms.operand_copied.Statement.{statement}
 use Rattle.leaves.proofs.atoms.operand_copied.Tie as tie

@@ -1,8 +1,8 @@
 -- The rows of an expression, from the table.
 use mathlib.Core.Path.{ap, _∙_}
 use native.Mathlib.Omega.{arith}
-use Rattle.measures.specs.Measures.{slotAt}
-use Rattle.measures.specs.MeasureLaws.{limited-small, whole-slot, whole-part}
+use Rattle.measure_table.specs.Measures.{slotAt}
+use Rattle.measure_table.specs.MeasureLaws.{limited-small, whole-slot, whole-part}
 use borrow.Author.Needs.{needs}
 use Rattle.leaves.proofs.atoms.operand_size.Statement.{statement}
 use Rattle.leaves.proofs.atoms.operand_size.Tie as tie

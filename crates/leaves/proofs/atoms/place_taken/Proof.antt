@@ -2,7 +2,7 @@
 use mathlib.Core.Path.{sym, ap, _∙_}
 use Rattle.translation.specs.Translate.{placeTaken}
 use Rattle.shapes.specs.ShapeLaws.{placed}
-use Rattle.measures.specs.MeasureLaws.{whole-asks}
+use Rattle.measure_table.specs.MeasureLaws.{whole-asks}
 use borrow.Author.Needs.{needs}
 use Rattle.leaves.proofs.atoms.place_taken.Statement.{statement}
 use Rattle.leaves.proofs.atoms.place_taken.Tie as tie

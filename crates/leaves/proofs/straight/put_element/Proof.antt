@@ -6,7 +6,7 @@ use Rattle.language.specs.Decode.{expressionAt}
 use Rattle.translation.specs.Translate.{atomOf}
 use Rattle.translation.specs.TranslateBounds.{taken-most}
 use Rattle.translation.specs.HeldCode.{copied-most}
-use Rattle.measures.specs.MeasureLaws.{whole-asks}
+use Rattle.measure_table.specs.MeasureLaws.{whole-asks}
 use Rattle.leaves.specs.AtomLaws.{held-is, above-held, stored-element}
 use Rattle.leaves.specs.LeafLaws.{recoded}
 use borrow.Author.Needs.{needs}

@@ -6,7 +6,7 @@ use Rattle.language.specs.Trees.{Expression, binary, assign, variable, express,
 use Rattle.language.specs.Decode.{expressionAt}
 use Rattle.translation.specs.Translate.{atomOf, atom}
 use Rattle.translation.specs.TranslateBounds.{taken-most}
-use Rattle.measures.specs.MeasureLaws.{whole-asks}
+use Rattle.measure_table.specs.MeasureLaws.{whole-asks}
 use Rattle.leaves.specs.LeafLaws.{recoded}
 use Rattle.language.specs.Writes.{writes}
 use Rattle.translation.specs.HeldCode.{copied-most}
@@ -17,7 +17,7 @@ use Rattle.leaves.proofs.straight.put_operator.Tie as tie
 use Rattle.leaves.proofs.assignments.put_binary.Reads as put-binary-reads
 use Rattle.leaves.proofs.atoms.atom_at.Reads as atom-at-reads
 use Rattle.leaves.proofs.atoms.held_atom.Reads as held-atom-reads
-use Rattle.measures.proofs.holders.taken_at.Reads as taken-at-reads
+use Rattle.expression_measures.proofs.holders.taken_at.Reads as taken-at-reads
 
 held-atom-requires : tie.Need-held-atom-requires
 held-atom-requires c κs = search needs

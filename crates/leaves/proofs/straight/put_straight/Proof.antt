@@ -15,8 +15,8 @@ use Rattle.leaves.specs.Chain.{room-less}
 use Rattle.leaves.specs.AtomLaws.{held-is, onward-inside, room-by-shape, choice-none}
 use Rattle.leaves.specs.LeafLaws.{recoded, nothing-wrote}
 use Rattle.language.specs.Writes.{indexWrites}
-use Rattle.measures.specs.Parts.{firstCopied}
-use Rattle.measures.specs.MeasureLaws.{landed-copied}
+use Rattle.measure_table.specs.Parts.{firstCopied}
+use Rattle.measure_table.specs.MeasureLaws.{landed-copied}
 use borrow.Author.Needs.{needs}
 use Rattle.leaves.proofs.straight.put_straight.Statement.{statement}
 use Rattle.leaves.proofs.straight.put_straight.Tie as tie

@@ -1,7 +1,7 @@
 -- The arms from a row on, by what the row is among arms.
 use mathlib.Core.Path.{refl}
 use Rattle.shapes.specs.ShapeLaws.{armed, optional}
-use Rattle.measures.specs.MeasureLaws.{slot-asks}
+use Rattle.measure_table.specs.MeasureLaws.{slot-asks}
 use Rattle.measures.proofs.StatementLaws.{at-behind, arm-measured, no-arm-measured}
 use borrow.Author.Needs.{needs}
 use Rattle.measures.proofs.arms.measured_arms.Statement.{statement}

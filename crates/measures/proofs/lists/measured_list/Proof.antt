@@ -1,6 +1,6 @@
 -- A list by its first item.
 use Rattle.shapes.specs.ShapeLaws.{itemed, at-next}
-use Rattle.measures.specs.MeasureLaws.{slot-asks, limited-as}
+use Rattle.measure_table.specs.MeasureLaws.{slot-asks, limited-as}
 use Rattle.measures.proofs.StatementLaws.{statement-list}
 use borrow.Author.Needs.{needs}
 use Rattle.measures.proofs.lists.measured_list.Statement.{statement}

@@ -4,7 +4,7 @@ use native.Mathlib.Omega.{arith}
 use Rattle.measures.proofs.pass.measure.Statement.{statement}
 use Rattle.measures.proofs.pass.measure.Tie as tie
 use Rattle.measures.proofs.pass.measure_rows.Reads as measure-rows-reads
-use Rattle.measures.proofs.writes.fill_sets.Reads as fill-sets-reads
+use Rattle.row_writes.proofs.writes.fill_sets.Reads as fill-sets-reads
 
 slice-aggregate-fill-sets : tie.Need-slice-aggregate-fill-sets
 slice-aggregate-fill-sets c = refl

@@ -6,12 +6,12 @@ use Rattle.shapes.specs.ShapeLaws.{stated, optional}
 use Rattle.translation.specs.Translate.{atomOf, labels, statementLevels}
 use Rattle.translation.specs.TranslateSize.{statementSize}
 use Rattle.translation.specs.TranslateBounds.{taken-most}
-use Rattle.measures.specs.MeasureLaws.{slot-asks, link-asks}
+use Rattle.measure_table.specs.MeasureLaws.{slot-asks, link-asks}
 use Rattle.measures.proofs.StatementLaws.{absent-link, plain-measured, express-measured, block-measured, if-measured, while-shape, do-shape, for-measured, switch-measured, guarded-measured, rounds-shape}
 use borrow.Author.Needs.{needs}
 use Rattle.measures.proofs.statements.measured_statement.Statement.{statement}
 use Rattle.measures.proofs.statements.measured_statement.Tie as tie
-use Rattle.measures.proofs.holders.taken_at.Reads as taken-at-reads
+use Rattle.expression_measures.proofs.holders.taken_at.Reads as taken-at-reads
 use Rattle.measures.proofs.statements.block_measures.Reads as block-measures-reads
 use Rattle.measures.proofs.statements.express_measures.Reads as express-measures-reads
 use Rattle.measures.proofs.statements.guarded_measures.Reads as guarded-measures-reads

@@ -28,8 +28,8 @@ use Rattle.leaves.proofs.control.put_block.Reads as put-block-reads
 use Rattle.leaves.proofs.control.put_if.Reads as put-if-reads
 use Rattle.leaves.proofs.straight.put_hold.Reads as put-hold-reads
 use Rattle.leaves.proofs.straight.put_straight.Reads as put-straight-reads
-use Rattle.measures.proofs.parts.own_at.Reads as own-at-reads
-use Rattle.measures.proofs.uses.second_use.Reads as second-use-reads
+use Rattle.expression_measures.proofs.parts.own_at.Reads as own-at-reads
+use Rattle.measure_table.proofs.uses.second_use.Reads as second-use-reads
 use Rattle.expression_writers.proofs.Ranks.{rank}
 
 abbrev pub μ-write-branch : Measures 3 write-branch-kinds.ps ℕ

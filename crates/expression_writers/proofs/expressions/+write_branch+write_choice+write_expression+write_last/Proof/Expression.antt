@@ -4,7 +4,7 @@ use mathlib.Core.Path.{sym, ap}
 use Prim.Native.Nat.{ℕ}
 use native.Mathlib.Omega.{arith}
 use Rattle.language.specs.Decode.{partAt}
-use Rattle.measures.specs.MeasureLaws.{whole-behind}
+use Rattle.measure_table.specs.MeasureLaws.{whole-behind}
 use Rattle.leaves.specs.LeafLaws.{recoded, nothing-wrote}
 use Rattle.translation.specs.Translate.{operandCode}
 use Rattle.expression_writers.proofs.Ranks.{rank-some}

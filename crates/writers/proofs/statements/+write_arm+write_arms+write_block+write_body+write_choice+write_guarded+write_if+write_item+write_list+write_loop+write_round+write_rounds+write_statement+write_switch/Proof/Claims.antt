@@ -79,7 +79,7 @@ use Rattle.writers.proofs.loops.write_round_end.Reads as write-round-en
 use Rattle.writers.proofs.loops.write_test.Reads as write-test-reads
 use Rattle.shapes.proofs.rows.item_at.Reads as item-at-reads
 use Rattle.shapes.proofs.rows.statement_at.Reads as statement-at-reads
-use Rattle.measures.proofs.holders.taken_at.Reads as taken-at-reads
+use Rattle.expression_measures.proofs.holders.taken_at.Reads as taken-at-reads
 use Rattle.writers.proofs.lists.body_size.Reads as body-size-reads
 use Rattle.writers.proofs.loops.round_size.Reads as round-size-reads
 use Rattle.writers.proofs.statements.write_express.Reads as write-express-reads

@@ -1,0 +1,103 @@
+// Which values are copied: a variable's that waits for its use while something is worked out that can write the variable.
+use super::holders::holder_at;
+use measure_table::Holder;
+use row_writes::writes::set_at;
+use shapes::ExpressionShape;
+use shapes::OperationShape;
+use shapes::PlaceShape;
+use shapes::rows::expression_at;
+use shapes::rows::place_at;
+use write_sets::has;
+ghost use mathlib.Core.Path.{_≡_};
+ghost use Prim.Native.Nat.{_+_, _*_, _≤_, _<_};
+ghost use lib.ListN.{length};
+ghost use Rattle.words.specs.Word.{pick};
+ghost use Rattle.words.specs.Table.{rowCount};
+ghost use Rattle.language.specs.Decode.{placeOf, expressionAt, partAt};
+ghost use Rattle.translation.specs.Translate.{atomOf};
+ghost use Rattle.translation.specs.TranslateSize.{copied};
+ghost use Rattle.shapes.specs.Source.{Source, ExpressionAt};
+ghost use Rattle.shapes.specs.declared.ExpressionShape.the-variants.{Operation};
+ghost use Rattle.write_sets.specs.Sets.{member};
+ghost use Rattle.measure_table.specs.Parts.{indexOf, firstCopied, Operand};
+ghost use Rattle.row_writes.specs.WriteSets.{partWrites, setAt, SetHeld, Sets};
+ghost use Rattle.measure_table.specs.Measures.{width, MeasuredFrom, MeasuredRow};
+
+// 1 where the set of the row that a link leads to has the variable, else 0.
+fn written(sets: &[u64], link: usize, variable: usize) -> usize
+    requires { ⌜ SetHeld (now sets) link ⌝ }
+    ensures { λ r. ⌜ r ≡ pick (member (setAt (now (sets .entry)) link) variable) 1 0 ⌝ }
+{
+    if has(set_at(sets, link), variable) {
+        return 1;
+    }
+    0
+}
+
+// 1 where the value of the expression at a row is copied, because it waits while the expression at a link is worked out; else 0.
+fn copied_over(rows: &[i32], sets: &[u64], table: &[usize], row: usize, meanwhile: usize) -> usize
+    requires { ⌜ Sets (now rows) (now sets) × (row < rowCount (now rows)) × (meanwhile < rowCount (now rows)) ⌝ }
+    requires { ⌜ (width * rowCount (now rows) ≤ length (now table)) × MeasuredRow (now rows) (now table) row ⌝ }
+    ensures { λ r. ⌜ r ≡ copied (atomOf (expressionAt (now (rows .entry)) row)) (partWrites (partAt (now (rows .entry)) meanwhile)) ⌝ }
+{
+    let holder = holder_at(rows, table, row);
+    match holder {
+        Holder::Number(_) => 0,
+        Holder::Variable(variable) => written(sets, meanwhile, variable),
+        Holder::Temporary => 0,
+    }
+}
+
+// The row of the index of the place at a row; 0 for a variable.
+fn index_at(rows: &[i32], row: usize) -> usize
+    requires { ⌜ Source (now rows) × (row < rowCount (now rows)) ⌝ }
+    ensures { λ r. ⌜ Operand (now (rows .entry)) row r (indexOf (placeOf (expressionAt (now (rows .entry)) row))) ⌝ }
+{
+    let place = place_at(rows, row);
+    match place {
+        PlaceShape::Variable(_) => 0,
+        PlaceShape::Element(_, index) => index,
+    }
+}
+
+fn copied_operation(
+    rows: &[i32],
+    sets: &[u64],
+    table: &[usize],
+    row: usize,
+    operation: OperationShape,
+) -> usize
+    requires { ⌜ Sets (now rows) (now sets) × MeasuredFrom (now rows) (now table) (row + 1) × ExpressionAt (now rows) row (Operation operation) ⌝ }
+    ensures { λ r. ⌜ r ≡ firstCopied (expressionAt (now (rows .entry)) row) ⌝ }
+{
+    match operation {
+        OperationShape::Minus(_) => 0,
+        OperationShape::Not(_) => 0,
+        OperationShape::Binary(_, a, b) => copied_over(rows, sets, table, b, a),
+        OperationShape::Comma(_, _) => 0,
+        OperationShape::Assign(place, e) => {
+            copied_over(rows, sets, table, e, index_at(rows, place))
+        }
+        OperationShape::Compound(_, place, e) => {
+            copied_over(rows, sets, table, e, index_at(rows, place))
+        }
+        OperationShape::Prefix(_, _) => 0,
+        OperationShape::Postfix(_, _) => 0,
+    }
+}
+
+// 1 where the expression at a row copies the value of its first operand, else 0.
+pub fn copied_at(rows: &[i32], sets: &[u64], table: &[usize], row: usize) -> usize
+    requires { ⌜ Sets (now rows) (now sets) × MeasuredFrom (now rows) (now table) (row + 1) × (row < rowCount (now rows)) ⌝ }
+    ensures { λ r. ⌜ r ≡ firstCopied (expressionAt (now (rows .entry)) row) ⌝ }
+{
+    let shape = expression_at(rows, row);
+    match shape {
+        ExpressionShape::Number(_) => 0,
+        ExpressionShape::Read(_) => 0,
+        ExpressionShape::Operation(operation) => {
+            copied_operation(rows, sets, table, row, operation)
+        }
+        ExpressionShape::Choice(_) => 0,
+    }
+}

@@ -1,0 +1,78 @@
+// The measures of an expression, from what its own row brings and the measures of its operands.
+use super::copies::copied_at;
+use super::parts::own_at;
+use measure_table::ExpressionMeasures;
+use measure_table::LEVELS;
+use measure_table::Own;
+use measure_table::ROWS;
+use measure_table::table::larger;
+use measure_table::table::limited;
+use measure_table::table::measure_at;
+use measure_table::uses::levels_by;
+use measure_table::uses::levels_for;
+use measure_table::uses::rows_by;
+use measure_table::uses::rows_for;
+use measure_table::uses::second_use;
+use translation::Use;
+ghost use mathlib.Core.Path.{_≡_};
+ghost use Prim.Native.Nat.{_+_, _<_};
+ghost use Rattle.words.specs.Table.{rowCount};
+ghost use Rattle.language.specs.Decode.{expressionAt};
+ghost use Rattle.translation.specs.Translate.{expressionLevels};
+ghost use Rattle.translation.specs.TranslateSize.{expressionSize};
+ghost use Rattle.measure_table.specs.Parts.{OwnAt};
+ghost use Rattle.row_writes.specs.WriteSets.{Sets};
+ghost use Rattle.measure_table.specs.Measures.{limited as limitedTo, MeasuredFrom, ExpressionMeasured};
+
+// The kernel rows of the expression at a row, where its value has this use, from those of its operands.
+fn expression_rows(rows: &[i32], table: &[usize], row: usize, own: Own, usage: Use) -> usize
+    requires { ⌜ MeasuredFrom (now rows) (now table) (row + 1) × (row < rowCount (now rows)) × OwnAt (now rows) row own ⌝ }
+    ensures { λ r. ⌜ r ≡ limitedTo (expressionSize (expressionAt (now (rows .entry)) row) usage) ⌝ }
+{
+    let first_use = own.first_use;
+    let second_use = second_use(own.passes, usage);
+    let first = measure_at(table, own.first, rows_for(first_use));
+    let second = measure_at(table, own.second, rows_for(second_use));
+    let third = measure_at(table, own.third, ROWS);
+    let fourth = measure_at(table, own.fourth, ROWS);
+    limited(first + second + third + fourth + rows_by(own, usage))
+}
+
+// The levels of the expression at a row, where its value has this use, from those of its operands.
+fn expression_levels(rows: &[i32], table: &[usize], row: usize, own: Own, usage: Use) -> usize
+    requires { ⌜ MeasuredFrom (now rows) (now table) (row + 1) × (row < rowCount (now rows)) × OwnAt (now rows) row own ⌝ }
+    ensures { λ r. ⌜ r ≡ limitedTo (expressionLevels (expressionAt (now (rows .entry)) row) usage) ⌝ }
+{
+    let first_use = own.first_use;
+    let second_use = second_use(own.passes, usage);
+    let first = measure_at(table, own.first, levels_for(first_use));
+    let second = own.above + measure_at(table, own.second, levels_for(second_use));
+    let third = measure_at(table, own.third, LEVELS);
+    let fourth = measure_at(table, own.fourth, LEVELS);
+    limited(larger(
+        levels_by(own, usage),
+        larger(larger(first, second), larger(third, fourth)),
+    ))
+}
+
+pub fn measured_expression(
+    rows: &[i32],
+    sets: &[u64],
+    table: &[usize],
+    row: usize,
+) -> ExpressionMeasures
+    requires { ⌜ Sets (now rows) (now sets) × MeasuredFrom (now rows) (now table) (row + 1) × (row < rowCount (now rows)) ⌝ }
+    ensures { λ r. ⌜ ExpressionMeasured (now (rows .entry)) (expressionAt (now (rows .entry)) row) r ⌝ }
+{
+    let copied = copied_at(rows, sets, table, row);
+    let own = own_at(rows, table, row, copied);
+    ExpressionMeasures {
+        rows: expression_rows(rows, table, row, own, Use::Wanted),
+        levels: expression_levels(rows, table, row, own, Use::Wanted),
+        value: own.value,
+        copied,
+        dropped_rows: expression_rows(rows, table, row, own, Use::Dropped),
+        dropped_levels: expression_levels(rows, table, row, own, Use::Dropped),
+        stored_levels: expression_levels(rows, table, row, own, Use::Stored(0)),
+    }
+}

@@ -1,0 +1,3 @@
+-- What the proofs of this crate share. A line of comment for each file.
+-- The write sets of the rows, and which values are copied by them.
+pub mod WriteLaws

@@ -1,0 +1,278 @@
+-- The sets of the rows, clause by clause of `writes`; a row's set put into the table; and which values are copied by them.
+use mathlib.Core.Path.{_≡_, refl, sym, ap, ap₂, subst, _∙_}
+use mathlib.Core.Bool.{Bool, true, false, _||_}
+use mathlib.Core.List.{List, [], _∷_, _++_}
+use Prim.Native.Nat.{ℕ, zero, suc, _+_, _*_, _-_, _≤_, _<_}
+use native.Mathlib.Nat.{suc-add}
+use native.Mathlib.Decide.{ℕ-discrete}
+use native.Mathlib.Omega.{arith}
+use lib.Arith.{lt-of-le-ne}
+use lib.Dec.{eqb}
+use lib.IntN.{ℤ}
+use lib.ListN.{length, take, drop, set, getD}
+use Rattle.words.specs.Word.{pick}
+use Rattle.words.specs.Laws.{by-cases}
+use Rattle.words.specs.Table.{rowCount}
+use Rattle.words.specs.declared.Operator.{Operator}
+use Rattle.language.specs.Trees.{Expression, Place, variable, element, Part, absent, present}
+use Rattle.language.specs.Writes.{isVariable, writes, indexWrites}
+use Rattle.language.specs.Decode.{placeOf, expressionAt, partAt}
+use Rattle.language.specs.DecodeLaws.{part-some}
+use Rattle.translation.specs.Translate.{Atom, number, word, top, atomOf}
+use Rattle.translation.specs.TranslateSize.{copied}
+use Rattle.shapes.specs.Shapes.{choiceTree, expressionTree, Onward, OptionalOnward}
+use Rattle.shapes.specs.Source.{mostVariables, Source, PlaceAt, ExpressionAt}
+use Rattle.shapes.specs.declared.PlaceShape.the-variants.{Variable, Element}
+use Rattle.shapes.specs.declared.OperationShape.the-variants.{Minus, Not, Binary, Comma, Assign, Compound, Prefix, Postfix}
+use Rattle.shapes.specs.declared.ChoiceShape.{ChoiceShape}
+use Rattle.shapes.specs.declared.ChoiceShape.the-variants.{And, Or, Conditional}
+use Rattle.shapes.specs.declared.ExpressionShape.{ExpressionShape}
+use Rattle.shapes.specs.declared.ExpressionShape.the-variants.{Number, Read, Operation, Choice}
+use Rattle.write_sets.specs.Sets.{member, nothing, join, single}
+use Rattle.write_sets.specs.SetLaws.{member-join, member-nothing, member-single}
+use Rattle.write_sets.specs.declared.WriteSet.{WriteSet}
+use Rattle.measure_table.specs.Parts.{indexOf, firstCopied, Operand}
+use Rattle.row_writes.specs.WriteSets.{SetIs, placeWrites, partWrites, setWidth, setOf, setAt, SetHeld, setWords, SetsFrom, Sets}
+use Rattle.measure_table.proofs.RowWords.{stored-length, own-words, other-words}
+
+-- ---- sets
+
+or-assoc : (a b c : Bool) → ((a || b) || c) ≡ (a || (b || c))
+or-assoc true b c = refl
+or-assoc false b c = refl
+
+or-none : (a : Bool) → (a || false) ≡ a
+or-none true = refl
+or-none false = refl
+
+set-as : {s : WriteSet} (X W : ℕ → Bool) → SetIs s X → ((i : ℕ) → X i ≡ W i) → SetIs s W
+set-as X W x e = record { is = λ i h. x .is i h ∙ e i }
+
+pub set-nothing : {s : WriteSet} → s ≡ nothing → SetIs s (λ i. false)
+set-nothing e = record { is = λ i h. ap (λ (z : WriteSet). member z i) e ∙ member-nothing i }
+
+set-single : (j : ℕ) {s : WriteSet} → s ≡ single j → SetIs s (λ i. eqb j i)
+set-single j e = record { is = λ i h. ap (λ (z : WriteSet). member z i) e ∙ member-single j i h }
+
+set-join : {s : WriteSet} (a b : WriteSet) (X W : ℕ → Bool) → SetIs a X → SetIs b W → s ≡ join a b → SetIs s (λ i. X i || W i)
+set-join a b X W x y e = record { is = λ i h. ap (λ (z : WriteSet). member z i) e ∙ member-join a b i ∙ ap₂ _||_ (x .is i h) (y .is i h) }
+
+-- ---- the sets of a row's operands
+
+pub set-some : (sets : List ℕ) (link : ℕ) → 0 < link → setAt sets link ≡ setOf sets link
+set-some sets zero h = absurd (omega arith)
+set-some sets (suc link) h = refl
+
+pub sets-less : {rows : List ℤ} {sets : List ℕ} {k : ℕ} (j : ℕ) → SetsFrom rows sets k → k ≤ j → SetsFrom rows sets j
+sets-less j m h = record { source = m .source; room = m .room; row-set = λ row l. m .row-set row (omega arith) }
+
+module _ {rows : List ℤ} {sets : List ℕ} {row : ℕ} (m : SetsFrom rows sets (row + 1)) where
+  pub link-held : {link : ℕ} → Onward rows row link → SetHeld sets link
+  link-held o h = omega (arith, m .room, o .inside)
+
+  link-set : {link : ℕ} {s : WriteSet} → Onward rows row link → s ≡ setAt sets link → SetIs s (writes (expressionAt rows link))
+  link-set {link} {s} o e =
+      subst (λ (z : WriteSet). SetIs z (writes (expressionAt rows link))) (sym (e ∙ set-some sets link (omega (arith, o .later)))) (m .row-set link (omega (arith, o .later)) (o .inside))
+
+  -- ---- places
+
+  pub variable-writes : {i : ℕ} {s : WriteSet} → PlaceAt rows row (Variable i) → s ≡ single i → SetIs s (placeWrites (placeOf (expressionAt rows row)))
+  unfolding indexWrites
+  variable-writes {i} f e = rw (f .is) (set-as (λ j. eqb i j) _ (set-single i e) (λ j. sym (or-none (eqb i j))))
+
+  pub element-writes : {array index : ℕ} {s : WriteSet} → PlaceAt rows row (Element array index) → s ≡ setAt sets index → SetIs s (placeWrites (placeOf (expressionAt rows row)))
+  unfolding indexWrites
+  element-writes {array} {index} f e = rw (f .is) (set-as (writes (expressionAt rows index)) _ (link-set (f .onward .1) e) (λ j. refl))
+
+  -- ---- expressions, a clause of `writes` each
+
+  shaped : {sh : ExpressionShape} {s : WriteSet} → ExpressionAt rows row sh → SetIs s (writes (expressionTree rows sh)) → SetIs s (writes (expressionAt rows row))
+  shaped {sh} {s} f x = subst (λ (e : Expression). SetIs s (writes e)) (sym (f .is)) x
+
+  pub number-set : {v : ℤ} {s : WriteSet} → ExpressionAt rows row (Number v) → s ≡ nothing → SetIs s (writes (expressionAt rows row))
+  unfolding writes
+  number-set f e = shaped f (set-as (λ i. false) _ (set-nothing e) (λ i. refl))
+
+  pub variable-set : {j : ℕ} {s : WriteSet} → ExpressionAt rows row (Read (Variable j)) → s ≡ nothing → SetIs s (writes (expressionAt rows row))
+  unfolding writes indexWrites
+  variable-set f e = shaped f (set-as (λ i. false) _ (set-nothing e) (λ i. refl))
+
+  pub element-set : {array index : ℕ} {s : WriteSet} → ExpressionAt rows row (Read (Element array index)) → s ≡ setAt sets index → SetIs s (writes (expressionAt rows row))
+  unfolding writes indexWrites
+  element-set {array} {index} f e = shaped f (set-as (writes (expressionAt rows index)) _ (link-set (f .onward .1) e) (λ i. refl))
+
+  pub minus-set : {a : ℕ} {s : WriteSet} → ExpressionAt rows row (Operation (Minus a)) → s ≡ setAt sets a → SetIs s (writes (expressionAt rows row))
+  unfolding writes
+  minus-set {a} f e = shaped f (set-as (writes (expressionAt rows a)) _ (link-set (f .onward) e) (λ i. refl))
+
+  pub not-set : {a : ℕ} {s : WriteSet} → ExpressionAt rows row (Operation (Not a)) → s ≡ setAt sets a → SetIs s (writes (expressionAt rows row))
+  unfolding writes
+  not-set {a} f e = shaped f (set-as (writes (expressionAt rows a)) _ (link-set (f .onward) e) (λ i. refl))
+
+  -- the sets of two operands joined
+  two-sets : {a b : ℕ} {x y s : WriteSet} → Onward rows row a → Onward rows row b → x ≡ setAt sets a → y ≡ setAt sets b → s ≡ join x y → SetIs s (λ i. writes (expressionAt rows a) i || writes (expressionAt rows b) i)
+  two-sets {a} {b} {x} {y} oa ob ex ey e = set-join x y (writes (expressionAt rows a)) (writes (expressionAt rows b)) (link-set oa ex) (link-set ob ey) e
+
+  pub binary-set : {operator : Operator} {a b : ℕ} {x y s : WriteSet} → ExpressionAt rows row (Operation (Binary operator a b)) → x ≡ setAt sets a → y ≡ setAt sets b → s ≡ join x y → SetIs s (writes (expressionAt rows row))
+  unfolding writes
+  binary-set f ex ey e = shaped f (set-as _ _ (two-sets (f .onward .0) (f .onward .1) ex ey e) (λ i. refl))
+
+  pub comma-set : {a b : ℕ} {x y s : WriteSet} → ExpressionAt rows row (Operation (Comma a b)) → x ≡ setAt sets a → y ≡ setAt sets b → s ≡ join x y → SetIs s (writes (expressionAt rows row))
+  unfolding writes
+  comma-set f ex ey e = shaped f (set-as _ _ (two-sets (f .onward .0) (f .onward .1) ex ey e) (λ i. refl))
+
+  pub and-set : {a b : ℕ} {x y s : WriteSet} → ExpressionAt rows row (Choice (And a b)) → x ≡ setAt sets a → y ≡ setAt sets b → s ≡ join x y → SetIs s (writes (expressionAt rows row))
+  unfolding writes
+  and-set f ex ey e = shaped f (set-as _ _ (two-sets (f .onward .0) (f .onward .1) ex ey e) (λ i. refl))
+
+  pub or-set : {a b : ℕ} {x y s : WriteSet} → ExpressionAt rows row (Choice (Or a b)) → x ≡ setAt sets a → y ≡ setAt sets b → s ≡ join x y → SetIs s (writes (expressionAt rows row))
+  unfolding writes
+  or-set f ex ey e = shaped f (set-as _ _ (two-sets (f .onward .0) (f .onward .1) ex ey e) (λ i. refl))
+
+  pub conditional-set : {c a b : ℕ} {z x y branches s : WriteSet} → ExpressionAt rows row (Choice (Conditional c a b)) → x ≡ setAt sets a → y ≡ setAt sets b → branches ≡ join x y → z ≡ setAt sets c → s ≡ join z branches → SetIs s (writes (expressionAt rows row))
+  unfolding writes
+  conditional-set {c} {a} {b} {z} {x} {y} {branches} f ex ey eb ez e =
+      shaped f (set-as _ _ (set-join z branches (writes (expressionAt rows c)) _ (link-set (f .onward .0) ez) (two-sets (f .onward .1) (f .onward .2) ex ey eb) e) (λ i. refl))
+
+  -- the set of a place and that of a value joined
+  update-set : (place : ℕ) {v : ℕ} {x y s : WriteSet} → Onward rows row v → SetIs x (placeWrites (placeOf (expressionAt rows place))) → y ≡ setAt sets v → s ≡ join x y
+      → SetIs s (λ i. isVariable (placeOf (expressionAt rows place)) i || (indexWrites (placeOf (expressionAt rows place)) i || writes (expressionAt rows v) i))
+  update-set place {v} {x} {y} o p ey e =
+      let q = placeOf (expressionAt rows place) in
+      set-as _ _ (set-join x y (placeWrites q) (writes (expressionAt rows v)) p (link-set o ey) e) (λ i. or-assoc (isVariable q i) (indexWrites q i) (writes (expressionAt rows v) i))
+
+  pub assign-set : {place v : ℕ} {x y s : WriteSet} → ExpressionAt rows row (Operation (Assign place v)) → SetIs x (placeWrites (placeOf (expressionAt rows place))) → y ≡ setAt sets v → s ≡ join x y → SetIs s (writes (expressionAt rows row))
+  unfolding writes
+  assign-set {place} f p ey e = shaped f (set-as _ _ (update-set place (f .onward .1) p ey e) (λ i. refl))
+
+  pub compound-set : {operator : Operator} {place v : ℕ} {x y s : WriteSet} → ExpressionAt rows row (Operation (Compound operator place v)) → SetIs x (placeWrites (placeOf (expressionAt rows place))) → y ≡ setAt sets v → s ≡ join x y → SetIs s (writes (expressionAt rows row))
+  unfolding writes
+  compound-set {operator} {place} f p ey e = shaped f (set-as _ _ (update-set place (f .onward .1) p ey e) (λ i. refl))
+
+  pub prefix-set : {operator : Operator} {place : ℕ} {s : WriteSet} → ExpressionAt rows row (Operation (Prefix operator place)) → SetIs s (placeWrites (placeOf (expressionAt rows place))) → SetIs s (writes (expressionAt rows row))
+  unfolding writes
+  prefix-set f p = shaped f (set-as _ _ p (λ i. refl))
+
+  pub postfix-set : {operator : Operator} {place : ℕ} {s : WriteSet} → ExpressionAt rows row (Operation (Postfix operator place)) → SetIs s (placeWrites (placeOf (expressionAt rows place))) → SetIs s (writes (expressionAt rows row))
+  unfolding writes
+  postfix-set f p = shaped f (set-as _ _ p (λ i. refl))
+
+-- ---- the table
+
+pub four-stores : (l : List ℕ) (n a b c d : ℕ) → n + 4 ≤ length l
+    → set (set (set (set l n a) (n + 1) b) (n + 2) c) (n + 3) d ≡ (take n l ++ (a ∷ b ∷ c ∷ d ∷ [])) ++ drop (n + 4) l
+four-stores [] n a b c d p = absurd (omega arith)
+four-stores (x ∷ l) (suc n) a b c d p = rw (suc-add n 1, suc-add n 2, suc-add n 3, suc-add n 4) (ap (λ (r : List ℕ). x ∷ r) (four-stores l n a b c d (omega arith)))
+four-stores (x0 ∷ []) zero a b c d p = absurd (omega arith)
+four-stores (x0 ∷ x1 ∷ []) zero a b c d p = absurd (omega arith)
+four-stores (x0 ∷ x1 ∷ x2 ∷ []) zero a b c d p = absurd (omega arith)
+four-stores (x0 ∷ x1 ∷ x2 ∷ x3 ∷ l) zero a b c d p = refl
+
+module _ (rows : List ℤ) (t u : List ℕ) (row : ℕ) (s : WriteSet) (fits : setWidth * row + setWidth ≤ length t) (is : u ≡ (take (setWidth * row) t ++ setWords s) ++ drop (setWidth * row + setWidth) t) where
+  own : (k : ℕ) → k < setWidth → getD u (setWidth * row + k) 0 ≡ getD (setWords s) k 0
+  own k h = own-words setWidth t u (setWords s) row refl fits is k h
+
+  others : (other k : ℕ) → row < other → getD u (setWidth * other + k) 0 ≡ getD t (setWidth * other + k) 0
+  others other k h = other-words setWidth t u (setWords s) row refl fits is (setWidth * other + k) (omega arith)
+
+  -- with the row's words in, one more row has its set
+  pub one-set-more : SetIs s (writes (expressionAt rows row)) → SetsFrom rows t (row + 1) → SetsFrom rows u row
+  one-set-more x m = record {
+    source = m .source;
+    room = omega (arith, m .room, stored-length setWidth t u (setWords s) row refl fits is);
+    row-set = λ r h b. by r h b (ℕ-discrete r row);
+  }
+    where
+      zero-more : (n : ℕ) → n ≡ n + 0
+      zero-more n = omega arith
+
+      own-set : setOf u row ≡ s
+      own-set = rw (ap (λ (n : ℕ). getD u n 0) (zero-more (setWidth * row)) ∙ own 0 (omega arith), own 1 (omega arith), own 2 (omega arith), own 3 (omega arith))
+
+      other-set : (other : ℕ) → row < other → setOf u other ≡ setOf t other
+      other-set other h = rw (ap (λ (n : ℕ). getD u n 0) (zero-more (setWidth * other)) ∙ others other 0 h ∙ sym (ap (λ (n : ℕ). getD t n 0) (zero-more (setWidth * other))), others other 1 h, others other 2 h, others other 3 h)
+
+      by : (r : ℕ) → row ≤ r → r < rowCount rows → Dec (r ≡ row) → SetIs (setOf u r) (writes (expressionAt rows r))
+      by r h b (yes q) = subst (λ (r : ℕ). SetIs (setOf u r) (writes (expressionAt rows r))) (sym q) (subst (λ (z : WriteSet). SetIs z (writes (expressionAt rows row))) (sym own-set) x)
+      by r h b (no q) =
+          let k = lt-of-le-ne h (λ x. q (sym x)) in
+          subst (λ (z : WriteSet). SetIs z (writes (expressionAt rows r))) (sym (other-set r k)) (m .row-set r (omega arith) b)
+
+pub sets-none : {rows : List ℤ} {sets : List ℕ} → Source rows → setWidth * rowCount rows ≤ length sets → SetsFrom rows sets (rowCount rows)
+sets-none s h = record { source = s; room = h; row-set = λ row l b. absurd (omega arith) }
+
+-- ---- which values are copied
+
+copied-same : (h : Atom) (X W : ℕ → Bool) → ((i : ℕ) → X i ≡ W i) → copied h X ≡ copied h W
+copied-same (number v) X W e = refl
+copied-same (word i) X W e = rw (e i)
+copied-same top X W e = refl
+
+-- by what holds the value
+pub copied-number : {h : Atom} {v : ℤ} (W : ℕ → Bool) → number v ≡ h → 0 ≡ copied h W
+copied-number W e = ap (λ (x : Atom). copied x W) e
+
+pub copied-temporary : {h : Atom} (W : ℕ → Bool) → top ≡ h → 0 ≡ copied h W
+copied-temporary W e = ap (λ (x : Atom). copied x W) e
+
+copied-word : (i : ℕ) (W : ℕ → Bool) → pick (W i) 1 0 ≡ copied (word i) W
+copied-word i W = by-cases (W i) (λ e. rw e) (λ e. rw e)
+
+-- the set at a link, as what the expression there writes
+pub part-set : {rows : List ℤ} {sets : List ℕ} (link i : ℕ) → Sets rows sets → link < rowCount rows → i < mostVariables → member (setAt sets link) i ≡ partWrites (partAt rows link) i
+part-set zero i m h l = member-nothing i
+part-set (suc link) i m h l = m .row-set (suc link) (omega arith) h .is i l
+
+pub copied-variable : {rows : List ℤ} {sets : List ℕ} {link i r : ℕ} {h : Atom} → Sets rows sets → link < rowCount rows → i < mostVariables → word i ≡ h → r ≡ pick (member (setAt sets link) i) 1 0 → r ≡ copied h (partWrites (partAt rows link))
+copied-variable {rows} {sets} {link} {i} m h l e w =
+    let W = partWrites (partAt rows link) in
+    w ∙ ap (λ (b : Bool). pick b 1 0) (part-set link i m h l) ∙ copied-word i W ∙ ap (λ (x : Atom). copied x W) e
+
+index-writes : (p : Place) (i : ℕ) → partWrites (indexOf p) i ≡ indexWrites p i
+unfolding indexWrites
+index-writes (variable j) i = refl
+index-writes (element array e) i = refl
+
+choice-copies : (rows : List ℤ) (c : ChoiceShape) → 0 ≡ firstCopied (choiceTree rows c)
+choice-copies rows (And a b) = refl
+choice-copies rows (Or a b) = refl
+choice-copies rows (Conditional c a b) = refl
+
+over-index : {rows : List ℤ} (place v : ℕ) {index r : ℕ} → Operand rows place index (indexOf (placeOf (expressionAt rows place))) → r ≡ copied (atomOf (expressionAt rows v)) (partWrites (partAt rows index)) → r ≡ copied (atomOf (expressionAt rows v)) (indexWrites (placeOf (expressionAt rows place)))
+over-index {rows} place v o e =
+    e ∙ copied-same (atomOf (expressionAt rows v)) _ (indexWrites (placeOf (expressionAt rows place))) (λ i. ap (λ (p : Part). partWrites p i) (o .is) ∙ index-writes (placeOf (expressionAt rows place)) i)
+
+module _ {rows : List ℤ} {row : ℕ} where
+  shaped-copies : {sh : ExpressionShape} {r : ℕ} → ExpressionAt rows row sh → r ≡ firstCopied (expressionTree rows sh) → r ≡ firstCopied (expressionAt rows row)
+  shaped-copies f e = e ∙ sym (ap firstCopied (f .is))
+
+  pub copied-none : {sh : ExpressionShape} → ExpressionAt rows row sh → 0 ≡ firstCopied (expressionTree rows sh) → 0 ≡ firstCopied (expressionAt rows row)
+  copied-none f e = shaped-copies f e
+
+  pub copied-choice : {c : ChoiceShape} → ExpressionAt rows row (Choice c) → 0 ≡ firstCopied (expressionAt rows row)
+  copied-choice {c} f = shaped-copies f (choice-copies rows c)
+
+  pub copied-binary : {operator : Operator} {a b r : ℕ} → ExpressionAt rows row (Operation (Binary operator a b)) → r ≡ copied (atomOf (expressionAt rows b)) (partWrites (partAt rows a)) → r ≡ firstCopied (expressionAt rows row)
+  copied-binary {operator} {a} {b} f e =
+      shaped-copies f (e ∙ copied-same (atomOf (expressionAt rows b)) _ (writes (expressionAt rows a)) (λ i. ap (λ (p : Part). partWrites p i) (part-some rows a (omega (arith, f .onward .0 .later)))))
+
+  pub copied-assign : {place v index r : ℕ} → ExpressionAt rows row (Operation (Assign place v)) → Operand rows place index (indexOf (placeOf (expressionAt rows place))) → r ≡ copied (atomOf (expressionAt rows v)) (partWrites (partAt rows index)) → r ≡ firstCopied (expressionAt rows row)
+  copied-assign {place} {v} f o e = shaped-copies f (over-index place v o e)
+
+  pub copied-compound : {operator : Operator} {place v index r : ℕ} → ExpressionAt rows row (Operation (Compound operator place v)) → Operand rows place index (indexOf (placeOf (expressionAt rows place))) → r ≡ copied (atomOf (expressionAt rows v)) (partWrites (partAt rows index)) → r ≡ firstCopied (expressionAt rows row)
+  copied-compound {operator} {place} {v} f o e = shaped-copies f (over-index place v o e)
+
+-- a link that is absent or leads on is inside the table
+link-inside : {rows : List ℤ} {row : ℕ} (link : ℕ) → Source rows → OptionalOnward rows row link → link < rowCount rows
+link-inside zero s o = s .sound .some-rows
+link-inside (suc link) s o = o (omega arith) .inside
+
+pub index-inside : {rows : List ℤ} {place index : ℕ} {part : Part} → Source rows → Operand rows place index part → index < rowCount rows
+index-inside {rows} {place} {index} s o = link-inside index s (o .onward)
+
+-- the index of the place at a row
+pub index-variable : {rows : List ℤ} {row i : ℕ} → PlaceAt rows row (Variable i) → Operand rows row 0 (indexOf (placeOf (expressionAt rows row)))
+index-variable f = record { is = sym (ap indexOf (f .is)); onward = λ h. absurd (omega arith) }
+
+pub index-element : {rows : List ℤ} {row array index : ℕ} → PlaceAt rows row (Element array index) → Operand rows row index (indexOf (placeOf (expressionAt rows row)))
+index-element {rows} {row} {array} {index} f = record { is = part-some rows index (omega (arith, f .onward .1 .later)) ∙ sym (ap indexOf (f .is)); onward = λ h. f .onward .1 }

@@ -1,0 +1,2 @@
+// Which variables the code of each source row can write.
+pub mod writes; // writes.rt: the write sets of the rows

@@ -7,7 +7,7 @@ use Rattle.words.specs.declared.Verdict.{Verdict}
 use Rattle.words.specs.declared.Verdict.the-variants.{Accepted, Refused}
 use Rattle.text_form.specs.Answers.{refused, WriteResult}
 use Rattle.page_printer.specs.Pages.{printAccepted}
-use Rattle.clight.specs.Runs.{refusalOf}
+use Rattle.program_runs.specs.Runs.{refusalOf}
 
 -- The kernel check's causes first; then 10. A refusal leaves the page as it was.
 abbrev pub printAfter : Verdict → List ℤ → List ℤ → List ℕ → WriteResult

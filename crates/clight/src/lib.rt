@@ -1,5 +1,5 @@
 // The public entries. None has a `requires`: for all words that it is lent, each gives its result or the one refusal that document
-// 01's table of causes names, and a refusal leaves everything lent as it was. `run_accepted` is for callers that have the check's answer.
+// 01's table of causes names, and a refusal leaves everything lent as it was. The work is done in the crates below.
 pub mod dispatcher; // dispatcher.rt: the kernel run that a dispatcher sees
 pub mod flat_lists; // flat_lists.rt: check and run of flat lists
 pub mod joins; // joins.rt: two source programs as one
@@ -8,25 +8,3 @@ pub mod previews; // previews.rt: what a run would do
 pub mod runs; // runs.rt: check, run, kernel check, kernel run
 pub mod texts; // texts.rt: reader and writer of both forms' texts
 pub mod translate; // translate.rt: the translation
-
-use words::Ending;
-use words::Refusal;
-
-// "The ending, the count and how many store words would differ".
-pub struct PreviewAnswer {
-    pub ending: Ending,
-    pub count: u32,
-    pub differing: usize,
-}
-
-// What a preview answers.
-pub enum PreviewVerdict {
-    Previewed(PreviewAnswer),
-    Refused(Refusal),
-}
-
-// What the dispatcher's run answers: the ending, without a count.
-pub enum DispatcherVerdict {
-    Shown(Ending),
-    Refused(Refusal),
-}

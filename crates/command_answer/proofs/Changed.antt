@@ -15,10 +15,10 @@ use Rattle.words.specs.Laws.{back}
 use Rattle.words.specs.OverLaws.{part, back-in}
 use Rattle.text_form.specs.Writer.{Put}
 use Rattle.text_form.specs.PutLaws.{put-none, put-as, put-length, put-next, put-space, put-inside}
-use Rattle.clight.specs.Previews.{PreviewResult, answerAndWords, previewResult}
-use Rattle.clight.specs.PreviewLaws.{run-as-previewed}
-use Rattle.clight.specs.declared.PreviewVerdict.{PreviewVerdict}
-use Rattle.clight.specs.declared.PreviewVerdict.the-variants.{Previewed, Refused}
+use Rattle.program_previews.specs.Previews.{PreviewResult, answerAndWords, previewResult}
+use Rattle.program_previews.specs.PreviewLaws.{run-as-previewed}
+use Rattle.program_previews.specs.declared.PreviewVerdict.{PreviewVerdict}
+use Rattle.program_previews.specs.declared.PreviewVerdict.the-variants.{Previewed, Refused}
 use Rattle.command_answer.specs.Changes.{changeLine, changeAt, changeLines, Showable}
 use Rattle.command_answer.specs.Output.{outputRoom}
 

@@ -15,7 +15,7 @@ use Rattle.structure.specs.Refusal.{_next_}
 use Rattle.source_check.specs.Legal.{Legal}
 use Rattle.text_form.specs.Text.{textBytes}
 use Rattle.report.specs.Lines.{refusedLine}
-use Rattle.clight.specs.Runs.{refusalOf}
+use Rattle.program_runs.specs.Runs.{refusalOf}
 use Rattle.join.specs.Join.{joinedRows, joinRefusal}
 use Rattle.joiner.specs.Joining.{JoinResult, answerAndRows, joinAfter, joinResult, WroteJoin}
 use Rattle.joiner.specs.declared.JoinAnswer.the-variants.{Joined, Refused as JoinRefused}

@@ -25,7 +25,7 @@ use Rattle.fate.specs.KernelForms.{kernelHeaderOf, kernelRowsOf, HasKernelForm}
 use Rattle.translator.specs.declared.TranslateAnswer.the-variants.{Translated, Refused as TranslateRefused}
 use Rattle.translator.specs.Translation.{answerAndTables, translateResult}
 use Rattle.translator.specs.TranslationLaws.{HasRoom, translation-made, translation-refused}
-use Rattle.clight.specs.AcceptedLaws.{accepted-header, accepted-count}
+use Rattle.program_runs.specs.AcceptedLaws.{accepted-header, accepted-count}
 use Rattle.command_answer.specs.Output.{Roomy, outputRoom, Printable, verdictText, kernelText}
 
 -- tables for a kernel program serve either form

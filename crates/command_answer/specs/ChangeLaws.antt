@@ -11,8 +11,8 @@ use Rattle.words.specs.Layout.{storeWords, zeros}
 use Rattle.words.specs.declared.Form.the-variants.{Source}
 use Rattle.words.specs.declared.RunVerdict.{RunVerdict}
 use Rattle.words.specs.declared.RunVerdict.the-variants.{Ran, Refused}
-use Rattle.clight.specs.Runs.{runResult}
-use Rattle.clight.specs.Previews.{toldRun, previewIf, previewAfter, previewResult}
+use Rattle.program_runs.specs.Runs.{runResult}
+use Rattle.program_previews.specs.Previews.{toldRun, previewIf, previewAfter, previewResult}
 
 -- The ending and count of the run, or its refusal: in a scratch of S words 15 does not arise.
 pub told-as-run : (header rows : List ℤ) (budget : ℕ) (store : List ℤ)

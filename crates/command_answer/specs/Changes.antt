@@ -8,8 +8,8 @@ use Rattle.words.specs.Answers.{endingName}
 use Rattle.words.specs.declared.Ending.{Ending}
 use Rattle.text_form.specs.Number.{digits, numberBytes}
 use Rattle.report.specs.Lines.{lineOf, refusedLine}
-use Rattle.clight.specs.declared.PreviewVerdict.{PreviewVerdict}
-use Rattle.clight.specs.declared.PreviewVerdict.the-variants.{Previewed, Refused}
+use Rattle.program_previews.specs.declared.PreviewVerdict.{PreviewVerdict}
+use Rattle.program_previews.specs.declared.PreviewVerdict.the-variants.{Previewed, Refused}
 
 -- Ending, count, and how many words would differ.
 unfoldable pub toldLine : Ending → ℕ → ℕ → List ℕ

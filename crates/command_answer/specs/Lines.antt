@@ -10,8 +10,8 @@ use Rattle.words.specs.declared.RunVerdict.{RunVerdict}
 use Rattle.words.specs.declared.RunVerdict.the-variants as run-cases
 use Rattle.text_form.specs.Number.{digits, numberBytes}
 use Rattle.report.specs.Lines.{lineOf, refusedLine, kernelLine}
-use Rattle.clight.specs.declared.DispatcherVerdict.{DispatcherVerdict}
-use Rattle.clight.specs.declared.DispatcherVerdict.the-variants as dispatcher-cases
+use Rattle.dispatcher_runs.specs.declared.DispatcherVerdict.{DispatcherVerdict}
+use Rattle.dispatcher_runs.specs.declared.DispatcherVerdict.the-variants as dispatcher-cases
 use Rattle.command_request.specs.Ascii.{ascii}
 
 -- A check prints `ok`, or its refusal in the trial's manner.

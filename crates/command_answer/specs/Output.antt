@@ -20,9 +20,9 @@ use Rattle.program_writes.specs.ProgramWrites.{programWrites, programWritesArra
 use Rattle.written_lines.specs.Lines.{bothLines}
 use Rattle.join.specs.Join.{joinedRows, joinRefusal}
 use Rattle.fate.specs.KernelForms.{kernelHeaderOf, kernelRowsOf}
-use Rattle.clight.specs.Runs.{refusalOf, RunResult, runResult}
-use Rattle.clight.specs.Previews.{PreviewResult, previewResult}
-use Rattle.clight.specs.DispatcherRuns.{DispatcherResult, dispatcherResult}
+use Rattle.program_runs.specs.Runs.{refusalOf, RunResult, runResult}
+use Rattle.program_previews.specs.Previews.{PreviewResult, previewResult}
+use Rattle.dispatcher_runs.specs.DispatcherRuns.{DispatcherResult, dispatcherResult}
 use Rattle.command_answer.specs.Lines.{verdictLine, runLine, dispatcherLine, usageLine, wrongBudgetLine, longTextLine, longStoreLine, malformedLine}
 use Rattle.command_answer.specs.Changes.{previewLines}
 use Rattle.command_request.specs.StoreFile.{storeIn}

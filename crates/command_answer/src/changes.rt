@@ -1,7 +1,7 @@
 // What a preview prints. A writer puts its bytes at the start of `text`, and answers how many they are.
-use clight::PreviewAnswer;
-use clight::PreviewVerdict;
 use clight::previews::preview;
+use program_previews::PreviewAnswer;
+use program_previews::PreviewVerdict;
 use report::field::put_count;
 use report::field::put_ending_name;
 use report::field::put_word;
@@ -17,8 +17,8 @@ ghost use lib.ListN.{length};
 ghost use Rattle.words.specs.Layout.{headerFits, storeWords, zeros};
 ghost use Rattle.words.specs.declared.Form.the-variants.{Source};
 ghost use Rattle.text_form.specs.Writer.{Put};
-ghost use Rattle.clight.specs.Previews.{previewResult};
-ghost use Rattle.clight.specs.declared.PreviewVerdict.the-variants.{Previewed};
+ghost use Rattle.program_previews.specs.Previews.{previewResult};
+ghost use Rattle.program_previews.specs.declared.PreviewVerdict.the-variants.{Previewed};
 ghost use Rattle.command_answer.specs.Changes.{toldLine, changeLine, changeAt, changeLines, previewLines, Showable};
 ghost use Rattle.command_answer.specs.Output.{outputRoom, resultLines};
 

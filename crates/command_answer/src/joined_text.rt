@@ -16,7 +16,7 @@ ghost use Rattle.words.specs.Layout.{headerFits};
 ghost use Rattle.words.specs.declared.Form.the-variants.{Source};
 ghost use Rattle.text_form.specs.Writer.{Put};
 ghost use Rattle.report.specs.Lines.{refusedLine};
-ghost use Rattle.clight.specs.Runs.{refusalOf};
+ghost use Rattle.program_runs.specs.Runs.{refusalOf};
 ghost use Rattle.command_answer.specs.Output.{outputRoom, afterCheck, joinText, secondOutput, joinOutput};
 
 // Joins two programs in the lent table, and writes the text of the joined rows, under their header.

@@ -1,5 +1,5 @@
 // Whole lines. A writer puts its line at the start of `text`, and answers how many bytes it has.
-use clight::DispatcherVerdict;
+use dispatcher_runs::DispatcherVerdict;
 use report::field::put_bytes;
 use report::field::put_count;
 use report::field::put_ending_name;

@@ -24,8 +24,8 @@ ghost use lib.ListN.{length};
 ghost use Rattle.words.specs.Layout.{headerFits, storeWords, zeros};
 ghost use Rattle.text_form.specs.Writer.{Put};
 ghost use Rattle.report.specs.Lines.{lineRoom};
-ghost use Rattle.clight.specs.DispatcherRuns.{dispatcherResult};
-ghost use Rattle.clight.specs.Runs.{refusalOf, runResult, answerAndStore};
+ghost use Rattle.dispatcher_runs.specs.DispatcherRuns.{dispatcherResult};
+ghost use Rattle.program_runs.specs.Runs.{refusalOf, runResult, answerAndStore};
 ghost use Rattle.command_request.specs.StoreFile.{storeIn};
 ghost use Rattle.command_answer.specs.Output.{Roomy, outputRoom, storeLimit, checkOutput, formOf, startWords, resultLine, shownLine, taskLines, taskOutput, zerosLines, zerosOutput, storedOutput, startedOutput};
 

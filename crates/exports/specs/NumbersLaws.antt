@@ -18,8 +18,8 @@ use Rattle.fate.specs.KernelForms.{kernelHeaderOf, kernelRowsOf}
 use Rattle.translator.specs.declared.TranslateAnswer.{TranslateAnswer}
 use Rattle.translator.specs.declared.TranslateAnswer.the-variants.{Translated, Refused as TranslateRefused}
 use Rattle.translator.specs.Translation.{TranslateResult, answerAndTables, translateAfter, translateResult, WritesKernelForm}
-use Rattle.clight.specs.AcceptanceLaws.{check-accepts-legal, check-no-cause-if-legal}
-use Rattle.clight.specs.Runs.{refusalOf}
+use Rattle.program_runs.specs.AcceptanceLaws.{check-accepts-legal, check-no-cause-if-legal}
+use Rattle.program_runs.specs.Runs.{refusalOf}
 use Rattle.exports.specs.declared.Answer.{Answer}
 use Rattle.exports.specs.Numbers.{translateAnswer, WritesIfDone}
 

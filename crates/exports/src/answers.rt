@@ -1,9 +1,9 @@
 // The numbers of each answer.
 use super::Answer;
 use super::PreviewAnswer;
-use clight::DispatcherVerdict;
-use clight::PreviewVerdict;
+use dispatcher_runs::DispatcherVerdict;
 use joiner::JoinAnswer;
+use program_previews::PreviewVerdict;
 use text_form::ReadAnswer;
 use text_form::WriteAnswer;
 use translator::TranslateAnswer;
@@ -17,10 +17,10 @@ ghost use mathlib.Core.Path.{_≡_};
 ghost use Rattle.words.specs.Numbers.{refused as refusedOf, runNumbers};
 ghost use Rattle.words.specs.declared.RunVerdict.the-variants.{Ran};
 ghost use Rattle.text_form.specs.Answers.{readOutcome, writeOutcome};
-ghost use Rattle.clight.specs.declared.DispatcherVerdict.the-variants.{Shown};
-ghost use Rattle.clight.specs.declared.PreviewVerdict.the-variants.{Previewed};
-ghost use Rattle.clight.specs.DispatcherRuns.{dispatcherNumbers};
-ghost use Rattle.clight.specs.Previews.{toldRun, tallyOf};
+ghost use Rattle.dispatcher_runs.specs.declared.DispatcherVerdict.the-variants.{Shown};
+ghost use Rattle.program_previews.specs.declared.PreviewVerdict.the-variants.{Previewed};
+ghost use Rattle.dispatcher_runs.specs.DispatcherRuns.{dispatcherNumbers};
+ghost use Rattle.program_previews.specs.Previews.{toldRun, tallyOf};
 ghost use Rattle.exports.specs.Numbers.{answerOf, runAnswer, verdictAnswer, previewAnswer, outcomeAnswer, translateAnswer, joinAnswer};
 
 pub fn refused(refusal: Refusal) -> Answer
@@ -85,7 +85,7 @@ pub fn of_dispatcher(verdict: DispatcherVerdict) -> Answer
     }
 }
 
-fn foretold(preview: clight::PreviewAnswer) -> PreviewAnswer
+fn foretold(preview: program_previews::PreviewAnswer) -> PreviewAnswer
     ensures { λ r. ⌜ r ≡ previewAnswer (runNumbers (toldRun (Previewed preview))) (preview .differing) ⌝ }
 {
     let ending = preview.ending;

@@ -2,7 +2,7 @@
 use super::PreviewAnswer;
 use super::answers::of_preview;
 ghost use mathlib.Core.Path.{_≡_};
-ghost use Rattle.clight.specs.Previews.{previewResult};
+ghost use Rattle.program_previews.specs.Previews.{previewResult};
 ghost use Rattle.exports.specs.Numbers.{previewAnswer};
 
 // Tells what a run of a source program on the store would do; the store that it would leave goes to the start of the scratch.

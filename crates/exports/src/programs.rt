@@ -5,9 +5,9 @@ use super::answers::of_run;
 use super::answers::of_verdict;
 ghost use mathlib.Core.Path.{_≡_};
 ghost use Rattle.words.specs.declared.Form.the-variants.{Source, Kernel};
-ghost use Rattle.clight.specs.Acceptance.{NoCauseIfLegal};
-ghost use Rattle.clight.specs.DispatcherRuns.{dispatcherResult};
-ghost use Rattle.clight.specs.Runs.{refusalOf, runResult};
+ghost use Rattle.program_runs.specs.Acceptance.{NoCauseIfLegal};
+ghost use Rattle.dispatcher_runs.specs.DispatcherRuns.{dispatcherResult};
+ghost use Rattle.program_runs.specs.Runs.{refusalOf, runResult};
 ghost use Rattle.exports.specs.Numbers.{answerOf, verdictAnswer};
 
 // The check of source programs. The second promise is demand 2: the legal programs alone have cause 0.

@@ -21,7 +21,7 @@ ghost use Prim.Native.Nat.{_≤_};
 ghost use lib.ListN.{length};
 ghost use Rattle.words.specs.declared.Form.the-variants.{Kernel};
 ghost use Rattle.words.specs.declared.Verdict.the-variants.{Accepted};
-ghost use Rattle.clight.specs.Runs.{refusalOf};
+ghost use Rattle.program_runs.specs.Runs.{refusalOf};
 
 fn print(text: &[u8]) {
     io::write_all(STDOUT_FILENO, text);

@@ -17,7 +17,7 @@ ghost use Prim.Native.Nat.{_≤_};
 ghost use lib.ListN.{length};
 ghost use Rattle.words.specs.declared.Form.the-variants.{Source};
 ghost use Rattle.words.specs.declared.Verdict.the-variants.{Accepted};
-ghost use Rattle.clight.specs.Runs.{refusalOf};
+ghost use Rattle.program_runs.specs.Runs.{refusalOf};
 
 // Puts the start words of a case, each behind a tab, into the store, and answers how many they are; without words the store has
 // `size` zeros.

@@ -19,7 +19,7 @@ use Rattle.report.proofs.Spacing.{SoFar, far-space}
 use Rattle.program_writes.specs.ProgramWrites.{written}
 use Rattle.fate.specs.KernelForms.{kernelHeaderOf, kernelRowsOf}
 use Rattle.machine.specs.Whole.{finishedOf}
-use Rattle.clight.specs.Runs.{refusalOf}
+use Rattle.program_runs.specs.Runs.{refusalOf}
 use Rattle.trial.specs.Output.{mostWords, budget, sourceOutput, kernelOutput, runsOutput, checkedOutput}
 use Rattle.trial.specs.Conditions.{FromZeros, Translates}
 

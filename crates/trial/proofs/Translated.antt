@@ -17,7 +17,7 @@ use Rattle.fate.specs.KernelForms.{kernelHeaderOf, kernelRowsOf, KernelFormOf, 
 use Rattle.translator.specs.declared.TranslateAnswer.the-variants.{Refused}
 use Rattle.translator.specs.Translation.{answerAndTables, translateResult}
 use Rattle.translator.specs.TranslationLaws.{HasRoom, translation-refused}
-use Rattle.clight.specs.AcceptedLaws.{accepted-header, accepted-count}
+use Rattle.program_runs.specs.AcceptedLaws.{accepted-header, accepted-count}
 use Rattle.trial.specs.Output.{kernelOutput}
 use Rattle.trial.specs.Conditions.{Translates, KernelFits}
 

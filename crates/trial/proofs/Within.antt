@@ -24,7 +24,7 @@ use Rattle.text_form.specs.AnswerLaws.{Passes, read-passing, refused-finished}
 use Rattle.text_form.specs.Reader.{numbersIn, HasLines}
 use Rattle.text_form.specs.ReaderLaws.{line-exactly, lent-line, scratch-part}
 use Rattle.report.specs.Lines.{refusedLine}
-use Rattle.clight.specs.Runs.{refusalOf}
+use Rattle.program_runs.specs.Runs.{refusalOf}
 use Rattle.trial.specs.Output.{mostBytes, mostRows, mostWords, trialCause, checkedOutput, programOutput, textOutput, trialOutput}
 use Rattle.trial.specs.Conditions.{outputRoom, WithinLimits, Fits}
 

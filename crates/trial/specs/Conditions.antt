@@ -11,7 +11,7 @@ use Rattle.words.specs.declared.Form.the-variants.{Source, Kernel}
 use Rattle.words.specs.declared.Verdict.the-variants.{Accepted}
 use Rattle.text_form.specs.Text.{parsed, Program, parse}
 use Rattle.report.specs.Lines.{lineRoom}
-use Rattle.clight.specs.Runs.{refusalOf}
+use Rattle.program_runs.specs.Runs.{refusalOf}
 use Rattle.trial.specs.Output.{mostRows, mostWords, trialCause}
 
 -- Bytes enough for both lines: 24,672.

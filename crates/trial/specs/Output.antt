@@ -18,7 +18,7 @@ use Rattle.report.specs.Lines.{refusedLine, sourceLine, kernelLine}
 use Rattle.program_writes.specs.ProgramWrites.{written}
 use Rattle.fate.specs.KernelForms.{kernelHeaderOf, kernelRowsOf}
 use Rattle.fate.specs.Views.{dispatcherView}
-use Rattle.clight.specs.Runs.{refusalOf}
+use Rattle.program_runs.specs.Runs.{refusalOf}
 
 -- "A text over 16,384 bytes"; "at most 128 rows"; "S at most 1,024"; "with budget 100,000".
 abbrev pub mostBytes : ℕ

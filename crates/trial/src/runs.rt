@@ -1,6 +1,6 @@
 // Both runs of a program, each from zeros with budget 100,000, and their lines at the start of `output`.
-use clight::runs::check;
-use clight::runs::run_accepted;
+use program_runs::check;
+use program_runs::run_accepted;
 use program_writes::program::written_count;
 use report::line::kernel_line;
 use report::line::refused_line;
@@ -18,7 +18,7 @@ ghost use Rattle.words.specs.declared.Form.the-variants.{Source};
 ghost use Rattle.words.specs.declared.Verdict.the-variants.{Accepted};
 ghost use Rattle.text_form.specs.Writer.{Put};
 ghost use Rattle.fate.specs.KernelForms.{kernelHeaderOf, kernelRowsOf};
-ghost use Rattle.clight.specs.Runs.{refusalOf};
+ghost use Rattle.program_runs.specs.Runs.{refusalOf};
 ghost use Rattle.trial.specs.Output.{kernelOutput, runsOutput, checkedOutput};
 ghost use Rattle.trial.specs.Conditions.{Fits, FromZeros, KernelFits, KernelFromZeros, Translates};
 

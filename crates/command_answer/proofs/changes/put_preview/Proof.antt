@@ -8,7 +8,7 @@ use lib.ListN.{length, length-replicate}
 use Rattle.words.specs.Layout.{zeros}
 use Rattle.words.specs.Laws.{zeros-part}
 use Rattle.text_form.specs.PutLaws.{put-as}
-use Rattle.clight.specs.Previews.{previewResult}
+use Rattle.program_previews.specs.Previews.{previewResult}
 use Rattle.command_answer.specs.Output.{resultLines}
 use Rattle.command_answer.proofs.Starts.{source-words-most}
 use borrow.Author.Needs.{needs}

@@ -2,7 +2,7 @@
 use mathlib.Core.Path.{ap, _∙_}
 use Rattle.words.specs.declared.Form.the-variants.{Source}
 use Rattle.text_form.specs.PutLaws.{put-as}
-use Rattle.clight.specs.Runs.{refusalOf}
+use Rattle.program_runs.specs.Runs.{refusalOf}
 use Rattle.command_answer.specs.Output.{afterCheck, joinText, secondOutput}
 use Rattle.command_answer.proofs.Readings.{refused-text, read-text}
 use Rattle.command_answer.proofs.Starts.{source-roomy}

@@ -1,6 +1,6 @@
 -- `clight_preview` hands on the entry's answer, as numbers, and the words that it leaves.
 use mathlib.Core.Path.{ap, _∙_}
-use Rattle.clight.specs.Previews.{PreviewResult}
+use Rattle.program_previews.specs.Previews.{PreviewResult}
 use Rattle.exports.specs.Numbers.{previewAnswer}
 use borrow.Author.Needs.{needs}
 use Rattle.exports.proofs.previews.clight_preview.Statement.{statement}

@@ -1,7 +1,7 @@
 -- `clight_kernel_check` hands on the entry's verdict, as numbers.
 use mathlib.Core.Path.{ap, _∙_}
 use Rattle.words.specs.declared.Form.the-variants.{Kernel}
-use Rattle.clight.specs.AcceptanceLaws.{check-no-cause-if-legal}
+use Rattle.program_runs.specs.AcceptanceLaws.{check-no-cause-if-legal}
 use Rattle.exports.specs.Numbers.{verdictAnswer}
 use borrow.Author.Needs.{needs}
 use Rattle.exports.proofs.programs.clight_kernel_check.Statement.{statement}

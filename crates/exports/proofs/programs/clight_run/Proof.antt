@@ -1,6 +1,6 @@
 -- `clight_run` hands on the entry's answer, as numbers, and the store that it leaves.
 use mathlib.Core.Path.{ap, _∙_}
-use Rattle.clight.specs.Runs.{RunResult}
+use Rattle.program_runs.specs.Runs.{RunResult}
 use Rattle.exports.specs.Numbers.{answerOf}
 use borrow.Author.Needs.{needs}
 use Rattle.exports.proofs.programs.clight_run.Statement.{statement}

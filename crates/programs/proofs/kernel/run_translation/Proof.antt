@@ -3,8 +3,8 @@ use mathlib.Core.Path.{sym}
 use native.Mathlib.Omega.{arith}
 use lib.Seq.{length-take-le}
 use Rattle.words.specs.declared.Form.the-variants.{Kernel}
-use Rattle.clight.specs.AcceptedLaws.{accepted-header, accepted-rows}
-use Rattle.clight.specs.AcceptedLaws.{kernel-words}
+use Rattle.program_runs.specs.AcceptedLaws.{accepted-header, accepted-rows}
+use Rattle.program_runs.specs.AcceptedLaws.{kernel-words}
 use borrow.Author.Needs.{needs}
 use Rattle.programs.proofs.kernel.run_translation.Statement.{statement}
 use Rattle.programs.proofs.kernel.run_translation.Tie as tie

@@ -3,8 +3,8 @@ use mathlib.Core.Path.{sym}
 use native.Mathlib.Omega.{arith}
 use lib.Seq.{length-take-le}
 use Rattle.words.specs.declared.Form.the-variants.{Source}
-use Rattle.clight.specs.AcceptedLaws.{accepted-header}
-use Rattle.clight.specs.AcceptedLaws.{source-words}
+use Rattle.program_runs.specs.AcceptedLaws.{accepted-header}
+use Rattle.program_runs.specs.AcceptedLaws.{source-words}
 use borrow.Author.Needs.{needs}
 use Rattle.programs.proofs.source.answer_accepted.Statement.{statement}
 use Rattle.programs.proofs.source.answer_accepted.Tie as tie

@@ -3,7 +3,7 @@ use mathlib.Core.Path.{refl}
 use native.Mathlib.Omega.{arith}
 use Rattle.words.specs.declared.Form.the-variants.{Source}
 use Rattle.text_form.specs.PutLaws.{put-as}
-use Rattle.clight.specs.AcceptedLaws.{accepted-header}
+use Rattle.program_runs.specs.AcceptedLaws.{accepted-header}
 use Rattle.translator.specs.TranslationLaws.{translation-made}
 use Rattle.trial.proofs.Translated.{read-fits, read-output, translated-accepted}
 use borrow.Author.Needs.{needs}

@@ -1,0 +1,48 @@
+-- Laws of accepted programs, of both forms: what the entries need to hand them on to the machine.
+use mathlib.Core.Path.{_≡_}
+use mathlib.Core.Bool.{true}
+use mathlib.Core.List.{List}
+use Prim.Native.Nat.{_≤_}
+use native.Mathlib.Omega.{arith}
+use lib.IntN.{ℤ}
+use lib.ListN.{length}
+use Rattle.words.specs.Table.{rowCount}
+use Rattle.words.specs.Layout.{headerFits, countFits, layoutOf, storeWords}
+use Rattle.words.specs.Laws.{headerFits-facts, countFits-facts, rowLimit-most}
+use Rattle.words.specs.declared.Form.{Form}
+use Rattle.words.specs.declared.Form.the-variants.{Source, Kernel}
+use Rattle.words.specs.declared.Verdict.the-variants.{Accepted}
+use Rattle.language.specs.Sound.{Sound}
+use Rattle.structure.specs.Fields.{boundsOf}
+use Rattle.structure.specs.Structured.{Structured}
+use Rattle.source_check.specs.AcceptsLegal.{accepts-legal as source-accepts}
+use Rattle.kernel_check.specs.Accepts.{accepts-legal as kernel-accepts}
+use Rattle.accepted.specs.Sound.{header-sound}
+use Rattle.program_runs.specs.Runs.{refusalOf}
+
+accepted-structured : (form : Form) (header rows : List ℤ) → refusalOf form header rows ≡ Accepted → (headerFits form header ≡ true) × Structured form (boundsOf form header) rows
+accepted-structured Source header rows e = let legal = source-accepts header rows .0 e in (legal .header-fits, legal .structured)
+accepted-structured Kernel header rows e = let legal = kernel-accepts header rows .0 e in (legal .header-fits, legal .structured)
+
+module _ (form : Form) (header rows : List ℤ) (accepted : refusalOf form header rows ≡ Accepted) where
+  pub accepted-header : headerFits form header ≡ true
+  accepted-header = accepted-structured form header rows accepted .0
+
+  pub accepted-count : countFits form (length rows) ≡ true
+  accepted-count = accepted-structured form header rows accepted .1 .count-fits
+
+  pub accepted-sound : Sound rows (layoutOf form header) (storeWords form header)
+  accepted-sound = header-sound form header rows (accepted-structured form header rows accepted .1)
+
+  pub accepted-rows : rowCount rows ≤ 40980
+  accepted-rows = omega (arith, countFits-facts form (length rows) accepted-count .most, rowLimit-most form)
+
+pub source-words : (header rows : List ℤ) → refusalOf Source header rows ≡ Accepted → storeWords Source header ≤ 8192
+unfolding storeWords
+source-words header rows e = omega (arith, headerFits-facts Source header (accepted-header Source header rows e) .small-store)
+
+pub kernel-words : (header rows : List ℤ) → refusalOf Kernel header rows ≡ Accepted → storeWords Kernel header ≤ 16384
+unfolding storeWords
+kernel-words header rows e =
+    let facts = headerFits-facts Kernel header (accepted-header Kernel header rows e) in
+    omega (arith, facts .small-store, facts .few-temporaries)

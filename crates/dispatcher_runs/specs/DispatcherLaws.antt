@@ -15,7 +15,7 @@ use Rattle.language.specs.Program.{Finished, runProgram}
 use Rattle.language.specs.ProgramLaws.{store-length}
 use Rattle.machine.specs.Whole.{finishedOf}
 use Rattle.fate.specs.Views.{DispatcherView, dispatcherView}
-use Rattle.program_previews.specs.PreviewLaws.{over-whole}
+use Rattle.copying.specs.OverLaws.{over-whole}
 use Rattle.dispatcher_runs.specs.DispatcherRuns.{viewOfRun}
 
 module _ (header rows : List ℤ) (budget : ℕ) (words : List ℤ) (size : length words ≡ storeSize (layoutOf Kernel header)) where

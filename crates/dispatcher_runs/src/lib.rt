@@ -1,5 +1,5 @@
 // The run that a dispatcher sees: the ending and the first S words. The temporaries are kept here.
-use leaves::rows::put;
+use copying::put;
 use program_runs::kernel_check;
 use program_runs::run_accepted;
 use words::Ending;

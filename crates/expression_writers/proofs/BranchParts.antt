@@ -16,7 +16,7 @@ use Rattle.translation.specs.Translate.{operandCode}
 use Rattle.translation.specs.TranslateSize.{operandSize}
 use Rattle.emission.specs.Emission.{rowOf, emitStatement, emitItems}
 use Rattle.leaves.specs.Room.{Room, moreRows}
-use Rattle.leaves.specs.Asks.{Writing}
+use Rattle.straight_writers.specs.Asks.{Writing}
 use Rattle.leaves.specs.Chain.{part, back-in, Put, put-next, reworded, Reach, put-length, put-reach, put-room, Wrote, wrote-put}
 use Rattle.expression_writers.specs.Code.{finishCode, branchCode}
 use Rattle.expression_writers.specs.Asks.{OperandAsks, finishSize, branchSize, BranchFits}

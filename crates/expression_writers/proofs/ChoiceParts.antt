@@ -15,8 +15,8 @@ use Rattle.emission.specs.Emission.{rowOf, emitExpression, emitStatement, emitI
 use Rattle.emission.specs.EmissionLaws.{length-expression, length-statement}
 use Rattle.leaves.specs.Room.{Room}
 use Rattle.leaves.specs.Atoms.{atomTree, AtomFits}
-use Rattle.leaves.specs.AtomLaws.{atom-rows}
-use Rattle.leaves.specs.Asks.{Writing}
+use Rattle.straight_writers.specs.AtomLaws.{atom-rows}
+use Rattle.straight_writers.specs.Asks.{Writing}
 use Rattle.leaves.specs.Chain.{part, back-in, Put, put-next, reworded, Reach, put-length, put-reach, put-room, choice-words}
 use Rattle.leaves.specs.declared.Atom.{Atom}
 use Rattle.expression_writers.specs.Code.{branchCode, choiceCode}

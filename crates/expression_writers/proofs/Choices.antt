@@ -23,7 +23,7 @@ use Rattle.shapes.specs.declared.ExpressionShape.the-variants.{Operation}
 use Rattle.shapes.specs.declared.ExpressionShape.the-variants as expression
 use Rattle.leaves.specs.Atoms.{atomTree, AtomFits}
 use Rattle.leaves.specs.Straight.{straightCode, lastSize}
-use Rattle.leaves.specs.Asks.{Writing, AtomAt}
+use Rattle.straight_writers.specs.Asks.{Writing, AtomAt}
 use Rattle.leaves.specs.declared.Atom.{Atom}
 use Rattle.expression_writers.specs.Code.{lastCode, finishCode, branchCode}
 use Rattle.expression_writers.specs.Asks.{endOf, finishSize, branchSize, BranchFits, ChoiceAt, numberBranch}

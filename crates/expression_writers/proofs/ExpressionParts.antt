@@ -26,7 +26,7 @@ use Rattle.measure_table.specs.declared.Own.{Own}
 use Rattle.expression_measures.proofs.ExpressionLaws.{above-most}
 use Rattle.leaves.specs.Room.{Room, moreRows}
 use Rattle.leaves.specs.Straight.{lastSize}
-use Rattle.leaves.specs.Asks.{Writing, LastAsks}
+use Rattle.straight_writers.specs.Asks.{Writing, LastAsks}
 use Rattle.leaves.specs.Chain.{part, back-in, Reach, put-length, put-reach, put-room, room-less, Wrote, wrote-put, wrote-next, wrote-as}
 use Rattle.expression_writers.specs.Code.{waitCode, lastCode}
 use Rattle.expression_writers.specs.Asks.{OperandAsks}

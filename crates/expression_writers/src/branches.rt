@@ -6,11 +6,11 @@ use expression_measures::holders::taken_at;
 use leaves::Atom;
 use leaves::assignments::put_binary;
 use leaves::assignments::put_copy;
-use leaves::atoms::atom_at;
-use leaves::atoms::operand_size;
 use shapes::ChoiceShape;
 use shapes::ExpressionShape;
 use shapes::rows::expression_at;
+use straight_writers::atoms::atom_at;
+use straight_writers::atoms::operand_size;
 use translation::Use;
 use words::Operator;
 ghost use mathlib.Core.Path.{_≡_};
@@ -26,7 +26,7 @@ ghost use Rattle.words.specs.Over.{over};
 ghost use Rattle.leaves.specs.Room.{Room};
 ghost use Rattle.leaves.specs.Atoms.{AtomFits};
 ghost use Rattle.expression_writers.specs.Code.{finishCode};
-ghost use Rattle.leaves.specs.Asks.{Writing};
+ghost use Rattle.straight_writers.specs.Asks.{Writing};
 ghost use Rattle.expression_writers.specs.Asks.{endOf, numberBranch, finishSize, branchSize as sizeOf, ChoiceAt};
 
 // A branch that puts a number into the result's temporary.

@@ -7,15 +7,15 @@ use super::branches::finish_size;
 use super::branches::put_finish;
 use expression_measures::parts::own_at;
 use leaves::Atom;
-use leaves::atoms::operand_copied;
-use leaves::atoms::operand_size;
 use leaves::control::put_block;
 use leaves::control::put_if;
 use leaves::rows::behind;
 use leaves::rows::more;
-use leaves::straight::put_hold;
-use leaves::straight::put_straight;
 use measure_table::uses::second_use;
+use straight_writers::atoms::operand_copied;
+use straight_writers::atoms::operand_size;
+use straight_writers::straight::put_hold;
+use straight_writers::straight::put_straight;
 use translation::Use;
 ghost use mathlib.Core.Path.{_≡_};
 ghost use mathlib.Core.Bool.{false};
@@ -29,7 +29,7 @@ ghost use Rattle.words.specs.Over.{over};
 ghost use Rattle.leaves.specs.Room.{Room};
 ghost use Rattle.leaves.specs.Atoms.{AtomFits};
 ghost use Rattle.expression_writers.specs.Code.{lastCode, branchCode, choiceCode};
-ghost use Rattle.leaves.specs.Asks.{Writing, LastAsks};
+ghost use Rattle.straight_writers.specs.Asks.{Writing, LastAsks};
 ghost use Rattle.expression_writers.specs.Asks.{OperandAsks, branchSize, BranchFits};
 
 // The code of the expression at a link, worked out at a level for a use of its value; an absent one has none.

@@ -9,12 +9,8 @@ pub mod Atoms
 pub mod Straight
 -- Guarded: the rows of the guarded forms, beside the code of their guards and blocks.
 pub mod Guarded
--- Asks: what the leaves ask of their caller.
-pub mod Asks
 -- Chains: parts of a table written one behind the other.
 pub mod Chain
 -- ---- laws
--- Laws of atoms and places.
-pub mod AtomLaws
 -- Laws of the leaves: what they wrote, as lists of kernel items with their rows.
 pub mod LeafLaws

@@ -1,5 +1,6 @@
 // What all rows are put together by: words, a row and an atom's row written into a table, links to what stands behind, the numbers of operators.
 use super::Atom;
+use copying::put;
 use words::Operator;
 ghost use mathlib.Core.Path.{_≡_};
 ghost use Prim.Native.Nat.{_^_, _≤_, _<_};
@@ -10,16 +11,6 @@ ghost use Rattle.emission.specs.Emission.{rowOf, operatorNumber};
 ghost use Rattle.words.specs.Over.{over};
 ghost use Rattle.leaves.specs.Room.{moreRows};
 ghost use Rattle.leaves.specs.Atoms.{atomRow, AtomFits};
-
-// Writes words at the start of the table.
-pub fn put(words: &[i32], out: &mut [i32])
-    requires { ⌜ length (now words) ≤ length (now out) ⌝ }
-    ensures { λ _. ⌜ now (out .exit) ≡ over (now (words .entry)) (now (out .entry)) ⌝ }
-{
-    for i in 0..words.len() {
-        out[i] = words[i];
-    }
-}
 
 // Writes a row at the start of the table: "kind, a, b, c, d, next". Only a for has a field d, and the kernel has no for.
 pub fn put_row(kind: usize, a: usize, b: usize, c: usize, next: usize, out: &mut [i32])

@@ -13,6 +13,7 @@ use borrow.Author.Tests.{ltb-true, ltb-false, eqb-true, eq-eqb, ne-eqb, le-leb, 
 use Rattle.words.specs.Word.{sameWord, pick}
 use Rattle.words.specs.Laws.{by-cases, sameWord-refl, sameWord-equal}
 use Rattle.words.specs.Over.{over}
+use Rattle.copying.specs.OverLaws.{over-whole}
 use Rattle.words.specs.Layout.{storeWords}
 use Rattle.words.specs.declared.Form.the-variants.{Source}
 use Rattle.words.specs.declared.Ending.the-variants.{Spent}
@@ -84,11 +85,6 @@ none-if-equal before after e = record {
 }
 
 -- ---- the run on a copy
-
--- words put over as many words are all that stands there
-pub over-whole : (words copy : List ℤ) → length words ≡ length copy → over words copy ≡ words
-unfolding over
-over-whole words copy e = ap (λ (l : List ℤ). words ++ l) (drop-of-length-le copy {i = length words} (omega (arith, e))) ∙ append-nil words
 
 pub foretold : (program : List ℤ → Finished) (run : RunAnswer) (store copy copied left : List ℤ) (tally : ℕ) → length store ≡ length copy → copied ≡ over store copy
     → finishedOf run left ≡ program copied → tally ≡ differences (length store) store left → Foretells (program store) store (previewOf run tally) left

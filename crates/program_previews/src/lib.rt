@@ -1,5 +1,5 @@
 // What a rule would do to a store, told beforehand.
-use leaves::rows::put;
+use copying::put;
 use program_runs::check;
 use program_runs::run_accepted;
 use words::Ending;

@@ -5,7 +5,7 @@ use clight::runs::kernel_run;
 use clight::texts::read_kernel;
 use clight::texts::write_kernel;
 use clight::translate::translate;
-use leaves::rows::put;
+use copying::put;
 use libc::STDOUT_FILENO;
 use text_form::ReadAnswer;
 use text_form::WriteAnswer;

@@ -9,7 +9,7 @@ use clight::runs::run;
 use clight::texts::read_source;
 use clight::texts::write_kernel;
 use clight::translate::translate;
-use leaves::rows::put;
+use copying::put;
 use text_form::ReadAnswer;
 use text_form::WriteAnswer;
 use translator::TranslateAnswer;

@@ -24,8 +24,8 @@ use Rattle.shapes.specs.ShapeLaws.{arm-found}
 use Rattle.shapes.specs.declared.ArmShape.{ArmShape}
 use Rattle.shapes.specs.declared.ArmShape.the-variants.{Arm, NoArm}
 use Rattle.leaves.specs.Atoms.{atomTree}
-use Rattle.leaves.specs.AtomLaws.{atom-rows}
-use Rattle.leaves.specs.Asks.{AtomAt}
+use Rattle.straight_writers.specs.AtomLaws.{atom-rows}
+use Rattle.straight_writers.specs.Asks.{AtomAt}
 use Rattle.leaves.specs.declared.Atom.{Atom}
 use Rattle.leaves.specs.Straight.{loopHead}
 use Rattle.leaves.specs.Guarded.{armHead, armEnd, roundOver, roundsEnd}

@@ -19,14 +19,14 @@ use Rattle.emission.specs.EmissionLaws.{orMore, emit-append}
 use Rattle.words.specs.Over.{over}
 use Rattle.leaves.specs.Room.{moreRows}
 use Rattle.leaves.specs.Atoms.{atomTree}
-use Rattle.leaves.specs.Asks.{AtomAt}
+use Rattle.straight_writers.specs.Asks.{AtomAt}
 use Rattle.writers.specs.Asks.{roundSize}
 use Rattle.leaves.specs.Straight.{loopHead}
 use Rattle.expression_writers.specs.CodeLaws.{rows-operand}
 use Rattle.writers.specs.Code.{roundEnd, roundCode, wholeLoop}
 use Rattle.leaves.specs.declared.Atom.{Atom}
 use Rattle.writers.specs.declared.Loop.{Loop}
-use Rattle.leaves.specs.AtomLaws.{atom-rows}
+use Rattle.straight_writers.specs.AtomLaws.{atom-rows}
 use Rattle.leaves.specs.Chain.{part, back-in, Put, reworded, Wrote, wrote-put, more-is, link-is}
 use Rattle.writers.proofs.Sequence.{put-behind, wrote-behind, more-rows, more-append, more-true, append-four}
 

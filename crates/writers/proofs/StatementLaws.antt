@@ -22,12 +22,12 @@ use Rattle.leaves.specs.Room.{moreRows}
 use Rattle.leaves.specs.Atoms.{atomTree}
 use Rattle.shapes.specs.Shapes.{statementTree, StatementAt}
 use Rattle.shapes.specs.declared.StatementShape.{StatementShape}
-use Rattle.leaves.specs.Asks.{AtomAt}
+use Rattle.straight_writers.specs.Asks.{AtomAt}
 use Rattle.writers.specs.Asks.{bodySize, bodyLabels, loopSize}
 use Rattle.writers.specs.Code.{bodyCode, wholeLoop}
 use Rattle.writers.specs.declared.Loop.{Loop}
 use Rattle.leaves.specs.declared.Atom.{Atom as KernelAtom}
-use Rattle.leaves.specs.AtomLaws.{atom-rows}
+use Rattle.straight_writers.specs.AtomLaws.{atom-rows}
 use Rattle.leaves.specs.Chain.{part, back-in, Put, reworded, more-some, link-is, Wrote, wrote-put, one-item, choice-words}
 use Rattle.writers.proofs.Sequence.{put-behind, wrote-behind, more-true, append-four}
 

@@ -11,7 +11,7 @@ use Rattle.language.specs.Program.{contents}
 use Rattle.translation.specs.Translate.{itemsCode, exits}
 use Rattle.translation.specs.TranslateSize.{itemsSize}
 use Rattle.leaves.specs.Room.{Room}
-use Rattle.leaves.specs.Asks.{Writing}
+use Rattle.straight_writers.specs.Asks.{Writing}
 
 -- The block of the translation, where the store has S words: `translate` of a layout of that size.
 abbrev pub kernelProgram : ℕ → Items → Statement

@@ -2,11 +2,11 @@
 use super::Loop;
 use super::lists::statement_size;
 use expression_writers::expressions::write_expression;
-use leaves::atoms::atom_at;
-use leaves::atoms::operand_size;
 use leaves::control::put_exit;
 use leaves::control::put_label;
 use leaves::rows::more;
+use straight_writers::atoms::atom_at;
+use straight_writers::atoms::operand_size;
 use translation::Use;
 ghost use mathlib.Core.Path.{_≡_};
 ghost use mathlib.Core.Bool.{false};
@@ -20,7 +20,7 @@ ghost use Rattle.translation.specs.TranslateSize.{testSize as testSizeOf};
 ghost use Rattle.emission.specs.Emission.{emitItems};
 ghost use Rattle.measure_table.specs.Measures.{Measured};
 ghost use Rattle.words.specs.Over.{over};
-ghost use Rattle.leaves.specs.Asks.{Writing};
+ghost use Rattle.straight_writers.specs.Asks.{Writing};
 ghost use Rattle.writers.specs.Code.{roundEnd};
 ghost use Rattle.writers.specs.Asks.{roundSize, LoopFits, TestAsks, RoundEndAsks};
 

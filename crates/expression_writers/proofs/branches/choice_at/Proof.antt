@@ -9,7 +9,7 @@ use Rattle.expression_writers.proofs.branches.choice_at.Statement.{stat
 use Rattle.expression_writers.proofs.branches.choice_at.Tie as tie
 use Rattle.expression_writers.proofs.branches.end_at.Reads as end-at-reads
 use Rattle.expression_writers.proofs.branches.number_branch.Reads as number-branch-reads
-use Rattle.leaves.proofs.atoms.atom_at.Reads as atom-at-reads
+use Rattle.straight_writers.proofs.atoms.atom_at.Reads as atom-at-reads
 use Rattle.shapes.proofs.rows.expression_at.Reads as expression-at-reads
 
 at-start : (c : tie.Start) →

@@ -8,7 +8,7 @@ use Rattle.language.specs.Trees.{constant, binary, assign, variable, express, n
 use Rattle.emission.specs.Emission.{emitItems}
 use Rattle.words.specs.Over.{over}
 use Rattle.leaves.specs.Atoms.{atomTree}
-use Rattle.leaves.specs.AtomLaws.{atom-rows}
+use Rattle.straight_writers.specs.AtomLaws.{atom-rows}
 use mathlib.Core.Bool.{true}
 use native.Mathlib.Omega.{arith}
 use Rattle.language.specs.Sizes.{itemsRows, expressionRows}

@@ -9,7 +9,7 @@ use Rattle.language.specs.Decode.{listAt}
 use Rattle.translation.specs.Translate.{caseTests, itemsLabels}
 use Rattle.translation.specs.TranslateSize.{cases}
 use Rattle.leaves.specs.Atoms.{atomTree}
-use Rattle.leaves.specs.AtomLaws.{atom-rows}
+use Rattle.straight_writers.specs.AtomLaws.{atom-rows}
 use Rattle.writers.proofs.switches.write_cases.Statement.{statement}
 use Rattle.writers.proofs.switches.write_cases.Tie as tie
 

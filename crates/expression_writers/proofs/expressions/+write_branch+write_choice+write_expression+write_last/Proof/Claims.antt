@@ -20,14 +20,14 @@ use Rattle.expression_writers.proofs.branches.branch_size.Reads as bran
 use Rattle.expression_writers.proofs.branches.choice_at.Reads as choice-at-reads
 use Rattle.expression_writers.proofs.branches.finish_size.Reads as finish-size-reads
 use Rattle.expression_writers.proofs.branches.put_finish.Reads as put-finish-reads
-use Rattle.leaves.proofs.atoms.operand_copied.Reads as operand-copied-reads
-use Rattle.leaves.proofs.atoms.operand_size.Reads as operand-size-reads
+use Rattle.straight_writers.proofs.atoms.operand_copied.Reads as operand-copied-reads
+use Rattle.straight_writers.proofs.atoms.operand_size.Reads as operand-size-reads
 use Rattle.leaves.proofs.rows.behind.Reads as behind-reads
 use Rattle.leaves.proofs.rows.more.Reads as more-reads
 use Rattle.leaves.proofs.control.put_block.Reads as put-block-reads
 use Rattle.leaves.proofs.control.put_if.Reads as put-if-reads
-use Rattle.leaves.proofs.straight.put_hold.Reads as put-hold-reads
-use Rattle.leaves.proofs.straight.put_straight.Reads as put-straight-reads
+use Rattle.straight_writers.proofs.straight.put_hold.Reads as put-hold-reads
+use Rattle.straight_writers.proofs.straight.put_straight.Reads as put-straight-reads
 use Rattle.expression_measures.proofs.parts.own_at.Reads as own-at-reads
 use Rattle.measure_table.proofs.uses.second_use.Reads as second-use-reads
 use Rattle.expression_writers.proofs.Ranks.{rank}

@@ -48,8 +48,8 @@ use Rattle.writers.proofs.statements.write_switch.Reads as write-switch
 use Rattle.writers.proofs.statements.write_switch.Kinds as write-switch-kinds
 use Rattle.writers.proofs.statements.+write_arm+write_arms+write_block+write_body+write_choice+write_guarded+write_if+write_item+write_list+write_loop+write_round+write_rounds+write_statement+write_switch.Lts-write_switch as write-switch-lts
 use Rattle.words.proofs.table.number_at.Reads as number-at-reads
-use Rattle.leaves.proofs.atoms.atom_at.Reads as atom-at-reads
-use Rattle.leaves.proofs.atoms.operand_size.Reads as operand-size-reads
+use Rattle.straight_writers.proofs.atoms.atom_at.Reads as atom-at-reads
+use Rattle.straight_writers.proofs.atoms.operand_size.Reads as operand-size-reads
 use Rattle.expression_writers.proofs.expressions.write_expression.Reads as write-expression-reads
 use Rattle.leaves.proofs.rows.behind.Reads as behind-reads
 use Rattle.leaves.proofs.rows.more.Reads as more-reads

@@ -1,0 +1,119 @@
+-- Asks: what the leaves ask of their caller, and what they find of atoms and places.
+use mathlib.Core.Path.{_≡_}
+use mathlib.Core.List.{List}
+use Prim.Native.Nat.{ℕ, _*_, _≤_, _<_}
+use lib.IntN.{ℤ}
+use Rattle.words.specs.Table.{rowCount}
+use Rattle.language.specs.Trees.{variable, element}
+use Rattle.language.specs.Writes.{writes, indexWrites}
+use Rattle.language.specs.Decode.{placeOf, expressionAt}
+use Rattle.translation.specs.Uses.{direct}
+use Rattle.translation.specs.declared.Use.{Use}
+use Rattle.translation.specs.Translate.{atomOf, atom, targetWord, kernelPlace}
+use Rattle.translation.specs.TranslateSize.{indexRows as indexRowsOf, storeRows, copied}
+use Rattle.translation.specs.HeldCode.{heldBy}
+use Rattle.measure_table.specs.Parts.{UseFits}
+use Rattle.measure_table.specs.Measures.{Measured}
+use Rattle.shapes.specs.Source.{mostVariables, mostArrays}
+use Rattle.shapes.specs.Shapes.{placeTree as placeShapeTree}
+use Rattle.shapes.specs.declared.PlaceShape.{PlaceShape}
+use Rattle.shapes.specs.declared.PlaceShape.the-variants.{Variable as VariableShape, Element as ElementShape}
+use Rattle.leaves.specs.Room.{Room}
+use Rattle.leaves.specs.Atoms.{atomTree, placeTree, AtomFits, PlaceFits}
+use Rattle.leaves.specs.Straight.{lastSize}
+use Rattle.leaves.specs.declared.Atom.{Atom}
+use Rattle.leaves.specs.declared.KernelPlace.{KernelPlace}
+
+-- The source is measured; the store has S words.
+pub record Writing (rows : List ℤ) (table : List ℕ) (S : ℕ) : Type 0 where
+  pub measured : Measured rows table
+  pub small-store : S ≤ 8192
+
+-- What an expression does behind its first two operands.
+pub record LastAsks (rows : List ℤ) (row : ℕ) (u : Use) (level base words : ℕ) : Type 0 where
+  pub inside : row < rowCount rows
+  pub level-low : level ≤ row
+  pub use-fits : UseFits u
+  pub room : Room (lastSize (expressionAt rows row) u) base words
+
+-- The word where an element's value or an operation's result goes.
+pub record TargetIs (S : ℕ) (u : Use) (t r : ℕ) : Type 0 where
+  pub is : r ≡ targetWord S u t
+  pub fits : r < 65536
+
+-- ---- atoms and places
+
+-- The atom of the expression at a row, worked out at level t.
+pub record AtomAt (S : ℕ) (rows : List ℤ) (row t : ℕ) (x : Atom) : Type 0 where
+  pub is : atomTree x ≡ atom S t (atomOf (expressionAt rows row))
+  pub fits : AtomFits x
+
+-- The atom of a value that waits, which was copied where `copies` is 1.
+pub record HeldAt (S : ℕ) (rows : List ℤ) (row copies t : ℕ) (x : Atom) : Type 0 where
+  pub is : atomTree x ≡ atom S t (heldBy copies (atomOf (expressionAt rows row)))
+  pub fits : AtomFits x
+
+-- The numbers and the index row of a place are inside.
+abbrev pub PlaceInside : List ℤ → PlaceShape → Type 0
+PlaceInside rows (VariableShape i) = i < mostVariables
+PlaceInside rows (ElementShape array index) = (array < mostArrays) × (index < rowCount rows)
+
+-- A place whose index is held at level t.
+pub record HeldPlace (S : ℕ) (rows : List ℤ) (place : PlaceShape) (t : ℕ) (p : KernelPlace) : Type 0 where
+  pub is : placeTree p ≡ kernelPlace S (placeShapeTree rows place) t
+  pub fits : PlaceFits p
+
+-- The place at a row, its index held at level t.
+pub record PlaceAt (S : ℕ) (rows : List ℤ) (row t : ℕ) (p : KernelPlace) : Type 0 where
+  pub is : placeTree p ≡ kernelPlace S (placeOf (expressionAt rows row)) t
+  pub fits : PlaceFits p
+
+-- ---- what ends the code of an expression
+
+pub record ReadAsks (rows : List ℤ) (table : List ℕ) (S : ℕ) (place : PlaceShape) (u : Use) (level base words : ℕ) : Type 0 where
+  pub writing : Writing rows table S
+  pub place-inside : PlaceInside rows place
+  pub level-low : level ≤ 2048
+  pub use-fits : UseFits u
+  pub room : Room (5 * indexRowsOf (placeShapeTree rows place)) base words
+
+-- `copies` is 1 where the value of the first operand was copied.
+pub record AssignmentAsks (rows : List ℤ) (table : List ℕ) (S place value copies level base words : ℕ) : Type 0 where
+  pub writing : Writing rows table S
+  pub place-inside : place < rowCount rows
+  pub value-inside : value < rowCount rows
+  pub copies-are : copies ≡ copied (atomOf (expressionAt rows value)) (indexWrites (placeOf (expressionAt rows place)))
+  pub level-low : level ≤ 2048
+  pub room : Room (storeRows (placeOf (expressionAt rows place)) (direct (expressionAt rows value))) base words
+
+pub record VariableAsks (rows : List ℤ) (table : List ℕ) (S i value level base words : ℕ) : Type 0 where
+  pub writing : Writing rows table S
+  pub low : i < mostVariables
+  pub value-inside : value < rowCount rows
+  pub level-low : level ≤ 2048
+  pub room : Room (storeRows (variable i) (direct (expressionAt rows value))) base words
+
+pub record ElementAsks (rows : List ℤ) (table : List ℕ) (S array index value copies level base words : ℕ) : Type 0 where
+  pub writing : Writing rows table S
+  pub low : array < mostArrays
+  pub index-inside : index < rowCount rows
+  pub value-inside : value < rowCount rows
+  pub copies-are : copies ≡ copied (atomOf (expressionAt rows value)) (indexWrites (element array (expressionAt rows index)))
+  pub level-low : level ≤ 2048
+  pub room : Room 5 base words
+
+-- An operation on a place, of so many rows.
+pub record OperationAsks (rows : List ℤ) (table : List ℕ) (S place size level base words : ℕ) : Type 0 where
+  pub writing : Writing rows table S
+  pub place-inside : place < rowCount rows
+  pub level-low : level ≤ 2048
+  pub room : Room size base words
+
+pub record OperatorAsks (rows : List ℤ) (table : List ℕ) (S left right copies : ℕ) (u : Use) (level base words : ℕ) : Type 0 where
+  pub writing : Writing rows table S
+  pub left-inside : left < rowCount rows
+  pub right-inside : right < rowCount rows
+  pub copies-are : copies ≡ copied (atomOf (expressionAt rows right)) (writes (expressionAt rows left))
+  pub use-fits : UseFits u
+  pub level-low : level ≤ 2048
+  pub room : Room 6 base words

@@ -1,4 +1,6 @@
 // How a table of kinds is read: the names of its sorts, and what a row's number says of its fields.
+pub mod kinds; // kinds.rt: the table of kinds as a constant array
+
 use words::Form;
 use words::table::number_at;
 ghost use mathlib.Core.Path.{_≡_};

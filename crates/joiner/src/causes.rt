@@ -2,9 +2,9 @@
 use super::headers::same_header;
 use super::rows::put_joined;
 use grammar::KindTable;
+use grammar::kinds::kind_table;
 use structure::causes::at;
 use structure::depth::lowest_deep_by;
-use structure::kinds::KINDS;
 use words::Form;
 use words::Refusal;
 use words::Verdict;
@@ -45,7 +45,8 @@ fn deep_refusal(first: &[i32], second: &[i32]) -> Verdict
     requires { ⌜ Joinable (now first) (now second) ⌝ }
     ensures { λ r. ⌜ r ≡ atRow 9 (lowestRow (joinedRows (now (first .entry)) (now (second .entry))) (tooDeep Source (joinedRows (now (first .entry)) (now (second .entry))))) ⌝ }
 {
-    deep_by(&KINDS, first, second)
+    let kinds = kind_table();
+    deep_by(&kinds, first, second)
 }
 
 // The causes of the join of two accepted programs: 16, 17, 9.

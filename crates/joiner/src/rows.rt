@@ -1,8 +1,8 @@
 // The joined rows, written into a table: "The joined rows are the new block, the first's, the second's."
 use grammar::KindTable;
+use grammar::kinds::kind_table;
 use grammar::link;
 use leaves::control::put_block;
-use structure::kinds::KINDS;
 use words::table::word_at;
 ghost use mathlib.Core.Path.{_≡_};
 ghost use Prim.Native.Nat.{_+_, _/_, _<_, _≤_};
@@ -62,5 +62,6 @@ pub fn write_joined(first: &[i32], second: &[i32], out: &mut [i32])
     requires { ⌜ Parts (now first) (now second) × (6 + length (now first) + length (now second) ≤ length (now out)) ⌝ }
     ensures { λ _. ⌜ now (out .exit) ≡ over (joinedRows (now (first .entry)) (now (second .entry))) (now (out .entry)) ⌝ }
 {
-    put_joined(&KINDS, first, second, out);
+    let kinds = kind_table();
+    put_joined(&kinds, first, second, out);
 }

@@ -3,12 +3,12 @@ pub mod chains; // chains.rt: the gotos and labels of one label number, in order
 pub mod labels; // labels.rt: cause 13, one label number at a time
 pub mod notes; // notes.rt: the first row of each row's list, and its owner
 
+use grammar::kinds::kind_table;
 use kernel_statements::lowest_not_kernel_form;
 use labels::lowest_label_fault;
 use structure::causes::at;
 use structure::causes::structural_refusal;
 use structure::depth::lowest_deep_by;
-use structure::kinds::KINDS;
 use words::Form;
 use words::Found;
 use words::Refusal;
@@ -36,7 +36,8 @@ fn lowest_deep_row(rows: &[i32]) -> Found
     requires { ⌜ Tree (now rows) ⌝ }
     ensures { λ r. ⌜ r ≡ lowestRow (now (rows .entry)) (tooDeep Kernel (now (rows .entry))) ⌝ }
 {
-    lowest_deep_by(&KINDS, Form::Kernel, rows)
+    let kinds = kind_table();
+    lowest_deep_by(&kinds, Form::Kernel, rows)
 }
 
 // Causes 9, 12 and 13, in order.

@@ -1,8 +1,8 @@
 // Notes that each row gets from the row that links it: the first row of its list, and its owner.
 use super::Note;
 use grammar::KindTable;
+use grammar::kinds::kind_table;
 use grammar::link;
-use structure::kinds::KINDS;
 use structure::row_number::narrow;
 use structure::row_number::wide;
 ghost use mathlib.Core.Path.{_≡_};
@@ -56,5 +56,6 @@ pub fn write_notes(which: Note, rows: &[i32], notes: &mut [u16])
     requires { ⌜ Tree (now rows) × (length (now rows) / 6 ≤ length (now notes)) × (getD (now notes) 0 0 ≡ 0) ⌝ }
     ensures { λ _. ⌜ Notes (now (rows .entry)) (noteAt which (now (rows .entry))) (now (notes .exit)) ⌝ }
 {
-    write_notes_by(&KINDS, which, rows, notes);
+    let kinds = kind_table();
+    write_notes_by(&kinds, which, rows, notes);
 }

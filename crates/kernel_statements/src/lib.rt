@@ -2,7 +2,7 @@
 use grammar::KindTable;
 use grammar::between;
 use grammar::is_statement;
-use structure::kinds::KINDS;
+use grammar::kinds::kind_table;
 use words::Found;
 use words::table::number_at;
 ghost use mathlib.Core.Path.{_≡_};
@@ -219,5 +219,6 @@ pub fn lowest_not_kernel_form(rows: &[i32]) -> Found
     requires { ⌜ 6 * (length (now rows) / 6) ≡ length (now rows) ⌝ }
     ensures { λ r. ⌜ r ≡ lowestRow (now (rows .entry)) (notKernelForm (now (rows .entry))) ⌝ }
 {
-    lowest_not_kernel_form_by(&KINDS, rows)
+    let kinds = kind_table();
+    lowest_not_kernel_form_by(&kinds, rows)
 }

@@ -1,12 +1,12 @@
 // The check of source programs: the causes that both forms share, then 7, 8 and 9.
 use grammar::KindTable;
+use grammar::kinds::kind_table;
 use marks::lowest_repeated;
 use notes::write_notes;
 use places::lowest_misplaced;
 use structure::causes::at;
 use structure::causes::structural_refusal;
 use structure::depth::lowest_deep_by;
-use structure::kinds::KINDS;
 use words::Form;
 use words::Found;
 use words::Refusal;
@@ -93,7 +93,8 @@ fn later_refusal(rows: &[i32]) -> Verdict
     requires { ⌜ Tree (now rows) × (length (now rows) / 6 ≤ 2048) ⌝ }
     ensures { λ r. ⌜ r ≡ laterRefusal (now (rows .entry)) ⌝ }
 {
-    later_refusal_by(&KINDS, rows)
+    let kinds = kind_table();
+    later_refusal_by(&kinds, rows)
 }
 
 // Causes 1 to 6, with room for the marks of a source program.

@@ -4,10 +4,10 @@ use super::fields::bounds_of;
 use super::fields::is_foreign;
 use super::fields::is_mislinked;
 use super::fields::is_outside;
-use super::kinds::KINDS;
 use super::links::is_not_once;
 use super::links::mark_links;
 use grammar::KindTable;
+use grammar::kinds::kind_table;
 use words::Form;
 use words::Found;
 use words::Refusal;
@@ -191,7 +191,8 @@ fn table_causes(form: Form, bounds: Bounds, rows: &[i32], marks: &mut [u8]) -> V
     requires { ⌜ (6 * (length (now rows) / 6) ≡ length (now rows)) × Marked (now rows) 0 (now marks) ⌝ }
     ensures { λ r. ⌜ r ≡ rowCauses form bounds (now (rows .entry)) ⌝ }
 {
-    row_causes(&KINDS, form, bounds, rows, marks)
+    let kinds = kind_table();
+    row_causes(&kinds, form, bounds, rows, marks)
 }
 
 // The causes 1 to 6, which both forms share. The marks have room for the rows of the form, and none is set.

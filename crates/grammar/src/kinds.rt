@@ -1,30 +1,32 @@
 // The table of kinds as a constant array: the one place in the code that says what the fields of each kind hold.
-use grammar::ARM;
-use grammar::ARM_ROW;
-use grammar::ARRAY;
-use grammar::BODY;
-use grammar::BODY_BLOCK;
-use grammar::BOTH;
-use grammar::EXPRESSION;
-use grammar::ITEM;
-use grammar::KERNEL;
-use grammar::KindTable;
-use grammar::LABEL;
-use grammar::NEITHER;
-use grammar::NO_ROW;
-use grammar::NONE;
-use grammar::OPERAND;
-use grammar::OPTIONAL;
-use grammar::OPTIONAL_BODY;
-use grammar::PLACE;
-use grammar::PLACE_ROW;
-use grammar::SOURCE;
-use grammar::STATEMENT;
-use grammar::VALUE;
-use grammar::VARIABLE;
+use super::ARM;
+use super::ARM_ROW;
+use super::ARRAY;
+use super::BODY;
+use super::BODY_BLOCK;
+use super::BOTH;
+use super::EXPRESSION;
+use super::ITEM;
+use super::KERNEL;
+use super::KindTable;
+use super::LABEL;
+use super::NEITHER;
+use super::NO_ROW;
+use super::NONE;
+use super::OPERAND;
+use super::OPTIONAL;
+use super::OPTIONAL_BODY;
+use super::PLACE;
+use super::PLACE_ROW;
+use super::SOURCE;
+use super::STATEMENT;
+use super::VALUE;
+use super::VARIABLE;
+ghost use mathlib.Core.Path.{_≡_};
+ghost use Rattle.grammar.specs.Grammar.{grammar};
 
 // The table of kinds, a row for each number: what a row of the kind is, what a, b, c, d and next hold, and the forms that have the kind.
-pub const KINDS: KindTable = [
+const KINDS: KindTable = [
     [NO_ROW, NONE, NONE, NONE, NONE, NONE, NEITHER], // 0
     [EXPRESSION, VALUE, NONE, NONE, NONE, NONE, BOTH], // 1 constant
     [PLACE_ROW, VARIABLE, NONE, NONE, NONE, NONE, BOTH], // 2 variable
@@ -84,3 +86,10 @@ pub const KINDS: KindTable = [
     [ARM_ROW, OPERAND, BODY_BLOCK, NONE, NONE, ARM, SOURCE], // 56 arm
     [STATEMENT, NONE, NONE, NONE, NONE, ITEM, KERNEL], // 57 abort
 ];
+
+// The table, for a pass to build once and lend on. Only here is the array held to the definition.
+pub fn kind_table() -> KindTable
+    ensures { λ r. ⌜ r ≡ grammar ⌝ }
+{
+    KINDS
+}

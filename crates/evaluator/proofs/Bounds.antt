@@ -8,8 +8,8 @@ use lib.IntN.{ℤ}
 use lib.ListN.{length, getD, take}
 use Rattle.words.specs.Layout.{Layout, sum, storeSize, arrayLength, arrayBase}
 use Rattle.words.specs.Laws.{arrayBase-next, array-in-store}
-use Rattle.evaluator.specs.Bounds.{boundsFrom, boundsOf, layoutFrom}
-use Rattle.evaluator.specs.Ready.{Bounded, Setting}
+use Rattle.operations.specs.Bounds.{boundsFrom, boundsOf, layoutFrom}
+use Rattle.operations.specs.Ready.{Bounded, Setting}
 
 bounds-length : (base : ℕ) (ns : List ℕ) → length (boundsFrom base ns) ≡ suc (length ns)
 unfolding boundsFrom

@@ -16,15 +16,15 @@ use Rattle.words.specs.declared.Kind.the-variants.{OfExpression}
 use Rattle.words.specs.declared.ExpressionKind.the-variants.{Variable, Element}
 use Rattle.computation.specs.Computation.{settle}
 use Rattle.computation.specs.Remaining.{Rest, gives, halts, onward, spend}
-use Rattle.evaluator.specs.Answers.{operandOf, positionOf, placed}
-use Rattle.evaluator.specs.Bounds.{layoutFrom}
-use Rattle.evaluator.specs.Ready.{ReadyPlace, Entered}
-use Rattle.evaluator.specs.Rows.{valueAt, locateAt, placeAt}
-use Rattle.evaluator.specs.declared.Position.{Position}
-use Rattle.evaluator.specs.declared.Position.the-variants.{At}
-use Rattle.evaluator.proofs.Decoding.{handed, handed-is}
-use Rattle.evaluator.proofs.Enter.{entered, not-entered}
-use Rattle.evaluator.proofs.Rows.{variable-inside, place-variable-row, element-array, locate-row}
+use Rattle.operations.specs.Answers.{operandOf, positionOf, placed}
+use Rattle.operations.specs.Bounds.{layoutFrom}
+use Rattle.operations.specs.Ready.{ReadyPlace, Entered}
+use Rattle.operations.specs.Rows.{valueAt, locateAt, placeAt}
+use Rattle.operations.specs.declared.Position.{Position}
+use Rattle.operations.specs.declared.Position.the-variants.{At}
+use Rattle.operations.proofs.Decoding.{handed, handed-is}
+use Rattle.operations.proofs.Enter.{entered, not-entered}
+use Rattle.operations.proofs.Rows.{variable-inside, place-variable-row, element-array, locate-row}
 
 -- the run of the place that this answer is of
 pub given-at : {m : Rest ℕ} (r : ℤ) (n : ℕ) (s : List ℤ) → mag r < 2 ^ 63 → placed r n s ≡ m → (p : Position) → p ≡ positionOf (operandOf (handed r)) → (i : ℕ) → p ≡ At i → m ≡ gives i n s

@@ -1,22 +1,22 @@
 // Evaluation by recursion down links: the measure is the number of rows from the row on. `eval` enters a row, and `compute` hands
 // it to the function of its kind. Slices are lent again at each call (`&*rows`): handed on as they stand they would be copied as one
 // piece of 16 bytes, on which the callee's reads of pointer and length wait.
-use super::Operand;
-use super::Position;
-use super::SPENT;
-use super::answers::operand;
-use super::answers::position;
-use super::answers::settled;
-use super::operations::decides;
-use super::operations::is_binary;
-use super::operations::link_at;
-use super::operations::operate;
-use super::operations::update;
-use super::operations::within;
 use arithmetic::bit;
 use arithmetic::is_true;
 use arithmetic::logical_not;
 use arithmetic::minus;
+use operations::Operand;
+use operations::Position;
+use operations::SPENT;
+use operations::answers::operand;
+use operations::answers::position;
+use operations::answers::settled;
+use operations::operations::decides;
+use operations::operations::is_binary;
+use operations::operations::link_at;
+use operations::operations::operate;
+use operations::operations::update;
+use operations::operations::within;
 use words::Operator;
 use words::kinds::operator_of;
 use words::table::number_at;
@@ -31,9 +31,9 @@ ghost use Rattle.words.specs.declared.Kind.the-variants.{OfExpression};
 ghost use Rattle.words.specs.declared.ExpressionKind.the-variants.{Variable, Element, Minus, Not, Binary, And, Or, Conditional, Comma, Assign, Compound, Prefix, Postfix};
 ghost use Rattle.words.specs.Table.{wordAt};
 ghost use Rattle.computation.specs.Remaining.{gives, spend};
-ghost use Rattle.evaluator.specs.Answers.{answered, placed};
-ghost use Rattle.evaluator.specs.Ready.{Ready, ReadyPlace, Entered};
-ghost use Rattle.evaluator.specs.Rows.{valueAt, evaluateAt, placeAt, locateAt};
+ghost use Rattle.operations.specs.Answers.{answered, placed};
+ghost use Rattle.operations.specs.Ready.{Ready, ReadyPlace, Entered};
+ghost use Rattle.operations.specs.Rows.{valueAt, evaluateAt, placeAt, locateAt};
 
 // The value of the expression at a row. Constants and variables, half of all rows entered, are taken here.
 pub fn eval(rows: &[i32], bounds: &[usize], row: usize, store: &mut [i32], left: &mut u32) -> i64

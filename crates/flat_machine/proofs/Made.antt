@@ -22,7 +22,7 @@ use Rattle.words.specs.declared.Operator.{Operator}
 use Rattle.arithmetic.specs.declared.Located.{Located}
 use Rattle.arithmetic.specs.declared.Located.the-variants.{At as LiesAt, Outside}
 use Rattle.structure.specs.Fields.{boundsIn}
-use Rattle.evaluator.specs.Bounds.{layoutFrom}
+use Rattle.operations.specs.Bounds.{layoutFrom}
 use Rattle.evaluator.proofs.Bounds.{Lies, lies-in}
 use Rattle.flat.specs.Lines.{operate, fetch, does, valueOf, stored, onward, nextOf}
 use Rattle.flat.specs.Words.{targetOf, Parts, parts, lineOf, lineCount, fieldAt, operationAt, kindOf, leftConstant, rightConstant, operandOf, partsAt, lineAt}

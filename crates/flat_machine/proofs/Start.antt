@@ -14,7 +14,7 @@ use Rattle.words.specs.declared.Form.the-variants.{Kernel}
 use Rattle.words.proofs.Lengths.{part, size-is}
 use Rattle.structure.specs.Fields.{boundsIn, boundsOf as numbersOf}
 use Rattle.structure.specs.declared.Bounds.{Bounds}
-use Rattle.evaluator.specs.Bounds.{boundsFrom, layoutFrom}
+use Rattle.operations.specs.Bounds.{boundsFrom, layoutFrom}
 use Rattle.machine.proofs.Bounds.{layout-again, bounds-again}
 use Rattle.flat.specs.Lines.{copy, minus, operate, fetch, put, Line, does, jump, jumpZero, jumpOther, abort, runFrom}
 use Rattle.flat.specs.Words.{lineParts, lineCount, fieldAt, operationAt, kindOf, leftConstant, lineAt, linesOf, Written}

@@ -8,7 +8,7 @@ use lib.ListN.{length}
 use Rattle.words.specs.Word.{natural}
 use Rattle.words.specs.Layout.{storeSize}
 use Rattle.structure.specs.Fields.{boundsIn}
-use Rattle.evaluator.specs.Bounds.{boundsOf, layoutFrom}
+use Rattle.operations.specs.Bounds.{boundsOf, layoutFrom}
 use Rattle.flat.specs.Lines.{Next, goes, faults, ends}
 use Rattle.flat.specs.Words.{lineCount, fieldAt, operationAt, kindOf, leftConstant, lineAt}
 use Rattle.flat.specs.Refusal.{landsInside}

@@ -16,7 +16,7 @@ use Rattle.computation.specs.Remaining.{spend}
 use Rattle.language.specs.Decode.{statementAt, decode}
 use Rattle.language.specs.Meaning.{exec}
 use Rattle.language.specs.Program.{programOf}
-use Rattle.evaluator.specs.Bounds.{boundsFrom, boundsOf, lengthsFrom, lengthsOf, layoutFrom}
+use Rattle.operations.specs.Bounds.{boundsFrom, boundsOf, lengthsFrom, lengthsOf, layoutFrom}
 use Rattle.machine.specs.Whole.{wholeAt, Startable, Runnable}
 
 -- the bounds before the i-th are written, and `total` is the i-th

@@ -18,15 +18,15 @@ use Rattle.computation.specs.RunLaws.{count-never-passes}
 use Rattle.computation.specs.Remaining.{Rest, gives, halts, spend, told, spend-is-run}
 use Rattle.language.specs.Meaning.{Signal}
 use Rattle.language.specs.Program.{Finished, finished}
-use Rattle.evaluator.specs.Answers.{beyond, stopOf, operandOf}
-use Rattle.evaluator.specs.declared.Operand.{Operand}
-use Rattle.evaluator.specs.declared.Operand.the-variants.{Value, Halted as Stopped}
-use Rattle.evaluator.proofs.Decoding.{handed, handed-is}
-use Rattle.machine.specs.Flows.{passingOf, flowRest, ran}
+use Rattle.operations.specs.Answers.{beyond, stopOf, operandOf}
+use Rattle.operations.specs.declared.Operand.{Operand}
+use Rattle.operations.specs.declared.Operand.the-variants.{Value, Halted as Stopped}
+use Rattle.operations.proofs.Decoding.{handed, handed-is}
+use Rattle.executor.specs.Flows.{passingOf, flowRest, ran}
 use Rattle.machine.specs.Whole.{endingOfStop, endingOfAnswer}
-use Rattle.machine.specs.declared.Flow.{Flow}
-use Rattle.machine.specs.declared.Flow.the-variants.{Next, Break, Continue, Goto, Halted}
-use Rattle.machine.proofs.Answers.{flow-stops, flow-passes}
+use Rattle.executor.specs.declared.Flow.{Flow}
+use Rattle.executor.specs.declared.Flow.the-variants.{Next, Break, Continue, Goto, Halted}
+use Rattle.executor.proofs.Answers.{flow-stops, flow-passes}
 
 -- an answer that is no word, and not that of a spent run, is a fault's
 unspent : (z : ℤ) → (z ≡ pos 2147483648 → ⊥) → stopOf z ≡ fault (faultNumbered (beyond z))

@@ -17,12 +17,12 @@ use Rattle.computation.specs.Run.{Stop, spent, fault}
 use Rattle.language.specs.Meaning.{Signal}
 use Rattle.language.specs.Program.{Finished}
 use Rattle.language.specs.Sound.{Sound}
-use Rattle.evaluator.specs.Answers.{stopOf, operandOf}
-use Rattle.evaluator.specs.Bounds.{boundsFrom}
-use Rattle.evaluator.specs.Ready.{Setting}
-use Rattle.evaluator.specs.declared.Operand.{Operand}
-use Rattle.evaluator.specs.declared.Operand.the-variants.{Value, Halted}
-use Rattle.machine.specs.Rows.{execAt}
+use Rattle.operations.specs.Answers.{stopOf, operandOf}
+use Rattle.operations.specs.Bounds.{boundsFrom}
+use Rattle.operations.specs.Ready.{Setting}
+use Rattle.operations.specs.declared.Operand.{Operand}
+use Rattle.operations.specs.declared.Operand.the-variants.{Value, Halted}
+use Rattle.executor.specs.Rows.{execAt}
 
 -- The ending of a run that stopped, and the ending that an answer says.
 abbrev pub endingOfStop : Stop → Ending

@@ -1,9 +1,9 @@
 // The run of a program.
-use super::statements::exec;
-use evaluator::Operand;
-use evaluator::SPENT;
-use evaluator::answers::beyond;
-use evaluator::answers::operand;
+use executor::statements::exec;
+use operations::Operand;
+use operations::SPENT;
+use operations::answers::beyond;
+use operations::answers::operand;
 use words::Ending;
 use words::Form;
 use words::RunAnswer;
@@ -18,8 +18,8 @@ ghost use Rattle.words.specs.Word.{natural as naturalOf};
 ghost use Rattle.words.specs.Layout.{sum};
 ghost use Rattle.computation.specs.Remaining.{spend};
 ghost use Rattle.language.specs.Program.{runProgram};
-ghost use Rattle.evaluator.specs.Bounds.{boundsFrom};
-ghost use Rattle.machine.specs.Flows.{ran};
+ghost use Rattle.operations.specs.Bounds.{boundsFrom};
+ghost use Rattle.executor.specs.Flows.{ran};
 ghost use Rattle.machine.specs.Whole.{endingOfAnswer, finishedOf, wholeAt, Runnable, Startable};
 
 // The bounds of the arrays: where each begins, and where the last one ends.

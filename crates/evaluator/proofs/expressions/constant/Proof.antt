@@ -2,7 +2,7 @@
 use mathlib.Core.Path.{ap, _∙_}
 use lib.IntN.{ℤ}
 use Rattle.computation.specs.Remaining.{gives}
-use Rattle.evaluator.proofs.Decoding.{wide-fits, answered-wide}
+use Rattle.operations.proofs.Decoding.{wide-fits, answered-wide}
 use borrow.Author.Needs.{needs}
 use Rattle.evaluator.proofs.expressions.constant.Statement.{statement}
 use Rattle.evaluator.proofs.expressions.constant.Tie as tie

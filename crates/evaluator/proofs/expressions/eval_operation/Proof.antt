@@ -1,9 +1,9 @@
 -- `eval_operation` takes a step, and then `compute` does the rest.
 use mathlib.Core.Path.{sym, _∙_}
-use Rattle.evaluator.specs.Rows.{evaluateAt}
-use Rattle.evaluator.proofs.Decoding.{answered-spent}
-use Rattle.evaluator.proofs.Enter.{entered, not-entered}
-use Rattle.evaluator.proofs.Operands.{handed-on}
+use Rattle.operations.specs.Rows.{evaluateAt}
+use Rattle.operations.proofs.Decoding.{answered-spent}
+use Rattle.operations.proofs.Enter.{entered, not-entered}
+use Rattle.operations.proofs.Operands.{handed-on}
 use borrow.Author.Needs.{needs}
 use Rattle.evaluator.proofs.expressions.eval_operation.Statement.{statement}
 use Rattle.evaluator.proofs.expressions.eval_operation.Tie as tie

@@ -3,8 +3,8 @@ use mathlib.Core.Path.{sym, _∙_}
 use native.Mathlib.Omega.{arith}
 use lib.IntN.{pos}
 use lib.ListN.{getD}
-use Rattle.evaluator.proofs.Decoding.{wide-fits, answered-wide}
-use Rattle.evaluator.proofs.Rows.{variable-inside, field-inside, variable-row}
+use Rattle.operations.proofs.Decoding.{wide-fits, answered-wide}
+use Rattle.operations.proofs.Rows.{variable-inside, field-inside, variable-row}
 use Rattle.evaluator.proofs.expressions.variable.Statement.{statement}
 use Rattle.evaluator.proofs.expressions.variable.Tie as tie
 

@@ -1,5 +1,5 @@
 -- `number_at` casts a word that is not negative.
-use Rattle.evaluator.proofs.Decoding.{link-cast, link-is}
+use Rattle.operations.proofs.Decoding.{link-cast, link-is}
 use Rattle.flat.specs.Words.{fieldAt}
 use borrow.Author.Needs.{needs}
 use Rattle.flat_machine.proofs.operands.number_at.Statement.{statement}

@@ -8,9 +8,9 @@ use Rattle.words.specs.Laws.{leading-limits, headerFits-facts}
 use Rattle.words.specs.declared.Ending.{Ending}
 use Rattle.words.proofs.Signed.{natural-again}
 use Rattle.language.specs.Program.{programOf, runUnder, runProgram}
-use Rattle.evaluator.proofs.Decoding.{handed-is}
+use Rattle.operations.proofs.Decoding.{handed-is}
 use Rattle.machine.specs.Whole.{endingOfAnswer}
-use Rattle.machine.proofs.Answers.{ran-least}
+use Rattle.executor.proofs.Answers.{ran-least}
 use Rattle.machine.proofs.Bounds.{startable, whole-program}
 use Rattle.machine.proofs.Endings.{run-finished}
 use Rattle.machine.proofs.whole.run.Statement.{statement}

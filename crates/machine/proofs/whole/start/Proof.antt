@@ -4,8 +4,8 @@ use borrow.Author.Needs.{needs}
 use mathlib.Core.List.{List}
 use Prim.Native.Nat.{ℕ}
 use Rattle.computation.specs.Remaining.{spend}
-use Rattle.machine.specs.Rows.{execAt}
-use Rattle.machine.proofs.Answers.{ran-handed}
+use Rattle.executor.specs.Rows.{execAt}
+use Rattle.executor.proofs.Answers.{ran-handed}
 use Rattle.machine.proofs.whole.start.Statement.{statement}
 use Rattle.machine.proofs.whole.start.Tie as tie
 

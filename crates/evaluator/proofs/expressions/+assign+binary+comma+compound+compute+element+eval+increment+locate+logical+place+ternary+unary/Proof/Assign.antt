@@ -7,9 +7,9 @@ use lib.IntN.{ℤ}
 use lib.ListN.{set, length-set}
 use Rattle.words.specs.Laws.{back}
 use Rattle.computation.specs.Remaining.{gives}
-use Rattle.evaluator.proofs.Operands.{goes, hands-up, found, lost, handed-value, link-asks, linked, nearer, linked-place}
+use Rattle.operations.proofs.Operands.{goes, hands-up, found, lost, handed-value, link-asks, linked, nearer, linked-place}
 use Rattle.evaluator.proofs.Positions.{given-at, place-inside}
-use Rattle.evaluator.proofs.Rows.{assign-links, assign-row}
+use Rattle.operations.proofs.Rows.{assign-links, assign-row}
 use Rattle.evaluator.proofs.expressions.assign.Reads as reads
 use Rattle.evaluator.proofs.expressions.+assign+binary+comma+compound+compute+element+eval+increment+locate+logical+place+ternary+unary.Lts-assign as lts
 use Rattle.evaluator.proofs.expressions.+assign+binary+comma+compound+compute+element+eval+increment+locate+logical+place+ternary+unary.Proof.Claims.{assign-claims, assign-at}

@@ -3,8 +3,8 @@ use borrow.Author.Needs.{needs}
 use mathlib.Core.Path.{refl, sym, _∙_}
 use Prim.Native.Nat.{ℕ, _-_}
 use native.Mathlib.Omega.{arith}
-use Rattle.evaluator.proofs.Operands.{goes, hands-up, handed-on, link-asks, linked, nearer}
-use Rattle.evaluator.proofs.Rows.{comma-links, comma-row}
+use Rattle.operations.proofs.Operands.{goes, hands-up, handed-on, link-asks, linked, nearer}
+use Rattle.operations.proofs.Rows.{comma-links, comma-row}
 use Rattle.evaluator.proofs.expressions.comma.Reads as reads
 use Rattle.evaluator.proofs.expressions.+assign+binary+comma+compound+compute+element+eval+increment+locate+logical+place+ternary+unary.Lts-comma as lts
 use Rattle.evaluator.proofs.expressions.+assign+binary+comma+compound+compute+element+eval+increment+locate+logical+place+ternary+unary.Proof.Claims.{comma-claims, comma-at}

@@ -7,9 +7,9 @@ use lib.IntN.{ℤ}
 use Rattle.words.specs.Laws.{back}
 use Rattle.computation.specs.Remaining.{spend}
 use Rattle.language.specs.Meaning.{update, newValue}
-use Rattle.evaluator.proofs.Operands.{goes, hands-up, found, lost, handed-on, link-asks, linked, nearer, linked-place}
+use Rattle.operations.proofs.Operands.{goes, hands-up, found, lost, handed-on, link-asks, linked, nearer, linked-place}
 use Rattle.evaluator.proofs.Positions.{given-at, place-inside}
-use Rattle.evaluator.proofs.Rows.{compound-links, compound-row}
+use Rattle.operations.proofs.Rows.{compound-links, compound-row}
 use Rattle.evaluator.proofs.expressions.compound.Reads as reads
 use Rattle.evaluator.proofs.expressions.+assign+binary+comma+compound+compute+element+eval+increment+locate+logical+place+ternary+unary.Lts-compound as lts
 use Rattle.evaluator.proofs.expressions.+assign+binary+comma+compound+compute+element+eval+increment+locate+logical+place+ternary+unary.Proof.Claims.{compound-claims, compound-at}

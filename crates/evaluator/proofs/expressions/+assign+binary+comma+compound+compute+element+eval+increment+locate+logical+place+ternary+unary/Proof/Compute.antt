@@ -12,9 +12,9 @@ use Rattle.words.specs.KindLaws.{between-both, binary-kind, compound-kind, pref
 use Rattle.words.specs.Laws.{by-cases}
 use Rattle.words.specs.declared.Kind.the-variants.{OfExpression}
 use Rattle.words.specs.declared.ExpressionKind.the-variants.{Binary, Compound, Prefix, Postfix}
-use Rattle.evaluator.proofs.Decoding.{answered-word}
-use Rattle.evaluator.proofs.Operands.{handed-on}
-use Rattle.evaluator.proofs.Rows.{field-inside, numbered, operating, constant-row, other-row}
+use Rattle.operations.proofs.Decoding.{answered-word}
+use Rattle.operations.proofs.Operands.{handed-on}
+use Rattle.operations.proofs.Rows.{field-inside, numbered, operating, constant-row, other-row}
 use Rattle.evaluator.proofs.expressions.compute.Reads as reads
 use Rattle.evaluator.proofs.expressions.+assign+binary+comma+compound+compute+element+eval+increment+locate+logical+place+ternary+unary.Lts-compute as lts
 use Rattle.evaluator.proofs.expressions.+assign+binary+comma+compound+compute+element+eval+increment+locate+logical+place+ternary+unary.Proof.Claims.{compute-claims, compute-at}

@@ -5,10 +5,10 @@ use Prim.Native.Nat.{ℕ, _-_}
 use native.Mathlib.Omega.{arith}
 use lib.IntN.{pos}
 use lib.ListN.{getD}
-use Rattle.evaluator.proofs.Decoding.{wide-fits, answered-wide}
-use Rattle.evaluator.proofs.Operands.{found, lost}
+use Rattle.operations.proofs.Decoding.{wide-fits, answered-wide}
+use Rattle.operations.proofs.Operands.{found, lost}
 use Rattle.evaluator.proofs.Positions.{given-at, locate-inside}
-use Rattle.evaluator.proofs.Rows.{element-row}
+use Rattle.operations.proofs.Rows.{element-row}
 use Rattle.evaluator.proofs.expressions.element.Reads as reads
 use Rattle.evaluator.proofs.expressions.+assign+binary+comma+compound+compute+element+eval+increment+locate+logical+place+ternary+unary.Lts-element as lts
 use Rattle.evaluator.proofs.expressions.+assign+binary+comma+compound+compute+element+eval+increment+locate+logical+place+ternary+unary.Proof.Claims.{element-claims, element-at}

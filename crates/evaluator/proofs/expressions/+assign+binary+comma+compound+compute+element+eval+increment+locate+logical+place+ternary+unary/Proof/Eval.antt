@@ -4,11 +4,11 @@ use mathlib.Core.Path.{sym, _∙_}
 use Prim.Native.Nat.{ℕ, _-_}
 use native.Mathlib.Omega.{arith}
 use Rattle.words.specs.Kinds.{kinds, kindIn, kindOf}
-use Rattle.evaluator.specs.Rows.{evaluateAt}
-use Rattle.evaluator.proofs.Decoding.{answered-spent}
-use Rattle.evaluator.proofs.Enter.{entered, not-entered}
-use Rattle.evaluator.proofs.Operands.{handed-on}
-use Rattle.evaluator.proofs.Rows.{field-inside, numbered, constant-row}
+use Rattle.operations.specs.Rows.{evaluateAt}
+use Rattle.operations.proofs.Decoding.{answered-spent}
+use Rattle.operations.proofs.Enter.{entered, not-entered}
+use Rattle.operations.proofs.Operands.{handed-on}
+use Rattle.operations.proofs.Rows.{field-inside, numbered, constant-row}
 use Rattle.evaluator.proofs.expressions.eval.Reads as reads
 use Rattle.evaluator.proofs.expressions.+assign+binary+comma+compound+compute+element+eval+increment+locate+logical+place+ternary+unary.Lts-eval as lts
 use Rattle.evaluator.proofs.expressions.+assign+binary+comma+compound+compute+element+eval+increment+locate+logical+place+ternary+unary.Proof.Claims.{eval-claims, eval-at}

@@ -4,9 +4,9 @@ use mathlib.Core.Path.{refl, sym, _∙_}
 use Prim.Native.Nat.{ℕ, _-_}
 use native.Mathlib.Omega.{arith}
 use Rattle.language.specs.Meaning.{update}
-use Rattle.evaluator.proofs.Operands.{found, lost, handed-on, link-asks, nearer, linked-place}
+use Rattle.operations.proofs.Operands.{found, lost, handed-on, link-asks, nearer, linked-place}
 use Rattle.evaluator.proofs.Positions.{given-at, place-inside}
-use Rattle.evaluator.proofs.Rows.{increment-link, increment-row}
+use Rattle.operations.proofs.Rows.{increment-link, increment-row}
 use Rattle.evaluator.proofs.expressions.increment.Reads as reads
 use Rattle.evaluator.proofs.expressions.+assign+binary+comma+compound+compute+element+eval+increment+locate+logical+place+ternary+unary.Lts-increment as lts
 use Rattle.evaluator.proofs.expressions.+assign+binary+comma+compound+compute+element+eval+increment+locate+logical+place+ternary+unary.Proof.Claims.{increment-claims, increment-at}

@@ -4,8 +4,8 @@ use mathlib.Core.Path.{refl, sym, _∙_}
 use Prim.Native.Nat.{ℕ, _-_}
 use native.Mathlib.Omega.{arith}
 use Rattle.evaluator.proofs.Bounds.{lies}
-use Rattle.evaluator.proofs.Operands.{goes, hands-placed, handed-on-placed, element-handed, link-asks, linked, nearer, array-asks, array-is}
-use Rattle.evaluator.proofs.Rows.{element-index, locate-row}
+use Rattle.operations.proofs.Operands.{goes, hands-placed, handed-on-placed, element-handed, link-asks, linked, nearer, array-asks, array-is}
+use Rattle.operations.proofs.Rows.{element-index, locate-row}
 use Rattle.evaluator.proofs.expressions.locate.Reads as reads
 use Rattle.evaluator.proofs.expressions.+assign+binary+comma+compound+compute+element+eval+increment+locate+logical+place+ternary+unary.Lts-locate as lts
 use Rattle.evaluator.proofs.expressions.+assign+binary+comma+compound+compute+element+eval+increment+locate+logical+place+ternary+unary.Proof.Claims.{locate-claims, locate-at}

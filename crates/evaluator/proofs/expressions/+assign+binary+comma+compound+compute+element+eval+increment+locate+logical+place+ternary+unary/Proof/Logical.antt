@@ -9,9 +9,9 @@ use Rattle.words.specs.Word.{pick}
 use Rattle.arithmetic.specs.Arithmetic.{isTrue, bit}
 use Rattle.words.specs.Laws.{back}
 use Rattle.computation.specs.Remaining.{gives}
-use Rattle.evaluator.proofs.Decoding.{wide-fits, answered-wide}
-use Rattle.evaluator.proofs.Operands.{goes, hands-up, link-asks, linked, nearer, decided-left, decided-right, decided-bit, truth-is}
-use Rattle.evaluator.proofs.Rows.{logical-row, logical-links}
+use Rattle.operations.proofs.Decoding.{wide-fits, answered-wide}
+use Rattle.operations.proofs.Operands.{goes, hands-up, link-asks, linked, nearer, decided-left, decided-right, decided-bit, truth-is}
+use Rattle.operations.proofs.Rows.{logical-row, logical-links}
 use Rattle.evaluator.proofs.expressions.logical.Reads as reads
 use Rattle.evaluator.proofs.expressions.+assign+binary+comma+compound+compute+element+eval+increment+locate+logical+place+ternary+unary.Lts-logical as lts
 use Rattle.evaluator.proofs.expressions.+assign+binary+comma+compound+compute+element+eval+increment+locate+logical+place+ternary+unary.Proof.Claims.{logical-claims, logical-at}

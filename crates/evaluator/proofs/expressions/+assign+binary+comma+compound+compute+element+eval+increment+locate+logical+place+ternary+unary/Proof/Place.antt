@@ -8,12 +8,12 @@ use Rattle.words.specs.Word.{natural}
 use Rattle.words.specs.Table.{numberAt}
 use Rattle.words.specs.Kinds.{kinds, kindIn, kindOf}
 use Rattle.computation.specs.Remaining.{gives}
-use Rattle.evaluator.specs.Rows.{locateAt}
-use Rattle.evaluator.proofs.Decoding.{wide-fits, placed-wide, placed-spent}
-use Rattle.evaluator.proofs.Enter.{entered, not-entered}
-use Rattle.evaluator.proofs.Operands.{handed-on-placed}
+use Rattle.operations.specs.Rows.{locateAt}
+use Rattle.operations.proofs.Decoding.{wide-fits, placed-wide, placed-spent}
+use Rattle.operations.proofs.Enter.{entered, not-entered}
+use Rattle.operations.proofs.Operands.{handed-on-placed}
 use Rattle.evaluator.proofs.Positions.{place-variable}
-use Rattle.evaluator.proofs.Rows.{field-inside, numbered, place-variable-row}
+use Rattle.operations.proofs.Rows.{field-inside, numbered, place-variable-row}
 use Rattle.evaluator.proofs.expressions.place.Reads as reads
 use Rattle.evaluator.proofs.expressions.+assign+binary+comma+compound+compute+element+eval+increment+locate+logical+place+ternary+unary.Lts-place as lts
 use Rattle.evaluator.proofs.expressions.+assign+binary+comma+compound+compute+element+eval+increment+locate+logical+place+ternary+unary.Proof.Claims.{place-claims, place-at}

@@ -5,8 +5,8 @@ use Prim.Native.Nat.{ℕ, _-_}
 use native.Mathlib.Omega.{arith}
 use Rattle.arithmetic.specs.Arithmetic.{isTrue}
 use Rattle.words.specs.Laws.{back}
-use Rattle.evaluator.proofs.Operands.{goes, hands-up, handed-on, link-asks, linked, nearer, chosen-true, chosen-false}
-use Rattle.evaluator.proofs.Rows.{ternary-links, ternary-row}
+use Rattle.operations.proofs.Operands.{goes, hands-up, handed-on, link-asks, linked, nearer, chosen-true, chosen-false}
+use Rattle.operations.proofs.Rows.{ternary-links, ternary-row}
 use Rattle.evaluator.proofs.expressions.ternary.Reads as reads
 use Rattle.evaluator.proofs.expressions.+assign+binary+comma+compound+compute+element+eval+increment+locate+logical+place+ternary+unary.Lts-ternary as lts
 use Rattle.evaluator.proofs.expressions.+assign+binary+comma+compound+compute+element+eval+increment+locate+logical+place+ternary+unary.Proof.Claims.{ternary-claims, ternary-at}

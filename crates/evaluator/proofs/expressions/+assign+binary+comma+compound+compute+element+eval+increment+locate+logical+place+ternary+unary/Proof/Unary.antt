@@ -7,9 +7,9 @@ use lib.IntN.{ℤ}
 use Rattle.arithmetic.specs.Arithmetic.{logicalNot, minus as minusWord}
 use Rattle.words.specs.Laws.{back}
 use Rattle.computation.specs.Remaining.{gives}
-use Rattle.evaluator.proofs.Decoding.{wide-fits, answered-wide}
-use Rattle.evaluator.proofs.Operands.{goes, hands-up, settled-is, link-asks, linked, nearer, chosen-true, chosen-false}
-use Rattle.evaluator.proofs.Rows.{unary-link, unary-row}
+use Rattle.operations.proofs.Decoding.{wide-fits, answered-wide}
+use Rattle.operations.proofs.Operands.{goes, hands-up, settled-is, link-asks, linked, nearer, chosen-true, chosen-false}
+use Rattle.operations.proofs.Rows.{unary-link, unary-row}
 use Rattle.evaluator.proofs.expressions.unary.Reads as reads
 use Rattle.evaluator.proofs.expressions.+assign+binary+comma+compound+compute+element+eval+increment+locate+logical+place+ternary+unary.Lts-unary as lts
 use Rattle.evaluator.proofs.expressions.+assign+binary+comma+compound+compute+element+eval+increment+locate+logical+place+ternary+unary.Proof.Claims.{unary-claims, unary-at}

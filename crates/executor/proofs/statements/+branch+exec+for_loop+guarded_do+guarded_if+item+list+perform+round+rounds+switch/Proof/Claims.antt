@@ -1,0 +1,223 @@
+-- Claims: the measures of the members, and what each of them is handed of the others; the invariants of the loops. The measure is six
+-- times the unspent budget, and a little more for a function that calls before a step is made.
+use mathlib.Core.Path.{_≡_}
+use Prim.Native.Nat.{ℕ, _+_, _*_, _<_, _≤_}
+use lib.ListN.{length}
+use mir.Syntax.{w64}
+use mir.Val.{toZ}
+use borrow.Fn.Kinds.{In}
+use borrow.Fn.PlainCycle.{Measures, is, falls, and}
+use Rattle.words.specs.Table.{rowCount}
+use Rattle.computation.specs.Remaining.{spend}
+use Rattle.language.specs.Decode.{armListAt}
+use Rattle.language.specs.Meaning.{choiceRounds}
+use Rattle.operations.specs.Bounds.{layoutFrom}
+use Rattle.executor.specs.Lists.{continued}
+use Rattle.executor.specs.Rows.{itemsFrom, roundsAt}
+use Rattle.executor.proofs.Items.{ahead}
+use Rattle.executor.proofs.statements.perform.Reads as perform
+use Rattle.executor.proofs.statements.perform.Kinds as perform-kinds
+use Rattle.executor.proofs.statements.+branch+exec+for_loop+guarded_do+guarded_if+item+list+perform+round+rounds+switch.Lts-perform as perform-lts
+use Rattle.executor.proofs.statements.round.Reads as round
+use Rattle.executor.proofs.statements.round.Kinds as round-kinds
+use Rattle.executor.proofs.statements.+branch+exec+for_loop+guarded_do+guarded_if+item+list+perform+round+rounds+switch.Lts-round as round-lts
+use Rattle.executor.proofs.statements.for_loop.Reads as for-loop
+use Rattle.executor.proofs.statements.for_loop.Kinds as for-loop-kinds
+use Rattle.executor.proofs.statements.+branch+exec+for_loop+guarded_do+guarded_if+item+list+perform+round+rounds+switch.Lts-for_loop as for-loop-lts
+use Rattle.executor.proofs.statements.branch.Reads as branch
+use Rattle.executor.proofs.statements.branch.Kinds as branch-kinds
+use Rattle.executor.proofs.statements.+branch+exec+for_loop+guarded_do+guarded_if+item+list+perform+round+rounds+switch.Lts-branch as branch-lts
+use Rattle.executor.proofs.statements.item.Reads as item
+use Rattle.executor.proofs.statements.item.Kinds as item-kinds
+use Rattle.executor.proofs.statements.+branch+exec+for_loop+guarded_do+guarded_if+item+list+perform+round+rounds+switch.Lts-item as item-lts
+use Rattle.executor.proofs.statements.list.Reads as list
+use Rattle.executor.proofs.statements.list.Kinds as list-kinds
+use Rattle.executor.proofs.statements.+branch+exec+for_loop+guarded_do+guarded_if+item+list+perform+round+rounds+switch.Lts-list as list-lts
+use Rattle.executor.proofs.statements.rounds.Reads as rounds
+use Rattle.executor.proofs.statements.rounds.Kinds as rounds-kinds
+use Rattle.executor.proofs.statements.+branch+exec+for_loop+guarded_do+guarded_if+item+list+perform+round+rounds+switch.Lts-rounds as rounds-lts
+use Rattle.executor.proofs.statements.exec.Reads as exec
+use Rattle.executor.proofs.statements.exec.Kinds as exec-kinds
+use Rattle.executor.proofs.statements.+branch+exec+for_loop+guarded_do+guarded_if+item+list+perform+round+rounds+switch.Lts-exec as exec-lts
+use Rattle.executor.proofs.statements.switch.Reads as switch
+use Rattle.executor.proofs.statements.switch.Kinds as switch-kinds
+use Rattle.executor.proofs.statements.+branch+exec+for_loop+guarded_do+guarded_if+item+list+perform+round+rounds+switch.Lts-switch as switch-lts
+use Rattle.executor.proofs.statements.guarded_if.Reads as guarded-if
+use Rattle.executor.proofs.statements.guarded_if.Kinds as guarded-if-kinds
+use Rattle.executor.proofs.statements.+branch+exec+for_loop+guarded_do+guarded_if+item+list+perform+round+rounds+switch.Lts-guarded_if as guarded-if-lts
+use Rattle.executor.proofs.statements.guarded_do.Reads as guarded-do
+use Rattle.executor.proofs.statements.guarded_do.Kinds as guarded-do-kinds
+use Rattle.executor.proofs.statements.+branch+exec+for_loop+guarded_do+guarded_if+item+list+perform+round+rounds+switch.Lts-guarded_do as guarded-do-lts
+use Rattle.operations.proofs.answers.operand.Reads as operand-reads
+use Rattle.operations.proofs.answers.position.Reads as position-reads
+use Rattle.evaluator.proofs.expressions.eval.Reads as eval-reads
+use Rattle.operations.proofs.operations.link_at.Reads as link-at-reads
+use Rattle.executor.proofs.arms.choose_block.Reads as choose-block-reads
+use Rattle.executor.proofs.flows.after_body.Reads as after-body-reads
+use Rattle.executor.proofs.flows.after_last.Reads as after-last-reads
+use Rattle.executor.proofs.flows.after_switch.Reads as after-switch-reads
+use Rattle.executor.proofs.flows.flow.Reads as flow-reads
+use Rattle.executor.proofs.flows.jump.Reads as jump-reads
+use Rattle.executor.proofs.lists.find_start.Reads as find-start-reads
+use Rattle.executor.proofs.lists.resume.Reads as resume-reads
+use Rattle.executor.proofs.statements.express.Reads as express-reads
+use Rattle.executor.proofs.statements.part.Reads as part-reads
+use Rattle.arithmetic.proofs.is_true.Reads as is-true-reads
+use Rattle.words.proofs.table.number_at.Reads as number-at-reads
+use Rattle.words.proofs.table.word_at.Reads as word-at-reads
+
+abbrev pub μ-perform : Measures 4 perform-kinds.ps ℕ
+μ-perform κs a = 6 * a .1 .1 .1 .1 .0 .now + 5
+
+abbrev pub μ-round : Measures 4 round-kinds.ps ℕ
+μ-round κs a = 6 * a .1 .1 .1 .1 .1 .1 .1 .0 .now + 2
+
+abbrev pub μ-for-loop : Measures 4 for-loop-kinds.ps ℕ
+μ-for-loop κs a = 6 * a .1 .1 .1 .1 .0 .now + 4
+
+abbrev pub μ-branch : Measures 4 branch-kinds.ps ℕ
+μ-branch κs a = 6 * a .1 .1 .1 .1 .0 .now + 1
+
+abbrev pub μ-item : Measures 4 item-kinds.ps ℕ
+μ-item κs a = 6 * a .1 .1 .1 .1 .0 .now + 0
+
+abbrev pub μ-list : Measures 4 list-kinds.ps ℕ
+μ-list κs a = 6 * a .1 .1 .1 .1 .0 .now + 1
+
+abbrev pub μ-rounds : Measures 4 rounds-kinds.ps ℕ
+μ-rounds κs a = 6 * a .1 .1 .1 .1 .1 .1 .1 .0 .now + 3
+
+abbrev pub μ-exec : Measures 4 exec-kinds.ps ℕ
+μ-exec κs a = 6 * a .1 .1 .1 .1 .0 .now + 0
+
+abbrev pub μ-switch : Measures 4 switch-kinds.ps ℕ
+μ-switch κs a = 6 * a .1 .1 .1 .1 .0 .now + 2
+
+abbrev pub μ-guarded-if : Measures 4 guarded-if-kinds.ps ℕ
+μ-guarded-if κs a = 6 * a .1 .1 .1 .1 .0 .now + 1
+
+abbrev pub μ-guarded-do : Measures 4 guarded-do-kinds.ps ℕ
+μ-guarded-do κs a = 6 * a .1 .1 .1 .1 .0 .now + 1
+
+abbrev pub perform-at : ℕ → In 4 perform-kinds.ps
+perform-at t = and 4 perform-kinds.ps (is 4 perform-kinds.ps μ-perform t) perform.Pre
+
+abbrev pub perform-below : ℕ → In 4 perform-kinds.ps
+perform-below t = and 4 perform-kinds.ps (falls 4 perform-kinds.ps _<_ μ-perform t) perform.Pre
+
+abbrev pub round-at : ℕ → In 4 round-kinds.ps
+round-at t = and 4 round-kinds.ps (is 4 round-kinds.ps μ-round t) round.Pre
+
+abbrev pub round-below : ℕ → In 4 round-kinds.ps
+round-below t = and 4 round-kinds.ps (falls 4 round-kinds.ps _<_ μ-round t) round.Pre
+
+abbrev pub for-loop-at : ℕ → In 4 for-loop-kinds.ps
+for-loop-at t = and 4 for-loop-kinds.ps (is 4 for-loop-kinds.ps μ-for-loop t) for-loop.Pre
+
+abbrev pub for-loop-below : ℕ → In 4 for-loop-kinds.ps
+for-loop-below t = and 4 for-loop-kinds.ps (falls 4 for-loop-kinds.ps _<_ μ-for-loop t) for-loop.Pre
+
+abbrev pub branch-at : ℕ → In 4 branch-kinds.ps
+branch-at t = and 4 branch-kinds.ps (is 4 branch-kinds.ps μ-branch t) branch.Pre
+
+abbrev pub branch-below : ℕ → In 4 branch-kinds.ps
+branch-below t = and 4 branch-kinds.ps (falls 4 branch-kinds.ps _<_ μ-branch t) branch.Pre
+
+abbrev pub item-at : ℕ → In 4 item-kinds.ps
+item-at t = and 4 item-kinds.ps (is 4 item-kinds.ps μ-item t) item.Pre
+
+abbrev pub item-below : ℕ → In 4 item-kinds.ps
+item-below t = and 4 item-kinds.ps (falls 4 item-kinds.ps _<_ μ-item t) item.Pre
+
+abbrev pub list-at : ℕ → In 4 list-kinds.ps
+list-at t = and 4 list-kinds.ps (is 4 list-kinds.ps μ-list t) list.Pre
+
+abbrev pub list-below : ℕ → In 4 list-kinds.ps
+list-below t = and 4 list-kinds.ps (falls 4 list-kinds.ps _<_ μ-list t) list.Pre
+
+abbrev pub rounds-at : ℕ → In 4 rounds-kinds.ps
+rounds-at t = and 4 rounds-kinds.ps (is 4 rounds-kinds.ps μ-rounds t) rounds.Pre
+
+abbrev pub rounds-below : ℕ → In 4 rounds-kinds.ps
+rounds-below t = and 4 rounds-kinds.ps (falls 4 rounds-kinds.ps _<_ μ-rounds t) rounds.Pre
+
+abbrev pub exec-at : ℕ → In 4 exec-kinds.ps
+exec-at t = and 4 exec-kinds.ps (is 4 exec-kinds.ps μ-exec t) exec.Pre
+
+abbrev pub exec-below : ℕ → In 4 exec-kinds.ps
+exec-below t = and 4 exec-kinds.ps (falls 4 exec-kinds.ps _<_ μ-exec t) exec.Pre
+
+abbrev pub switch-at : ℕ → In 4 switch-kinds.ps
+switch-at t = and 4 switch-kinds.ps (is 4 switch-kinds.ps μ-switch t) switch.Pre
+
+abbrev pub switch-below : ℕ → In 4 switch-kinds.ps
+switch-below t = and 4 switch-kinds.ps (falls 4 switch-kinds.ps _<_ μ-switch t) switch.Pre
+
+abbrev pub guarded-if-at : ℕ → In 4 guarded-if-kinds.ps
+guarded-if-at t = and 4 guarded-if-kinds.ps (is 4 guarded-if-kinds.ps μ-guarded-if t) guarded-if.Pre
+
+abbrev pub guarded-if-below : ℕ → In 4 guarded-if-kinds.ps
+guarded-if-below t = and 4 guarded-if-kinds.ps (falls 4 guarded-if-kinds.ps _<_ μ-guarded-if t) guarded-if.Pre
+
+abbrev pub guarded-do-at : ℕ → In 4 guarded-do-kinds.ps
+guarded-do-at t = and 4 guarded-do-kinds.ps (is 4 guarded-do-kinds.ps μ-guarded-do t) guarded-do.Pre
+
+abbrev pub guarded-do-below : ℕ → In 4 guarded-do-kinds.ps
+guarded-do-below t = and 4 guarded-do-kinds.ps (falls 4 guarded-do-kinds.ps _<_ μ-guarded-do t) guarded-do.Pre
+
+abbrev pub list-Inv-loop : list-lts.InvT-loop
+list-Inv-loop rows bounds first store₀ left₀ at₀ answer₀ store left at answer =
+    (at < rowCount rows) × (length store ≡ length store₀) × (left ≤ left₀)
+    × (spend (itemsFrom rows bounds first) left₀ store₀ ≡ continued (layoutFrom bounds) rows at (toZ w64 answer) left store)
+
+abbrev pub list-μ-loop : list-lts.MeasureT-loop
+list-μ-loop rows bounds first store₀ left₀ at₀ answer₀ store left at answer = ahead (rowCount rows) at
+
+abbrev pub rounds-Inv-loop : rounds-lts.InvT-loop
+rounds-Inv-loop rows bounds test body last decides store₀ left₀ store left =
+    (length store ≡ length store₀) × (left ≤ left₀)
+    × (spend (roundsAt rows bounds test body last decides) left₀ store₀ ≡ spend (roundsAt rows bounds test body last decides) left store)
+
+abbrev pub rounds-μ-loop : rounds-lts.MeasureT-loop
+rounds-μ-loop rows bounds test body last decides store₀ left₀ store left = left
+
+abbrev pub guarded-do-Inv-loop : guarded-do-lts.InvT-loop
+guarded-do-Inv-loop rows bounds row store₀ left₀ first store left =
+    (length store ≡ length store₀) × (left ≤ left₀)
+    × (spend (choiceRounds (layoutFrom bounds) (armListAt rows first)) left₀ store₀ ≡ spend (choiceRounds (layoutFrom bounds) (armListAt rows first)) left store)
+
+abbrev pub guarded-do-μ-loop : guarded-do-lts.MeasureT-loop
+guarded-do-μ-loop rows bounds row store₀ left₀ first store left = left
+
+abbrev pub perform-claims : ℕ → perform-lts.Claims
+perform-claims t = (number-at-reads.Asked, number-at-reads.Learnt, express-reads.Asked, express-reads.Learnt, link-at-reads.Asked, link-at-reads.Learnt, list-below t, list.Post, branch-below t, branch.Post, rounds-below t, rounds.Post, for-loop-below t, for-loop.Post, switch-below t, switch.Post, word-at-reads.Asked, word-at-reads.Learnt, jump-reads.Asked, jump-reads.Learnt, guarded-if-below t, guarded-if.Post, guarded-do-below t, guarded-do.Post)
+
+abbrev pub round-claims : ℕ → round-lts.Claims
+round-claims t = (part-reads.Asked, part-reads.Learnt, operand-reads.Asked, operand-reads.Learnt, is-true-reads.Asked, is-true-reads.Learnt, exec-below t, exec.Post, after-body-reads.Asked, after-body-reads.Learnt, flow-reads.Asked, flow-reads.Learnt, after-last-reads.Asked, after-last-reads.Learnt)
+
+abbrev pub for-loop-claims : ℕ → for-loop-lts.Claims
+for-loop-claims t = (link-at-reads.Asked, link-at-reads.Learnt, part-reads.Asked, part-reads.Learnt, operand-reads.Asked, operand-reads.Learnt, rounds-below t, rounds.Post)
+
+abbrev pub branch-claims : ℕ → branch-lts.Claims
+branch-claims t = (link-at-reads.Asked, link-at-reads.Learnt, eval-reads.Asked, eval-reads.Learnt, operand-reads.Asked, operand-reads.Learnt, is-true-reads.Asked, is-true-reads.Learnt, exec-below t, exec.Post)
+
+abbrev pub item-claims : ℕ → item-lts.Claims
+item-claims t = (number-at-reads.Asked, number-at-reads.Learnt, express-reads.Asked, express-reads.Learnt, perform-below t, perform.Post)
+
+abbrev pub list-claims : ℕ → list-lts.Claims
+list-claims t = (item-below t, item.Post, resume-reads.Asked, resume-reads.Learnt)
+
+abbrev pub rounds-claims : ℕ → rounds-lts.Claims
+rounds-claims t = (round-below t, round.Post, flow-reads.Asked, flow-reads.Learnt)
+
+abbrev pub exec-claims : ℕ → exec-lts.Claims
+exec-claims t = (perform-below t, perform.Post)
+
+abbrev pub switch-claims : ℕ → switch-lts.Claims
+switch-claims t = (link-at-reads.Asked, link-at-reads.Learnt, eval-reads.Asked, eval-reads.Learnt, operand-reads.Asked, operand-reads.Learnt, find-start-reads.Asked, find-start-reads.Learnt, list-below t, list.Post, after-switch-reads.Asked, after-switch-reads.Learnt)
+
+abbrev pub guarded-if-claims : ℕ → guarded-if-lts.Claims
+guarded-if-claims t = (link-at-reads.Asked, link-at-reads.Learnt, choose-block-reads.Asked, choose-block-reads.Learnt, position-reads.Asked, position-reads.Learnt, exec-below t, exec.Post)
+
+abbrev pub guarded-do-claims : ℕ → guarded-do-lts.Claims
+guarded-do-claims t = (link-at-reads.Asked, link-at-reads.Learnt, choose-block-reads.Asked, choose-block-reads.Learnt, position-reads.Asked, position-reads.Learnt, exec-below t, exec.Post, flow-reads.Asked, flow-reads.Learnt)

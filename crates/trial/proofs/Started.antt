@@ -8,19 +8,17 @@ use lib.ListN.{length, take, length-replicate}
 use Rattle.words.specs.Layout.{layoutOf, storeSize, storeWords, zeros}
 use Rattle.words.specs.declared.Form.{Form}
 use Rattle.words.specs.declared.Form.the-variants.{Source, Kernel}
-use Rattle.words.specs.declared.Refusal.{Refusal}
 use Rattle.words.specs.declared.RunAnswer.{RunAnswer}
-use Rattle.words.specs.declared.Verdict.the-variants.{Accepted, Refused}
 use Rattle.language.specs.Program.{Finished, runProgram}
 use Rattle.text_form.specs.Writer.{Put}
 use Rattle.words.specs.OverLaws.{part, first-of}
-use Rattle.report.specs.Lines.{lineRoom, refusedLine, sourceLine, kernelLine}
+use Rattle.report.specs.Lines.{lineRoom, sourceLine, kernelLine}
 use Rattle.report.proofs.Spacing.{SoFar, far-space}
 use Rattle.program_writes.specs.ProgramWrites.{written}
 use Rattle.fate.specs.KernelForms.{kernelHeaderOf, kernelRowsOf}
 use Rattle.machine.specs.Whole.{finishedOf}
-use Rattle.program_runs.specs.Runs.{refusalOf}
-use Rattle.trial.specs.Output.{mostWords, budget, sourceOutput, kernelOutput, runsOutput, checkedOutput}
+use Rattle.rule_text.specs.Rules.{mostWords, budget}
+use Rattle.trial.specs.Output.{sourceOutput, kernelOutput, runsOutput}
 use Rattle.trial.specs.Conditions.{FromZeros, Translates}
 
 -- a source run has no temporaries
@@ -47,15 +45,6 @@ module _ (form : Form) (header rows store : List ℤ) (starts : store ≡ zeros 
       record { ending = ap (λ (f : Finished). f .ending) same; count = ap (λ (f : Finished). f .count) same; store-left = ap (λ (f : Finished). f .store) same }
 
 -- ---- the lines
-
-pub accepted-output : (header rows : List ℤ) → refusalOf Source header rows ≡ Accepted → runsOutput header rows ≡ checkedOutput (refusalOf Source header rows) header rows
-unfolding checkedOutput
-accepted-output header rows e = rw e
-
-pub refused-output : (header rows : List ℤ) (refusal : Refusal) → refusalOf Source header rows ≡ Refused refusal
-    → refusedLine (refusal .number) (refusal .place) ≡ checkedOutput (refusalOf Source header rows) header rows
-unfolding checkedOutput
-refused-output header rows refusal e = rw e
 
 module _ {header rows store : List ℤ} {starts : store ≡ zeros (storeWords Source header)} {answer : RunAnswer} {left : List ℤ} (m : RunMade Source header rows store starts answer left) where
   pub both-lines : {n : ℕ} → n ≡ written rows → sourceLine (answer .ending) (answer .count) left n ++ kernelOutput (storeSize (layoutOf Source header)) (kernelHeaderOf header rows) (kernelRowsOf header rows)

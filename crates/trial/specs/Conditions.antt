@@ -2,27 +2,19 @@
 use mathlib.Core.Path.{_≡_}
 use mathlib.Core.Bool.{true}
 use mathlib.Core.List.{List}
-use mathlib.Core.Option.{none}
 use Prim.Native.Nat.{ℕ, _+_, _*_, _≤_}
 use lib.IntN.{ℤ}
 use lib.ListN.{length}
 use Rattle.words.specs.Layout.{headerFits, layoutOf, storeSize, storeWords, zeros}
 use Rattle.words.specs.declared.Form.the-variants.{Source, Kernel}
 use Rattle.words.specs.declared.Verdict.the-variants.{Accepted}
-use Rattle.text_form.specs.Text.{parsed, Program, parse}
 use Rattle.report.specs.Lines.{lineRoom}
 use Rattle.program_runs.specs.Runs.{refusalOf}
-use Rattle.trial.specs.Output.{mostRows, mostWords, trialCause}
+use Rattle.rule_text.specs.Rules.{mostRows, mostWords}
 
 -- Bytes enough for both lines: 24,672.
 abbrev pub outputRoom : ℕ
 outputRoom = 2 * lineRoom mostWords
-
--- A text is well formed, and neither 1 nor 2 turns its program away.
-pub record WithinLimits (text : List ℕ) : Type 0 where
-  pub program : Program
-  pub parses : parse Source text ≡ parsed program
-  pub no-cause : trialCause (program .header) (length (program .rows)) ≡ none
 
 -- A program is within the limits, and both lines have room.
 pub record Fits (header rows : List ℤ) (room : ℕ) : Type 0 where

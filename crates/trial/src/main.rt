@@ -1,7 +1,6 @@
 // The trial program: reads a source text from standard input, runs it in both forms, and prints the two lines or the refusal.
 //
 // What is printed for a text is the contract of `output::trial`; this file only reads, calls and writes.
-mod limits; // limits.rt: the causes 1 and 2, with the limits of the trial program
 mod output; // output.rt: what is printed for a text
 mod runs; // runs.rt: both runs, each from zeros, and their lines
 

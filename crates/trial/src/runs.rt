@@ -1,5 +1,4 @@
 // Both runs of a program, each from zeros with budget 100,000, and their lines at the start of `output`.
-use program_runs::check;
 use program_runs::run_accepted;
 use program_writes::program::written_count;
 use report::line::kernel_line;
@@ -8,7 +7,6 @@ use report::line::source_line;
 use translator::TranslateAnswer;
 use translator::translate_accepted;
 use words::Form;
-use words::Verdict;
 use words::layout::store_size;
 use words::layout::store_words;
 ghost use mathlib.Core.Path.{_≡_};
@@ -19,7 +17,7 @@ ghost use Rattle.words.specs.declared.Verdict.the-variants.{Accepted};
 ghost use Rattle.text_form.specs.Writer.{Put};
 ghost use Rattle.fate.specs.KernelForms.{kernelHeaderOf, kernelRowsOf};
 ghost use Rattle.program_runs.specs.Runs.{refusalOf};
-ghost use Rattle.trial.specs.Output.{kernelOutput, runsOutput, checkedOutput};
+ghost use Rattle.trial.specs.Output.{kernelOutput, runsOutput};
 ghost use Rattle.trial.specs.Conditions.{Fits, FromZeros, KernelFits, KernelFromZeros, Translates};
 
 // The kernel run on a store of zeros.
@@ -81,7 +79,7 @@ fn run_source_on(header: &[i32], rows: &[i32], store: &mut [i32], output: &mut [
 }
 
 // Both lines of an accepted program within the limits.
-fn run_source(header: &[i32], rows: &[i32], output: &mut [u8]) -> usize
+pub fn run_source(header: &[i32], rows: &[i32], output: &mut [u8]) -> usize
     requires { ⌜ Fits (now header) (now rows) (length (now output)) ⌝ }
     requires { ⌜ refusalOf Source (now header) (now rows) ≡ Accepted ⌝ }
     ensures { λ r. ⌜ Put (runsOutput (now (header .entry)) (now (rows .entry))) (now (output .entry)) r (now (output .exit)) ⌝ }
@@ -89,16 +87,4 @@ fn run_source(header: &[i32], rows: &[i32], output: &mut [u8]) -> usize
     let size = store_size(Form::Source, header);
     let mut store = [0i32; 1024];
     run_source_on(header, rows, &mut store[0..size], output)
-}
-
-// Both lines of a program within the limits, or the check's refusal. This is the one check of the program.
-pub fn run_both(header: &[i32], rows: &[i32], output: &mut [u8]) -> usize
-    requires { ⌜ Fits (now header) (now rows) (length (now output)) ⌝ }
-    ensures { λ r. ⌜ Put (checkedOutput (refusalOf Source (now (header .entry)) (now (rows .entry))) (now (header .entry)) (now (rows .entry))) (now (output .entry)) r (now (output .exit)) ⌝ }
-{
-    let verdict = check(header, rows);
-    match verdict {
-        Verdict::Accepted => run_source(header, rows, output),
-        Verdict::Refused(refusal) => refused_line(refusal, output),
-    }
 }

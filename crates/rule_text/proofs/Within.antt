@@ -1,4 +1,4 @@
--- A text within the limits: it is read into tables of 34 and 768 words, and what is printed is what its program gives.
+-- A text within the limits: it is read into tables of 34 and 768 words, and what its rule is.
 use mathlib.Core.Path.{_≡_, sym, ap, _∙_}
 use mathlib.Core.Bool.{_&&_}
 use mathlib.Core.List.{List, [], _∷_}
@@ -13,6 +13,9 @@ use Rattle.words.specs.Layout.{headerFits, countFits, layoutOf, storeSize}
 use Rattle.words.specs.Laws.{both, by-cases, headerFits-facts}
 use Rattle.words.specs.declared.Form.the-variants.{Source}
 use Rattle.words.specs.declared.Refusal.{Refusal}
+use Rattle.words.specs.declared.Verdict.{Verdict}
+use Rattle.words.specs.declared.Verdict.the-variants as verdicts
+use Rattle.source_check.specs.Refusal.{refusal}
 use Rattle.text_form.specs.Line.{fieldsOf, numbersOf}
 use Rattle.text_form.specs.Text.{malformed, parse}
 use Rattle.words.specs.Over.{over}
@@ -23,24 +26,21 @@ use Rattle.text_form.specs.NumberLaws.{not-some}
 use Rattle.text_form.specs.AnswerLaws.{Passes, read-passing, refused-finished}
 use Rattle.text_form.specs.Reader.{numbersIn, HasLines}
 use Rattle.text_form.specs.ReaderLaws.{line-exactly, lent-line, scratch-part}
-use Rattle.report.specs.Lines.{refusedLine}
-use Rattle.program_runs.specs.Runs.{refusalOf}
-use Rattle.trial.specs.Output.{mostBytes, mostRows, mostWords, trialCause, checkedOutput, programOutput, textOutput, trialOutput}
-use Rattle.trial.specs.Conditions.{outputRoom, WithinLimits, Fits}
+use Rattle.rule_text.specs.Rules.{mostBytes, mostRows, mostWords, refused, accepted, checkedRule, trialCause, limitedRule, parsedRule, ruleOf, WithinLimits, IsAccepted, Holds}
 
 -- ---- the length of a text
 
-pub long-output : (text : List ℕ) → mostBytes < length text → refusedLine 2 0 ≡ trialOutput text
-unfolding trialOutput
-long-output text h = rw (lt-leb (length text) mostBytes h)
+pub long-rule : (text : List ℕ) → mostBytes < length text → ruleOf text ≡ refused 2 0
+unfolding ruleOf
+long-rule text h = rw (lt-leb (length text) mostBytes h)
 
-pub short-output : (text : List ℕ) → length text ≤ mostBytes → textOutput (parse Source text) ≡ trialOutput text
-unfolding trialOutput
-short-output text h = rw (le-leb (length text) mostBytes h)
+pub short-rule : (text : List ℕ) → length text ≤ mostBytes → ruleOf text ≡ parsedRule (parse Source text)
+unfolding ruleOf
+short-rule text h = rw (le-leb (length text) mostBytes h)
 
-pub malformed-output : (text : List ℕ) (line : ℕ) → parse Source text ≡ malformed line → refusedLine 14 line ≡ textOutput (parse Source text)
-unfolding textOutput
-malformed-output text line e = rw e
+pub malformed-rule : (text : List ℕ) (line : ℕ) → parse Source text ≡ malformed line → parsedRule (parse Source text) ≡ refused 14 line
+unfolding parsedRule
+malformed-rule text line e = rw e
 
 -- ---- the causes 1 and 2
 
@@ -72,8 +72,8 @@ module _ {text : List ℕ} {end numbers rowWords : ℕ} (l : HasLines Source tex
       let part : take (numbers - 0) written ≡ l .program .header = scratch-part (line-exactly l) table written w ∙ ap numbersIn (lent-line l) in
       rw (l .rows-size, ← part) (sym e)
 
-  pub lines-refused : (number : ℕ) → trialCause (l .program .header) (length (l .program .rows)) ≡ some number → refusedLine number 0 ≡ textOutput (parse Source text)
-  unfolding textOutput programOutput
+  pub lines-refused : (number : ℕ) → trialCause (l .program .header) (length (l .program .rows)) ≡ some number → parsedRule (parse Source text) ≡ refused number 0
+  unfolding parsedRule limitedRule
   lines-refused number e = rw (l .parses, e)
 
   pub lines-within : trialCause (l .program .header) (length (l .program .rows)) ≡ none → WithinLimits text
@@ -82,26 +82,15 @@ module _ {text : List ℕ} {end numbers rowWords : ℕ} (l : HasLines Source tex
 -- ---- a text within the limits
 
 module _ {text : List ℕ} (w : WithinLimits text) where
-  within-output : checkedOutput (refusalOf Source (w .program .header) (w .program .rows)) (w .program .header) (w .program .rows) ≡ textOutput (parse Source text)
-  unfolding textOutput programOutput
-  within-output = rw (w .parses, w .no-cause)
+  within-rule : parsedRule (parse Source text) ≡ checkedRule (refusal (w .program .header) (w .program .rows)) (w .program)
+  unfolding parsedRule limitedRule
+  within-rule = rw (w .parses, w .no-cause)
 
   small : Small (w .program .header) (length (w .program .rows))
   small = no-cause-small (w .program .header) (length (w .program .rows)) (w .no-cause)
 
   few-numbers : length (w .program .header) ≤ 34
   few-numbers = let most = headerFits-facts Source (w .program .header) (small .passes .header-fits) .most in omega arith
-
-  within-fits : (room : ℕ) → outputRoom ≤ room → Fits (w .program .header) (w .program .rows) room
-  within-fits room h = record { header-fits = small .passes .header-fits; few-words = small .few-words; few-rows = small .few-rows; both-lines = h }
-
-  -- the same of tables that are the program's
-  module _ (header rows : List ℤ) (h : header ≡ w .program .header) (r : rows ≡ w .program .rows) where
-    pub read-fits : (room : ℕ) → outputRoom ≤ room → Fits header rows room
-    read-fits room e = rw (h, r) (within-fits room e)
-
-    pub read-output : checkedOutput (refusalOf Source header rows) header rows ≡ textOutput (parse Source text)
-    read-output = rw (h, r) within-output
 
   -- what the reader counts and leaves
   pub record Tables (headerWords rowWords : ℕ) (headerLeft rowsLeft : List ℤ) : Type 0 where
@@ -129,3 +118,26 @@ module _ {text : List ℕ} (w : WithinLimits text) where
 
     pub within-accepted : {G : Type 0} (refusal : Refusal) → Reads (readResult Source text header rows) (Refused refusal) headerLeft rowsLeft → G
     within-accepted refusal d = refused-finished (rw reads at (d .outcome))
+
+  -- what the check says of the tables
+  module _ {headerWords rowWords : ℕ} {headerLeft rowsLeft : List ℤ} (t : Tables headerWords rowWords headerLeft rowsLeft) where
+    verdict-is : (verdict : Verdict) → verdict ≡ refusal (take (headerWords - 0) headerLeft) (take (rowWords - 0) rowsLeft) → refusal (w .program .header) (w .program .rows) ≡ verdict
+    verdict-is verdict e = rw (← t .header-read, ← t .rows-read) (sym e)
+
+    pub table-refused : (cause : Refusal) → verdicts.Refused cause ≡ refusal (take (headerWords - 0) headerLeft) (take (rowWords - 0) rowsLeft) → parsedRule (parse Source text) ≡ refused (cause .number) (cause .place)
+    unfolding checkedRule
+    table-refused cause e = within-rule ∙ rw (verdict-is (verdicts.Refused cause) e)
+
+    pub table-accepted : verdicts.Accepted ≡ refusal (take (headerWords - 0) headerLeft) (take (rowWords - 0) rowsLeft) → Holds (parsedRule (parse Source text)) headerWords rowWords headerLeft rowsLeft
+    unfolding checkedRule
+    table-accepted e =
+        let checked = verdict-is verdicts.Accepted e in
+        record {
+          program = w .program;
+          is = within-rule ∙ rw checked;
+          allowed = record { header-fits = small .passes .header-fits; few-words = small .few-words; few-rows = small .few-rows; checked = checked };
+          header-inside = t .header-inside;
+          rows-inside = t .rows-inside;
+          header-read = t .header-read;
+          rows-read = t .rows-read;
+        }

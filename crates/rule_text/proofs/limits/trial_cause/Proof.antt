@@ -5,10 +5,10 @@ use borrow.Author.Tests.{not-true, not-false, le-leb, lt-leb}
 use Rattle.words.specs.Layout.{layoutOf, storeSize}
 use Rattle.words.specs.declared.Form.the-variants.{Source}
 use Rattle.text_form.specs.Answers.{unless}
-use Rattle.trial.specs.Output.{trialCause}
+use Rattle.rule_text.specs.Rules.{trialCause}
 use borrow.Author.Needs.{needs}
-use Rattle.trial.proofs.limits.trial_cause.Statement.{statement}
-use Rattle.trial.proofs.limits.trial_cause.Tie as tie
+use Rattle.rule_text.proofs.limits.trial_cause.Statement.{statement}
+use Rattle.rule_text.proofs.limits.trial_cause.Tie as tie
 
 header-fits-requires : tie.Need-header-fits-requires
 header-fits-requires c κs = search needs

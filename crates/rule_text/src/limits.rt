@@ -1,4 +1,4 @@
-// The causes 1 and 2, with the limits of the trial program: 1,024 words of store, 128 rows.
+// The causes 1 and 2, with the trial program's limits: 1,024 words of store, 128 rows.
 use text_form::limits::Cause;
 use words::Form;
 use words::layout::count_fits;
@@ -6,7 +6,7 @@ use words::layout::header_fits;
 use words::layout::store_size;
 ghost use mathlib.Core.Path.{_≡_};
 ghost use Rattle.text_form.specs.Reader.{causeSays};
-ghost use Rattle.trial.specs.Output.{trialCause};
+ghost use Rattle.rule_text.specs.Rules.{trialCause};
 
 // All grounds for 1, then all grounds for 2.
 pub fn trial_cause(header: &[i32], row_words: usize) -> Cause

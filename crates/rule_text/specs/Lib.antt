@@ -1,0 +1,5 @@
+-- The text of one rule. A line of comment for each file.
+
+-- ---- definitions
+-- Rules: the trial program's limits, and what a rule's text gives.
+pub mod Rules

@@ -10,7 +10,7 @@ use lib.ListN.{length, take, drop, getD, drop-of-length-le}
 use lib.Seq.{drop-cons, take-all}
 use borrow.Author.Tests.{ltb-true, ltb-false}
 use Rattle.words.specs.Laws.{by-cases}
-use Rattle.text_form.specs.Line.{newline, Line, ended, unended, linesOf}
+use Rattle.text_form.specs.Line.{newline, Line, ended, unended, longerLine, linesOf}
 use Rattle.text_form.specs.LineLaws.{lines-none}
 use Rattle.text_form.proofs.Pieces.{Piece}
 use Rattle.text_form.proofs.Rows.{lines-step, lines-last}
@@ -50,6 +50,18 @@ module _ {input : List ℕ} {at : ℕ} {starts : Bool} (p : Passed input at star
     pub passed-next : (starts && eqb (getD input at 0) newline) ≡ false → Passed input (at + 1) (eqb (getD input at 0) newline)
     passed-next e = record { inside = omega arith; same = omega (arith, p .same, further e) }
 
+before-inside : (starts : Bool) (bytes : List ℕ) → bytesBefore starts bytes ≤ length bytes
+unfolding bytesBefore
+before-inside starts [] = omega arith
+before-inside starts (byte ∷ bytes) =
+    by-cases (starts && eqb byte newline)
+    (λ t. rw t (omega arith))
+    (λ t. rw t (omega (arith, before-inside (eqb byte newline) bytes)))
+
+pub rule-inside : (input : List ℕ) → ruleSize input ≤ length input
+unfolding ruleSize
+rule-inside input = before-inside true input
+
 pub behind-end : (input : List ℕ) (size : ℕ) → size ≡ length input → Behind input size size
 behind-end input size e = record {
   inside = omega arith;
@@ -83,6 +95,20 @@ module _ {text : List ℕ} {at end : ℕ} (p : Piece 10 text at end) (more : at 
     where
       past : ltb end (length text) ≡ false → length text ≤ end + 1
       past t = omega (arith, ltb-false end (length text) t)
+
+-- every line has a byte
+longer-few : (byte : ℕ) (lines : List Line) → length (longerLine byte lines) ≤ length lines + 1
+longer-few byte [] = omega arith
+longer-few byte (ended line ∷ lines) = omega arith
+longer-few byte (unended line ∷ lines) = omega arith
+
+pub lines-few : (text : List ℕ) → length (linesOf text) ≤ length text
+unfolding linesOf
+lines-few [] = omega arith
+lines-few (byte ∷ bytes) =
+    by-cases (eqb byte newline)
+    (λ t. rw t (omega (arith, lines-few bytes)))
+    (λ t. rw t (omega (arith, longer-few byte (linesOf bytes), lines-few bytes)))
 
 -- the bytes before `at` have `count` lines
 pub record Counted (text : List ℕ) (at count : ℕ) : Type 0 where

@@ -7,3 +7,7 @@ pub mod Numbers
 pub mod Tests
 -- Differences: highest less lowest, as a word or too large for one.
 pub mod Differences
+-- Values: a setting that is read has 1 to 100 values, all of them words.
+pub mod Values
+-- Plans: the first ground on which the setting and the day lines are turned away.
+pub mod Plans

@@ -7,3 +7,5 @@ pub mod Input
 pub mod Lines
 -- Settings: the variable that is set, and its values.
 pub mod Settings
+-- Plans: the setting and the day lines behind a rule, or why they are turned away.
+pub mod Plans

@@ -92,20 +92,26 @@ module _ {rows : List ℤ} (table : KernelTable rows) where
   unfolding numberAt
   word-number row field h = natural-pos (wordAt rows row field) (natural (wordAt rows row field)) refl h
 
-  pub variable-word : (row : ℕ) → row < rowCount rows → numberAt rows row 0 ≡ 2 → wordAt rows row 1 ≡ pos (numberAt rows row 1)
+  pub variable-few : (row : ℕ) → row < rowCount rows → numberAt rows row 0 ≡ 2 → numberAt rows row 1 < 65536
   unfolding kindOf kindIn kinds sortIn kindRow expressionFields boundsOf storeWords
-  variable-word row n k =
+  variable-few row n k =
       let few = headerFits-facts Kernel (table .header) (table .legal .header-fits) in
       let a = few .few-variables in
       let b = few .small-store in
       let c = few .few-temporaries in
-      word-number row 1 (⊎-elim (λ h. omega arith) (λ h. let top = h .1 in omega arith) (names-variable Kernel bounds rows s row n (kind-of row 2 k) 1 refl))
+      ⊎-elim (λ h. omega arith) (λ h. let top = h .1 in omega arith) (names-variable Kernel bounds rows s row n (kind-of row 2 k) 1 refl)
 
-  pub array-word : (row : ℕ) → row < rowCount rows → numberAt rows row 0 ≡ 3 → wordAt rows row 1 ≡ pos (numberAt rows row 1)
+  variable-word : (row : ℕ) → row < rowCount rows → numberAt rows row 0 ≡ 2 → wordAt rows row 1 ≡ pos (numberAt rows row 1)
+  variable-word row n k = word-number row 1 (omega (arith, variable-few row n k))
+
+  pub array-few : (row : ℕ) → row < rowCount rows → numberAt rows row 0 ≡ 3 → numberAt rows row 1 < 65536
   unfolding kindOf kindIn kinds sortIn kindRow expressionFields boundsOf
-  array-word row n k =
+  array-few row n k =
       let a = headerFits-facts Kernel (table .header) (table .legal .header-fits) .few-arrays in
-      word-number row 1 (omega (arith, names-array Kernel bounds rows s row n (kind-of row 3 k) 1 refl))
+      omega (arith, names-array Kernel bounds rows s row n (kind-of row 3 k) 1 refl)
+
+  array-word : (row : ℕ) → row < rowCount rows → numberAt rows row 0 ≡ 3 → wordAt rows row 1 ≡ pos (numberAt rows row 1)
+  array-word row n k = word-number row 1 (omega (arith, array-few row n k))
 
   -- ---- atoms
 
@@ -243,35 +249,35 @@ module _ {rows : List ℤ} (table : KernelTable rows) where
 
   -- ---- the five words
 
-  module _ (i : ℕ) (t : ℤ) (named : t ≡ pos i) (v : ℕ) (n : v < rowCount rows) where
+  module _ (i v : ℕ) (n : v < rowCount rows) where
     pub atom-five : isAtom rows v ≡ true → (x : ℕ) (w : ℤ) → x ≡ sortOf (operandOf (expressionAt rows v)) → w ≡ wordAt rows v 1
-        → pos (1 + 64 * x) ∷ t ∷ w ∷ pos 0 ∷ pos 0 ∷ [] ≡ fiveWords (operationParts (assigned i (expressionAt rows v)))
+        → pos (1 + 64 * x) ∷ pos i ∷ w ∷ pos 0 ∷ pos 0 ∷ [] ≡ fiveWords (operationParts (assigned i (expressionAt rows v)))
     unfolding operationNumber
     atom-five e x w f g =
-        five-of (operationParts (copy i (operandOf (expressionAt rows v)))) _ t w (pos 0) (pos 0) (omega arith) named (g ∙ atom-word v n e) refl refl
+        five-of (operationParts (copy i (operandOf (expressionAt rows v)))) _ (pos i) w (pos 0) (pos 0) (omega arith) refl (g ∙ atom-word v n e) refl refl
         ∙ ap (λ o. fiveWords (operationParts o)) (sym (assigned-atom i (atom-at bounds rows s v e)))
 
     pub minus-five : numberAt rows v 0 ≡ 4 → isAtom rows (numberAt rows v 1) ≡ true → (a x : ℕ) (w : ℤ) → a ≡ numberAt rows v 1 → x ≡ sortOf (operandOf (expressionAt rows a)) → w ≡ wordAt rows a 1
-        → pos (4 + 64 * x) ∷ t ∷ w ∷ pos 0 ∷ pos 0 ∷ [] ≡ fiveWords (operationParts (assigned i (expressionAt rows v)))
+        → pos (4 + 64 * x) ∷ pos i ∷ w ∷ pos 0 ∷ pos 0 ∷ [] ≡ fiveWords (operationParts (assigned i (expressionAt rows v)))
     unfolding operationNumber
     minus-five k e a x w d f g =
         let r = minus-parts v n k in
         let y : x ≡ sortOf (operandOf (expressionAt rows (numberAt rows v 1))) = f ∙ (rw d) in
         rw (r .is)
-        (five-of (operationParts (negate i (operandOf (expressionAt rows (numberAt rows v 1))))) _ t w (pos 0) (pos 0) (omega arith) named (g ∙ (rw d (atom-word (numberAt rows v 1) (r .inside) e))) refl refl)
+        (five-of (operationParts (negate i (operandOf (expressionAt rows (numberAt rows v 1))))) _ (pos i) w (pos 0) (pos 0) (omega arith) refl (g ∙ (rw d (atom-word (numberAt rows v 1) (r .inside) e))) refl refl)
 
     pub element-five : numberAt rows v 0 ≡ 3 → isAtom rows (numberAt rows v 2) ≡ true → (a x : ℕ) (u w : ℤ) → a ≡ numberAt rows v 2 → x ≡ sortOf (operandOf (expressionAt rows a)) → u ≡ wordAt rows v 1 → w ≡ wordAt rows a 1
-        → pos (3 + 128 * x) ∷ t ∷ u ∷ w ∷ pos 0 ∷ [] ≡ fiveWords (operationParts (assigned i (expressionAt rows v)))
+        → pos (3 + 128 * x) ∷ pos i ∷ u ∷ w ∷ pos 0 ∷ [] ≡ fiveWords (operationParts (assigned i (expressionAt rows v)))
     unfolding operationNumber
     element-five k e a x u w d f h g =
         let r = element-parts v n k in
         let y : x ≡ sortOf (operandOf (expressionAt rows (numberAt rows v 2))) = f ∙ (rw d) in
         rw (r .is)
-        (five-of (operationParts (fetch i (numberAt rows v 1) (operandOf (expressionAt rows (numberAt rows v 2))))) _ t u w (pos 0) (omega arith) named (h ∙ array-word v n k) (g ∙ (rw d (atom-word (numberAt rows v 2) (r .inside) e))) refl)
+        (five-of (operationParts (fetch i (numberAt rows v 1) (operandOf (expressionAt rows (numberAt rows v 2))))) _ (pos i) u w (pos 0) (omega arith) refl (h ∙ array-word v n k) (g ∙ (rw d (atom-word (numberAt rows v 2) (r .inside) e))) refl)
 
     pub operation-five : (h : 6 ≤ numberAt rows v 0) (k : numberAt rows v 0 ≤ 16) → isAtom rows (numberAt rows v 1) ≡ true → isAtom rows (numberAt rows v 2) ≡ true → (kind a b x y : ℕ) (u w : ℤ) → kind ≡ numberAt rows v 0 → a ≡ numberAt rows v 1 → b ≡ numberAt rows v 2
         → x ≡ sortOf (operandOf (expressionAt rows a)) → y ≡ sortOf (operandOf (expressionAt rows b)) → u ≡ wordAt rows a 1 → w ≡ wordAt rows b 1
-        → pos (kind + (64 * x + 128 * y)) ∷ t ∷ u ∷ w ∷ pos 0 ∷ [] ≡ fiveWords (operationParts (assigned i (expressionAt rows v)))
+        → pos (kind + (64 * x + 128 * y)) ∷ pos i ∷ u ∷ w ∷ pos 0 ∷ [] ≡ fiveWords (operationParts (assigned i (expressionAt rows v)))
     unfolding operationNumber
     operation-five h k e f kind a b x y u w q c d p o l m =
         let r = binary-parts v n h k in
@@ -279,13 +285,13 @@ module _ {rows : List ℤ} (table : KernelTable rows) where
         let right : y ≡ sortOf (operandOf (expressionAt rows (numberAt rows v 2))) = o ∙ (rw d) in
         let number-is : 6 + operatorNumber (r .operator) ≡ numberAt rows v 0 = r .numbered in
         rw (r .is)
-        (five-of (operationParts (operate (r .operator) i (operandOf (expressionAt rows (numberAt rows v 1))) (operandOf (expressionAt rows (numberAt rows v 2))))) _ t u w (pos 0) (omega arith) named
+        (five-of (operationParts (operate (r .operator) i (operandOf (expressionAt rows (numberAt rows v 1))) (operandOf (expressionAt rows (numberAt rows v 2))))) _ (pos i) u w (pos 0) (omega arith) refl
         (l ∙ (rw c (atom-word (numberAt rows v 1) (r .left-inside) e))) (m ∙ (rw d (atom-word (numberAt rows v 2) (r .right-inside) f))) refl)
 
   -- an element is assigned an atom
-  pub put-five : (e : ℕ) (n : e < rowCount rows) (g : isAssignment rows e ≡ true) → (numberAt rows (numberAt rows e 1) 0 ≡ 2 → ⊥) → (p v j x y : ℕ) (t u w : ℤ) → p ≡ numberAt rows e 1 → v ≡ numberAt rows e 2 → j ≡ numberAt rows p 2
-      → x ≡ sortOf (operandOf (expressionAt rows j)) → y ≡ sortOf (operandOf (expressionAt rows v)) → t ≡ wordAt rows p 1 → u ≡ wordAt rows j 1 → w ≡ wordAt rows v 1
-      → pos (21 + (64 * x + 128 * y)) ∷ t ∷ u ∷ w ∷ pos 0 ∷ [] ≡ fiveWords (operationParts (operationOf (expressionAt rows e)))
+  pub put-five : (e : ℕ) (n : e < rowCount rows) (g : isAssignment rows e ≡ true) → (numberAt rows (numberAt rows e 1) 0 ≡ 2 → ⊥) → (p v j x y t : ℕ) (u w : ℤ) → p ≡ numberAt rows e 1 → v ≡ numberAt rows e 2 → j ≡ numberAt rows p 2
+      → x ≡ sortOf (operandOf (expressionAt rows j)) → y ≡ sortOf (operandOf (expressionAt rows v)) → t ≡ numberAt rows p 1 → u ≡ wordAt rows j 1 → w ≡ wordAt rows v 1
+      → pos (21 + (64 * x + 128 * y)) ∷ pos t ∷ u ∷ w ∷ pos 0 ∷ [] ≡ fiveWords (operationParts (operationOf (expressionAt rows e)))
   unfolding operationNumber
   put-five e n g h p v j x y t u w a b c d f k l m =
       let r = assign-parts e n g in
@@ -295,8 +301,8 @@ module _ {rows : List ℤ} (table : KernelTable rows) where
       let left : x ≡ sortOf (operandOf (expressionAt rows (numberAt rows (numberAt rows e 1) 2))) = d ∙ (rw index-row) in
       let right : y ≡ sortOf (operandOf (expressionAt rows (numberAt rows e 2))) = f ∙ (rw b) in
       rw (r .is, place-is)
-      (five-of (operationParts (put (numberAt rows (numberAt rows e 1) 1) (operandOf (expressionAt rows (numberAt rows (numberAt rows e 1) 2))) (operandOf (expressionAt rows (numberAt rows e 2))))) _ t u w (pos 0) (omega arith)
-      (k ∙ (rw a (array-word (numberAt rows e 1) (r .place-inside) (o .three)))) (l ∙ (rw index-row (atom-word (numberAt rows (numberAt rows e 1) 2) (o .element-is .inside) (o .index-atom)))) (m ∙ (rw b (atom-word (numberAt rows e 2) (r .value-inside) (o .value-atom)))) refl)
+      (five-of (operationParts (put (numberAt rows (numberAt rows e 1) 1) (operandOf (expressionAt rows (numberAt rows (numberAt rows e 1) 2))) (operandOf (expressionAt rows (numberAt rows e 2))))) _ (pos t) u w (pos 0) (omega arith)
+      (ap pos (k ∙ (rw a))) (l ∙ (rw index-row (atom-word (numberAt rows (numberAt rows e 1) 2) (o .element-is .inside) (o .index-atom)))) (m ∙ (rw b (atom-word (numberAt rows e 2) (r .value-inside) (o .value-atom)))) refl)
 
   -- a variable is assigned a value
   pub assign-five : (e : ℕ) (n : e < rowCount rows) (g : isAssignment rows e ≡ true) → numberAt rows (numberAt rows e 1) 0 ≡ 2 → (p v : ℕ) → p ≡ numberAt rows e 1 → v ≡ numberAt rows e 2

@@ -15,16 +15,16 @@ use Rattle.words.specs.Table.{rowCount, numberAt}
 use Rattle.words.specs.Layout.{Layout, layoutOf}
 use Rattle.words.specs.Links.{isStatement, link}
 use Rattle.words.specs.declared.Form.the-variants.{Kernel}
-use Rattle.language.specs.Trees.{block, none, _then_}
 use Rattle.language.specs.Decode.{statementAt, itemsAt, listAt}
 use Rattle.language.specs.Program.{contents}
 use Rattle.structure.specs.Fields.{boundsOf}
 use Rattle.structure.specs.NoteLaws.{above-zero}
 use Rattle.kernel_check.specs.Legal.{Legal}
-use Rattle.accepted.specs.Statements.{list-some, root-inside, root-statement, program-contents}
+use Rattle.accepted.specs.Statements.{list-some, root-inside, root-statement}
 use Rattle.accepted_kernel.specs.Kernel.{legal-form}
-use Rattle.kernel_rows.specs.Rows.{Lone, Listed, BlockRow, KernelRow, empty-row, assign-row, block-row, if-row, while-row, goto-row, label-row, abort-row, next-at, block-at, kernel-row, label-list, statement-list}
+use Rattle.kernel_rows.specs.Rows.{Lone, Listed, BlockRow, KernelRow, empty-row, assign-row, block-row, if-row, while-row, goto-row, label-row, abort-row, next-at, kernel-row, label-list, statement-list}
 use Rattle.kernel_rows.specs.Labels.{legal-once}
+use Rattle.kernel_rows.specs.Tree.{root-items}
 use Rattle.flat.specs.Lines.{Operand, Line}
 use Rattle.flat.specs.Words.{lineParts, Written}
 use Rattle.flat_fate.specs.Code.{always, ifLines, whileLines, statementLines, itemsLines}
@@ -177,9 +177,6 @@ module _ (header rows : List ℤ) (legal : Legal header rows) (out : List ℤ) (
       let bounds = boundsOf Kernel header in
       let some = root-inside Kernel bounds rows s in
       let t = root-statement Kernel bounds rows s in
-      let r = block-at header rows legal 0 some (s .block) in
-      let items : itemsAt rows 0 ≡ block (contents rows) then none =
-      statement-list header rows legal 0 some (λ (q : numberAt rows 0 0 ≡ 53). let k = s .block in omega arith) t ∙ (rw (s .lone, r .is, program-contents Kernel bounds rows s, r .listed .same)) in
-      let size : itemsLines (itemsAt rows 0) ≡ itemsLines (contents rows) + 0 = ap itemsLines items in
+      let size : itemsLines (itemsAt rows 0) ≡ itemsLines (contents rows) + 0 = ap itemsLines (root-items header rows legal) in
       let all = filled-from (rowCount rows) 0 (omega arith) some t in
       written-whole out lines e (λ k h. all k (omega (arith, line-root header rows legal)) (omega (arith, line-root header rows legal, flat-size (layoutOf Kernel header) (contents rows) (legal-form header rows legal) (λ l. legal-once header rows legal l))))

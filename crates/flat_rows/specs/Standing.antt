@@ -27,10 +27,11 @@ use Rattle.grammar.specs.GrammarLaws.{kind-links-none}
 use Rattle.structure.specs.LinkLaws.{by-owner}
 use Rattle.structure.specs.NoteLaws.{above-zero, note-root, note-link}
 use Rattle.kernel_check.specs.Legal.{Legal}
-use Rattle.accepted.specs.Statements.{list-some, root-inside, root-statement, program-contents}
+use Rattle.accepted.specs.Statements.{list-some}
 use Rattle.accepted_kernel.specs.Kernel.{legal-form, legal-rows}
 use Rattle.kernel_rows.specs.Rows.{Lone, Listed, BlockRow, IfRow, WhileRow, KernelRow, empty-row, assign-row, block-row, if-row, while-row, goto-row, label-row, abort-row, StatementLink, next-item, first-item, true-branch, false-branch, loop-body, expression-or-statement, statement-link, next-at, kernel-row, label-list, statement-list, lone-list, linking-statement, label-statement, as-expression, block-at, if-of, while-of}
 use Rattle.kernel_rows.specs.Labels.{legal-once}
+use Rattle.kernel_rows.specs.Tree.{root-items}
 use Rattle.flat.specs.Lines.{Line}
 use Rattle.flat_fate.specs.Code.{operandOf, operationOf, always, ifLines, statementLines, itemsLines, statementCode, itemsCode}
 use Rattle.flat_fate.specs.CodeStands.{firstAt, secondAt, bodyAt, Addressed, AddressedItems, statement-length, items-length}
@@ -262,15 +263,8 @@ module _ (header rows : List ℤ) (legal : Legal header rows) where
   root-stands : At 0
   unfolding flatOf statementCode Addressed
   root-stands =
-      let s = legal .structured in
-      let bounds = boundsOf Kernel header in
-      let some = root-inside Kernel bounds rows s in
-      let t = root-statement Kernel bounds rows s in
-      let r = block-at header rows legal 0 some (s .block) in
-      let items : itemsAt rows 0 ≡ block (contents rows) then none =
-      statement-list header rows legal 0 some (λ (q : numberAt rows 0 0 ≡ 53). let k = s .block in omega arith) t ∙ (rw (s .lone, r .is, program-contents Kernel bounds rows s, r .listed .same)) in
       subst (λ (m : ℕ). Stands (itemsAt rows 0) m) (sym line-root)
-      (subst (λ is. Stands is 0) (sym items) (stands-alone (block (contents rows)) 0 whole-stands))
+      (subst (λ is. Stands is 0) (sym (root-items header rows legal)) (stands-alone (block (contents rows)) 0 whole-stands))
     where
       whole-stands : StandsOne (block (contents rows)) 0
       whole-stands =

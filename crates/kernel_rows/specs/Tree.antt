@@ -1,5 +1,5 @@
--- Tree: the tree of a legal kernel program is a kernel tree: form, labels, names and limits.
-use mathlib.Core.Path.{_≡_, subst}
+-- Tree: the tree of a legal kernel program is a kernel tree: form, labels, names and limits; the list at row 0 is its one block.
+use mathlib.Core.Path.{_≡_, subst, _∙_}
 use mathlib.Core.List.{List}
 use mathlib.Core.Logic.{⊎-elim}
 use Prim.Native.Nat.{ℕ, _+_, _-_, _≤_, _<_}
@@ -8,6 +8,9 @@ use lib.IntN.{ℤ}
 use Rattle.words.specs.Layout.{layoutOf, storeSize, storeWords, temporariesOf}
 use Rattle.words.specs.Laws.{headerFits-facts}
 use Rattle.words.specs.declared.Form.the-variants.{Kernel}
+use Rattle.words.specs.Table.{numberAt}
+use Rattle.language.specs.Trees.{block, none, _then_}
+use Rattle.language.specs.Decode.{itemsAt}
 use Rattle.language.specs.Program.{contents}
 use Rattle.structure.specs.Fields.{boundsOf, boundsIn}
 use Rattle.structure.specs.StructuredLaws.{structured-tree}
@@ -15,7 +18,9 @@ use Rattle.translation.specs.KernelForm.{KernelName, name-variable, name-tempor
 use Rattle.kernel_check.specs.Legal.{Legal}
 use Rattle.accepted.specs.Fields.{NamesVariable}
 use Rattle.accepted.specs.Names.{named-contents}
+use Rattle.accepted.specs.Statements.{root-inside, root-statement, program-contents}
 use Rattle.accepted_kernel.specs.Kernel.{legal-form, legal-rows, legal-depth}
+use Rattle.kernel_rows.specs.Rows.{block-at, statement-list}
 use Rattle.kernel_rows.specs.Labels.{legal-once}
 
 module _ (header rows : List ℤ) (legal : Legal header rows) where
@@ -43,3 +48,13 @@ module _ (header rows : List ℤ) (legal : Legal header rows) where
         few-rows = omega (arith, legal-rows header rows legal, structured-tree Kernel (boundsOf Kernel header) rows (legal .structured) .few);
         shallow = legal-depth header rows legal;
       }
+
+  -- "Row 0 is a block with next 0".
+  pub root-items : itemsAt rows 0 ≡ block (contents rows) then none
+  root-items =
+      let s = legal .structured in
+      let bounds = boundsOf Kernel header in
+      let some = root-inside Kernel bounds rows s in
+      let r = block-at header rows legal 0 some (s .block) in
+      statement-list header rows legal 0 some (λ (q : numberAt rows 0 0 ≡ 53). let k = s .block in omega arith) (root-statement Kernel bounds rows s)
+      ∙ (rw (s .lone, r .is, program-contents Kernel bounds rows s, r .listed .same))

@@ -1,3 +1,4 @@
+-- `atom_sort`: an atom whose kind is not 1 is a variable.
 use mathlib.Core.Path.{sym, _∙_}
 use native.Mathlib.Omega.{arith}
 use Rattle.flat_rows.specs.Operations.{constant-sort, variable-sort}

@@ -1,3 +1,4 @@
+-- `distance_to`: a jump onward counts from the following line, one back is less than 0.
 use mathlib.Core.Path.{_≡_, refl, _∙_}
 use native.Mathlib.Omega.{arith}
 use mir.Syntax.{w32}

@@ -1,3 +1,4 @@
+-- `put_jump`: five words are a jump's.
 use mathlib.Core.Path.{_∙_}
 use Rattle.words.specs.Laws.{back}
 use Rattle.flat_lines.specs.Stored.{plain-as}

@@ -1,3 +1,4 @@
+-- `put_line`: five words stored one after the other.
 use mathlib.Core.Path.{_≡_, refl}
 use Prim.Native.Nat.{_*_}
 use native.Mathlib.Omega.{arith}

@@ -1,3 +1,4 @@
+-- `put_test`: five words are a test's.
 use mathlib.Core.Path.{_∙_}
 use Rattle.words.specs.Laws.{back}
 use Rattle.flat_rows.specs.Operations.{atom-word}

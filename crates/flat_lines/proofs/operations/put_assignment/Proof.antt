@@ -1,3 +1,4 @@
+-- `put_assignment`: a variable takes a value, an element an atom.
 use native.Mathlib.Omega.{arith}
 use Rattle.flat_lines.specs.Values.{place-here, is-element, assigning, fits-here, assigned-as}
 use borrow.Author.Needs.{needs}

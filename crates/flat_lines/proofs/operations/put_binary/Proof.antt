@@ -1,3 +1,4 @@
+-- `put_binary`: the five words of an operation on two atoms; the kind is the operator's number.
 use mathlib.Core.Path.{_∙_}
 use native.Mathlib.Omega.{arith}
 use Rattle.words.specs.Laws.{back}

@@ -1,3 +1,4 @@
+-- `put_copy`: the five words of an atom copied.
 use mathlib.Core.Path.{_∙_}
 use Rattle.words.specs.Laws.{back}
 use Rattle.flat_rows.specs.Operations.{atom-five}

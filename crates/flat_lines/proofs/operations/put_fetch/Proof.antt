@@ -1,3 +1,4 @@
+-- `put_fetch`: the five words of an element read; its index is an atom.
 use mathlib.Core.Path.{_∙_}
 use native.Mathlib.Omega.{arith}
 use Rattle.words.specs.Laws.{back}

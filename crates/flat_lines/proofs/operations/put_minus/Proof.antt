@@ -1,3 +1,4 @@
+-- `put_minus`: the five words of minus an atom.
 use mathlib.Core.Path.{_∙_}
 use native.Mathlib.Omega.{arith}
 use Rattle.words.specs.Laws.{back}

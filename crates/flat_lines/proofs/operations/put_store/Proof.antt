@@ -1,3 +1,4 @@
+-- `put_store`: a place that is no variable is an element with an atom index, and its value an atom.
 use mathlib.Core.Path.{_∙_}
 use native.Mathlib.Omega.{arith}
 use Rattle.words.specs.Laws.{back}

@@ -1,3 +1,4 @@
+-- `put_value`: what fits a variable is one of four, told by the number of its kind.
 use mathlib.Core.Path.{_∙_, sym}
 use native.Mathlib.Omega.{arith}
 use Rattle.flat_lines.specs.Values.{copied, fetched, negated, operated}

@@ -1,3 +1,4 @@
+-- `put_abort_row`: one line.
 use mathlib.Core.Path.{refl}
 use native.Mathlib.Omega.{arith}
 use Rattle.flat_lines.specs.Stored.{plain-as}

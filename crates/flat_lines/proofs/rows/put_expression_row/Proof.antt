@@ -1,3 +1,4 @@
+-- `put_expression_row`: the row's own line is the assignment's.
 use Rattle.flat_lines.specs.Rows.{assignment-at, assign-own}
 use borrow.Author.Needs.{needs}
 use Rattle.flat_lines.proofs.rows.put_expression_row.Statement.{statement}

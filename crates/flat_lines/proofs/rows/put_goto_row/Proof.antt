@@ -1,3 +1,4 @@
+-- `put_goto_row`: the label stands in a row, so the table has its address.
 use native.Mathlib.Omega.{arith}
 use Rattle.flat_lines.specs.Rows.{label-few, label-room, line-small, goto-at, goto-own}
 use borrow.Author.Needs.{needs}

@@ -1,3 +1,4 @@
+-- `put_if_row`: the branches' lines are in the table of sizes.
 use native.Mathlib.Omega.{arith}
 use Rattle.flat_lines.specs.Rows.{yes-room, no-room, if-at, if-own}
 use borrow.Author.Needs.{needs}

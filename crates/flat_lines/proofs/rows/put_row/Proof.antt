@@ -1,3 +1,4 @@
+-- `put_row`: the row stands at the line that the table has; other kinds than these have no line of their own.
 use mathlib.Core.Path.{sym, _∙_}
 use native.Mathlib.Omega.{arith}
 use Rattle.flat_lines.specs.Rows.{stands, own-none, own-few}

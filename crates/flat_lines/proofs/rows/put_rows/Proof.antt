@@ -1,3 +1,4 @@
+-- `put_rows`: the invariant says that the own lines of the rows below are written; a row's lines leave others as they are, or equal.
 use mathlib.Core.Path.{_≡_, refl, sym, _∙_}
 use Prim.Native.Nat.{_≤_, _-_}
 use native.Mathlib.Omega.{arith}

@@ -1,3 +1,4 @@
+-- `put_while_row`: the body's lines are in the table of sizes.
 use native.Mathlib.Omega.{arith}
 use Rattle.flat_lines.specs.Rows.{loop-room, while-at, while-own}
 use borrow.Author.Needs.{needs}

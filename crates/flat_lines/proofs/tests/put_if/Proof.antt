@@ -1,3 +1,4 @@
+-- `put_if`: four shapes, by which branch has lines.
 use Prim.Native.Nat.{_+_, _*_, _≤_}
 use native.Mathlib.Omega.{arith}
 use lib.ListN.{length}

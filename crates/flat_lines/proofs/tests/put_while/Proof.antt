@@ -1,3 +1,4 @@
+-- `put_while`: two shapes, by whether the test always holds.
 use mathlib.Core.Path.{_≡_, sym, _∙_}
 use mathlib.Core.Bool.{true, false}
 use Prim.Native.Nat.{_+_, _*_, _≤_}

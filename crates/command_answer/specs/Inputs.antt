@@ -6,7 +6,7 @@ use Prim.Native.Nat.{ℕ, _≤_}
 use lib.ListN.{take}
 use Rattle.words.specs.Word.{pick}
 use Rattle.command_request.specs.declared.request.Request.{Request}
-use Rattle.command_answer.specs.Lines.{unreadableTextLine, unreadableStoreLine}
+use Rattle.command_lines.specs.Lines.{unreadableTextLine, unreadableStoreLine}
 use Rattle.command_answer.specs.Output.{commandOutput}
 use Rattle.command_answer.specs.declared.Input.{Input}
 use Rattle.command_answer.specs.declared.Input.the-variants.{Absent, Bytes, Unreadable}

@@ -1,24 +1,25 @@
 // What is printed for a request and what was read for it. The bytes stand at the start of `out`, and the answer is how many they are.
 use super::Input;
-use super::joined_text::join_answer;
-use super::kernel_text::translate_answer;
-use super::line::long_store_line;
-use super::line::long_text_line;
-use super::line::unreadable_store_line;
-use super::line::unreadable_text_line;
-use super::line::usage_line;
-use super::line::wrong_budget_line;
-use super::verbs::check_answer;
-use super::verbs::start_answer;
-use super::written::writes_answer;
+use command_join::join_answer;
+use command_lines::long_store_line;
+use command_lines::long_text_line;
+use command_lines::unreadable_store_line;
+use command_lines::unreadable_text_line;
+use command_lines::usage_line;
+use command_lines::wrong_budget_line;
 use command_request::request::Request;
+use command_runs::checks::check_answer;
+use command_runs::tasks::start_answer;
+use command_translation::translate_answer;
+use command_writes::writes_answer;
 ghost use mathlib.Core.Path.{_≡_};
 ghost use Prim.Native.Nat.{_≤_};
 ghost use lib.ListN.{length};
 ghost use Rattle.words.specs.declared.Form.the-variants.{Kernel};
 ghost use Rattle.text_form.specs.Writer.{Put};
 ghost use Rattle.command_answer.specs.Inputs.{isUnreadable, bytesRead, inputsOutput};
-ghost use Rattle.command_answer.specs.Output.{Roomy, outputRoom, storeLimit, requestOutput, commandOutput};
+ghost use Rattle.command_text.specs.Texts.{Roomy, outputRoom, storeLimit};
+ghost use Rattle.command_answer.specs.Output.{requestOutput, commandOutput};
 
 // An arm for each request.
 fn request_answer(

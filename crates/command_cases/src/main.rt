@@ -26,7 +26,7 @@ ghost use Prim.Native.Nat.{_≤_, _<_};
 ghost use lib.ListN.{length};
 ghost use Rattle.words.specs.declared.Form.the-variants.{Kernel};
 ghost use Rattle.command_answer.specs.Inputs.{bytesRead};
-ghost use Rattle.command_answer.specs.Output.{Roomy, outputRoom};
+ghost use Rattle.command_text.specs.Texts.{Roomy, outputRoom};
 
 // What is read where something is wanted: all of the bytes.
 fn input_of(wanted: bool, bytes: &[u8]) -> Input

@@ -23,7 +23,7 @@ ghost use lib.ListN.{length};
 ghost use Rattle.words.specs.declared.Form.the-variants.{Kernel};
 ghost use Rattle.command_request.specs.Requests.{readsText};
 ghost use Rattle.command_answer.specs.Inputs.{Fetched};
-ghost use Rattle.command_answer.specs.Output.{Roomy, outputRoom};
+ghost use Rattle.command_text.specs.Texts.{Roomy, outputRoom};
 ghost use Rattle.command_program.specs.Responses.{Opened, Responds, Answered};
 
 // What was read for a request, and how many bytes are printed for it.

@@ -2,7 +2,7 @@
 use native.Mathlib.Omega.{arith}
 use Rattle.words.specs.declared.Form.the-variants.{Source}
 use Rattle.command_answer.specs.Output.{requestOutput}
-use Rattle.command_answer.proofs.Kernels.{roomy-any}
+use Rattle.command_text.proofs.Printing.{roomy-any}
 use borrow.Author.Needs.{needs}
 use Rattle.command_answer.proofs.answer.request_answer.Statement.{statement}
 use Rattle.command_answer.proofs.answer.request_answer.Tie as tie

@@ -1,0 +1,3 @@
+-- Laws that several functions use, then a folder for each function.
+-- JoinedTexts: what a join wrote is a source program whose text has room.
+pub mod JoinedTexts

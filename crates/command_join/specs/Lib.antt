@@ -1,0 +1,3 @@
+-- What `join` prints.
+-- Joins: what `join` prints.
+pub mod Joins

@@ -1,0 +1,3 @@
+-- The lines of the command.
+-- Lines: the lines that the command prints.
+pub mod Lines

@@ -1,0 +1,37 @@
+-- `put_previewed`: the preview, and its lines, which have room.
+use mathlib.Core.Path.{ap}
+use native.Mathlib.Omega.{arith}
+use Rattle.text_form.specs.PutLaws.{put-as}
+use Rattle.command_runs.specs.Tasks.{resultLines}
+use Rattle.command_runs.proofs.Shown.{showable}
+use borrow.Author.Needs.{needs}
+use Rattle.command_runs.proofs.previews.put_previewed.Statement.{statement}
+use Rattle.command_runs.proofs.previews.put_previewed.Tie as tie
+
+preview-requires : tie.Need-preview-requires
+preview-requires c κs = search needs
+
+preview-lines-requires : tie.Need-preview-lines-requires
+preview-lines-requires c κs =
+    let start = c .before .before .before .before .before .before in
+    let told = c .before .before .before .preview in
+    showable (told .result) (start .args .header .now) (start .args .rows .now) (start .args .budget) (start .args .store .now) (start .args .scratch .now) (told .last .1 .1 .1 .1 .0) (told .ensures) (omega (arith, told .kept .1 .1 .1 .1 .0, start .pre .0)) (start .pre .1)
+
+same-length : tie.Need-same-length
+same-length c = search needs
+
+same-length-2 : tie.Need-same-length-2
+same-length-2 c = search needs
+
+returns : tie.Need-returns
+returns c = put-as (ap resultLines (c .before .before .before .before .before .before .preview .ensures)) (c .before .before .preview-lines .ensures)
+
+pub put-previewed-spec : {M : Type 1} → statement M
+put-previewed-spec =
+    tie.close
+    (tie.spec
+    preview-requires
+    preview-lines-requires
+    same-length
+    same-length-2
+    returns)

@@ -1,0 +1,4 @@
+// What the checks and the runs print.
+pub mod checks; // checks.rt: what `check` and `kernel-check` print
+mod previews; // previews.rt: previews a program, and writes the lines
+pub mod tasks; // tasks.rt: what the runs, from zeros or a store file, and the previews print

@@ -1,0 +1,49 @@
+// Previews a program, and writes what a preview prints at the start of `text`.
+use clight::previews::preview;
+use preview_lines::preview_lines;
+use words::Form;
+use words::layout::store_words;
+ghost use mathlib.Core.Path.{_≡_};
+ghost use mathlib.Core.Bool.{true};
+ghost use Prim.Native.Nat.{_≤_};
+ghost use lib.ListN.{length};
+ghost use Rattle.words.specs.Layout.{headerFits, storeWords, zeros};
+ghost use Rattle.words.specs.declared.Form.the-variants.{Source};
+ghost use Rattle.text_form.specs.Writer.{Put};
+ghost use Rattle.program_previews.specs.Previews.{previewResult};
+ghost use Rattle.command_text.specs.Texts.{outputRoom};
+ghost use Rattle.command_runs.specs.Tasks.{resultLines};
+
+// Previews a program in the lent scratch, and writes the lines.
+fn put_previewed(
+    header: &[i32],
+    rows: &[i32],
+    store: &[i32],
+    budget: u32,
+    scratch: &mut [i32],
+    text: &mut [u8],
+) -> usize
+    requires { ⌜ length (now scratch) ≤ 8192 ⌝ }
+    requires { ⌜ outputRoom ≤ length (now text) ⌝ }
+    ensures { λ r. ⌜ Put (resultLines (previewResult (now (header .entry)) (now (rows .entry)) budget (now (store .entry)) (now (scratch .entry)))) (now (text .entry)) r (now (text .exit)) ⌝ }
+{
+    let verdict = preview(header, rows, store, budget, scratch);
+    preview_lines(verdict, store, scratch, text)
+}
+
+// Previews a program in a scratch of as many words as its store has, and writes the lines.
+pub fn put_preview(
+    header: &[i32],
+    rows: &[i32],
+    store: &[i32],
+    budget: u32,
+    text: &mut [u8],
+) -> usize
+    requires { ⌜ headerFits Source (now header) ≡ true ⌝ }
+    requires { ⌜ outputRoom ≤ length (now text) ⌝ }
+    ensures { λ r. ⌜ Put (resultLines (previewResult (now (header .entry)) (now (rows .entry)) budget (now (store .entry)) (zeros (storeWords Source (now (header .entry)))))) (now (text .entry)) r (now (text .exit)) ⌝ }
+{
+    let words = store_words(Form::Source, header);
+    let mut scratch = [0i32; 8192];
+    put_previewed(header, rows, store, budget, &mut scratch[0..words], text)
+}

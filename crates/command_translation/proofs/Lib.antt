@@ -1,0 +1,3 @@
+-- Laws that several functions use, then a folder for each function.
+-- Kernels: what the translator wrote is a kernel program whose text has room.
+pub mod Kernels

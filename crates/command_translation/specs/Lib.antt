@@ -1,0 +1,3 @@
+-- What `translate` prints.
+-- Translations: what `translate` prints.
+pub mod Translations

@@ -1,0 +1,3 @@
+-- What `writes` prints.
+-- Writes: what `writes` prints.
+pub mod Writes

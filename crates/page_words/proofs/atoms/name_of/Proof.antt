@@ -1,0 +1,48 @@
+use borrow.Author.Needs.{needs}
+use Rattle.page_words.proofs.atoms.name_of.Statement.{statement}
+use Rattle.page_words.proofs.atoms.name_of.Tie as tie
+use Rattle.page_words.proofs.atoms.name_of.Reads as reads
+use Rattle.page_words.proofs.atoms.name_of.Lts as lts
+
+enum-known-atom : tie.Need-enum-known-atom
+enum-known-atom c = search needs
+
+enum-told : tie.Need-enum-told
+enum-told c = search needs
+
+returns : tie.Need-returns
+returns c = search needs
+
+enum-told-2 : tie.Need-enum-told-2
+enum-told-2 c = search needs
+
+enum-known-named : tie.Need-enum-known-named
+enum-known-named c = search needs
+
+enum-known-named-2 : tie.Need-enum-known-named-2
+enum-known-named-2 c = search needs
+
+returns-2 : tie.Need-returns-2
+returns-2 c = search needs
+
+returns-3 : tie.Need-returns-3
+returns-3 c =
+    rw (c .before .before .before .before .atom .given .1, c .before .named .given .1)
+
+returns-4 : tie.Need-returns-4
+returns-4 c =
+    rw (c .before .before .before .before .atom .given .1, c .before .named2 .given .1)
+
+pub name-of-spec : {M : Type 1} → statement M
+name-of-spec =
+    tie.close
+    (tie.spec
+    enum-known-atom
+    enum-told
+    returns
+    enum-told-2
+    enum-known-named
+    enum-known-named-2
+    returns-2
+    returns-3
+    returns-4)

@@ -1,0 +1,22 @@
+use mathlib.Core.Path.{_∙_}
+use Rattle.page_words.proofs.Parts.{other-word, as-long-word}
+use borrow.Author.Needs.{needs}
+use Rattle.page_words.proofs.compare.is_word.Statement.{statement}
+use Rattle.page_words.proofs.compare.is_word.Tie as tie
+use Rattle.page_words.proofs.compare.is_word.Reads as reads
+use Rattle.page_words.proofs.compare.is_word.Lts as lts
+use Rattle.page_words.proofs.compare.stands.Reads as stands-reads
+
+returns : tie.Need-returns
+returns c =
+    other-word (c .before .before .before .args .word .now) (c .before .before .before .args .text .now) (c .if1 .taken)
+
+stands-requires : tie.Need-stands-requires
+stands-requires c κs = search needs
+
+returns-2 : tie.Need-returns-2
+returns-2 c =
+    c .stands .ensures ∙ as-long-word (c .before .before .before .before .args .word .now) (c .before .before .before .before .args .text .now) (c .before .if1 .left)
+
+pub is-word-spec : {M : Type 1} → statement M
+is-word-spec = tie.close (tie.spec returns stands-requires returns-2)

@@ -1,0 +1,32 @@
+use borrow.Author.Needs.{needs}
+use Rattle.page_words.proofs.lines.assigned_of.Statement.{statement}
+use Rattle.page_words.proofs.lines.assigned_of.Tie as tie
+use Rattle.page_words.proofs.lines.assigned_of.Reads as reads
+use Rattle.page_words.proofs.lines.assigned_of.Lts as lts
+use Rattle.page_words.proofs.lines.put_of.Reads as put-of-reads
+use Rattle.page_words.proofs.lines.store_of.Reads as store-of-reads
+
+enum-known-element : tie.Need-enum-known-element
+enum-known-element c = search needs
+
+put-of-requires : tie.Need-put-of-requires
+put-of-requires c κs = search needs
+
+enum-told : tie.Need-enum-told
+enum-told c = search needs
+
+store-of-requires : tie.Need-store-of-requires
+store-of-requires c κs = search needs
+
+returns : tie.Need-returns
+returns c =
+    rw (c .before .before .element .given .1) (c .put-of .ensures)
+
+returns-2 : tie.Need-returns-2
+returns-2 c =
+    rw (c .before .enum-told .given .1) (c .store-of .ensures)
+
+pub assigned-of-spec : {M : Type 1} → statement M
+assigned-of-spec =
+    tie.close
+    (tie.spec enum-known-element put-of-requires enum-told store-of-requires returns returns-2)

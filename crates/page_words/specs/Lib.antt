@@ -1,0 +1,18 @@
+-- What the words of a page's line say (docs/PAGES.md). A line of comment for each file.
+
+-- ---- definitions
+-- Compare: bytes at the start of others, alone, or around what is between them.
+pub mod Compare
+-- Texts: the bytes of each line, and which lines fit.
+pub mod Texts
+-- Reads: the line that bytes are.
+pub mod Reads
+-- ---- laws
+-- Laws of comparing: framed bytes are those with these around them.
+pub mod CompareLaws
+-- Sound: bytes that are read as a line are that line's, and it fits.
+pub mod Sound
+-- Complete: the bytes of each line that fits are read as it.
+pub mod Complete
+-- Trees: the line of a page that each line read is; the same bytes there.
+pub mod Trees

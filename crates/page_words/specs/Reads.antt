@@ -1,0 +1,198 @@
+-- Reads: the line that bytes are, or that they are malformed.
+use mathlib.Core.Bool.{Bool, true, false}
+use mathlib.Core.List.{List, [], _∷_, _++_}
+use mathlib.Core.Option.{Option, none, some}
+use Prim.Native.Nat.{ℕ, _+_}
+use lib.Dec.{eqb, ltb}
+use lib.IntN.{ℤ}
+use lib.ListN.{length, take, drop}
+use Rattle.words.specs.Word.{pick}
+use Rattle.words.specs.declared.Operator.the-variants.{Add, Subtract, Multiply, Divide, Remainder, Less, Greater, LessOrEqual, GreaterOrEqual, Equal, NotEqual}
+use Rattle.text_form.specs.Number.{natural, numberOf}
+use Rattle.text_form.specs.Reader.{pieceEnd}
+use Rattle.page_words.specs.Compare.{isWord, isFramed, middle}
+use Rattle.page_words.specs.declared.Names.{Names}
+use Rattle.page_words.specs.declared.Atom.{Atom}
+use Rattle.page_words.specs.declared.Atom.the-variants.{Constant, Variable, Temporary}
+use Rattle.page_words.specs.declared.Value.{Value}
+use Rattle.page_words.specs.declared.Value.the-variants.{Single, Element, Minus, Binary}
+use Rattle.page_words.specs.declared.Line.{Line}
+use Rattle.page_words.specs.declared.Line.the-variants.{Empty, Abort, Goto, Label, Store, Put, Opens, While, If, Turns, Closes}
+use Rattle.page_words.specs.declared.NumberRead.{NumberRead}
+use Rattle.page_words.specs.declared.NumberRead.the-variants as number-cases
+use Rattle.page_words.specs.declared.AtomRead.{AtomRead}
+use Rattle.page_words.specs.declared.AtomRead.the-variants as atom-cases
+use Rattle.page_words.specs.declared.ElementRead.{ElementRead}
+use Rattle.page_words.specs.declared.ElementRead.the-variants as element-cases
+use Rattle.page_words.specs.declared.OperatorRead.{OperatorRead}
+use Rattle.page_words.specs.declared.OperatorRead.the-variants as operator-cases
+use Rattle.page_words.specs.declared.ValueRead.{ValueRead}
+use Rattle.page_words.specs.declared.ValueRead.the-variants as value-cases
+use Rattle.page_words.specs.declared.LineRead.{LineRead}
+use Rattle.page_words.specs.declared.LineRead.the-variants as line-cases
+
+-- ---- names
+
+abbrev pub belowOf : ℕ → Option ℕ → NumberRead
+belowOf bound none = number-cases.Malformed
+belowOf bound (some n) = pick (ltb n bound) (number-cases.Number n) number-cases.Malformed
+
+-- A number below a bound.
+unfoldable pub numberRead : ℕ → List ℕ → NumberRead
+numberRead bound word = belowOf bound (natural word)
+
+abbrev pub variableOf : NumberRead → AtomRead
+variableOf (number-cases.Number n) = atom-cases.Read (Variable n)
+variableOf number-cases.Malformed = atom-cases.Malformed
+
+abbrev pub temporaryOf : NumberRead → AtomRead
+temporaryOf (number-cases.Number n) = atom-cases.Read (Temporary n)
+temporaryOf number-cases.Malformed = atom-cases.Malformed
+
+abbrev pub constantOf : Option ℤ → AtomRead
+constantOf (some v) = atom-cases.Read (Constant v)
+constantOf none = atom-cases.Malformed
+
+abbrev pub nameOf : AtomRead → AtomRead
+nameOf atom-cases.Malformed = atom-cases.Malformed
+nameOf (atom-cases.Read (Constant v)) = atom-cases.Malformed
+nameOf (atom-cases.Read (Variable n)) = atom-cases.Read (Variable n)
+nameOf (atom-cases.Read (Temporary n)) = atom-cases.Read (Temporary n)
+
+abbrev pub elementOf : NumberRead → AtomRead → ElementRead
+elementOf number-cases.Malformed index = element-cases.Malformed
+elementOf (number-cases.Number array) atom-cases.Malformed = element-cases.Malformed
+elementOf (number-cases.Number array) (atom-cases.Read index) = element-cases.Read array index
+
+-- ---- values
+
+unfoldable pub operatorOfOne : ℕ → OperatorRead
+operatorOfOne byte =
+    pick (eqb byte 43) (operator-cases.Read Add) (pick (eqb byte 45) (operator-cases.Read Subtract) (pick (eqb byte 42) (operator-cases.Read Multiply)
+    (pick (eqb byte 47) (operator-cases.Read Divide) (pick (eqb byte 37) (operator-cases.Read Remainder) (pick (eqb byte 60) (operator-cases.Read Less)
+    (pick (eqb byte 62) (operator-cases.Read Greater) operator-cases.Malformed))))))
+
+-- Operators that end in `=`, by their first byte.
+unfoldable pub operatorOfTwo : ℕ → OperatorRead
+operatorOfTwo byte =
+    pick (eqb byte 60) (operator-cases.Read LessOrEqual) (pick (eqb byte 62) (operator-cases.Read GreaterOrEqual) (pick (eqb byte 61) (operator-cases.Read Equal)
+    (pick (eqb byte 33) (operator-cases.Read NotEqual) operator-cases.Malformed)))
+
+unfoldable pub operatorRead : List ℕ → OperatorRead
+operatorRead [] = operator-cases.Malformed
+operatorRead (first ∷ []) = operatorOfOne first
+operatorRead (first ∷ (second ∷ [])) = pick (eqb second 61) (operatorOfTwo first) operator-cases.Malformed
+operatorRead (first ∷ (second ∷ (third ∷ others))) = operator-cases.Malformed
+
+-- An element, or else an atom.
+abbrev pub singleOf : ElementRead → AtomRead → ValueRead
+singleOf (element-cases.Read array index) atom = value-cases.Read (Element array index)
+singleOf element-cases.Malformed (atom-cases.Read a) = value-cases.Read (Single a)
+singleOf element-cases.Malformed atom-cases.Malformed = value-cases.Malformed
+
+abbrev pub minusOf : AtomRead → ValueRead
+minusOf (atom-cases.Read a) = value-cases.Read (Minus a)
+minusOf atom-cases.Malformed = value-cases.Malformed
+
+abbrev pub binaryOf : OperatorRead → AtomRead → AtomRead → ValueRead
+binaryOf operator-cases.Malformed left right = value-cases.Malformed
+binaryOf (operator-cases.Read o) atom-cases.Malformed right = value-cases.Malformed
+binaryOf (operator-cases.Read o) (atom-cases.Read a) atom-cases.Malformed = value-cases.Malformed
+binaryOf (operator-cases.Read o) (atom-cases.Read a) (atom-cases.Read b) = value-cases.Read (Binary o a b)
+
+-- ---- lines
+
+abbrev pub gotoOf : NumberRead → LineRead
+gotoOf (number-cases.Number l) = line-cases.Read (Goto l)
+gotoOf number-cases.Malformed = line-cases.Malformed
+
+abbrev pub labelOf : NumberRead → LineRead
+labelOf (number-cases.Number l) = line-cases.Read (Label l)
+labelOf number-cases.Malformed = line-cases.Malformed
+
+abbrev pub ifOf : AtomRead → LineRead
+ifOf (atom-cases.Read a) = line-cases.Read (If a)
+ifOf atom-cases.Malformed = line-cases.Malformed
+
+abbrev pub whileOf : AtomRead → LineRead
+whileOf (atom-cases.Read a) = line-cases.Read (While a)
+whileOf atom-cases.Malformed = line-cases.Malformed
+
+-- A name takes any value,
+abbrev pub storeOf : AtomRead → ValueRead → LineRead
+storeOf atom-cases.Malformed value = line-cases.Malformed
+storeOf (atom-cases.Read a) value-cases.Malformed = line-cases.Malformed
+storeOf (atom-cases.Read a) (value-cases.Read v) = line-cases.Read (Store a v)
+
+-- an element an atom.
+abbrev pub putOf : ℕ → Atom → ValueRead → LineRead
+putOf array index value-cases.Malformed = line-cases.Malformed
+putOf array index (value-cases.Read (Single a)) = line-cases.Read (Put array index a)
+putOf array index (value-cases.Read (Element other at)) = line-cases.Malformed
+putOf array index (value-cases.Read (Minus a)) = line-cases.Malformed
+putOf array index (value-cases.Read (Binary o a b)) = line-cases.Malformed
+
+abbrev pub assignedOf : ElementRead → AtomRead → ValueRead → LineRead
+assignedOf (element-cases.Read array index) name value = putOf array index value
+assignedOf element-cases.Malformed name value = storeOf name value
+
+module _ (names : Names) where
+  -- `v7`, `t7`, `-7`
+  unfoldable pub atomRead : List ℕ → AtomRead
+  atomRead [] = atom-cases.Malformed
+  atomRead (first ∷ others) =
+      pick (eqb first 118) (variableOf (numberRead (names .variables) others))
+      (pick (eqb first 116) (temporaryOf (numberRead (names .temporaries) others)) (constantOf (numberOf (first ∷ others))))
+
+  -- An element without its letter and its last bracket, told by where its first bracket stands.
+  unfoldable pub elementIn : List ℕ → ElementRead
+  elementIn inner =
+      pick (eqb (pieceEnd 91 inner) (length inner)) element-cases.Malformed
+      (elementOf (numberRead (names .arrays) (take (pieceEnd 91 inner) inner)) (atomRead (drop (pieceEnd 91 inner + 1) inner)))
+
+  -- `a7[X]`
+  unfoldable pub elementRead : List ℕ → ElementRead
+  elementRead word = pick (isFramed (97 ∷ []) (93 ∷ []) word) (elementIn (middle 1 1 word)) element-cases.Malformed
+
+  -- `X op Y` by X, and what stands behind its blank.
+  unfoldable pub binaryRead : List ℕ → List ℕ → ValueRead
+  binaryRead first rest =
+      pick (eqb (pieceEnd 32 rest) (length rest)) value-cases.Malformed
+      (binaryOf (operatorRead (take (pieceEnd 32 rest) rest)) (atomRead first) (atomRead (drop (pieceEnd 32 rest + 1) rest)))
+
+  -- `- X` or `X op Y`
+  unfoldable pub severalRead : List ℕ → List ℕ → ValueRead
+  severalRead first rest = pick (isWord (45 ∷ []) first) (minusOf (atomRead rest)) (binaryRead first rest)
+
+  -- What is assigned, without its semicolon.
+  unfoldable pub valueRead : List ℕ → ValueRead
+  valueRead text =
+      pick (eqb (pieceEnd 32 text) (length text)) (singleOf (elementRead text) (atomRead text))
+      (severalRead (take (pieceEnd 32 text) text) (drop (pieceEnd 32 text + 1) text))
+
+  -- `P = X;`: the target's bytes, and the rest with its blank, equals sign and semicolon.
+  abbrev pub assignmentOf : List ℕ → List ℕ → LineRead
+  assignmentOf target rest =
+      pick (isFramed (32 ∷ 61 ∷ 32 ∷ []) (59 ∷ []) rest) (assignedOf (elementRead target) (nameOf (atomRead target)) (valueRead (middle 3 1 rest))) line-cases.Malformed
+
+  unfoldable pub assignmentRead : List ℕ → LineRead
+  assignmentRead text = assignmentOf (take (pieceEnd 32 text) text) (drop (pieceEnd 32 text) text)
+
+  -- `if (X) {`, `while (X) {`, or an assignment
+  unfoldable pub testRead : List ℕ → LineRead
+  testRead text =
+      pick (isFramed (105 ∷ 102 ∷ 32 ∷ 40 ∷ []) (41 ∷ 32 ∷ 123 ∷ []) text) (ifOf (atomRead (middle 4 3 text)))
+      (pick (isFramed (119 ∷ 104 ∷ 105 ∷ 108 ∷ 101 ∷ 32 ∷ 40 ∷ []) (41 ∷ 32 ∷ 123 ∷ []) text) (whileOf (atomRead (middle 7 3 text))) (assignmentRead text))
+
+  -- `goto LN;`, `LN:;`, or one of those
+  unfoldable pub jumpRead : List ℕ → LineRead
+  jumpRead text =
+      pick (isFramed (103 ∷ 111 ∷ 116 ∷ 111 ∷ 32 ∷ 76 ∷ []) (59 ∷ []) text) (gotoOf (numberRead 40980 (middle 6 1 text)))
+      (pick (isFramed (76 ∷ []) (58 ∷ 59 ∷ []) text) (labelOf (numberRead 40980 (middle 1 2 text))) (testRead text))
+
+  -- One fixed word, or one of those.
+  unfoldable pub lineRead : List ℕ → LineRead
+  lineRead text =
+      pick (isWord (59 ∷ []) text) (line-cases.Read Empty) (pick (isWord (123 ∷ []) text) (line-cases.Read Opens) (pick (isWord (125 ∷ []) text) (line-cases.Read Closes)
+      (pick (isWord (125 ∷ 32 ∷ 101 ∷ 108 ∷ 115 ∷ 101 ∷ 32 ∷ 123 ∷ []) text) (line-cases.Read Turns)
+      (pick (isWord (97 ∷ 98 ∷ 111 ∷ 114 ∷ 116 ∷ 40 ∷ 41 ∷ 59 ∷ []) text) (line-cases.Read Abort) (jumpRead text)))))

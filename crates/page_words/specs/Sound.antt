@@ -1,0 +1,351 @@
+-- Sound: bytes that are read as a line are that line's, and it fits.
+use mathlib.Core.Path.{_≡_, refl, sym, ap, ap₂, _∙_}
+use mathlib.Core.Bool.{true, false}
+use mathlib.Core.List.{List, [], _∷_, _++_}
+use mathlib.Core.Option.{Option, none, some}
+use Prim.Native.Nat.{ℕ, _+_, _^_, _≤_, _<_}
+use native.Mathlib.Omega.{arith}
+use lib.Dec.{eqb, ltb}
+use lib.IntN.{ℤ, pos}
+use lib.Signed.{mag}
+use lib.ListN.{length, take, drop}
+use borrow.Author.Tests.{eqb-true, eqb-false, ltb-true}
+use Rattle.words.specs.Laws.{by-cases}
+use Rattle.words.specs.declared.Operator.{Operator}
+use Rattle.words.specs.declared.Operator.the-variants.{Add, Subtract, Multiply, Divide, Remainder, Less, Greater, LessOrEqual, GreaterOrEqual, Equal, NotEqual}
+use Rattle.text_form.specs.Number.{digits, numberBytes, natural, decimal, isDigit, positive, numberOf}
+use Rattle.text_form.specs.NumberLaws.{not-some, word-is, IsNumber, number-reads}
+use Rattle.text_form.specs.Reader.{pieceEnd}
+use Rattle.page.specs.Page.{operatorWord}
+use Rattle.page_words.specs.Compare.{isWord, isFramed, middle}
+use Rattle.page_words.specs.CompareLaws.{never, word-sound, framed-sound, piece-splits, piece-halves}
+use Rattle.page_words.specs.Texts.{atomText, elementText, valueText, assignmentText, lineText, AtomFits, NameFits, ElementFits, ValueFits, LineFits}
+use Rattle.page_words.specs.Reads.{belowOf, numberRead, variableOf, temporaryOf, constantOf, atomRead, nameOf, elementOf, elementIn, elementRead, operatorOfOne, operatorOfTwo, operatorRead, singleOf, minusOf, binaryOf, binaryRead, severalRead, valueRead, gotoOf, labelOf, ifOf, whileOf, storeOf, putOf, assignedOf, assignmentRead, testRead, jumpRead, lineRead}
+use Rattle.page_words.specs.declared.Names.{Names}
+use Rattle.page_words.specs.declared.Atom.{Atom}
+use Rattle.page_words.specs.declared.Atom.the-variants.{Constant, Variable, Temporary}
+use Rattle.page_words.specs.declared.Value.{Value}
+use Rattle.page_words.specs.declared.Value.the-variants.{Single, Element, Minus, Binary}
+use Rattle.page_words.specs.declared.Line.{Line}
+use Rattle.page_words.specs.declared.Line.the-variants.{Empty, Abort, Goto, Label, Store, Put, Opens, While, If, Turns, Closes}
+use Rattle.page_words.specs.declared.NumberRead.{NumberRead}
+use Rattle.page_words.specs.declared.NumberRead.the-variants as number-cases
+use Rattle.page_words.specs.declared.AtomRead.{AtomRead}
+use Rattle.page_words.specs.declared.AtomRead.the-variants as atom-cases
+use Rattle.page_words.specs.declared.ElementRead.{ElementRead}
+use Rattle.page_words.specs.declared.ElementRead.the-variants as element-cases
+use Rattle.page_words.specs.declared.OperatorRead.{OperatorRead}
+use Rattle.page_words.specs.declared.OperatorRead.the-variants as operator-cases
+use Rattle.page_words.specs.declared.ValueRead.{ValueRead}
+use Rattle.page_words.specs.declared.ValueRead.the-variants as value-cases
+use Rattle.page_words.specs.declared.LineRead.{LineRead}
+use Rattle.page_words.specs.declared.LineRead.the-variants as line-cases
+
+-- ---- numbers
+
+natural-minus : (others : List ℕ) → natural (45 ∷ others) ≡ none
+unfolding natural decimal isDigit
+natural-minus [] = refl
+natural-minus (second ∷ others) = refl
+
+natural-plain : (bytes : List ℕ) (n : ℕ) → natural bytes ≡ some n → numberOf bytes ≡ positive (some n)
+unfolding numberOf natural
+natural-plain [] n e = not-some e
+natural-plain (first ∷ others) n e =
+    by-cases (eqb first 45)
+    (λ t. not-some (sym (natural-minus others) ∙ ap (λ (byte : ℕ). natural (byte ∷ others)) (sym (eqb-true first 45 t)) ∙ e))
+    (λ t. rw t (ap positive e))
+
+natural-sound : (bytes : List ℕ) (n : ℕ) → n < 2147483648 → natural bytes ≡ some n → bytes ≡ digits n
+unfolding numberBytes positive
+natural-sound bytes n h e = number-reads bytes (pos n) (natural-plain bytes n e ∙ word-is (pos n) (omega arith)) .written
+
+-- what a word is that is read as a number, with its bound
+below-sound : (bound : ℕ) (word : List ℕ) (n : ℕ) → bound ≤ 2147483648 → numberRead bound word ≡ number-cases.Number n → (word ≡ digits n) × (n < bound)
+unfolding numberRead
+below-sound bound word n h = from (natural word) refl
+  where
+    from : (value : Option ℕ) → natural word ≡ value → belowOf bound value ≡ number-cases.Number n → (word ≡ digits n) × (n < bound)
+    from none q e = absurd (let z : _≡_ {A = ℕ} 0 1 = cc in omega arith)
+    from (some m) q e =
+        by-cases (ltb m bound)
+        (λ t.
+        let less : m < bound = ltb-true m bound t in
+        let found : number-cases.Number m ≡ number-cases.Number n = rw t at e in
+        let equal : m ≡ n = cc in
+        (natural-sound word m (omega arith) q ∙ ap digits equal, omega arith))
+        (λ t. absurd (let found : number-cases.Malformed ≡ number-cases.Number n = rw t at e in let z : _≡_ {A = ℕ} 0 1 = cc in omega arith))
+
+-- ---- operators
+
+no-operator : {G : Type 0} (o : Operator) → operator-cases.Malformed ≡ operator-cases.Read o → G
+no-operator o e = absurd (let z : _≡_ {A = ℕ} 0 1 = cc in omega arith)
+
+module _ (word : ℕ → List ℕ) where
+  spelt : (byte code : ℕ) (found o : Operator) → eqb byte code ≡ true → word code ≡ operatorWord found → operator-cases.Read found ≡ operator-cases.Read o → word byte ≡ operatorWord o
+  spelt byte code found o t w e = let same : found ≡ o = cc in rw (← same, eqb-true byte code t) w
+
+one-sound : (byte : ℕ) (o : Operator) → operatorOfOne byte ≡ operator-cases.Read o → byte ∷ [] ≡ operatorWord o
+unfolding operatorOfOne
+one-sound byte o e =
+    by-cases (eqb byte 43)
+    (λ t0. spelt (λ b. b ∷ []) byte 43 Add o t0 refl (rw t0 at e))
+    (λ t0. by-cases (eqb byte 45)
+    (λ t1. spelt (λ b. b ∷ []) byte 45 Subtract o t1 refl (rw (t0, t1) at e))
+    (λ t1. by-cases (eqb byte 42)
+    (λ t2. spelt (λ b. b ∷ []) byte 42 Multiply o t2 refl (rw (t0, t1, t2) at e))
+    (λ t2. by-cases (eqb byte 47)
+    (λ t3. spelt (λ b. b ∷ []) byte 47 Divide o t3 refl (rw (t0, t1, t2, t3) at e))
+    (λ t3. by-cases (eqb byte 37)
+    (λ t4. spelt (λ b. b ∷ []) byte 37 Remainder o t4 refl (rw (t0, t1, t2, t3, t4) at e))
+    (λ t4. by-cases (eqb byte 60)
+    (λ t5. spelt (λ b. b ∷ []) byte 60 Less o t5 refl (rw (t0, t1, t2, t3, t4, t5) at e))
+    (λ t5. by-cases (eqb byte 62)
+    (λ t6. spelt (λ b. b ∷ []) byte 62 Greater o t6 refl (rw (t0, t1, t2, t3, t4, t5, t6) at e))
+    (λ t6. no-operator o (rw (t0, t1, t2, t3, t4, t5, t6) at e))))))))
+
+two-sound : (byte : ℕ) (o : Operator) → operatorOfTwo byte ≡ operator-cases.Read o → byte ∷ (61 ∷ []) ≡ operatorWord o
+unfolding operatorOfTwo
+two-sound byte o e =
+    by-cases (eqb byte 60)
+    (λ t0. spelt (λ b. b ∷ (61 ∷ [])) byte 60 LessOrEqual o t0 refl (rw t0 at e))
+    (λ t0. by-cases (eqb byte 62)
+    (λ t1. spelt (λ b. b ∷ (61 ∷ [])) byte 62 GreaterOrEqual o t1 refl (rw (t0, t1) at e))
+    (λ t1. by-cases (eqb byte 61)
+    (λ t2. spelt (λ b. b ∷ (61 ∷ [])) byte 61 Equal o t2 refl (rw (t0, t1, t2) at e))
+    (λ t2. by-cases (eqb byte 33)
+    (λ t3. spelt (λ b. b ∷ (61 ∷ [])) byte 33 NotEqual o t3 refl (rw (t0, t1, t2, t3) at e))
+    (λ t3. no-operator o (rw (t0, t1, t2, t3) at e)))))
+
+operator-sound : (word : List ℕ) (o : Operator) → operatorRead word ≡ operator-cases.Read o → word ≡ operatorWord o
+unfolding operatorRead
+operator-sound [] o e = no-operator o e
+operator-sound (first ∷ []) o e = one-sound first o e
+operator-sound (first ∷ (second ∷ [])) o e =
+    by-cases (eqb second 61) (λ t. rw (eqb-true second 61 t) (two-sound first o (rw t at e))) (λ t. no-operator o (rw t at e))
+operator-sound (first ∷ (second ∷ (third ∷ others))) o e = no-operator o e
+
+module _ (names : Names) (few-variables : names .variables ≤ 256) (few-temporaries : names .temporaries ≤ 8192) (few-arrays : names .arrays ≤ 32) where
+  -- ---- atoms
+
+  variable-sound : (others : List ℕ) (r : NumberRead) (a : Atom) → numberRead (names .variables) others ≡ r → variableOf r ≡ atom-cases.Read a → (118 ∷ others ≡ atomText a) × AtomFits names a
+  variable-sound others number-cases.Malformed a q e = absurd (let z : _≡_ {A = ℕ} 0 1 = cc in omega arith)
+  variable-sound others (number-cases.Number n) a q e =
+      let f = below-sound (names .variables) others n (omega arith) q in
+      let same : Variable n ≡ a = cc in
+      rw (← same) (ap (λ (l : List ℕ). 118 ∷ l) (f .0), f .1)
+
+  temporary-sound : (others : List ℕ) (r : NumberRead) (a : Atom) → numberRead (names .temporaries) others ≡ r → temporaryOf r ≡ atom-cases.Read a → (116 ∷ others ≡ atomText a) × AtomFits names a
+  temporary-sound others number-cases.Malformed a q e = absurd (let z : _≡_ {A = ℕ} 0 1 = cc in omega arith)
+  temporary-sound others (number-cases.Number n) a q e =
+      let f = below-sound (names .temporaries) others n (omega arith) q in
+      let same : Temporary n ≡ a = cc in
+      rw (← same) (ap (λ (l : List ℕ). 116 ∷ l) (f .0), f .1)
+
+  constant-sound : (word : List ℕ) (r : Option ℤ) (a : Atom) → numberOf word ≡ r → constantOf r ≡ atom-cases.Read a → (word ≡ atomText a) × AtomFits names a
+  constant-sound word none a q e = absurd (let z : _≡_ {A = ℕ} 0 1 = cc in omega arith)
+  constant-sound word (some v) a q e =
+      let f = number-reads word v q in
+      let same : Constant v ≡ a = cc in
+      rw (← same) (f .written, f .fits)
+
+  pub atom-sound : (word : List ℕ) (a : Atom) → atomRead names word ≡ atom-cases.Read a → (word ≡ atomText a) × AtomFits names a
+  unfolding atomRead
+  atom-sound [] a e = absurd (let z : _≡_ {A = ℕ} 0 1 = cc in omega arith)
+  atom-sound (first ∷ others) a e =
+      by-cases (eqb first 118)
+      (λ t. rw (eqb-true first 118 t) (variable-sound others (numberRead (names .variables) others) a refl (rw t at e)))
+      (λ t. by-cases (eqb first 116)
+      (λ u. rw (eqb-true first 116 u) (temporary-sound others (numberRead (names .temporaries) others) a refl (rw (t, u) at e)))
+      (λ u. constant-sound (first ∷ others) (numberOf (first ∷ others)) a refl (rw (t, u) at e)))
+
+  -- ---- elements
+
+  element-of-sound : (number index : List ℕ) (r : NumberRead) (s : AtomRead) (array : ℕ) (a : Atom) → numberRead (names .arrays) number ≡ r → atomRead names index ≡ s
+      → elementOf r s ≡ element-cases.Read array a → (number ≡ digits array) × (index ≡ atomText a) × ElementFits names array a
+  element-of-sound number index number-cases.Malformed s array a q p e = absurd (let z : _≡_ {A = ℕ} 0 1 = cc in omega arith)
+  element-of-sound number index (number-cases.Number n) atom-cases.Malformed array a q p e = absurd (let z : _≡_ {A = ℕ} 0 1 = cc in omega arith)
+  element-of-sound number index (number-cases.Number n) (atom-cases.Read b) array a q p e =
+      let f = below-sound (names .arrays) number n (omega arith) q in
+      let g = atom-sound index b p in
+      let same-array : n ≡ array = cc in
+      let same-index : b ≡ a = cc in
+      rw (← same-array, ← same-index) (f .0, g .0, (f .1, g .1))
+
+  element-in-sound : (inner : List ℕ) (array : ℕ) (a : Atom) → elementIn names inner ≡ element-cases.Read array a → (inner ≡ digits array ++ (91 ∷ atomText a)) × ElementFits names array a
+  unfolding elementIn
+  element-in-sound inner array a e =
+      by-cases (eqb (pieceEnd 91 inner) (length inner))
+      (λ t. absurd (let found : element-cases.Malformed ≡ element-cases.Read array a = rw t at e in let z : _≡_ {A = ℕ} 0 1 = cc in omega arith))
+      (λ t.
+      let number = take (pieceEnd 91 inner) inner in
+      let index = drop (pieceEnd 91 inner + 1) inner in
+      let f = element-of-sound number index (numberRead (names .arrays) number) (atomRead names index) array a refl refl (rw t at e) in
+      (piece-splits 91 inner (eqb-false _ _ t) ∙ ap₂ (λ (l m : List ℕ). l ++ (91 ∷ m)) (f .0) (f .1), f .2))
+
+  pub element-sound : (word : List ℕ) (array : ℕ) (a : Atom) → elementRead names word ≡ element-cases.Read array a → (word ≡ elementText array a) × ElementFits names array a
+  unfolding elementRead
+  element-sound word array a e =
+      by-cases (isFramed (97 ∷ []) (93 ∷ []) word)
+      (λ t.
+      let f = element-in-sound (middle 1 1 word) array a (rw t at e) in
+      (framed-sound (97 ∷ []) (93 ∷ []) word t ∙ ap (λ (l : List ℕ). (97 ∷ []) ++ (l ++ (93 ∷ []))) (f .0), f .1))
+      (λ t. absurd (let found : element-cases.Malformed ≡ element-cases.Read array a = rw t at e in let z : _≡_ {A = ℕ} 0 1 = cc in omega arith))
+
+  -- ---- values
+
+  single-sound : (word : List ℕ) (r : ElementRead) (s : AtomRead) (v : Value) → elementRead names word ≡ r → atomRead names word ≡ s → singleOf r s ≡ value-cases.Read v
+      → (word ≡ valueText v) × ValueFits names v
+  single-sound word (element-cases.Read array a) s v q p e = let same : Element array a ≡ v = cc in rw (← same) (element-sound word array a q)
+  single-sound word element-cases.Malformed (atom-cases.Read a) v q p e = let same : Single a ≡ v = cc in rw (← same) (atom-sound word a p)
+  single-sound word element-cases.Malformed atom-cases.Malformed v q p e = absurd (let z : _≡_ {A = ℕ} 0 1 = cc in omega arith)
+
+  minus-sound : (rest : List ℕ) (r : AtomRead) (v : Value) → atomRead names rest ≡ r → minusOf r ≡ value-cases.Read v → ((45 ∷ []) ++ (32 ∷ rest) ≡ valueText v) × ValueFits names v
+  minus-sound rest atom-cases.Malformed v q e = absurd (let z : _≡_ {A = ℕ} 0 1 = cc in omega arith)
+  minus-sound rest (atom-cases.Read a) v q e =
+      let f = atom-sound rest a q in
+      let same : Minus a ≡ v = cc in
+      rw (← same) (ap (λ (l : List ℕ). 45 ∷ (32 ∷ l)) (f .0), f .1)
+
+  binary-of-sound : (left operator right : List ℕ) (o : OperatorRead) (r s : AtomRead) (v : Value) → operatorRead operator ≡ o → atomRead names left ≡ r → atomRead names right ≡ s
+      → binaryOf o r s ≡ value-cases.Read v → (left ++ (32 ∷ (operator ++ (32 ∷ right))) ≡ valueText v) × ValueFits names v
+  binary-of-sound left operator right operator-cases.Malformed r s v h q p e = absurd (let z : _≡_ {A = ℕ} 0 1 = cc in omega arith)
+  binary-of-sound left operator right (operator-cases.Read o) atom-cases.Malformed s v h q p e = absurd (let z : _≡_ {A = ℕ} 0 1 = cc in omega arith)
+  binary-of-sound left operator right (operator-cases.Read o) (atom-cases.Read a) atom-cases.Malformed v h q p e = absurd (let z : _≡_ {A = ℕ} 0 1 = cc in omega arith)
+  binary-of-sound left operator right (operator-cases.Read o) (atom-cases.Read a) (atom-cases.Read b) v h q p e =
+      let f = atom-sound left a q in
+      let g = atom-sound right b p in
+      let same : Binary o a b ≡ v = cc in
+      rw (← same) (rw (f .0, g .0, operator-sound operator o h), (f .1, g .1))
+
+  binary-sound : (first rest : List ℕ) (v : Value) → binaryRead names first rest ≡ value-cases.Read v → (first ++ (32 ∷ rest) ≡ valueText v) × ValueFits names v
+  unfolding binaryRead
+  binary-sound first rest v e =
+      by-cases (eqb (pieceEnd 32 rest) (length rest))
+      (λ t. absurd (let found : value-cases.Malformed ≡ value-cases.Read v = rw t at e in let z : _≡_ {A = ℕ} 0 1 = cc in omega arith))
+      (λ t.
+      let operator = take (pieceEnd 32 rest) rest in
+      let right = drop (pieceEnd 32 rest + 1) rest in
+      let f = binary-of-sound first operator right (operatorRead operator) (atomRead names first) (atomRead names right) v refl refl refl (rw t at e) in
+      (ap (λ (l : List ℕ). first ++ (32 ∷ l)) (piece-splits 32 rest (eqb-false _ _ t)) ∙ f .0, f .1))
+
+  several-sound : (first rest : List ℕ) (v : Value) → severalRead names first rest ≡ value-cases.Read v → (first ++ (32 ∷ rest) ≡ valueText v) × ValueFits names v
+  unfolding severalRead
+  several-sound first rest v e =
+      by-cases (isWord (45 ∷ []) first)
+      (λ t. rw (word-sound (45 ∷ []) first t) (minus-sound rest (atomRead names rest) v refl (rw t at e)))
+      (λ t. binary-sound first rest v (rw t at e))
+
+  pub value-sound : (text : List ℕ) (v : Value) → valueRead names text ≡ value-cases.Read v → (text ≡ valueText v) × ValueFits names v
+  unfolding valueRead
+  value-sound text v e =
+      by-cases (eqb (pieceEnd 32 text) (length text))
+      (λ t. single-sound text (elementRead names text) (atomRead names text) v refl refl (rw t at e))
+      (λ t.
+      let f = several-sound (take (pieceEnd 32 text) text) (drop (pieceEnd 32 text + 1) text) v (rw t at e) in
+      (piece-splits 32 text (eqb-false _ _ t) ∙ f .0, f .1))
+
+  -- ---- lines
+
+  name-sound : (word : List ℕ) (r : AtomRead) (a : Atom) → atomRead names word ≡ r → nameOf r ≡ atom-cases.Read a → (word ≡ atomText a) × NameFits names a
+  name-sound word atom-cases.Malformed a q e = absurd (let z : _≡_ {A = ℕ} 0 1 = cc in omega arith)
+  name-sound word (atom-cases.Read (Constant v)) a q e = absurd (let z : _≡_ {A = ℕ} 0 1 = cc in omega arith)
+  name-sound word (atom-cases.Read (Variable n)) a q e = let same : Variable n ≡ a = cc in rw (← same) (atom-sound word (Variable n) q)
+  name-sound word (atom-cases.Read (Temporary n)) a q e = let same : Temporary n ≡ a = cc in rw (← same) (atom-sound word (Temporary n) q)
+
+  store-sound : (target value : List ℕ) (r : AtomRead) (s : ValueRead) (line : Line) → nameOf (atomRead names target) ≡ r → valueRead names value ≡ s → storeOf r s ≡ line-cases.Read line
+      → (assignmentText target value ≡ lineText line) × LineFits names line
+  store-sound target value atom-cases.Malformed s line q p e = absurd (let z : _≡_ {A = ℕ} 0 1 = cc in omega arith)
+  store-sound target value (atom-cases.Read a) value-cases.Malformed line q p e = absurd (let z : _≡_ {A = ℕ} 0 1 = cc in omega arith)
+  store-sound target value (atom-cases.Read a) (value-cases.Read v) line q p e =
+      let f = name-sound target (atomRead names target) a refl q in
+      let g = value-sound value v p in
+      let same : Store a v ≡ line = cc in
+      rw (← same) (ap₂ assignmentText (f .0) (g .0), (f .1, g .1))
+
+  put-sound : (target value : List ℕ) (array : ℕ) (index : Atom) (s : ValueRead) (line : Line) → elementRead names target ≡ element-cases.Read array index → valueRead names value ≡ s
+      → putOf array index s ≡ line-cases.Read line → (assignmentText target value ≡ lineText line) × LineFits names line
+  put-sound target value array index value-cases.Malformed line q p e = absurd (let z : _≡_ {A = ℕ} 0 1 = cc in omega arith)
+  put-sound target value array index (value-cases.Read (Element other at)) line q p e = absurd (let z : _≡_ {A = ℕ} 0 1 = cc in omega arith)
+  put-sound target value array index (value-cases.Read (Minus a)) line q p e = absurd (let z : _≡_ {A = ℕ} 0 1 = cc in omega arith)
+  put-sound target value array index (value-cases.Read (Binary o a b)) line q p e = absurd (let z : _≡_ {A = ℕ} 0 1 = cc in omega arith)
+  put-sound target value array index (value-cases.Read (Single a)) line q p e =
+      let f = element-sound target array index q in
+      let g = value-sound value (Single a) p in
+      let same : Put array index a ≡ line = cc in
+      rw (← same) (ap₂ assignmentText (f .0) (g .0), (f .1, g .1))
+
+  assigned-sound : (target value : List ℕ) (r : ElementRead) (line : Line) → elementRead names target ≡ r → assignedOf r (nameOf (atomRead names target)) (valueRead names value) ≡ line-cases.Read line
+      → (assignmentText target value ≡ lineText line) × LineFits names line
+  assigned-sound target value (element-cases.Read array index) line q e = put-sound target value array index (valueRead names value) line q refl e
+  assigned-sound target value element-cases.Malformed line q e = store-sound target value (nameOf (atomRead names target)) (valueRead names value) line refl refl e
+
+  assignment-sound : (text : List ℕ) (line : Line) → assignmentRead names text ≡ line-cases.Read line → (text ≡ lineText line) × LineFits names line
+  unfolding assignmentRead
+  assignment-sound text line e =
+      let target = take (pieceEnd 32 text) text in
+      let rest = drop (pieceEnd 32 text) text in
+      by-cases (isFramed (32 ∷ 61 ∷ 32 ∷ []) (59 ∷ []) rest)
+      (λ t.
+      let f = assigned-sound target (middle 3 1 rest) (elementRead names target) line refl (rw t at e) in
+      (piece-halves 32 text ∙ ap (λ (l : List ℕ). target ++ l) (framed-sound (32 ∷ 61 ∷ 32 ∷ []) (59 ∷ []) rest t) ∙ f .0, f .1))
+      (λ t. absurd (let found : line-cases.Malformed ≡ line-cases.Read line = rw t at e in let z : _≡_ {A = ℕ} 0 1 = cc in omega arith))
+
+  if-sound : (word : List ℕ) (r : AtomRead) (line : Line) → atomRead names word ≡ r → ifOf r ≡ line-cases.Read line
+      → ((105 ∷ 102 ∷ 32 ∷ 40 ∷ []) ++ (word ++ (41 ∷ 32 ∷ 123 ∷ [])) ≡ lineText line) × LineFits names line
+  if-sound word atom-cases.Malformed line q e = absurd (let z : _≡_ {A = ℕ} 0 1 = cc in omega arith)
+  if-sound word (atom-cases.Read a) line q e = let f = atom-sound word a q in let same : If a ≡ line = cc in rw (← same) (rw (f .0), f .1)
+
+  while-sound : (word : List ℕ) (r : AtomRead) (line : Line) → atomRead names word ≡ r → whileOf r ≡ line-cases.Read line
+      → ((119 ∷ 104 ∷ 105 ∷ 108 ∷ 101 ∷ 32 ∷ 40 ∷ []) ++ (word ++ (41 ∷ 32 ∷ 123 ∷ [])) ≡ lineText line) × LineFits names line
+  while-sound word atom-cases.Malformed line q e = absurd (let z : _≡_ {A = ℕ} 0 1 = cc in omega arith)
+  while-sound word (atom-cases.Read a) line q e = let f = atom-sound word a q in let same : While a ≡ line = cc in rw (← same) (rw (f .0), f .1)
+
+  test-sound : (text : List ℕ) (line : Line) → testRead names text ≡ line-cases.Read line → (text ≡ lineText line) × LineFits names line
+  unfolding testRead
+  test-sound text line e =
+      let end : List ℕ = 41 ∷ 32 ∷ 123 ∷ [] in
+      let if-start : List ℕ = 105 ∷ 102 ∷ 32 ∷ 40 ∷ [] in
+      let while-start : List ℕ = 119 ∷ 104 ∷ 105 ∷ 108 ∷ 101 ∷ 32 ∷ 40 ∷ [] in
+      by-cases (isFramed if-start end text)
+      (λ t. let f = if-sound (middle 4 3 text) (atomRead names (middle 4 3 text)) line refl (rw t at e) in (framed-sound if-start end text t ∙ f .0, f .1))
+      (λ t. by-cases (isFramed while-start end text)
+      (λ u. let f = while-sound (middle 7 3 text) (atomRead names (middle 7 3 text)) line refl (rw (t, u) at e) in (framed-sound while-start end text u ∙ f .0, f .1))
+      (λ u. assignment-sound text line (rw (t, u) at e)))
+
+  goto-sound : (word : List ℕ) (r : NumberRead) (line : Line) → numberRead 40980 word ≡ r → gotoOf r ≡ line-cases.Read line
+      → ((103 ∷ 111 ∷ 116 ∷ 111 ∷ 32 ∷ 76 ∷ []) ++ (word ++ (59 ∷ [])) ≡ lineText line) × LineFits names line
+  goto-sound word number-cases.Malformed line q e = absurd (let z : _≡_ {A = ℕ} 0 1 = cc in omega arith)
+  goto-sound word (number-cases.Number l) line q e = let f = below-sound 40980 word l (omega arith) q in let same : Goto l ≡ line = cc in rw (← same) (rw (f .0), f .1)
+
+  label-sound : (word : List ℕ) (r : NumberRead) (line : Line) → numberRead 40980 word ≡ r → labelOf r ≡ line-cases.Read line
+      → ((76 ∷ []) ++ (word ++ (58 ∷ 59 ∷ [])) ≡ lineText line) × LineFits names line
+  label-sound word number-cases.Malformed line q e = absurd (let z : _≡_ {A = ℕ} 0 1 = cc in omega arith)
+  label-sound word (number-cases.Number l) line q e = let f = below-sound 40980 word l (omega arith) q in let same : Label l ≡ line = cc in rw (← same) (rw (f .0), f .1)
+
+  jump-sound : (text : List ℕ) (line : Line) → jumpRead names text ≡ line-cases.Read line → (text ≡ lineText line) × LineFits names line
+  unfolding jumpRead
+  jump-sound text line e =
+      let goto-start : List ℕ = 103 ∷ 111 ∷ 116 ∷ 111 ∷ 32 ∷ 76 ∷ [] in
+      by-cases (isFramed goto-start (59 ∷ []) text)
+      (λ t. let f = goto-sound (middle 6 1 text) (numberRead 40980 (middle 6 1 text)) line refl (rw t at e) in (framed-sound goto-start (59 ∷ []) text t ∙ f .0, f .1))
+      (λ t. by-cases (isFramed (76 ∷ []) (58 ∷ 59 ∷ []) text)
+      (λ u. let f = label-sound (middle 1 2 text) (numberRead 40980 (middle 1 2 text)) line refl (rw (t, u) at e) in (framed-sound (76 ∷ []) (58 ∷ 59 ∷ []) text u ∙ f .0, f .1))
+      (λ u. test-sound text line (rw (t, u) at e)))
+
+  fixed-sound : (text word : List ℕ) (found line : Line) → isWord word text ≡ true → word ≡ lineText found → LineFits names found → line-cases.Read found ≡ line-cases.Read line
+      → (text ≡ lineText line) × LineFits names line
+  fixed-sound text word found line t w h e = let same : found ≡ line = cc in rw (← same) (word-sound word text t ∙ w, h)
+
+  -- What is read is the bytes of what it is read as.
+  pub line-sound : (text : List ℕ) (line : Line) → lineRead names text ≡ line-cases.Read line → (text ≡ lineText line) × LineFits names line
+  unfolding lineRead
+  line-sound text line e =
+      let turning : List ℕ = 125 ∷ 32 ∷ 101 ∷ 108 ∷ 115 ∷ 101 ∷ 32 ∷ 123 ∷ [] in
+      let aborting : List ℕ = 97 ∷ 98 ∷ 111 ∷ 114 ∷ 116 ∷ 40 ∷ 41 ∷ 59 ∷ [] in
+      by-cases (isWord (59 ∷ []) text) (λ t. fixed-sound text (59 ∷ []) Empty line t refl tt (rw t at e))
+      (λ t. by-cases (isWord (123 ∷ []) text) (λ u. fixed-sound text (123 ∷ []) Opens line u refl tt (rw (t, u) at e))
+      (λ u. by-cases (isWord (125 ∷ []) text) (λ v. fixed-sound text (125 ∷ []) Closes line v refl tt (rw (t, u, v) at e))
+      (λ v. by-cases (isWord turning text) (λ w. fixed-sound text turning Turns line w refl tt (rw (t, u, v, w) at e))
+      (λ w. by-cases (isWord aborting text) (λ x. fixed-sound text aborting Abort line x refl tt (rw (t, u, v, w, x) at e))
+      (λ x. jump-sound text line (rw (t, u, v, w, x) at e))))))

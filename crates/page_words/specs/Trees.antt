@@ -1,0 +1,145 @@
+-- Trees: the line of a page that each line read is, and that its bytes are those of the page. Temporary n is variable number S + n.
+use mathlib.Core.Path.{_≡_, refl, sym, ap, ap₂, _∙_}
+use mathlib.Core.Bool.{true, false}
+use mathlib.Core.List.{List, [], _∷_, _++_, append-assoc}
+use mathlib.Core.Logic.{_⊎_, inl, inr}
+use Prim.Native.Nat.{ℕ, _+_, _-_, _≤_, _<_}
+use native.Mathlib.Omega.{arith}
+use lib.Dec.{ltb}
+use borrow.Author.Tests.{lt-ltb, le-ltb}
+use Rattle.text_form.specs.Number.{digits}
+use Rattle.language.specs.Trees.{Expression, constant, read, minus, binary, assign, Place, variable, element, label, empty, express, goto, abort}
+use Rattle.page.specs.Lines.{Line as PageLine, single, mark, opens, opensWhile, opensIf, turns, closes}
+use Rattle.page.specs.Page.{operatorWord, name, atomWord, placeWord, valueWords, ended, parted, lineWords}
+use Rattle.page.specs.Fits.{fits-constant, fits-variable, value-atom, value-element, value-minus, value-binary, fits-empty, fits-abort, fits-goto, fits-label, fits-store, fits-put, fits-opens, fits-while, fits-if, fits-turns, fits-closes}
+use Rattle.page.specs.Fits as page-fits
+use Rattle.page_words.specs.Texts.{atomText, elementText, valueText, assignmentText, lineText, AtomFits, NameFits, ElementFits, ValueFits, LineFits}
+use Rattle.page_words.specs.declared.Names.{Names}
+use Rattle.page_words.specs.declared.Atom.{Atom}
+use Rattle.page_words.specs.declared.Atom.the-variants.{Constant, Variable, Temporary}
+use Rattle.page_words.specs.declared.Value.{Value}
+use Rattle.page_words.specs.declared.Value.the-variants.{Single, Element, Minus, Binary}
+use Rattle.page_words.specs.declared.Line.{Line}
+use Rattle.page_words.specs.declared.Line.the-variants.{Empty, Abort, Goto, Label, Store, Put, Opens, While, If, Turns, Closes}
+
+-- S is the number of store words.
+module _ (S : ℕ) where
+  -- A constant is no place; no line that fits has one there.
+  abbrev pub placeTree : Atom → Place
+  placeTree (Constant v) = variable 0
+  placeTree (Variable n) = variable n
+  placeTree (Temporary n) = variable (S + n)
+
+  abbrev pub atomTree : Atom → Expression
+  atomTree (Constant v) = constant v
+  atomTree (Variable n) = read (variable n)
+  atomTree (Temporary n) = read (variable (S + n))
+
+  abbrev pub valueTree : Value → Expression
+  valueTree (Single a) = atomTree a
+  valueTree (Element array index) = read (element array (atomTree index))
+  valueTree (Minus a) = minus (atomTree a)
+  valueTree (Binary o a b) = binary o (atomTree a) (atomTree b)
+
+  abbrev pub lineTree : Line → PageLine
+  lineTree Empty = single empty
+  lineTree Abort = single abort
+  lineTree (Goto l) = single (goto l)
+  lineTree (Label l) = mark (label l)
+  lineTree (Store a v) = single (express (assign (placeTree a) (valueTree v)))
+  lineTree (Put array index a) = single (express (assign (element array (atomTree index)) (atomTree a)))
+  lineTree Opens = opens
+  lineTree (While a) = opensWhile (atomTree a)
+  lineTree (If a) = opensIf (atomTree a)
+  lineTree Turns = turns
+  lineTree Closes = closes
+
+-- ---- laws
+
+module _ (S : ℕ) (names : Names) (within : names .variables ≤ S) where
+  temporary-word : (n : ℕ) → name S (S + n) ≡ 116 ∷ digits n
+  unfolding name
+  temporary-word n = let back : S + n - S ≡ n = omega arith in rw (le-ltb (S + n) S (omega arith), back)
+
+  variable-word : (n : ℕ) → n < names .variables → name S n ≡ 118 ∷ digits n
+  unfolding name
+  variable-word n h = rw (lt-ltb n S (omega arith))
+
+  atom-word : (a : Atom) → AtomFits names a → atomWord S (atomTree S a) ≡ atomText a
+  atom-word (Constant v) h = refl
+  atom-word (Variable n) h = variable-word n h
+  atom-word (Temporary n) h = temporary-word n
+
+  name-word : (a : Atom) → NameFits names a → placeWord S (placeTree S a) ≡ atomText a
+  name-word (Constant v) h = absurd h
+  name-word (Variable n) h = variable-word n h
+  name-word (Temporary n) h = temporary-word n
+
+  element-word : (array : ℕ) (a : Atom) → ElementFits names array a → placeWord S (element array (atomTree S a)) ≡ elementText array a
+  element-word array a h =
+      ap (λ (l : List ℕ). 97 ∷ (digits array ++ (91 ∷ (l ++ (93 ∷ []))))) (atom-word a (h .1)) ∙ ap (λ (l : List ℕ). 97 ∷ l) (sym (append-assoc (digits array) (91 ∷ atomText a) (93 ∷ [])))
+
+  assigned-atom : (word : List ℕ) (a : Atom) → AtomFits names a → parted (word ∷ ((61 ∷ []) ∷ ended (valueWords S (atomTree S a)))) ≡ assignmentText word (atomText a)
+  unfolding parted ended
+  assigned-atom word (Constant v) h = refl
+  assigned-atom word (Variable n) h = rw (variable-word n h)
+  assigned-atom word (Temporary n) h = rw (temporary-word n)
+
+  assigned : (word : List ℕ) (v : Value) → ValueFits names v → parted (word ∷ ((61 ∷ []) ∷ ended (valueWords S (valueTree S v)))) ≡ assignmentText word (valueText v)
+  unfolding parted ended
+  assigned word (Single a) h = assigned-atom word a h
+  assigned word (Element array a) h = ap (λ (l : List ℕ). word ++ (32 ∷ (61 ∷ (32 ∷ (l ++ (59 ∷ [])))))) (element-word array a h)
+  assigned word (Minus a) h = rw (atom-word a h)
+  assigned word (Binary o a b) h =
+      rw (atom-word a (h .0), atom-word b (h .1))
+      (ap (λ (l : List ℕ). word ++ (32 ∷ (61 ∷ (32 ∷ l))))
+      (sym (append-assoc (atomText a) (32 ∷ (operatorWord o ++ (32 ∷ atomText b))) (59 ∷ [])
+      ∙ ap (λ (l : List ℕ). atomText a ++ (32 ∷ l)) (append-assoc (operatorWord o) (32 ∷ atomText b) (59 ∷ [])))))
+
+  -- The bytes of a line are its words on the page, parted by blanks.
+  pub line-words : (line : Line) → LineFits names line → parted (lineWords S (lineTree S line)) ≡ lineText line
+  unfolding parted ended
+  line-words Empty h = refl
+  line-words Abort h = refl
+  line-words (Goto l) h = refl
+  line-words (Label l) h = ap (λ (bytes : List ℕ). 76 ∷ bytes) (append-assoc (digits l) (58 ∷ []) (59 ∷ []))
+  line-words (Store a v) h = ap (λ (l : List ℕ). parted (l ∷ ((61 ∷ []) ∷ ended (valueWords S (valueTree S v))))) (name-word a (h .0)) ∙ assigned (atomText a) v (h .1)
+  line-words (Put array index a) h =
+      ap (λ (l : List ℕ). parted (l ∷ ((61 ∷ []) ∷ ended (valueWords S (atomTree S a))))) (element-word array index (h .0)) ∙ assigned-atom (elementText array index) a (h .1)
+  line-words Opens h = refl
+  line-words (While a) h = rw (atom-word a h) (ap (λ (l : List ℕ). 119 ∷ 104 ∷ 105 ∷ 108 ∷ 101 ∷ 32 ∷ 40 ∷ l) (append-assoc (atomText a) (41 ∷ []) (32 ∷ 123 ∷ [])))
+  line-words (If a) h = rw (atom-word a h) (ap (λ (l : List ℕ). 105 ∷ 102 ∷ 32 ∷ 40 ∷ l) (append-assoc (atomText a) (41 ∷ []) (32 ∷ 123 ∷ [])))
+  line-words Turns h = refl
+  line-words Closes h = refl
+
+  -- ---- it fits, as page/Fits has it
+
+  -- The variables, and the temporaries behind the store.
+  abbrev pub Named : ℕ → Type 0
+  Named i = (i < names .variables) ⊎ ((S ≤ i) × (i < S + names .temporaries))
+
+  atom-fits : (a : Atom) → AtomFits names a → page-fits.AtomFits Named (names .arrays) (atomTree S a)
+  atom-fits (Constant v) h = fits-constant h
+  atom-fits (Variable n) h = fits-variable (inl h)
+  atom-fits (Temporary n) h = fits-variable {i = S + n} (inr (omega arith, omega arith))
+
+  value-fits : (v : Value) → ValueFits names v → page-fits.ValueFits Named (names .arrays) (valueTree S v)
+  value-fits (Single a) h = value-atom (atom-fits a h)
+  value-fits (Element array a) h = value-element (h .0) (atom-fits a (h .1))
+  value-fits (Minus a) h = value-minus (atom-fits a h)
+  value-fits (Binary o a b) h = value-binary (atom-fits a (h .0)) (atom-fits b (h .1))
+
+  pub line-fits : (line : Line) → LineFits names line → page-fits.LineFits Named (names .arrays) (lineTree S line)
+  line-fits Empty h = fits-empty
+  line-fits Abort h = fits-abort
+  line-fits (Goto l) h = fits-goto h
+  line-fits (Label l) h = fits-label h
+  line-fits (Store (Constant v) value) h = absurd (h .0)
+  line-fits (Store (Variable n) v) h = fits-store (inl (h .0)) (value-fits v (h .1))
+  line-fits (Store (Temporary n) v) h = let less = h .0 in fits-store {i = S + n} (inr (omega arith, omega arith)) (value-fits v (h .1))
+  line-fits (Put array index a) h = fits-put (h .0 .0) (atom-fits index (h .0 .1)) (atom-fits a (h .1))
+  line-fits Opens h = fits-opens
+  line-fits (While a) h = fits-while (atom-fits a h)
+  line-fits (If a) h = fits-if (atom-fits a h)
+  line-fits Turns h = fits-turns
+  line-fits Closes h = fits-closes

@@ -124,6 +124,13 @@ clight_answer clight_kernel_run(const int32_t *header, size_t header_words, cons
 clight_answer clight_dispatcher_run(const int32_t *header, size_t header_words, const int32_t *rows, size_t row_words, int32_t *words,
                                     size_t word_count, uint32_t budget);
 
+/* Writes the flat list of a kernel program, lines of five words (docs/FLAT.md), which stands under the program's header. Done: first is its
+ * words, five for each line, second is 0; words beyond these keep their content. There are fewer lines than kernel rows. The words written
+ * are a legal list; with no limit on steps its run and the kernel run on equal stores both end or neither does, with equal ending and
+ * words. The causes of the kernel check, then 10. */
+clight_answer clight_flatten(const int32_t *header, size_t header_words, const int32_t *rows, size_t row_words, int32_t *list,
+                             size_t list_words);
+
 /* Runs a flat list, lines of five words (docs/FLAT.md), with a kernel header, on the store, which has S+T words: variables, the arrays in
  * order, temporaries. Lines are numbered from 0. Done: first is the ending, second the count of lines, at most budget, and the store is
  * as the run left it. Causes 1, 2, 3, 4, 6, then 11. */

@@ -112,6 +112,15 @@ extern "C" {
         budget: u32,
     ) -> Answer;
 
+    pub fn clight_flatten(
+        header: *const i32,
+        header_words: usize,
+        rows: *const i32,
+        row_words: usize,
+        list: *mut i32,
+        list_words: usize,
+    ) -> Answer;
+
     pub fn clight_flat_run(
         header: *const i32,
         header_words: usize,

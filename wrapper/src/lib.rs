@@ -273,6 +273,20 @@ pub fn dispatcher_run(
     Ok(run_by(foreign::clight_dispatcher_run, header, rows, words, budget)?.ending)
 }
 
+/// Writes the flat list of a kernel program, which stands under its header,
+/// and gives its words; those beyond keep their content. Five words for each
+/// kernel row are always enough. The list is legal, and the flat run and the
+/// kernel run on equal stores both end or neither does, with equal ending and
+/// words.
+pub fn flatten(header: &[i32], rows: &[i32], list: &mut [i32]) -> Result<usize, Refusal> {
+    let (header, header_words) = (header.as_ptr(), header.len());
+    let (rows, row_words) = (rows.as_ptr(), rows.len());
+    let (list, list_words) = (list.as_mut_ptr(), list.len());
+    let answer =
+        unsafe { foreign::clight_flatten(header, header_words, rows, row_words, list, list_words) };
+    Ok(answer.values()?.0)
+}
+
 /// Runs a flat list, lines of five words with a kernel header, on a store of
 /// S+T words. The budget and the count are of lines.
 pub fn flat_run(

@@ -34,6 +34,7 @@ fn no_header() {
         assert_eq!(clight_run(null(), 0, rows, 6, null_mut(), 0, 9), refused(1, 0));
         assert_eq!(clight_kernel_run(null(), 0, rows, 6, null_mut(), 0, 9), refused(1, 0));
         assert_eq!(clight_dispatcher_run(null(), 0, rows, 6, null_mut(), 0, 9), refused(1, 0));
+        assert_eq!(clight_flatten(null(), 0, rows, 6, null_mut(), 0), refused(1, 0));
         assert_eq!(clight_flat_run(null(), 0, null(), 0, null_mut(), 0, 9), refused(1, 0));
         let answer = clight_preview(null(), 0, rows, 6, null(), 0, 9, null_mut(), 0);
         assert_eq!(answer, previewed(refused(1, 0)));
@@ -55,6 +56,7 @@ fn no_rows() {
         assert_eq!(clight_run(header, 1, null(), 0, null_mut(), 0, 9), refused(2, 0));
         assert_eq!(clight_kernel_run(kernel, 2, null(), 0, null_mut(), 0, 9), refused(2, 0));
         assert_eq!(clight_dispatcher_run(kernel, 2, null(), 0, null_mut(), 0, 9), refused(2, 0));
+        assert_eq!(clight_flatten(kernel, 2, null(), 0, null_mut(), 0), refused(2, 0));
         let answer = clight_preview(header, 1, null(), 0, null(), 0, 9, null_mut(), 0);
         assert_eq!(answer, previewed(refused(2, 0)));
         assert_eq!(clight_write_source(header, 1, null(), 0, null_mut(), 0), refused(2, 0));
@@ -86,6 +88,8 @@ fn nothing_lent() {
         assert_eq!(clight_kernel_run(kernel, 2, rows, 6, null_mut(), 0, 9), done(0, 1));
         assert_eq!(clight_dispatcher_run(kernel, 2, rows, 6, null_mut(), 0, 9), done(0, 0));
         assert_eq!(clight_dispatcher_run(kernel, 2, rows, 6, null_mut(), 0, 0), done(1, 0));
+        // a block without items has no lines
+        assert_eq!(clight_flatten(kernel, 2, rows, 6, null_mut(), 0), done(0, 0));
         assert_eq!(clight_flat_run(kernel, 2, null(), 0, null_mut(), 0, 0), done(0, 0));
         assert_eq!(clight_write_source(header, 1, rows, 6, null_mut(), 0), refused(10, 0));
         assert_eq!(clight_write_kernel(kernel, 2, rows, 6, null_mut(), 0), refused(10, 0));

@@ -6,6 +6,7 @@ use Prim.Native.Nat.{ℕ}
 use native.Mathlib.Omega.{arith}
 use lib.IntN.{ℤ}
 use lib.ListN.{length}
+use Rattle.words.specs.declared.Form.the-variants.{Source}
 use Rattle.words.specs.declared.Found.{Found}
 use Rattle.words.specs.declared.Found.the-variants.{At, Nothing}
 use Rattle.words.specs.declared.Refusal.{Refusal}
@@ -50,8 +51,8 @@ module _ (header first secondHeader second out left : List ℤ) where
   caused : Caused (joinRefusal header first secondHeader second (length out))
   unfolding joinRefusal ownRefusal
   caused =
-      next-caused _ _ (check-caused header first)
-      (next-caused _ _ (check-caused secondHeader second)
+      next-caused _ _ (check-caused Source header first)
+      (next-caused _ _ (check-caused Source secondHeader second)
       (next-caused _ _
       (next-caused _ _ (unless-caused _ 16 (λ e. omega arith)) (next-caused _ _ (unless-caused _ 17 (λ e. omega arith)) (at-caused 9 _ (λ e. omega arith))))
       (unless-caused _ 10 (λ e. omega arith))))

@@ -8,3 +8,5 @@ pub mod Numbers
 pub mod NumbersLaws
 -- JoinNumbersLaws: a join whose answer has no cause was made.
 pub mod JoinNumbersLaws
+-- ListNumbersLaws: a flattening whose answer has no cause was made.
+pub mod ListNumbersLaws

@@ -12,6 +12,8 @@ use Rattle.translator.specs.Translation.{translateNumbers, WroteKernelForm}
 use Rattle.translator.specs.declared.TranslateAnswer.{TranslateAnswer}
 use Rattle.joiner.specs.Joining.{joinNumbers, WroteJoin}
 use Rattle.joiner.specs.declared.JoinAnswer.{JoinAnswer}
+use Rattle.flattener.specs.Flattening.{flattenNumbers, WroteList}
+use Rattle.flattener.specs.declared.FlattenAnswer.{FlattenAnswer}
 use Rattle.exports.specs.declared.Answer.{Answer}
 use Rattle.exports.specs.declared.PreviewAnswer.{PreviewAnswer}
 
@@ -49,3 +51,10 @@ joinAnswer answer = answerOf (joinNumbers answer)
 -- What stands in the table after a join whose answer has no cause: a legal program that runs the first, then the second.
 abbrev pub JoinsIfDone : (header first second : List ℤ) → Answer → (left : List ℤ) → Type 0
 JoinsIfDone header first second answer left = answer .cause ≡ 0 → WroteJoin header first second (answer .first) left
+
+abbrev pub flattenAnswer : FlattenAnswer → Answer
+flattenAnswer answer = answerOf (flattenNumbers answer)
+
+-- What stands in the output after a flattening whose answer has no cause: a legal list that shares the kernel program's fate.
+abbrev pub ListsIfDone : (header rows : List ℤ) → Answer → (left : List ℤ) → Type 0
+ListsIfDone header rows answer left = answer .cause ≡ 0 → WroteList header rows (answer .first) left

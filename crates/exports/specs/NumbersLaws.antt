@@ -10,6 +10,7 @@ use lib.ListN.{length}
 use Rattle.words.specs.Word.{pick}
 use Rattle.words.specs.Over.{over}
 use Rattle.words.specs.Numbers.{verdictNumbers}
+use Rattle.words.specs.declared.Form.{Form}
 use Rattle.words.specs.declared.Form.the-variants.{Source}
 use Rattle.words.specs.declared.Refusal.{Refusal}
 use Rattle.words.specs.declared.Verdict.{Verdict}
@@ -24,10 +25,10 @@ use Rattle.exports.specs.declared.Answer.{Answer}
 use Rattle.exports.specs.Numbers.{translateAnswer, WritesIfDone}
 
 -- the check's refusals have a cause
-pub check-caused : (header rows : List ℤ) (refusal : Refusal) → refusalOf Source header rows ≡ Refused refusal → refusal .number ≡ 0 → ⊥
-check-caused header rows refusal told none =
-    let legal = check-no-cause-if-legal Source header rows .no-cause-legal (ap (λ (v : Verdict). verdictNumbers v .cause) told ∙ none) in
-    let both : Refused refusal ≡ Accepted = sym told ∙ check-accepts-legal Source header rows (refusalOf Source header rows) refl .legal-accepted legal in
+pub check-caused : (form : Form) (header rows : List ℤ) (refusal : Refusal) → refusalOf form header rows ≡ Refused refusal → refusal .number ≡ 0 → ⊥
+check-caused form header rows refusal told none =
+    let legal = check-no-cause-if-legal form header rows .no-cause-legal (ap (λ (v : Verdict). verdictNumbers v .cause) told ∙ none) in
+    let both : Refused refusal ≡ Accepted = sym told ∙ check-accepts-legal form header rows (refusalOf form header rows) refl .legal-accepted legal in
     let z : _≡_ {A = ℕ} 0 1 = cc in
     omega arith
 
@@ -60,7 +61,7 @@ module _ (header rows outHeader outRows headerLeft rowsLeft : List ℤ) where
       go (Refused other) told e =
           let answers : TranslateRefused refusal ≡ TranslateRefused other = ap (λ (result : TranslateResult). result .answer) e in
           let same : refusal ≡ other = cc in
-          check-caused header rows other told (ap (λ (r : Refusal). r .number) (sym same) ∙ none)
+          check-caused Source header rows other told (ap (λ (r : Refusal). r .number) (sym same) ∙ none)
       go Accepted told e = ten-caused refusal (leb (length kernelHeader) (length outHeader) && leb (length kernelRows) (length outRows)) e none
 
   pub writes-if-done : (answer : TranslateAnswer) (given : Answer) → given ≡ translateAnswer answer

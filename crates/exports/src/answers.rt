@@ -2,6 +2,7 @@
 use super::Answer;
 use super::PreviewAnswer;
 use dispatcher_runs::DispatcherVerdict;
+use flattener::FlattenAnswer;
 use joiner::JoinAnswer;
 use program_previews::PreviewVerdict;
 use text_form::ReadAnswer;
@@ -21,7 +22,7 @@ ghost use Rattle.dispatcher_runs.specs.declared.DispatcherVerdict.the-variants.
 ghost use Rattle.program_previews.specs.declared.PreviewVerdict.the-variants.{Previewed};
 ghost use Rattle.dispatcher_runs.specs.DispatcherRuns.{dispatcherNumbers};
 ghost use Rattle.program_previews.specs.Previews.{toldRun, tallyOf};
-ghost use Rattle.exports.specs.Numbers.{answerOf, runAnswer, verdictAnswer, previewAnswer, outcomeAnswer, translateAnswer, joinAnswer};
+ghost use Rattle.exports.specs.Numbers.{answerOf, runAnswer, verdictAnswer, previewAnswer, outcomeAnswer, translateAnswer, joinAnswer, flattenAnswer};
 
 pub fn refused(refusal: Refusal) -> Answer
     ensures { λ r. ⌜ r ≡ answerOf (refusedOf (refusal .number) (refusal .place)) ⌝ }
@@ -160,5 +161,18 @@ pub fn of_join(answer: JoinAnswer) -> Answer
             second: 0,
         },
         JoinAnswer::Refused(refusal) => refused(refusal),
+    }
+}
+
+pub fn of_flattening(answer: FlattenAnswer) -> Answer
+    ensures { λ r. ⌜ r ≡ flattenAnswer answer ⌝ }
+{
+    match answer {
+        FlattenAnswer::Flattened(words) => Answer {
+            cause: 0,
+            first: words,
+            second: 0,
+        },
+        FlattenAnswer::Refused(refusal) => refused(refusal),
     }
 }

@@ -1,7 +1,7 @@
 // The library for C and Rust: the public entries as functions of C's calling convention. A slice is a pointer and a length in
 // elements; every answer is numbers by value. No function has a `requires`.
 mod answers; // answers.rt: the numbers of each answer
-pub mod flat_lists; // flat_lists.rt: the run of flat lists
+pub mod flat_lists; // flat_lists.rt: writer and run of flat lists
 pub mod joins; // joins.rt: the join
 pub mod kernel_form; // kernel_form.rt: the translation
 pub mod previews; // previews.rt: what a run would do

@@ -1,12 +1,13 @@
-//! Flat lists: the library's runs and refusals beside those of the
-//! interpreter's own flat machine, on lists made and damaged at random.
+//! Flat lists: the library's lists, runs and refusals beside those of the
+//! interpreter's own flattening and flat machine, on programs and lists made
+//! and damaged at random.
 
-use super::{mine, same_run, theirs, Tally};
+use super::{mine, same_run, theirs, Plain, Tally, WORD};
 use interpreter::flat::{self, damage, generate as lists};
 use interpreter::generate::Size;
 use interpreter::random::Random;
 use interpreter::Form::{Kernel, Source};
-use interpreter::{generate, generate_kernel, text};
+use interpreter::{check, generate, generate_kernel, text};
 
 /// The runs of a flat list, which may be damaged.
 fn flat_list(random: &mut Random, header: &[i32], list: &[i32], tally: &mut Tally) {
@@ -100,9 +101,103 @@ fn lists_of_translations() {
     tally.expect(&[0]);
 }
 
+/// Flattens into so many words: the answer, and what the output holds then.
+fn listed(
+    header: &[i32],
+    rows: &[i32],
+    room: usize,
+    tally: &mut Tally,
+) -> (Plain<usize>, Vec<i32>) {
+    let mut list = vec![WORD; room];
+    let answer = mine(clight::flatten(header, rows, &mut list), tally);
+    (answer, list)
+}
+
+/// The library's list beside the interpreter's, word by word: with just room enough, with room to spare, with a word and a line too few.
+fn same_list(header: &[i32], rows: &[i32], list: &[i32], tally: &mut Tally) {
+    for spare in [0, 1, 5, 100] {
+        let (answer, left) = listed(header, rows, list.len() + spare, tally);
+        assert_eq!(answer, Ok(list.len()));
+        assert_eq!(left[..list.len()], *list);
+        assert!(left[list.len()..].iter().all(|&word| word == WORD));
+    }
+    for short in [1, 5].into_iter().filter(|&short| short <= list.len()) {
+        let (answer, left) = listed(header, rows, list.len() - short, tally);
+        assert_eq!(answer, Err((10, 0)));
+        assert!(left.iter().all(|&word| word == WORD));
+    }
+}
+
+/// The kernel check's refusal, whatever room there is, and an output that is left as it was.
+#[test]
+fn lists_of_damaged_programs() {
+    let mut tally = Tally::default();
+    for number in 0..20_000 {
+        let random = &mut Random::new(57, number);
+        let program = generate_kernel::program(random);
+        let (mut header, mut rows) = (program.header, program.rows.concat());
+        generate_kernel::damage(random, &mut header, &mut rows);
+        let Err(refusal) = check(Kernel, &header, &rows) else {
+            same_list(&header, &rows, &flat::flatten(&rows), &mut tally);
+            continue;
+        };
+        for room in [0, 1_000] {
+            let (answer, left) = listed(&header, &rows, room, &mut tally);
+            assert_eq!(answer, Err((refusal.number, refusal.place as usize)));
+            assert!(left.iter().all(|&word| word == WORD));
+        }
+    }
+    tally.expect(&[0, 1, 2, 3, 4, 5, 6, 10, 12, 13]);
+}
+
+/// As many lines as there can be, 40,979; and the deepest loops, blocks and ifs.
+#[test]
+fn lists_at_the_limits() {
+    let mut tally = Tally::default();
+    let header = [0, 0];
+    let last = 40_979;
+    let aborts: Vec<i32> = (0..=last)
+        .flat_map(|at| match at {
+            0 => [42, 1, 0, 0, 0, 0],
+            _ => [57, 0, 0, 0, 0, if at < last { at + 1 } else { 0 }],
+        })
+        .collect();
+    let list = flat::flatten(&aborts);
+    assert_eq!(list.len(), 5 * 40_979);
+    same_list(&header, &aborts, &list, &mut tally);
+    for (kind, constant) in [(43, 0), (43, 1), (44, 0), (44, 1)] {
+        let rows = nested(kind, constant, 255);
+        assert_eq!(check(Kernel, &header, &rows), Ok(()));
+        let list = flat::flatten(&rows);
+        // a level: a test and a jump back, or one of them
+        let lines = if (kind, constant) == (44, 0) { 2 * 255 + 1 } else { 255 + 1 };
+        assert_eq!(list.len(), 5 * lines);
+        same_list(&header, &rows, &list, &mut tally);
+    }
+    tally.expect(&[0, 10]);
+}
+
+/// So many ifs without an else, or whiles, one inside the other, around an abort.
+fn nested(kind: i32, constant: i32, levels: i32) -> Vec<i32> {
+    let mut rows = vec![[42, 1, 0, 0, 0, 0]];
+    for _ in 0..levels {
+        let at = rows.len() as i32;
+        rows.push([1, constant, 0, 0, 0, 0]);
+        let body = if kind == 43 { at + 3 } else { at + 2 };
+        rows.insert(at as usize, [kind, at + 1, body, if kind == 43 { at + 2 } else { 0 }, 0, 0]);
+        if kind == 43 {
+            rows.push([42, 0, 0, 0, 0, 0]);
+        }
+        rows.push([42, body + 1, 0, 0, 0, 0]);
+    }
+    rows.push([57, 0, 0, 0, 0, 0]);
+    rows.concat()
+}
+
 fn flattened(random: &mut Random, header: &[i32], rows: &[i32], tally: &mut Tally) {
     let list = flat::flatten(rows);
     assert!(list.len() / 5 < rows.len() / 6);
+    same_list(header, rows, &list, tally);
     assert_eq!(flat::check(header, &list), Ok(()));
     flat_list(random, header, &list, tally);
     let mut store: Vec<i32> =

@@ -17,6 +17,7 @@ use timing::{both, per, Row};
 
 const SOURCE_SIZES: [usize; 3] = [256, 1_024, 2_048];
 const KERNEL_SIZES: [usize; 3] = [5_124, 20_484, 40_980];
+const FLATTEN_SIZES: [usize; 3] = [10_000, 20_000, 40_980];
 
 fn main() -> ExitCode {
     let words: Vec<String> = std::env::args().skip(1).collect();
@@ -33,7 +34,7 @@ fn main() -> ExitCode {
     }
     let programs = programs::long_running().map(|program| program.name).join(", ");
     eprintln!(
-        "bench: no work is called '{}'; there are check, kernel-check, translate, stack, {programs}",
+        "bench: no work is called '{}'; there are check, kernel-check, translate, flatten, stack, {programs}",
         words.join(" ")
     );
     ExitCode::from(2)
@@ -67,6 +68,7 @@ fn everything() {
         "kernel check of translations",
         SOURCE_SIZES.map(|size| check(&KERNEL, &translated(size))),
     );
+    flatten_rows();
     println!("Text: nanoseconds per byte");
     rows_of("read source", SOURCE_SIZES.map(|size| read(&SOURCE, &sized(size))));
     rows_of("write source", SOURCE_SIZES.map(|size| write(&SOURCE, &sized(size))));
@@ -84,6 +86,7 @@ fn one(name: &str) -> bool {
         "check" => clight::check(&program.header, &program.rows).unwrap(),
         "kernel-check" => clight::kernel_check(&kernel.header, &kernel.rows).unwrap(),
         "translate" => drop(programs::translated(&program)),
+        "flatten" => flatten_rows(),
         "stack" => stack::print_all(),
         _ => {
             let programs = programs::long_running();
@@ -95,6 +98,11 @@ fn one(name: &str) -> bool {
         }
     }
     true
+}
+
+fn flatten_rows() {
+    rows_of("flatten", FLATTEN_SIZES.map(|size| flatten(&programs::kernel_sized(size))));
+    rows_of("flatten of loops", FLATTEN_SIZES.map(|size| flatten(&programs::kernel_loops(size))));
 }
 
 /// Prints the rows of one entry, and the cost at the largest size beside that at the smallest.
@@ -166,6 +174,22 @@ fn translate(program: &Program) -> Row {
         },
         || interpreter::check(SOURCE.form, header, rows).unwrap(),
     );
+    per(program.name.clone(), program.row_count(), times)
+}
+
+/// The interpreter's flattening takes its program as legal; the check stands before it, as in the library.
+fn flatten(program: &Program) -> Row {
+    let (header, rows) = (&program.header, &program.rows);
+    let mut list = vec![0; 5 * program.row_count()];
+    let mut words = 0;
+    let times = both(
+        || words = clight::flatten(header, rows, &mut list).unwrap(),
+        || {
+            interpreter::check(KERNEL.form, header, rows).unwrap();
+            std::hint::black_box(interpreter::flat::flatten(rows));
+        },
+    );
+    assert_eq!(list[..words], interpreter::flat::flatten(rows));
     per(program.name.clone(), program.row_count(), times)
 }
 

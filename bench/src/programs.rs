@@ -186,6 +186,35 @@ pub fn kernel_sized(rows: usize) -> Program {
         table.push([LABEL, label, 0, 0, 0, at + 8]);
         label += 1;
     }
+    filled(table, rows)
+}
+
+/// A kernel program of so many rows: a list of ifs with two branches and of whiles, with an assignment in each branch and body.
+pub fn kernel_loops(rows: usize) -> Program {
+    let mut table: Vec<Row> = vec![[BLOCK, 1, 0, 0, 0, 0]];
+    let assignment = |table: &mut Vec<Row>| {
+        let at = table.len() as i32;
+        table.push([BLOCK, at + 1, 0, 0, 0, 0]);
+        table.push([EXPRESSION, at + 2, 0, 0, 0, 0]);
+        table.push([ASSIGN, at + 3, at + 4, 0, 0, 0]);
+        table.push([VARIABLE, 0, 0, 0, 0, 0]);
+        table.push([CONSTANT, 0, 0, 0, 0, 0]);
+    };
+    while table.len() + 19 <= rows {
+        let at = table.len() as i32;
+        table.push([IF, at + 1, at + 2, at + 7, 0, at + 12]);
+        table.push([VARIABLE, 0, 0, 0, 0, 0]);
+        assignment(&mut table);
+        assignment(&mut table);
+        table.push([WHILE, at + 13, at + 14, 0, 0, at + 19]);
+        table.push([VARIABLE, 0, 0, 0, 0, 0]);
+        assignment(&mut table);
+    }
+    filled(table, rows)
+}
+
+/// A kernel program of so many rows: these items, and empty statements behind them.
+fn filled(mut table: Vec<Row>, rows: usize) -> Program {
     while table.len() < rows {
         let at = table.len() as i32;
         table.push([EMPTY, 0, 0, 0, 0, at + 1]);

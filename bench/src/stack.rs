@@ -184,6 +184,11 @@ fn call_print_kernel(_: &Entries, program: &Program) {
     clight::print_kernel(&program.header, &program.rows, &mut page).unwrap();
 }
 
+fn call_flatten(_: &Entries, program: &Program) {
+    let mut list = vec![0; 5 * program.row_count()];
+    clight::flatten(&program.header, &program.rows, &mut list).unwrap();
+}
+
 fn call_flat_run(_: &Entries, program: &Program) {
     let mut store = vec![1; Kernel.store_words(&program.header)];
     clight::flat_run(&program.header, &program.rows, &mut store, 10_000).unwrap();
@@ -215,7 +220,7 @@ pub fn print_all() {
     kernels.extend(sources.iter().map(crate::programs::translated));
     kernels.push(crate::programs::kernel_sized(40_980));
     sources.push(crate::programs::sized(2_048));
-    let calls: [(&str, Call, &'static Entries); 15] = [
+    let calls: [(&str, Call, &'static Entries); 16] = [
         ("nothing, for comparison", |_, _| {}, &SOURCE),
         ("check", call_check, &SOURCE),
         ("run", call_run, &SOURCE),
@@ -226,6 +231,7 @@ pub fn print_all() {
         ("kernel run", call_run, &KERNEL),
         ("dispatcher run", call_dispatcher_run, &KERNEL),
         ("print kernel", call_print_kernel, &KERNEL),
+        ("flatten", call_flatten, &KERNEL),
         ("flat run", call_flat_run, &KERNEL),
         ("read source", call_read, &SOURCE),
         ("read kernel", call_read, &KERNEL),

@@ -1,4 +1,4 @@
-// The command: `check`, `run BUDGET [STORE]`, `translate`, `kernel-check`, `kernel-run BUDGET [STORE]`, on the text of standard input.
+// The command, on the text of standard input: docs/COMMANDS.md has its verbs.
 // A program of this language has no exit status, so the first word of the output tells a script what happened: `refused`, `misuse:`, or
 // what was asked for.
 fn main() {

@@ -10,6 +10,7 @@ use command_lines::wrong_budget_line;
 use command_request::request::Request;
 use command_runs::checks::check_answer;
 use command_runs::tasks::start_answer;
+use command_translation::pages::page_answer;
 use command_translation::translate_answer;
 use command_writes::writes_answer;
 ghost use mathlib.Core.Path.{_≡_};
@@ -43,6 +44,7 @@ fn request_answer(
         Request::Translate => translate_answer(text, header, rows, out),
         Request::Writes => writes_answer(text, header, rows, out),
         Request::Join => join_answer(text, stored, out),
+        Request::Page(form) => page_answer(form, text, header, rows, out),
         Request::WrongArguments => usage_line(out),
         Request::WrongBudget => wrong_budget_line(out),
     }

@@ -75,11 +75,11 @@ pub fn dispatcher_line(verdict: DispatcherVerdict, words: &[i32], text: &mut [u8
 
 // Wrong arguments.
 pub fn usage_line(text: &mut [u8]) -> usize
-    requires { ⌜ lineRoom 12 ≤ length (now text) ⌝ }
+    requires { ⌜ lineRoom 20 ≤ length (now text) ⌝ }
     ensures { λ r. ⌜ Put usageLine (now (text .entry)) r (now (text .exit)) ⌝ }
 {
     put_bytes(
-        b"misuse: command check | run BUDGET [STORE] | preview BUDGET [STORE] | translate | kernel-check | kernel-run BUDGET [STORE] | dispatcher-run BUDGET [STORE] | writes | join SECOND\n",
+        b"misuse: command check | run BUDGET [STORE] | preview BUDGET [STORE] | translate | kernel-check | kernel-run BUDGET [STORE] | dispatcher-run BUDGET [STORE] | writes | join SECOND | page | translate-page\n",
         text,
     )
 }

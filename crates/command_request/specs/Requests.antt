@@ -15,7 +15,7 @@ use Rattle.command_request.specs.declared.request.Task.the-variants.{Run
 use Rattle.command_request.specs.declared.request.Verb.{Verb}
 use Rattle.command_request.specs.declared.request.Verb.the-variants as verb-cases
 use Rattle.command_request.specs.declared.request.Request.{Request}
-use Rattle.command_request.specs.declared.request.Request.the-variants.{Check, Start, Translate, Writes, Join, WrongArguments, WrongBudget}
+use Rattle.command_request.specs.declared.request.Request.the-variants.{Check, Start, Translate, Writes, Join, Page, WrongArguments, WrongBudget}
 
 unfoldable pub sameBytes : List ℕ → List ℕ → Bool
 sameBytes [] [] = true
@@ -23,19 +23,26 @@ sameBytes [] (second ∷ seconds) = false
 sameBytes (first ∷ firsts) [] = false
 sameBytes (first ∷ firsts) (second ∷ seconds) = eqb first second && sameBytes firsts seconds
 
--- The first argument says what to do.
+-- The first argument says what to do with a kernel text,
+unfoldable pub kernelVerbOf : List ℕ → Verb
+kernelVerbOf name =
+    pick (sameBytes name (ascii "kernel-check")) (verb-cases.Check Kernel)
+    (pick (sameBytes name (ascii "kernel-run")) (verb-cases.Start (Run Kernel))
+    (pick (sameBytes name (ascii "dispatcher-run")) (verb-cases.Start DispatcherRun)
+    (pick (sameBytes name (ascii "page")) (verb-cases.Page Kernel)
+    verb-cases.Unknown)))
+
+-- or with a source text.
 unfoldable pub verbOf : List ℕ → Verb
 verbOf name =
     pick (sameBytes name (ascii "check")) (verb-cases.Check Source)
     (pick (sameBytes name (ascii "run")) (verb-cases.Start (Run Source))
     (pick (sameBytes name (ascii "preview")) (verb-cases.Start Preview)
     (pick (sameBytes name (ascii "translate")) verb-cases.Translate
-    (pick (sameBytes name (ascii "kernel-check")) (verb-cases.Check Kernel)
-    (pick (sameBytes name (ascii "kernel-run")) (verb-cases.Start (Run Kernel))
-    (pick (sameBytes name (ascii "dispatcher-run")) (verb-cases.Start DispatcherRun)
+    (pick (sameBytes name (ascii "translate-page")) (verb-cases.Page Source)
     (pick (sameBytes name (ascii "writes")) verb-cases.Writes
     (pick (sameBytes name (ascii "join")) verb-cases.Join
-    verb-cases.Unknown))))))))
+    (kernelVerbOf name)))))))
 
 -- "The budget is any unsigned 32-bit number": decimal digits, no sign, no leading zero.
 unfoldable pub budgetOf : List ℕ → Option ℕ
@@ -53,6 +60,7 @@ requestBy (verb-cases.Start task) count second = pick (leb 2 count && leb count 
 requestBy verb-cases.Translate count second = pick (eqb count 1) Translate WrongArguments
 requestBy verb-cases.Writes count second = pick (eqb count 1) Writes WrongArguments
 requestBy verb-cases.Join count second = pick (eqb count 2) Join WrongArguments
+requestBy (verb-cases.Page form) count second = pick (eqb count 1) (Page form) WrongArguments
 requestBy verb-cases.Unknown count second = WrongArguments
 
 unfoldable pub requestOf : (count : ℕ) → (first second : List ℕ) → Request
@@ -65,6 +73,7 @@ readsText (Start task budget stored) = true
 readsText Translate = true
 readsText Writes = true
 readsText Join = true
+readsText (Page form) = true
 readsText WrongArguments = false
 readsText WrongBudget = false
 
@@ -74,6 +83,7 @@ readsStore (Start task budget stored) = stored
 readsStore Translate = false
 readsStore Writes = false
 readsStore Join = true
+readsStore (Page form) = false
 readsStore WrongArguments = false
 readsStore WrongBudget = false
 
@@ -84,5 +94,6 @@ fileArgument (Start task budget stored) = 3
 fileArgument Translate = 3
 fileArgument Writes = 3
 fileArgument Join = 2
+fileArgument (Page form) = 3
 fileArgument WrongArguments = 3
 fileArgument WrongBudget = 3

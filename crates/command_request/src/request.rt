@@ -8,7 +8,7 @@ ghost use Rattle.words.specs.Word.{pick};
 ghost use Rattle.text_form.specs.Reader.{digitsValue};
 ghost use Rattle.command_request.specs.declared.request.Verb.the-variants.{Start as StartVerb};
 ghost use Rattle.command_request.specs.declared.request.Request.the-variants.{WrongArguments};
-ghost use Rattle.command_request.specs.Requests.{sameBytes, verbOf, startRequest, requestBy, requestOf, readsText, readsStore, fileArgument};
+ghost use Rattle.command_request.specs.Requests.{sameBytes, kernelVerbOf, verbOf, startRequest, requestBy, requestOf, readsText, readsStore, fileArgument};
 
 // What starts from a store: the run of a program, the preview of a source program's run, or the run of a kernel program that a dispatcher
 // sees.
@@ -25,17 +25,19 @@ pub enum Verb {
     Translate,
     Writes,
     Join,
+    Page(Form),
     Unknown,
 }
 
 // What all arguments ask for; what starts from a store has its budget, and says whether a store file is named. A join names a file with the
-// second text.
+// second text. A page is that of a kernel text, or of the translation of a source text.
 pub enum Request {
     Check(Form),
     Start(Task, u32, bool),
     Translate,
     Writes,
     Join,
+    Page(Form),
     WrongArguments,
     WrongBudget,
 }
@@ -56,6 +58,26 @@ fn is_same(bytes: &[u8], name: &[u8]) -> bool
     true
 }
 
+// The names of what is done with a kernel text.
+fn kernel_verb_of(name: &[u8]) -> Verb
+    ensures { λ r. ⌜ r ≡ kernelVerbOf (now (name .entry)) ⌝ }
+{
+    if is_same(name, b"kernel-check") {
+        return Verb::Check(Form::Kernel);
+    }
+    if is_same(name, b"kernel-run") {
+        return Verb::Start(Task::Run(Form::Kernel));
+    }
+    if is_same(name, b"dispatcher-run") {
+        return Verb::Start(Task::DispatcherRun);
+    }
+    if is_same(name, b"page") {
+        return Verb::Page(Form::Kernel);
+    }
+    Verb::Unknown
+}
+
+// The names of what is done with a source text, then the others.
 fn verb_of(name: &[u8]) -> Verb
     ensures { λ r. ⌜ r ≡ verbOf (now (name .entry)) ⌝ }
 {
@@ -71,14 +93,8 @@ fn verb_of(name: &[u8]) -> Verb
     if is_same(name, b"translate") {
         return Verb::Translate;
     }
-    if is_same(name, b"kernel-check") {
-        return Verb::Check(Form::Kernel);
-    }
-    if is_same(name, b"kernel-run") {
-        return Verb::Start(Task::Run(Form::Kernel));
-    }
-    if is_same(name, b"dispatcher-run") {
-        return Verb::Start(Task::DispatcherRun);
+    if is_same(name, b"translate-page") {
+        return Verb::Page(Form::Source);
     }
     if is_same(name, b"writes") {
         return Verb::Writes;
@@ -86,7 +102,7 @@ fn verb_of(name: &[u8]) -> Verb
     if is_same(name, b"join") {
         return Verb::Join;
     }
-    Verb::Unknown
+    kernel_verb_of(name)
 }
 
 fn start_request(task: Task, budget: Digits, stored: bool) -> Request
@@ -140,6 +156,7 @@ fn request_by(verb: Verb, count: usize, second: &[u8]) -> Request
         Verb::Translate => alone(Request::Translate, count),
         Verb::Writes => alone(Request::Writes, count),
         Verb::Join => with_file(Request::Join, count),
+        Verb::Page(form) => alone(Request::Page(form), count),
         Verb::Unknown => Request::WrongArguments,
     }
 }
@@ -161,6 +178,7 @@ pub fn reads_text(request: Request) -> bool
         Request::Translate => true,
         Request::Writes => true,
         Request::Join => true,
+        Request::Page(_) => true,
         Request::WrongArguments => false,
         Request::WrongBudget => false,
     }
@@ -176,6 +194,7 @@ pub fn reads_store(request: Request) -> bool
         Request::Translate => false,
         Request::Writes => false,
         Request::Join => true,
+        Request::Page(_) => false,
         Request::WrongArguments => false,
         Request::WrongBudget => false,
     }
@@ -191,6 +210,7 @@ pub fn file_argument(request: Request) -> usize
         Request::Translate => 3,
         Request::Writes => 3,
         Request::Join => 2,
+        Request::Page(_) => 3,
         Request::WrongArguments => 3,
         Request::WrongBudget => 3,
     }

@@ -32,7 +32,7 @@ pub record Taken (form : Form) (program : Program) (header rows : List ℤ) : Ty
   pub rows-room : length (program .rows) ≤ length rows
 
 -- a refusal and its line
-refused-line : {number place cause line : ℕ} → refused number place ≡ refused cause line → refusedLine number place ≡ refusedLine cause line
+pub refused-line : {number place cause line : ℕ} → refused number place ≡ refused cause line → refusedLine number place ≡ refusedLine cause line
 refused-line {number} {place} {cause} {line} e = let n : number ≡ cause = cc in let p : place ≡ line = cc in rw (n, p)
 
 module _ {form : Form} {program : Program} {header rows : List ℤ} (t : Taken form program header rows) where

@@ -3,12 +3,20 @@ use text_form::ReadAnswer;
 use text_form::writer::put_text;
 use text_form::writer::size_of;
 use words::Form;
+ghost use mathlib.Core.Path.{_≡_};
 ghost use Prim.Native.Nat.{_≤_};
 ghost use lib.ListN.{length};
 ghost use Rattle.text_form.specs.Text.{textBytes};
 ghost use Rattle.text_form.specs.Writer.{Put};
 ghost use Rattle.command_text.specs.Texts.{Roomy, outputRoom, Printable, textOutput};
 ghost use Rattle.command_text.specs.Read.{ReadFor};
+
+// Bytes that every output has room in.
+pub fn output_room() -> usize
+    ensures { λ r. ⌜ r ≡ outputRoom ⌝ }
+{
+    2950968
+}
 
 // Reads a program into tables as long as a legal one needs.
 pub fn read_program(form: Form, text: &[u8], header: &mut [i32], rows: &mut [i32]) -> ReadAnswer

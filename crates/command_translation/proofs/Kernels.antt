@@ -9,7 +9,7 @@ use Rattle.words.specs.Laws.{headerFits-facts, countFits-facts}
 use Rattle.words.specs.declared.Form.the-variants.{Kernel}
 use Rattle.words.specs.declared.Refusal.{Refusal}
 use Rattle.words.specs.declared.Verdict.{Verdict}
-use Rattle.words.specs.declared.Verdict.the-variants.{Accepted}
+use Rattle.words.specs.declared.Verdict.the-variants.{Accepted, Refused}
 use Rattle.text_form.specs.Text.{textBytes}
 use Rattle.text_form.specs.AnswerLaws.{Passes}
 use Rattle.report.specs.Lines.{refusedLine}
@@ -26,6 +26,9 @@ use Rattle.command_translation.specs.Translations.{verdictText, kernelTe
 pub record TranslatedTables (header rows headerLeft rowsLeft : List ℤ) (numbers words : ℕ) : Type 0 where
   pub header-inside : numbers ≤ length headerLeft
   pub rows-inside : words ≤ length rowsLeft
+  pub accepted : sourceRefusal header rows ≡ Accepted
+  pub header-is : take (numbers - 0) headerLeft ≡ kernelHeaderOf header rows
+  pub rows-is : take (words - 0) rowsLeft ≡ kernelRowsOf header rows
   pub printable : Printable (take (numbers - 0) headerLeft) (take (words - 0) rowsLeft)
   pub is : textBytes (take (numbers - 0) headerLeft) (take (words - 0) rowsLeft) ≡ kernelText header rows
 
@@ -41,11 +44,15 @@ module _ (header rows : List ℤ) {headerTable rowsTable : List ℤ} (r : Roomy 
         rows-room = omega (arith, countFits-facts Kernel (length (kernelRowsOf header rows)) (p .count-fits) .most, r .rows-room);
       }
 
+  pub refused-source : (refusal : Refusal) (headerLeft rowsLeft : List ℤ) → answerAndTables (TranslateRefused refusal) headerLeft rowsLeft ≡ translateResult header rows headerTable rowsTable
+      → sourceRefusal header rows ≡ Refused refusal
+  refused-source refusal headerLeft rowsLeft e = translation-refused header rows headerTable rowsTable headerLeft rowsLeft refusal has-room e
+
   -- the line of a refusal
   pub refused-translation : (refusal : Refusal) (headerLeft rowsLeft : List ℤ) → answerAndTables (TranslateRefused refusal) headerLeft rowsLeft ≡ translateResult header rows headerTable rowsTable
       → refusedLine (refusal .number) (refusal .place) ≡ kernelText header rows
   refused-translation refusal headerLeft rowsLeft e =
-      ap (λ (v : Verdict). verdictText v header rows) (sym (translation-refused header rows headerTable rowsTable headerLeft rowsLeft refusal has-room e))
+      ap (λ (v : Verdict). verdictText v header rows) (sym (refused-source refusal headerLeft rowsLeft e))
 
   pub translated : {numbers words : ℕ} {headerLeft rowsLeft : List ℤ} → answerAndTables (Translated numbers words) headerLeft rowsLeft ≡ translateResult header rows headerTable rowsTable
       → length headerLeft ≡ length headerTable → length rowsLeft ≡ length rowsTable → TranslatedTables header rows headerLeft rowsLeft numbers words
@@ -54,6 +61,9 @@ module _ (header rows : List ℤ) {headerTable rowsTable : List ℤ} (r : Roomy 
       record {
         header-inside = omega (arith, made .header-room, h);
         rows-inside = omega (arith, made .rows-room, g);
+        accepted = made .accepted;
+        header-is = made .header-written;
+        rows-is = made .rows-written;
         printable = record { form = Kernel; passes = rw (made .header-written, made .rows-written) (kernel-passes (made .accepted)) };
         is = rw (made .header-written, made .rows-written) (ap (λ (v : Verdict). verdictText v header rows) (sym (made .accepted)));
       }

@@ -1,4 +1,6 @@
 // What `translate` prints. A writer puts its bytes at the start of `out`, and answers how many they are.
+pub mod pages; // pages.rt: what `page` and `translate-page` print
+
 use clight::translate::translate;
 use command_text::put_program;
 use report::line::refused_line;

@@ -37,6 +37,12 @@ enum-told-3 c = search needs
 join-answer-requires : tie.Need-join-answer-requires
 join-answer-requires c κs = c .before .before .before .before .before .before .pre .1 .1
 
+enum-known-request-3 : tie.Need-enum-known-request-3
+enum-known-request-3 c = search needs
+
+page-answer-requires : tie.Need-page-answer-requires
+page-answer-requires c κs = (c .before .before .before .before .before .before .before .before .before .pre .0, c .before .before .before .before .before .before .before .before .before .pre .1 .1)
+
 enum-told-4 : tie.Need-enum-told-4
 enum-told-4 c = search needs
 
@@ -111,16 +117,29 @@ returns-5 c = rw (c .before .before .before .before .enum-told3 .given .1) (c .b
 same-length-14 : tie.Need-same-length-14
 same-length-14 c = search needs
 
-returns-6 : tie.Need-returns-6
-unfolding requestOutput
-returns-6 c = rw (c .before .before .before .before .enum-told4 .given .1) (c .before .before .usage-line .ensures)
-
 same-length-15 : tie.Need-same-length-15
 same-length-15 c = search needs
 
+same-length-16 : tie.Need-same-length-16
+same-length-16 c = search needs
+
+returns-6 : tie.Need-returns-6
+unfolding requestOutput
+returns-6 c = rw (c .before .before .before .before .before .before .before .before .before .request3 .given .1) (c .before .before .before .before .page-answer .ensures)
+
+same-length-17 : tie.Need-same-length-17
+same-length-17 c = search needs
+
 returns-7 : tie.Need-returns-7
 unfolding requestOutput
-returns-7 c = rw (c .before .before .before .before .enum-told5 .given .1) (c .before .before .wrong-budget-line .ensures)
+returns-7 c = rw (c .before .before .before .before .enum-told4 .given .1) (c .before .before .usage-line .ensures)
+
+same-length-18 : tie.Need-same-length-18
+same-length-18 c = search needs
+
+returns-8 : tie.Need-returns-8
+unfolding requestOutput
+returns-8 c = rw (c .before .before .before .before .enum-told5 .given .1) (c .before .before .wrong-budget-line .ensures)
 
 pub request-answer-spec : {M : Type 1} → statement M
 request-answer-spec =
@@ -136,6 +155,8 @@ request-answer-spec =
     writes-answer-requires
     enum-told-3
     join-answer-requires
+    enum-known-request-3
+    page-answer-requires
     enum-told-4
     usage-line-requires
     enum-told-5
@@ -159,6 +180,10 @@ request-answer-spec =
     same-length-13
     returns-5
     same-length-14
-    returns-6
     same-length-15
-    returns-7)
+    same-length-16
+    returns-6
+    same-length-17
+    returns-7
+    same-length-18
+    returns-8)

@@ -34,6 +34,12 @@ enum-told-3 c = search needs
 with-file-requires : tie.Need-with-file-requires
 with-file-requires c κs = search needs
 
+enum-known-verb-3 : tie.Need-enum-known-verb-3
+enum-known-verb-3 c = search needs
+
+alone-requires-4 : tie.Need-alone-requires-4
+alone-requires-4 c κs = search needs
+
 enum-told-4 : tie.Need-enum-told-4
 enum-told-4 c = search needs
 
@@ -58,7 +64,11 @@ returns-5 c = rw (c .before .enum-told3 .given .1) (c .with-file .ensures)
 
 returns-6 : tie.Need-returns-6
 unfolding requestBy
-returns-6 c = rw (c .enum-told4 .given .1)
+returns-6 c = rw (c .before .before .verb3 .given .1) (c .alone4 .ensures)
+
+returns-7 : tie.Need-returns-7
+unfolding requestBy
+returns-7 c = rw (c .enum-told4 .given .1)
 
 pub request-by-spec : {M : Type 1} → statement M
 request-by-spec =
@@ -74,10 +84,13 @@ request-by-spec =
     alone-requires-3
     enum-told-3
     with-file-requires
+    enum-known-verb-3
+    alone-requires-4
     enum-told-4
     returns
     returns-2
     returns-3
     returns-4
     returns-5
-    returns-6)
+    returns-6
+    returns-7)

@@ -1,4 +1,4 @@
--- `verb_of` tries the names one after the other.
+-- `verb_of` tries the names one after the other, then those of the other texts.
 use mathlib.Core.Path.{sym, _∙_}
 use borrow.Author.Needs.{needs}
 use Rattle.command_request.specs.Requests.{verbOf}
@@ -75,29 +75,12 @@ returns-7 : tie.Need-returns-7
 unfolding verbOf
 returns-7 c = rw (sym (c .before .before .before .before .before .before .before .before .before .before .before .before .before .before .before .before .before .before .before .is-same .ensures) ∙ c .before .before .before .before .before .before .before .before .before .before .before .before .before .before .before .before .before .before .if1 .left, sym (c .before .before .before .before .before .before .before .before .before .before .before .before .before .before .before .before .is-same2 .ensures) ∙ c .before .before .before .before .before .before .before .before .before .before .before .before .before .before .before .if2 .left, sym (c .before .before .before .before .before .before .before .before .before .before .before .before .before .is-same3 .ensures) ∙ c .before .before .before .before .before .before .before .before .before .before .before .before .if3 .left, sym (c .before .before .before .before .before .before .before .before .before .before .is-same4 .ensures) ∙ c .before .before .before .before .before .before .before .before .before .if4 .left, sym (c .before .before .before .before .before .before .before .is-same5 .ensures) ∙ c .before .before .before .before .before .before .if5 .left, sym (c .before .before .before .before .is-same6 .ensures) ∙ c .before .before .before .if6 .left, sym (c .before .is-same7 .ensures) ∙ c .if7 .taken)
 
-slice-aggregate-is-same-8 : tie.Need-slice-aggregate-is-same-8
-slice-aggregate-is-same-8 c = search needs
-
-is-same-requires-8 : tie.Need-is-same-requires-8
-is-same-requires-8 c κs = search needs
+kernel-verb-of-requires : tie.Need-kernel-verb-of-requires
+kernel-verb-of-requires c κs = search needs
 
 returns-8 : tie.Need-returns-8
 unfolding verbOf
-returns-8 c = rw (sym (c .before .before .before .before .before .before .before .before .before .before .before .before .before .before .before .before .before .before .before .before .before .before .is-same .ensures) ∙ c .before .before .before .before .before .before .before .before .before .before .before .before .before .before .before .before .before .before .before .before .before .if1 .left, sym (c .before .before .before .before .before .before .before .before .before .before .before .before .before .before .before .before .before .before .before .is-same2 .ensures) ∙ c .before .before .before .before .before .before .before .before .before .before .before .before .before .before .before .before .before .before .if2 .left, sym (c .before .before .before .before .before .before .before .before .before .before .before .before .before .before .before .before .is-same3 .ensures) ∙ c .before .before .before .before .before .before .before .before .before .before .before .before .before .before .before .if3 .left, sym (c .before .before .before .before .before .before .before .before .before .before .before .before .before .is-same4 .ensures) ∙ c .before .before .before .before .before .before .before .before .before .before .before .before .if4 .left, sym (c .before .before .before .before .before .before .before .before .before .before .is-same5 .ensures) ∙ c .before .before .before .before .before .before .before .before .before .if5 .left, sym (c .before .before .before .before .before .before .before .is-same6 .ensures) ∙ c .before .before .before .before .before .before .if6 .left, sym (c .before .before .before .before .is-same7 .ensures) ∙ c .before .before .before .if7 .left, sym (c .before .is-same8 .ensures) ∙ c .if8 .taken)
-
-slice-aggregate-is-same-9 : tie.Need-slice-aggregate-is-same-9
-slice-aggregate-is-same-9 c = search needs
-
-is-same-requires-9 : tie.Need-is-same-requires-9
-is-same-requires-9 c κs = search needs
-
-returns-9 : tie.Need-returns-9
-unfolding verbOf
-returns-9 c = rw (sym (c .before .before .before .before .before .before .before .before .before .before .before .before .before .before .before .before .before .before .before .before .before .before .before .before .before .is-same .ensures) ∙ c .before .before .before .before .before .before .before .before .before .before .before .before .before .before .before .before .before .before .before .before .before .before .before .before .if1 .left, sym (c .before .before .before .before .before .before .before .before .before .before .before .before .before .before .before .before .before .before .before .before .before .before .is-same2 .ensures) ∙ c .before .before .before .before .before .before .before .before .before .before .before .before .before .before .before .before .before .before .before .before .before .if2 .left, sym (c .before .before .before .before .before .before .before .before .before .before .before .before .before .before .before .before .before .before .before .is-same3 .ensures) ∙ c .before .before .before .before .before .before .before .before .before .before .before .before .before .before .before .before .before .before .if3 .left, sym (c .before .before .before .before .before .before .before .before .before .before .before .before .before .before .before .before .is-same4 .ensures) ∙ c .before .before .before .before .before .before .before .before .before .before .before .before .before .before .before .if4 .left, sym (c .before .before .before .before .before .before .before .before .before .before .before .before .before .is-same5 .ensures) ∙ c .before .before .before .before .before .before .before .before .before .before .before .before .if5 .left, sym (c .before .before .before .before .before .before .before .before .before .before .is-same6 .ensures) ∙ c .before .before .before .before .before .before .before .before .before .if6 .left, sym (c .before .before .before .before .before .before .before .is-same7 .ensures) ∙ c .before .before .before .before .before .before .if7 .left, sym (c .before .before .before .before .is-same8 .ensures) ∙ c .before .before .before .if8 .left, sym (c .before .is-same9 .ensures) ∙ c .if9 .taken)
-
-returns-10 : tie.Need-returns-10
-unfolding verbOf
-returns-10 c = rw (sym (c .before .before .before .before .before .before .before .before .before .before .before .before .before .before .before .before .before .before .before .before .before .before .before .before .before .is-same .ensures) ∙ c .before .before .before .before .before .before .before .before .before .before .before .before .before .before .before .before .before .before .before .before .before .before .before .before .if1 .left, sym (c .before .before .before .before .before .before .before .before .before .before .before .before .before .before .before .before .before .before .before .before .before .before .is-same2 .ensures) ∙ c .before .before .before .before .before .before .before .before .before .before .before .before .before .before .before .before .before .before .before .before .before .if2 .left, sym (c .before .before .before .before .before .before .before .before .before .before .before .before .before .before .before .before .before .before .before .is-same3 .ensures) ∙ c .before .before .before .before .before .before .before .before .before .before .before .before .before .before .before .before .before .before .if3 .left, sym (c .before .before .before .before .before .before .before .before .before .before .before .before .before .before .before .before .is-same4 .ensures) ∙ c .before .before .before .before .before .before .before .before .before .before .before .before .before .before .before .if4 .left, sym (c .before .before .before .before .before .before .before .before .before .before .before .before .before .is-same5 .ensures) ∙ c .before .before .before .before .before .before .before .before .before .before .before .before .if5 .left, sym (c .before .before .before .before .before .before .before .before .before .before .is-same6 .ensures) ∙ c .before .before .before .before .before .before .before .before .before .if6 .left, sym (c .before .before .before .before .before .before .before .is-same7 .ensures) ∙ c .before .before .before .before .before .before .if7 .left, sym (c .before .before .before .before .is-same8 .ensures) ∙ c .before .before .before .if8 .left, sym (c .before .is-same9 .ensures) ∙ c .if9 .left)
+returns-8 c = rw (sym (c .before .before .before .before .before .before .before .before .before .before .before .before .before .before .before .before .before .before .before .before .is-same .ensures) ∙ c .before .before .before .before .before .before .before .before .before .before .before .before .before .before .before .before .before .before .before .if1 .left, sym (c .before .before .before .before .before .before .before .before .before .before .before .before .before .before .before .before .before .is-same2 .ensures) ∙ c .before .before .before .before .before .before .before .before .before .before .before .before .before .before .before .before .if2 .left, sym (c .before .before .before .before .before .before .before .before .before .before .before .before .before .before .is-same3 .ensures) ∙ c .before .before .before .before .before .before .before .before .before .before .before .before .before .if3 .left, sym (c .before .before .before .before .before .before .before .before .before .before .before .is-same4 .ensures) ∙ c .before .before .before .before .before .before .before .before .before .before .if4 .left, sym (c .before .before .before .before .before .before .before .before .is-same5 .ensures) ∙ c .before .before .before .before .before .before .before .if5 .left, sym (c .before .before .before .before .before .is-same6 .ensures) ∙ c .before .before .before .before .if6 .left, sym (c .before .before .is-same7 .ensures) ∙ c .before .if7 .left) (c .kernel-verb-of .ensures)
 
 pub verb-of-spec : {M : Type 1} → statement M
 verb-of-spec =
@@ -124,10 +107,5 @@ verb-of-spec =
     slice-aggregate-is-same-7
     is-same-requires-7
     returns-7
-    slice-aggregate-is-same-8
-    is-same-requires-8
-    returns-8
-    slice-aggregate-is-same-9
-    is-same-requires-9
-    returns-9
-    returns-10)
+    kernel-verb-of-requires
+    returns-8)

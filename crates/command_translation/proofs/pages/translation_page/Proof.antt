@@ -1,0 +1,90 @@
+-- `translation_page`: the refusal of the reader, or the page of the translation of what it read.
+use Rattle.text_form.specs.PutLaws.{put-as}
+use Rattle.command_text.proofs.Printing.{source-roomy}
+use Rattle.command_translation.specs.Pages.{translationPage, pageOutput}
+use borrow.Author.Needs.{needs}
+use Rattle.command_translation.proofs.pages.translation_page.Statement.{statement}
+use Rattle.command_translation.proofs.pages.translation_page.Tie as tie
+
+slice-aggregate-read-program : tie.Need-slice-aggregate-read-program
+slice-aggregate-read-program c = search needs
+
+slice-aggregate-read-program-2 : tie.Need-slice-aggregate-read-program-2
+slice-aggregate-read-program-2 c = search needs
+
+read-program-requires : tie.Need-read-program-requires
+read-program-requires c κs = source-roomy
+
+enum-known-answer : tie.Need-enum-known-answer
+enum-known-answer c = search needs
+
+refused-line-requires : tie.Need-refused-line-requires
+refused-line-requires c κs = search needs
+
+enum-known-answer-2 : tie.Need-enum-known-answer-2
+enum-known-answer-2 c = search needs
+
+sub-put-translation-page : tie.Need-sub-put-translation-page
+sub-put-translation-page c = search needs
+
+part-put-translation-page-start : tie.Need-part-put-translation-page-start
+part-put-translation-page-start c = search needs
+
+part-put-translation-page-end : tie.Need-part-put-translation-page-end
+part-put-translation-page-end c = (rw (c .before .before .answer2 .given .1) at (c .before .before .before .before .before .before .read-program .ensures)) .header-inside
+
+sub-put-translation-page-2 : tie.Need-sub-put-translation-page-2
+sub-put-translation-page-2 c = search needs
+
+part-put-translation-page-start-2 : tie.Need-part-put-translation-page-start-2
+part-put-translation-page-start-2 c = search needs
+
+part-put-translation-page-end-2 : tie.Need-part-put-translation-page-end-2
+part-put-translation-page-end-2 c = (rw (c .before .before .before .before .answer2 .given .1) at (c .before .before .before .before .before .before .before .before .read-program .ensures)) .rows-inside
+
+put-translation-page-requires : tie.Need-put-translation-page-requires
+put-translation-page-requires c κs = search needs
+
+same-length : tie.Need-same-length
+same-length c = search needs
+
+returns : tie.Need-returns
+unfolding pageOutput
+returns c = put-as ((rw (c .before .before .before .before .before .answer .given .1) at (c .before .before .before .before .before .before .before .before .before .read-program .ensures)) translationPage) (c .before .before .refused-line .ensures)
+
+same-length-2 : tie.Need-same-length-2
+same-length-2 c = search needs
+
+same-length-3 : tie.Need-same-length-3
+same-length-3 c = search needs
+
+same-length-4 : tie.Need-same-length-4
+same-length-4 c = search needs
+
+returns-2 : tie.Need-returns-2
+unfolding pageOutput
+returns-2 c = put-as ((rw (c .before .before .before .before .before .before .before .before .before .before .before .before .before .answer2 .given .1) at (c .before .before .before .before .before .before .before .before .before .before .before .before .before .before .before .before .before .read-program .ensures)) .is translationPage) (c .before .before .before .before .put-translation-page .ensures)
+
+pub translation-page-spec : {M : Type 1} → statement M
+translation-page-spec =
+    tie.close
+    (tie.spec
+    slice-aggregate-read-program
+    slice-aggregate-read-program-2
+    read-program-requires
+    enum-known-answer
+    refused-line-requires
+    enum-known-answer-2
+    sub-put-translation-page
+    part-put-translation-page-start
+    part-put-translation-page-end
+    sub-put-translation-page-2
+    part-put-translation-page-start-2
+    part-put-translation-page-end-2
+    put-translation-page-requires
+    same-length
+    returns
+    same-length-2
+    same-length-3
+    same-length-4
+    returns-2)

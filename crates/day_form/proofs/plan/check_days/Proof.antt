@@ -1,12 +1,9 @@
+-- `check_days`: what `first_line` finds for 21, then what `first_outside` finds for 22.
 use mathlib.Core.Path.{sym, _∙_}
 use Rattle.day_form.proofs.Plans.{malformed-at, outside-at, days-accepted}
 use borrow.Author.Needs.{needs}
 use Rattle.day_form.proofs.plan.check_days.Statement.{statement}
 use Rattle.day_form.proofs.plan.check_days.Tie as tie
-use Rattle.day_form.proofs.plan.check_days.Reads as reads
-use Rattle.day_form.proofs.plan.check_days.Lts as lts
-use Rattle.day_form.proofs.lines.first_line.Reads as first-line-reads
-use Rattle.day_form.proofs.plan.first_outside.Reads as first-outside-reads
 
 add-t9 : tie.Need-add-t9
 add-t9 c = search needs

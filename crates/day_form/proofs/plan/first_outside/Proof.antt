@@ -1,11 +1,9 @@
+-- `first_outside`: the setting's own line, or the first day line that `first_line` finds.
 use mathlib.Core.Path.{_∙_}
 use Rattle.day_form.proofs.Plans.{setting-outside, setting-inside}
 use borrow.Author.Needs.{needs}
 use Rattle.day_form.proofs.plan.first_outside.Statement.{statement}
 use Rattle.day_form.proofs.plan.first_outside.Tie as tie
-use Rattle.day_form.proofs.plan.first_outside.Reads as reads
-use Rattle.day_form.proofs.plan.first_outside.Lts as lts
-use Rattle.day_form.proofs.lines.first_line.Reads as first-line-reads
 
 returns : tie.Need-returns
 returns c =

@@ -1,3 +1,4 @@
+-- `plan_lines`: the first line is the setting's, the others are the day's.
 use mathlib.Core.Path.{sym, ap, _∙_}
 use Rattle.text_form.specs.LineLaws.{lines-none}
 use Rattle.day_form.specs.Settings.{settingSays}
@@ -6,11 +7,6 @@ use Rattle.day_form.proofs.Plans.{setting-missing, setting-malformed, d
 use borrow.Author.Needs.{needs}
 use Rattle.day_form.proofs.plan.plan_lines.Statement.{statement}
 use Rattle.day_form.proofs.plan.plan_lines.Tie as tie
-use Rattle.day_form.proofs.plan.plan_lines.Reads as reads
-use Rattle.day_form.proofs.plan.plan_lines.Lts as lts
-use Rattle.day_form.proofs.lines.next_line.Reads as next-line-reads
-use Rattle.day_form.proofs.plan.check_days.Reads as check-days-reads
-use Rattle.day_form.proofs.setting.setting_of.Reads as setting-of-reads
 
 returns : tie.Need-returns
 returns c =

@@ -1,14 +1,10 @@
+-- `read_plan`: the lines behind the rule are those of the input's part, and counted in the whole input.
 use native.Mathlib.Omega.{arith}
 use Rattle.day_form.proofs.Bounds.{rule-inside}
 use Rattle.day_form.proofs.Plans.{lines-within, plan-planned, plan-refused}
 use borrow.Author.Needs.{needs}
 use Rattle.day_form.proofs.plan.read_plan.Statement.{statement}
 use Rattle.day_form.proofs.plan.read_plan.Tie as tie
-use Rattle.day_form.proofs.plan.read_plan.Reads as reads
-use Rattle.day_form.proofs.plan.read_plan.Lts as lts
-use Rattle.day_form.proofs.input.count_lines.Reads as count-lines-reads
-use Rattle.day_form.proofs.input.lines_start.Reads as lines-start-reads
-use Rattle.day_form.proofs.plan.plan_lines.Reads as plan-lines-reads
 
 lines-start-requires : tie.Need-lines-start-requires
 lines-start-requires c κs =

@@ -1,0 +1,45 @@
+-- `put_day`: a store of S zeros, then `put_day_on`.
+use mathlib.Core.Path.{ap, _∙_}
+use native.Mathlib.Omega.{arith}
+use Rattle.words.specs.Laws.{back, zeros-part}
+use Rattle.words.specs.Layout.{zeros}
+use Rattle.day_values.proofs.Printing.{rule-words}
+use borrow.Author.Needs.{needs}
+use Rattle.day_values.proofs.day.put_day.Statement.{statement}
+use Rattle.day_values.proofs.day.put_day.Tie as tie
+
+store-words-requires : tie.Need-store-words-requires
+store-words-requires c κs = search needs
+
+sub-put-day-on : tie.Need-sub-put-day-on
+sub-put-day-on c = search needs
+
+part-store-start : tie.Need-part-store-start
+part-store-start c = search needs
+
+part-store-end : tie.Need-part-store-end
+part-store-end c =
+    omega (arith, c .store-words .ensures, rule-words (c .before .before .before .pre .0 .rule))
+
+put-day-on-requires : tie.Need-put-day-on-requires
+put-day-on-requires c κs =
+    (c .before .before .before .before .before .pre .0, (zeros-part (c .before .before .store-words .result) 1024 (omega (arith, c .before .before .store-words .ensures, rule-words (c .before .before .before .before .before .pre .0 .rule))) ∙ ap zeros (c .before .before .store-words .ensures), c .before .before .before .before .before .pre .1))
+
+same-length : tie.Need-same-length
+same-length c = search needs
+
+returns : tie.Need-returns
+returns c =
+    rw (back _ (c .before .before .before .before .before .before .before .before .before .fits .value .sfits)) at (c .before .before .before .put-day-on .ensures)
+
+pub put-day-spec : {M : Type 1} → statement M
+put-day-spec =
+    tie.close
+    (tie.spec
+    store-words-requires
+    sub-put-day-on
+    part-store-start
+    part-store-end
+    put-day-on-requires
+    same-length
+    returns)

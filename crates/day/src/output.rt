@@ -1,0 +1,56 @@
+// What is printed for an input, at the start of `output`; the answer is how many bytes it is.
+use day_form::input::rule_size;
+use day_form::plan::PlanAnswer;
+use day_form::plan::read_plan;
+use day_values::values::put_values;
+use report::line::refused_line;
+use rule_text::RuleAnswer;
+use rule_text::rule::read_rule;
+use words::table::natural;
+ghost use mathlib.Core.Path.{_≡_};
+ghost use Prim.Native.Nat.{_≤_};
+ghost use lib.ListN.{length};
+ghost use Rattle.words.specs.Layout.{layoutOf};
+ghost use Rattle.words.specs.declared.Form.the-variants.{Source};
+ghost use Rattle.text_form.specs.Writer.{Put};
+ghost use Rattle.rule_text.specs.Rules.{IsAccepted};
+ghost use Rattle.day_form.specs.Input.{ruleSize};
+ghost use Rattle.day_form.specs.Plans.{planOf};
+ghost use Rattle.day_values.specs.Conditions.{outputRoom};
+ghost use Rattle.day.specs.Output.{planOutput, dayOutput};
+
+// What stands behind an accepted rule of so many bytes: 21, then 22, then the values.
+fn put_plan(header: &[i32], rows: &[i32], input: &[u8], size: usize, output: &mut [u8]) -> usize
+    requires { ⌜ IsAccepted (now header) (now rows) ⌝ }
+    requires { ⌜ size ≡ ruleSize (now input) ⌝ }
+    requires { ⌜ outputRoom ≤ length (now output) ⌝ }
+    ensures { λ r. ⌜ Put (planOutput (now (header .entry)) (now (rows .entry)) (planOf (layoutOf Source (now (header .entry)) .variables) (now (input .entry)))) (now (output .entry)) r (now (output .exit)) ⌝ }
+{
+    let variables = natural(header[0]);
+    let answer = read_plan(variables, input, size);
+    match answer {
+        PlanAnswer::Planned(setting, at) => put_values(header, rows, setting, &input[at..], output),
+        PlanAnswer::Refused(refusal) => refused_line(refusal, output),
+    }
+}
+
+// The rule's own causes, then what stands behind it. The rule is read and checked once.
+pub fn day(input: &[u8], output: &mut [u8]) -> usize
+    requires { ⌜ outputRoom ≤ length (now output) ⌝ }
+    ensures { λ r. ⌜ Put (dayOutput (now (input .entry))) (now (output .entry)) r (now (output .exit)) ⌝ }
+{
+    let size = rule_size(input);
+    let mut header = [0i32; 34];
+    let mut rows = [0i32; 768];
+    let answer = read_rule(&input[0..size], &mut header, &mut rows);
+    match answer {
+        RuleAnswer::Accepted(header_words, row_words) => put_plan(
+            &header[0..header_words],
+            &rows[0..row_words],
+            input,
+            size,
+            output,
+        ),
+        RuleAnswer::Refused(refusal) => refused_line(refusal, output),
+    }
+}

@@ -12,9 +12,11 @@
 pub mod cases;
 pub mod check;
 pub mod damage;
+pub mod day;
 pub mod flat;
 pub mod form;
 pub mod generate;
+pub mod generate_day;
 pub mod generate_joins;
 pub mod generate_kernel;
 pub mod join;

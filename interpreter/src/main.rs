@@ -4,7 +4,9 @@ use interpreter::cases::{self, Case};
 use interpreter::generate::{self, Size};
 use interpreter::tally::Tally;
 use interpreter::Form::{self, Kernel, Source};
-use interpreter::{check, damage, generate_joins, generate_kernel, page, rules, text, trial};
+use interpreter::{
+    check, damage, day, generate_day, generate_joins, generate_kernel, page, rules, text, trial,
+};
 use std::io::{self, Read, Write};
 use std::process::ExitCode;
 
@@ -34,6 +36,8 @@ Texts and case files are read from standard input.
                              its refusal. The kernel's line is not printed:
                              there is no translation here, and whether its run
                              stays within the budget is not known.
+  day                        what the day program prints for its input
+  generate-day SEED NUMBER   the input of one day, legal or damaged
   generate SEED COUNT        generated cases, numbers 0 to COUNT - 1
   generate SEED COUNT FIRST  the same, from number FIRST on
   generate SEED COUNT large  of 300 to 2,048 rows
@@ -112,6 +116,8 @@ fn act(arguments: &[&str], tally: bool) -> Result<Vec<u8>, String> {
         ["read-page", header @ ..] => read_page(header),
         ["kernel-run", budget, words @ ..] => run_text(Kernel, budget, words),
         ["trial"] => Ok(line(trial::trial(&input()?))),
+        ["day"] => Ok(day::day(&input()?).into_bytes()),
+        ["generate-day", seed, which] => Ok(generate_day::input(number(seed)?, number(which)?)),
         ["rules"] => Ok(output(Source, rules::rules().into_iter().map(|rule| rule.case), tally)),
         ["rules", "names"] => Ok(rules::rules()
             .iter()

@@ -19,7 +19,8 @@ pub fn trial(bytes: &[u8]) -> String {
     }
 }
 
-fn source_line(bytes: &[u8]) -> Result<String, Refusal> {
+/// A rule's program, within the trial's limits: 2 for the length, 14, 1, 2.
+pub fn read_rule(bytes: &[u8]) -> Result<text::Program, Refusal> {
     if bytes.len() > MAX_BYTES {
         return Err(Refusal::new(2, 0));
     }
@@ -32,6 +33,11 @@ fn source_line(bytes: &[u8]) -> Result<String, Refusal> {
     if rows.len() > MAX_TRIAL_ROWS * WORDS {
         return Err(Refusal::new(2, 0));
     }
+    Ok((header, rows))
+}
+
+fn source_line(bytes: &[u8]) -> Result<String, Refusal> {
+    let (header, rows) = read_rule(bytes)?;
     let mut store = vec![0; Source.store_words(&header)];
     let outcome = run(Source, &header, &rows, &mut store, BUDGET)?;
     Ok(cases::source_line(outcome, &store, &rows))

@@ -59,7 +59,7 @@ first-other byte least most more (x ∷ xs) ys h b o = rw (ne-eqb x byte (λ e. 
 
 -- ---- numbers and operators
 
-number-complete : (bound n : ℕ) → n < bound → numberRead bound (digits n) ≡ number-cases.Number n
+pub number-complete : (bound n : ℕ) → n < bound → numberRead bound (digits n) ≡ number-cases.Number n
 unfolding numberRead
 number-complete bound n h = rw (natural-shows n, lt-ltb n bound h)
 

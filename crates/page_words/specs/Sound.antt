@@ -61,7 +61,7 @@ unfolding numberBytes positive
 natural-sound bytes n h e = number-reads bytes (pos n) (natural-plain bytes n e ∙ word-is (pos n) (omega arith)) .written
 
 -- what a word is that is read as a number, with its bound
-below-sound : (bound : ℕ) (word : List ℕ) (n : ℕ) → bound ≤ 2147483648 → numberRead bound word ≡ number-cases.Number n → (word ≡ digits n) × (n < bound)
+pub below-sound : (bound : ℕ) (word : List ℕ) (n : ℕ) → bound ≤ 2147483648 → numberRead bound word ≡ number-cases.Number n → (word ≡ digits n) × (n < bound)
 unfolding numberRead
 below-sound bound word n h = from (natural word) refl
   where

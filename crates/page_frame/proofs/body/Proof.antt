@@ -1,0 +1,54 @@
+use mathlib.Core.Path.{ap, _∙_}
+use native.Mathlib.Omega.{arith}
+use Rattle.page_frame.specs.Frames.{levelled}
+use Rattle.page_frame.specs.BlankLaws.{filled-within}
+use Rattle.page_frame.proofs.Steps.{body-short, body-long}
+use borrow.Author.Needs.{needs}
+use Rattle.page_frame.proofs.body.Statement.{statement}
+use Rattle.page_frame.proofs.body.Tie as tie
+use Rattle.page_frame.proofs.body.Reads as reads
+use Rattle.page_frame.proofs.body.Lts as lts
+use Rattle.page_frame.proofs.at_level.Reads as at-level-reads
+use Rattle.page_frame.proofs.filled_size.Reads as filled-size-reads
+use Rattle.page_frame.proofs.leading_blanks.Reads as leading-blanks-reads
+use Rattle.page_words.proofs.lines.line.Reads as line-reads
+
+leading-blanks-requires : tie.Need-leading-blanks-requires
+leading-blanks-requires c κs = search needs
+
+filled-size-requires : tie.Need-filled-size-requires
+filled-size-requires c κs = search needs
+
+returns : tie.Need-returns
+returns c =
+    body-short (c .before .before .before .before .args .names) (c .before .before .before .before .args .depth) (c .before .before .before .before .args .text .now) (c .before .before .leading-blanks .result) (c .before .filled-size .result) (c .before .before .leading-blanks .ensures) (c .before .filled-size .ensures) (c .if1 .taken)
+
+part-line-start : tie.Need-part-line-start
+part-line-start c = search needs
+
+part-line-end : tie.Need-part-line-end
+part-line-end c =
+    omega (arith, c .before .filled-size .ensures, filled-within (c .before .before .before .before .args .text .now))
+
+line-requires : tie.Need-line-requires
+line-requires c κs = search needs
+
+at-level-requires : tie.Need-at-level-requires
+at-level-requires c κs = search needs
+
+returns-2 : tie.Need-returns-2
+returns-2 c =
+    c .at-level .ensures ∙ ap (levelled (c .before .before .before .before .before .before .before .args .depth) (c .before .before .before .before .before .leading-blanks .result)) (c .before .line .ensures) ∙ body-long (c .before .before .before .before .before .before .before .args .names) (c .before .before .before .before .before .before .before .args .depth) (c .before .before .before .before .before .before .before .args .text .now) (c .before .before .before .before .before .leading-blanks .result) (c .before .before .before .before .filled-size .result) (c .before .before .before .before .before .leading-blanks .ensures) (c .before .before .before .before .filled-size .ensures) (c .before .before .before .if1 .left)
+
+pub body-spec : {M : Type 1} → statement M
+body-spec =
+    tie.close
+    (tie.spec
+    leading-blanks-requires
+    filled-size-requires
+    returns
+    part-line-start
+    part-line-end
+    line-requires
+    at-level-requires
+    returns-2)

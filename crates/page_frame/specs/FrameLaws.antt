@@ -1,0 +1,176 @@
+-- Laws of frames: what is read as a line are the bytes of that line, and the other way round.
+use mathlib.Core.Path.{_≡_, refl, sym, ap, ap₂, _∙_}
+use mathlib.Core.Bool.{Bool, true, false}
+use mathlib.Core.List.{List, [], _∷_, _++_, append-assoc, append-nil}
+use mathlib.Core.Logic.{_⊎_, inl, inr, ⊎-elim}
+use Prim.Native.Nat.{ℕ, suc, _+_, _-_, _*_, _≤_, _<_, min}
+use native.Mathlib.Omega.{arith}
+use lib.Dec.{eqb, ltb}
+use lib.ListN.{length, getD, take, drop, length-append, length-take, length-drop, take-append-drop, drop-of-length-le}
+use lib.Seq.{take-at, drop-at, getD-at, drop-cons, drop-drop}
+use borrow.Author.Tests.{eqb-true, eq-eqb, ltb-false, le-ltb}
+use Rattle.words.specs.Laws.{by-cases}
+use Rattle.text_form.specs.Number.{digits}
+use Rattle.text_form.specs.NumberLaws.{length-some}
+use Rattle.text_form.specs.PutLaws.{digits-within}
+use Rattle.page.specs.Lines.{indented}
+use Rattle.page.specs.Page.{blanks, rightSet, padded, parted, lineWords, indent, name, lineBytes}
+use Rattle.page.specs.WordLaws.{Between, digits-between}
+use Rattle.page.specs.Widths.{length-blanks, length-set, variable-width, temporary-width, line-width}
+use Rattle.page_words.specs.Texts.{lineText, LineFits}
+use Rattle.page_words.specs.Reads.{numberRead, lineRead}
+use Rattle.page_words.specs.Sound.{below-sound, line-sound}
+use Rattle.page_words.specs.Complete.{number-complete, line-complete}
+use Rattle.page_words.specs.CompareLaws.{never}
+use Rattle.page_words.specs.Trees.{lineTree, line-words, Named, line-fits}
+use Rattle.page_words.specs.declared.Names.{Names}
+use Rattle.page_words.specs.declared.NumberRead.{NumberRead}
+use Rattle.page_words.specs.declared.NumberRead.the-variants as number-cases
+use Rattle.page_words.specs.declared.LineRead.{LineRead}
+use Rattle.page_words.specs.declared.LineRead.the-variants as line-cases
+use Rattle.page_words.specs.declared.Atom.the-variants.{Constant, Variable, Temporary}
+use Rattle.page_words.specs.declared.Line.{Line}
+use Rattle.page_words.specs.declared.Line.the-variants.{Empty, Abort, Goto, Label, Store, Put, Opens, While, If, Turns, Closes}
+use Rattle.page_frame.specs.Frames.{leadingBlanks, filledSize, levelOf, isNumber, isNumbered, levelled, bodyRead, lineIn}
+use Rattle.page_frame.specs.BlankLaws.{leading-splits, leading-within, Begins, leading-is, filled-within, filled-splits, Ends, filled-is}
+
+-- The columns, a blank, the body and a newline.
+unfoldable pub framed : (columns body : List ℕ) → List ℕ
+framed columns body = columns ++ (32 ∷ (body ++ (10 ∷ [])))
+
+-- Parts put together in two ways.
+regrouped : (columns before text behind : List ℕ) → ((columns ++ (32 ∷ (before ++ text))) ++ behind) ++ (10 ∷ []) ≡ columns ++ (32 ∷ ((before ++ (text ++ behind)) ++ (10 ∷ [])))
+regrouped columns before text behind = simp append-assoc
+
+-- ---- what is read
+
+numbered-sound : (number : ℕ) (columns : List ℕ) → length columns ≡ 5 → isNumbered number columns ≡ true → columns ≡ rightSet 5 (digits number)
+unfolding isNumbered rightSet
+numbered-sound number columns five e = from (numberRead 100000 rest) refl e
+  where
+    rest : List ℕ
+    rest = drop (leadingBlanks columns) columns
+
+    from : (r : NumberRead) → numberRead 100000 rest ≡ r → isNumber number r ≡ true → columns ≡ blanks (5 - length (digits number)) ++ digits number
+    from number-cases.Malformed q t = never t
+    from (number-cases.Number n) q t =
+        let same : n ≡ number = eqb-true n number t in
+        let f : rest ≡ digits number = below-sound 100000 rest n (omega arith) q .0 ∙ ap digits same in
+        let size : length (digits number) ≡ 5 - leadingBlanks columns = ap length (sym f) ∙ length-drop (leadingBlanks columns) columns ∙ ap (λ (m : ℕ). m - leadingBlanks columns) five in
+        let lead : leadingBlanks columns ≡ 5 - length (digits number) = omega (arith, leading-within columns) in
+        leading-splits columns ∙ ap₂ (λ (m : ℕ) (l : List ℕ). blanks m ++ l) lead f
+
+level-sound : (depth start : ℕ) (r : LineRead) (line : Line) → levelled depth start r ≡ line-cases.Read line → (r ≡ line-cases.Read line) × (start ≡ indent (levelOf depth line))
+unfolding levelled
+level-sound depth start line-cases.Malformed line e = absurd (let z : _≡_ {A = ℕ} 0 1 = cc in omega arith)
+level-sound depth start (line-cases.Read found) line e =
+    by-cases (eqb start (indent (levelOf depth found)))
+    (λ t.
+    let same : line-cases.Read found ≡ line-cases.Read line = rw t at e in
+    let equal : found ≡ line = cc in
+    (same, eqb-true start (indent (levelOf depth found)) t ∙ ap (λ l. indent (levelOf depth l)) equal))
+    (λ t. absurd (let none : line-cases.Malformed ≡ line-cases.Read line = rw t at e in let z : _≡_ {A = ℕ} 0 1 = cc in omega arith))
+
+module _ (names : Names) (few-variables : names .variables ≤ 256) (few-temporaries : names .temporaries ≤ 8192) (few-arrays : names .arrays ≤ 32) where
+  -- what a body that is read as a line is: indent, statement, blanks
+  pub record IsBody (depth : ℕ) (body : List ℕ) (line : Line) : Type 0 where
+    pub fits : LineFits names line
+    pub tail : ℕ
+    pub written : body ≡ blanks (indent (levelOf depth line)) ++ (lineText line ++ blanks tail)
+
+  body-sound : (depth : ℕ) (body : List ℕ) (line : Line) → bodyRead names depth body ≡ line-cases.Read line → IsBody depth body line
+  unfolding bodyRead
+  body-sound depth body line e =
+      by-cases (ltb (filledSize body) (leadingBlanks body))
+      (λ t. absurd (let none : line-cases.Malformed ≡ line-cases.Read line = rw t at e in let z : _≡_ {A = ℕ} 0 1 = cc in omega arith))
+      (λ t.
+      let lead = leadingBlanks body in
+      let full = filledSize body in
+      let order : lead ≤ full = ltb-false full lead t in
+      let text = take (full - lead) (drop lead body) in
+      let l = level-sound depth lead (lineRead names text) line (rw t at e) in
+      let s = line-sound names few-variables few-temporaries few-arrays text line (l .0) in
+      let behind : drop (full - lead) (drop lead body) ≡ blanks (length body - full) =
+      drop-drop (full - lead) lead body ∙ ap (λ (n : ℕ). drop n body) (sum lead full order) ∙ filled-splits body in
+      record {
+        fits = s .1;
+        tail = length body - full;
+        written = leading-splits body ∙ ap₂ (λ (n : ℕ) (l : List ℕ). blanks n ++ l) (l .1) (sym (take-append-drop (full - lead) (drop lead body)) ∙ ap₂ (λ (l m : List ℕ). l ++ m) (s .0) behind);
+      })
+    where
+      sum : (lead full : ℕ) → lead ≤ full → lead + (full - lead) ≡ full
+      sum lead full h = omega arith
+
+  -- the parts of 81 bytes
+  parts : (line : List ℕ) → length line ≡ 81 → line ≡ take 5 line ++ (getD line 5 0 ∷ (take 74 (drop 6 line) ++ (getD line 80 0 ∷ [])))
+  parts line long =
+      let none : drop 81 line ≡ [] = drop-of-length-le line {i = 81} (omega arith) in
+      let last : drop 74 (drop 6 line) ≡ getD line 80 0 ∷ [] = drop-drop 74 6 line ∙ drop-cons line 80 0 (omega arith) ∙ ap (λ (l : List ℕ). getD line 80 0 ∷ l) none in
+      sym (take-append-drop 5 line)
+      ∙ ap (λ (l : List ℕ). take 5 line ++ l)
+      (drop-cons line 5 0 (omega arith) ∙ ap (λ (l : List ℕ). getD line 5 0 ∷ l) (sym (take-append-drop 74 (drop 6 line)) ∙ ap (λ (l : List ℕ). take 74 (drop 6 line) ++ l) last))
+
+  module _ (S : ℕ) (within : names .variables ≤ S) where
+    abbrev pub printed : ℕ → ℕ → Line → List ℕ
+    printed number level line = lineBytes S number (indented level (lineTree S line))
+
+    name-width : (i : ℕ) → Named S names within i → length (name S i) ≤ 5
+    name-width i = ⊎-elim (λ v. variable-width S i (omega arith)) (λ t. temporary-width S i (t .0) (omega (arith, t .1)))
+
+    pub width : (line : Line) → LineFits names line → length (lineText line) ≤ 35
+    width line h =
+        let f = line-width {Names = Named S names within} {arrays = names .arrays} S name-width few-arrays (lineTree S line) (line-fits S names within line h) in
+        rw (line-words S names within line h) at f
+
+    -- A printed line by its parts.
+    pub printed-is : (number level : ℕ) (line : Line) → LineFits names line → number < 100000
+        → printed number level line ≡ framed (rightSet 5 (digits number)) (blanks (indent level) ++ (lineText line ++ blanks (74 - indent level - length (lineText line))))
+    unfolding lineBytes padded framed
+    printed-is number level line h b =
+        let columns = rightSet 5 (digits number) in
+        let before = blanks (indent level) in
+        let text = lineText line in
+        let five : length columns ≡ 5 = length-set 5 (digits number) (digits-within 4 number (omega arith)) in
+        let size : length (columns ++ (32 ∷ (before ++ text))) ≡ 6 + indent level + length text =
+        omega (arith, length-append columns (32 ∷ (before ++ text)), length-append before text, length-blanks (indent level)) in
+        let spare : 80 - length (columns ++ (32 ∷ (before ++ text))) ≡ 74 - indent level - length text = omega (arith, size) in
+        ap (λ (said : List ℕ). ((columns ++ (32 ∷ (before ++ said))) ++ blanks (80 - length (columns ++ (32 ∷ (before ++ said))))) ++ (10 ∷ [])) (line-words S names within line h)
+        ∙ ap (λ (n : ℕ). ((columns ++ (32 ∷ (before ++ text))) ++ blanks n) ++ (10 ∷ [])) spare
+        ∙ regrouped columns before text (blanks (74 - indent level - length text))
+
+    -- What is read as a line are its bytes.
+    pub line-in-sound : (number depth : ℕ) (bytes : List ℕ) (line : Line) → number < 100000 → length bytes ≡ 81 → lineIn names number depth bytes ≡ line-cases.Read line
+        → (bytes ≡ printed number (levelOf depth line) line) × LineFits names line
+    unfolding lineIn
+    line-in-sound number depth bytes line few long e =
+        by-cases (isNumbered number (take 5 bytes))
+        (λ t. by-cases (eqb (getD bytes 5 0) 32)
+        (λ u. by-cases (eqb (getD bytes 80 0) 10)
+        (λ v. whole t (eqb-true _ _ u) (eqb-true _ _ v) (body-sound depth (take 74 (drop 6 bytes)) line (rw (t, u, v) at e)))
+        (λ v. no (rw (t, u, v) at e)))
+        (λ u. no (rw (t, u) at e)))
+        (λ t. no (rw t at e))
+      where
+        no : {G : Type 0} → line-cases.Malformed ≡ line-cases.Read line → G
+        no q = absurd (let z : _≡_ {A = ℕ} 0 1 = cc in omega arith)
+
+        body-long : length (take 74 (drop 6 bytes)) ≡ 74
+        body-long = length-take 74 (drop 6 bytes) ∙ omega (arith, length-drop 6 bytes)
+
+        columns-long : length (take 5 bytes) ≡ 5
+        columns-long = length-take 5 bytes ∙ omega arith
+
+        whole : isNumbered number (take 5 bytes) ≡ true → getD bytes 5 0 ≡ 32 → getD bytes 80 0 ≡ 10 → IsBody depth (take 74 (drop 6 bytes)) line
+            → (bytes ≡ printed number (levelOf depth line) line) × LineFits names line
+        whole t u v b =
+            let lead = indent (levelOf depth line) in
+            let text = lineText line in
+            let size : 74 ≡ lead + (length text + b .tail) =
+            sym body-long ∙ ap length (b .written) ∙ length-append (blanks lead) (text ++ blanks (b .tail)) ∙ ap₂ (λ (m n : ℕ). m + n) (length-blanks lead) (length-append text (blanks (b .tail)) ∙ ap (λ (n : ℕ). length text + n) (length-blanks (b .tail))) in
+            let tail : b .tail ≡ 74 - lead - length text = omega arith in (
+              parts bytes long
+                  ∙ ap₂ (λ (l m : List ℕ). l ++ m) (numbered-sound number (take 5 bytes) columns-long t)
+                  (ap₂ (λ (x : ℕ) (l : List ℕ). x ∷ l) u (ap₂ (λ (l : List ℕ) (x : ℕ). l ++ (x ∷ [])) (b .written ∙ ap (λ (n : ℕ). blanks lead ++ (text ++ blanks n)) tail) v))
+                  ∙ (unfold framed in sym (printed-is number (levelOf depth line) line (b .fits) few)),
+              b .fits,
+            )

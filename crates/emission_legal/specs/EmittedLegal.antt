@@ -16,7 +16,7 @@ use Rattle.language.specs.Sizes.{statementRows, statementDepth}
 use Rattle.language.specs.WellFormed.{SourceTree}
 use Rattle.translation.specs.Translate.{translate, temporaries, kernelHeader}
 use Rattle.translation.specs.KernelForm.{kernel-block, statementTimes, KernelTree}
-use Rattle.translation.specs.TranslateKernel.{translation-is-kernel, header-layout, header-temporaries, header-fits}
+use Rattle.translation_form.specs.TranslateKernel.{translation-is-kernel, header-layout, header-temporaries, header-fits}
 use Rattle.words.specs.Kinds.{sortOf, sortAt, kindOf, kindIn, kinds, sortIn, kindRow, expressionFields, statementFields, markFields}
 use Rattle.words.specs.Links.{isStatement}
 use Rattle.kernel_check.specs.Legal.{Legal}

@@ -26,11 +26,11 @@ use Rattle.language.specs.WellFormed.{SourceTree}
 use Rattle.translation.specs.Translate.{translate, temporaries}
 use Rattle.translation.specs.TranslatePreserves.{SameWords, SharedFate as TreesShareFate, translation-preserves}
 use Rattle.translation.specs.SameWrites.{SameWrites as TreesWriteAlike, translation-writes}
-use Rattle.translation.specs.TranslateBlind.{Shown, temporaries-hidden}
+use Rattle.translation_form.specs.TranslateBlind.{Shown, temporaries-hidden}
 use Rattle.translation.specs.TranslateBounds.{rows-bound, temporaries-bound}
 use Rattle.translation.specs.Copies.{statementCopies, ownCopies, ownResults, total}
 use Rattle.translation.specs.CopyLaws.{copies-exactly}
-use Rattle.translation.specs.TranslateKernel.{header-layout, header-temporaries}
+use Rattle.translation_form.specs.TranslateKernel.{header-layout, header-temporaries}
 use Rattle.emission.specs.EmissionLaws.{length-emit}
 use Rattle.emission_legal.specs.EmittedLegal.{translated-legal, translated-decodes}
 use Rattle.source_check.specs.Legal.{Legal}

@@ -15,7 +15,7 @@ use Rattle.language.specs.Program.{contents}
 use Rattle.language.specs.Sizes.{statementRows}
 use Rattle.translation.specs.Translate.{translate, temporaries}
 use Rattle.translation.specs.KernelForm.{itemsTimes, KernelTree}
-use Rattle.translation.specs.TranslateKernel.{translation-is-kernel, header-layout, header-temporaries}
+use Rattle.translation_form.specs.TranslateKernel.{translation-is-kernel, header-layout, header-temporaries}
 use Rattle.source_check.specs.Refusal.{refusal as sourceRefusal}
 use Rattle.source_check.specs.Legal.{Legal as SourceLegal}
 use Rattle.source_check.specs.AcceptsLegal.{accepts-legal as source-accepts}

@@ -40,30 +40,14 @@ pub mod TranslateRows
 pub mod TranslatePreserves
 -- Both runs make the same writes, also where they never end.
 pub mod SameWrites
--- ---- laws: kernel form and bounds
--- Every translation has kernel form: shapes and jumps.
-pub mod TranslateForm
+-- ---- laws: labels and bounds
 -- No label stands twice.
 pub mod TranslateLabels
--- The variables and arrays that a translation names.
-pub mod TranslateNames
 -- At most 20×n+20 rows, n temporaries, 2×n labels.
 pub mod TranslateBounds
--- At most twice the depth, plus 1.
-pub mod TranslateDepth
--- Every translation is a kernel program's tree.
-pub mod TranslateKernel
 -- ---- laws: no needless copy
 -- A translation copies a variable exactly where that is allowed.
 pub mod CopyLaws
--- ---- laws: values straight to their place
--- No program gets more rows or temporaries by it.
-pub mod Savings
--- ---- laws: temporaries do not show
--- Blind code: kernel code that reads no temporary before it has written it.
-pub mod BlindCode
--- Every translation is such code: two runs that start alike but for the temporaries show the same.
-pub mod TranslateBlind
 -- ---- laws: examples
 -- Document 01's program, a switch, both guarded forms, with their translations.
 pub mod WorkedExamples

@@ -12,7 +12,7 @@ use Rattle.words.specs.declared.Refusal.{Refusal}
 use Rattle.words.specs.declared.Verdict.the-variants.{Accepted, Refused as CheckRefused}
 use Rattle.language.specs.Program.{contents}
 use Rattle.translation.specs.Translate.{temporaries}
-use Rattle.translation.specs.TranslateKernel.{header-layout}
+use Rattle.translation_form.specs.TranslateKernel.{header-layout}
 use Rattle.fate.specs.KernelForms.{kernelHeaderOf, kernelRowsOf, KernelFormOf, HasKernelForm}
 use Rattle.translator.specs.declared.TranslateAnswer.the-variants.{Refused}
 use Rattle.translator.specs.Translation.{answerAndTables, translateResult}

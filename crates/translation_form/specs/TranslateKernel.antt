@@ -14,13 +14,13 @@ use Rattle.words.specs.declared.Form.the-variants.{Source, Kernel}
 use Rattle.language.specs.Trees.{block, Items, none}
 use Rattle.language.specs.Sizes.{statementRows, statementDepth}
 use Rattle.language.specs.WellFormed.{SourceTree}
 use Rattle.translation.specs.Translate.{exits, translate, temporaries, kernelHeader}
 use Rattle.translation.specs.KernelForm.{KernelTree, KernelName, name-variable, name-temporary}
-use Rattle.translation.specs.TranslateForm.{form-items}
+use Rattle.translation_form.specs.TranslateForm.{form-items}
 use Rattle.translation.specs.TranslateLabels.{labels-distinct}
-use Rattle.translation.specs.TranslateNames.{named-items, more-names}
+use Rattle.translation_form.specs.TranslateNames.{named-items, more-names}
 use Rattle.translation.specs.TranslateBounds.{rows-bound, temporaries-bound, labels-bound}
-use Rattle.translation.specs.TranslateDepth.{depth-bound}
+use Rattle.translation_form.specs.TranslateDepth.{depth-bound}
 
 -- Every translation is a kernel program.
 pub translation-is-kernel : (L : Layout) (program : Items) → SourceTree L program → statementRows (block program) ≤ 2048 → statementDepth (block program) ≤ 64 → KernelTree L (temporaries program) (translate L program)

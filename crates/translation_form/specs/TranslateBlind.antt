@@ -17,12 +17,12 @@ use Rattle.language.specs.Trees.{Expression, constant, read, minus, not, binary
 use Rattle.language.specs.Meaning.{Signal, next, breaking, continuing, seeking, perform, exec}
 use Rattle.language.specs.Writes.{writes, indexWrites}
 use Rattle.language.specs.WellFormed.{NamedExpression, NamedPlace, NamedPart, NamedStatement, NamedArms, NamedItems, SourceTree}
 use Rattle.translation.specs.Uses.{useFor, passedOn, direct}
 use Rattle.translation.specs.declared.Use.{Use}
 use Rattle.translation.specs.declared.Use.the-variants.{Dropped as dropped, Wanted as wanted, Stored as stored}
 use Rattle.translation.specs.Translate.{Atom, number, word, top, held, landed, updated, taken, placeTaken, atomOf, atom, copyCode, moveCode, readCode, storeCode, target, kernelPlace, assigning, choosing, temporary, updateCode, stepCode, postfixCode, expressionCode, indexCode, partCode, orEmpty, testCode, loopCode, caseTests, armCode, roundsCode, labels, Exits, exits, statementCode, armsCode, itemsCode, translate}
 use Rattle.translation.specs.HeldCode.{holdCode}
-use Rattle.translation.specs.BlindCode.{And, old, new, and-more, Seen, Reads, reads-constant, reads-word, reads-element, reads-minus, reads-binary, reads-more, after, BlindItems, items-less, items-none, items-here, items-empty, items-assign, items-element, items-block, items-if, items-goto, items-abort, items-while, items-append}
+use Rattle.translation_form.specs.BlindCode.{And, old, new, and-more, Seen, Reads, reads-constant, reads-word, reads-element, reads-minus, reads-binary, reads-more, after, BlindItems, items-less, items-none, items-here, items-empty, items-assign, items-element, items-block, items-if, items-goto, items-abort, items-while, items-append}
 
 module _ (L : Layout) (S : ℕ) (variables-inside : L .variables ≤ S) (arrays-inside : (array : ℕ) → array < length (L .lengths) → arrayBase L array + arrayLength L array ≤ S) where
   abbrev InRange : Expression → Type 0

@@ -94,9 +94,12 @@ fn damage_day(
         ]);
         let chosen = random.below(days.len().max(1));
         match random.below(16) {
-            0 => setting[0] = outside,
-            1 => setting[2] = setting[1] - 1,
-            2 => setting[2] = setting[1] + random.pick(&[100, 101, 1 << 31, (1 << 32) - 1, 99]),
+            0 => put(setting, 0, outside),
+            1 | 2 => {
+                let more = random.pick(&[-1, -1, -1, 100, 101, 1 << 31, (1 << 32) - 1, 99]);
+                let highest = setting.get(1).map_or(0, |lowest| lowest + more);
+                put(setting, 2, highest);
+            }
             3 => {
                 setting.pop();
             }
@@ -104,7 +107,7 @@ fn damage_day(
             5..=7 => {
                 if let Some(day) = days.get_mut(chosen) {
                     let pair = random.below(day.len().max(2) / 2);
-                    day[2 * pair] = outside;
+                    put(day, 2 * pair, outside);
                 }
             }
             8 => {
@@ -119,7 +122,7 @@ fn damage_day(
             }
             10 => {
                 if let Some(day) = days.get_mut(chosen) {
-                    day[0] = random.pick(&[1 << 31, -(1 << 31) - 1, 1 << 32]);
+                    put(day, 0, random.pick(&[1 << 31, -(1 << 31) - 1, 1 << 32]));
                 }
             }
             11 | 12 => days.resize(random.pick(&[199, 200, 201, 202]), vec![0, 1]),
@@ -127,6 +130,13 @@ fn damage_day(
             14 => *parting = random.pick(&[&b""[..], b"\n\n", b"\r\n", b" \n"]).to_vec(),
             _ => *setting = vec![0, i64::from(i32::MIN), i64::from(i32::MAX)],
         }
+    }
+}
+
+/// Another number at a place, where the line still has one there.
+fn put(line: &mut [i64], at: usize, number: i64) {
+    if let Some(old) = line.get_mut(at) {
+        *old = number;
     }
 }
 

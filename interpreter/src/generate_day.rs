@@ -1,4 +1,5 @@
-//! Inputs of the day program (document 02, change 12): legal ones, and ones damaged in each way that the request names.
+//! Inputs of the day program (document 02, change 12): legal ones, and ones damaged in each way that the request names, some of
+//! them longer than the program reads.
 
 use crate::damage::{self, damage_text};
 use crate::generate::{self, end_value, Size};
@@ -29,6 +30,10 @@ pub fn input(seed: u64, number: u64) -> Vec<u8> {
     }
     if random.chance(3) {
         behind.extend_from_slice(random.pick(&[&b"\n"[..], b" \n", b"0\t1", b"0\t1\r\n"]));
+    }
+    if random.chance(3) {
+        let more = random.pick(&[&b"0\t1\n"[..], b"1", b"\n", b"0\t1\t"]);
+        behind.extend(more.repeat(random.pick(&[300, 30_000, 100_000])));
     }
     if random.chance(3) {
         behind.clear();

@@ -1,0 +1,60 @@
+-- Scans: a page from its first line to its last: how many rows its program has, or the first line that is wrong. A line is wrong that is not
+-- 81 bytes of the grammar with its number and at its level, or that closes or turns where it must not; so is the line behind the last where
+-- a block is still open. "Up to 40,980 rows" have 81,958 lines at most: line 81,959 is wrong.
+use mathlib.Core.Bool.{Bool, true, false}
+use mathlib.Core.List.{List, [], _∷_}
+use Prim.Native.Nat.{ℕ, zero, suc, _+_, _*_, _/_, min}
+use lib.Dec.{eqb}
+use lib.ListN.{length, take, drop}
+use Rattle.page_words.specs.declared.Names.{Names}
+use Rattle.page_words.specs.declared.Value.{Value}
+use Rattle.page_words.specs.declared.Value.the-variants.{Single, Element, Minus, Binary}
+use Rattle.page_words.specs.declared.Line.{Line}
+use Rattle.page_words.specs.declared.Line.the-variants.{Empty, Abort, Goto, Label, Store, Put, Opens, While, If, Turns, Closes}
+use Rattle.page_words.specs.declared.LineRead.{LineRead}
+use Rattle.page_words.specs.declared.LineRead.the-variants as line-cases
+use Rattle.page_frame.specs.Frames.{lineIn}
+use Rattle.page_blocks.specs.Blocks.{Open, behind, onward}
+use Rattle.page_blocks.specs.declared.Scan.{Scan}
+use Rattle.page_blocks.specs.declared.Scan.the-variants.{Whole, Wrong}
+
+abbrev pub valueRows : Value → ℕ
+valueRows (Single a) = 1
+valueRows (Element array index) = 2
+valueRows (Minus a) = 2
+valueRows (Binary o a b) = 3
+
+-- The rows that a line has: its statement's, without those of the blocks between its lines. A branch's block has its row at the line that opens it.
+abbrev pub lineRows : Line → ℕ
+lineRows Empty = 1
+lineRows Abort = 1
+lineRows (Goto l) = 1
+lineRows (Label l) = 1
+lineRows (Store a v) = 3 + valueRows v
+lineRows (Put array index a) = 5
+lineRows Opens = 1
+lineRows (While a) = 3
+lineRows (If a) = 3
+lineRows Turns = 1
+lineRows Closes = 0
+
+-- Behind the last whole line: no byte is left, and no block is open.
+abbrev pub ended : Bool → Open → (rows next : ℕ) → Scan
+ended true [] rows next = Whole rows
+ended true (flag ∷ around) rows next = Wrong next
+ended false around rows next = Wrong next
+
+abbrev pub stepped : LineRead → (number : ℕ) → Open → (Line → Open → Scan) → Scan
+stepped line-cases.Malformed number around next = Wrong number
+stepped (line-cases.Read line) number around next = onward (Wrong number) (next line) (behind line around)
+
+module _ (names : Names) (page : List ℕ) where
+  -- So many lines are left, behind those that are done.
+  unfoldable pub scanFrom : (left done : ℕ) → Open → (rows : ℕ) → Scan
+  scanFrom zero done around rows = ended (eqb (81 * done) (length page)) around rows (done + 1)
+  scanFrom (suc left) done around rows =
+      stepped (lineIn names (done + 1) (length around) (take 81 (drop (81 * done) page))) (done + 1) around (λ line a. scanFrom left (done + 1) a (rows + lineRows line))
+
+  -- Row 0 has no line.
+  unfoldable pub scan : Scan
+  scan = scanFrom (min (length page / 81) 81958) 0 [] 1

@@ -1,0 +1,16 @@
+-- Names inside a block. A line of comment for each file.
+
+-- ---- definitions
+-- Names: the store word that a number means at a row, and the table in which each name stands for its store word.
+pub mod Names
+-- Examples: resolved tables, by computing.
+pub mod Examples
+-- ---- laws
+-- Laws of tables made word by word.
+pub mod TableLaws
+-- Laws of linking: the links of a declaration are b and next, those of another row are the table's.
+pub mod LinkingLaws
+-- Laws of scope: what a row's scope and a number's meaning are; a declaration's word is its own.
+pub mod ScopeLaws
+-- Laws of the resolved table: its length, kinds, sorts and links are the table's; only the names change.
+pub mod ResolvedLaws

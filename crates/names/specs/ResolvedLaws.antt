@@ -1,0 +1,156 @@
+-- Laws of the resolved table: its length, kinds, sorts and links are the table's; only the names change; a table without declarations is
+-- its own resolved table.
+use mathlib.Core.Path.{_≡_, refl, sym, ap, _∙_}
+use mathlib.Core.Bool.{Bool, true, false, _&&_, _||_, true≢false, false≢true}
+use mathlib.Core.List.{List}
+use Prim.Native.Nat.{ℕ, zero, suc, _+_, _*_, _/_, _%_, _≤_, _<_}
+use native.Mathlib.Omega.{arith}
+use native.Mathlib.Decide.{ℕ-discrete, decLt}
+use lib.Dec.{ltb, eqb}
+use lib.IntN.{ℤ, pos}
+use lib.ListN.{length}
+use borrow.Author.Tests.{eqb-true, ne-eqb}
+use Rattle.words.specs.Word.{pick, natural}
+use Rattle.words.specs.Table.{rowCount, wordAt, numberAt}
+use Rattle.words.specs.Laws.{by-cases, countFits-facts}
+use Rattle.words.specs.declared.Form.{Form}
+use Rattle.words.specs.declared.Form.the-variants.{Source, Kernel}
+use Rattle.words.specs.Kinds.{kinds, kindIn, kindOf, isLink, inLanguage, sortAt, sortOf, sortIn, kindRow, expressionFields}
+use Rattle.words.specs.Links.{link, target}
+use Rattle.structure.specs.Links.{linksAmong, linkCount}
+use Rattle.structure.specs.Structured.{Leads, Tree, Structured}
+use Rattle.structure.specs.declared.Bounds.{Bounds}
+use Rattle.names.specs.Names.{declarationKind, isDeclaration, isName, linking, resolvedName, resolvedWord, resolved}
+use Rattle.names.specs.TableLaws.{table-length, table-word, table-all, word-beyond, made-of-itself}
+use Rattle.names.specs.LinkingLaws.{NoDeclaration, declaration-beyond, linking-length, linking-link}
+use Rattle.names.specs.ScopeLaws.{meant-none}
+
+-- ---- two tables with the same links
+
+module _ (rows other : List ℤ) (same-length : length other ≡ length rows) (same-links : (row field : ℕ) → field < 6 → link other row field ≡ link rows row field) where
+  same-count : rowCount other ≡ rowCount rows
+  same-count = ap (λ (n : ℕ). n / 6) same-length
+
+  same-among : (words row : ℕ) → linksAmong other words row ≡ linksAmong rows words row
+  unfolding linksAmong target
+  same-among zero row = refl
+  same-among (suc word) row = rw (same-among word row, same-links (word / 6) (word % 6) (omega arith))
+
+  pub same-tree : Tree rows → Tree other
+  unfolding linkCount
+  same-tree t =
+      record {
+        whole = rw (same-length) (t .whole);
+        few = rw (same-length) (t .few);
+        some-rows = rw (same-length) (t .some-rows);
+        once = λ row p n. rw (same-count) (same-among (6 * rowCount rows) row ∙ t .once row p (rw (same-count) at n));
+        forward = λ row field n h l. forward row field h (t .forward row field (rw (same-count) at n) h (rw (same-links row field h) at l));
+      }
+    where
+      forward : (row field : ℕ) → field < 6 → Leads rows row field → Leads other row field
+      forward row field h leads = record { later = rw (same-links row field h) (leads .later); inside = rw (same-links row field h, same-count) (leads .inside) }
+
+-- ---- the resolved table
+
+module _ (S : ℕ) (rows : List ℤ) where
+  pub resolved-length : length (resolved S rows) ≡ length rows
+  unfolding resolved
+  resolved-length = table-length (resolvedWord S rows) (length rows)
+
+  pub resolved-word : (row field : ℕ) → field < 6 → 6 * row + field < length rows → wordAt (resolved S rows) row field ≡ resolvedWord S rows row field
+  unfolding resolved
+  resolved-word row field h b = table-word (resolvedWord S rows) (length rows) row field h b
+
+  -- kind, b, c, d and next stay
+  pub resolved-kept : (row field : ℕ) → field < 6 → (field ≡ 1 → ⊥) → wordAt (resolved S rows) row field ≡ wordAt rows row field
+  unfolding resolved resolvedWord
+  resolved-kept row field h other =
+      table-all rows (resolvedWord S rows) row field h (λ b. rw (ne-eqb field 1 other) (word-beyond rows row field b)) ∙ rw (ne-eqb field 1 other)
+
+  -- every word of a row that is neither a declaration nor a name stays
+  pub resolved-other : (row field : ℕ) → field < 6 → isDeclaration rows row ≡ false → isName rows row ≡ false → wordAt (resolved S rows) row field ≡ wordAt rows row field
+  unfolding resolved resolvedWord resolvedName
+  resolved-other row field h d n =
+      let same : resolvedWord S rows row field ≡ wordAt rows row field = by-cases (eqb field 1) (λ e. rw (e, d, n) (ap (wordAt rows row) (sym (eqb-true _ _ e)))) (λ e. rw e) in
+      table-all rows (resolvedWord S rows) row field h (λ b. same ∙ word-beyond rows row field b) ∙ same
+
+  pub resolved-kind : (row : ℕ) → numberAt (resolved S rows) row 0 ≡ numberAt rows row 0
+  unfolding numberAt
+  resolved-kind row = rw (resolved-kept row 0 (omega arith) (λ q. omega arith))
+
+  pub resolved-sort : (row field : ℕ) → sortAt (resolved S rows) row field ≡ sortAt rows row field
+  unfolding sortAt
+  resolved-sort row field = rw (resolved-kind row)
+
+  -- field a of a declaration or a name is no link
+  no-link : (kind field : ℕ) → field ≡ 1 → (kind ≡ declarationKind → isLink (sortOf kind field) ≡ false) × (kind ≡ 2 → isLink (sortOf kind field) ≡ false)
+  unfolding sortOf sortIn kindOf kindIn kinds kindRow expressionFields isLink
+  no-link kind field e = (λ k. rw (k, e), λ k. rw (k, e))
+
+  pub resolved-link : (row field : ℕ) → field < 6 → link (resolved S rows) row field ≡ link rows row field
+  unfolding link numberAt isDeclaration isName sortAt
+  resolved-link row field h = rw (resolved-kind row) (go (ℕ-discrete field 1))
+    where
+      go : Dec (field ≡ 1)
+          → _≡_ {A = ℕ} (pick (isLink (sortOf (numberAt rows row 0) field)) (natural (wordAt (resolved S rows) row field)) 0)
+          (pick (isLink (sortOf (numberAt rows row 0) field)) (natural (wordAt rows row field)) 0)
+      go (yes q) =
+          by-cases (isDeclaration rows row)
+          (λ d. rw (no-link (numberAt rows row 0) field q .0 (eqb-true _ _ d)))
+          (λ d. by-cases (isName rows row)
+          (λ n. rw (no-link (numberAt rows row 0) field q .1 (eqb-true _ _ n)))
+          (λ n. rw (resolved-other row field h d n)))
+      go (no q) = rw (resolved-kept row field h q)
+
+  pub resolved-declaration : (row : ℕ) → isDeclaration (resolved S rows) row ≡ isDeclaration rows row
+  unfolding isDeclaration
+  resolved-declaration row = rw (resolved-kind row)
+
+  linking-same : (row field : ℕ) → field < 6 → link (linking (resolved S rows)) row field ≡ link (linking rows) row field
+  unfolding numberAt
+  linking-same row field h =
+      rw (linking-link (resolved S rows) row field h, linking-link rows row field h, resolved-declaration row, resolved-link row field h) (go (ℕ-discrete field 1))
+    where
+      go : Dec (field ≡ 1)
+          → _≡_ {A = ℕ} (pick (isDeclaration rows row) (pick (eqb field 2 || eqb field 5) (natural (wordAt (resolved S rows) row field)) 0) (link rows row field))
+          (pick (isDeclaration rows row) (pick (eqb field 2 || eqb field 5) (natural (wordAt rows row field)) 0) (link rows row field))
+      go (yes q) = rw q
+      go (no q) = rw (resolved-kept row field h q)
+
+  -- the rows form the same tree
+  pub resolved-tree : Tree (linking rows) → Tree (linking (resolved S rows))
+  resolved-tree t =
+      same-tree (linking rows) (linking (resolved S rows)) (linking-length (resolved S rows) ∙ resolved-length ∙ sym (linking-length rows)) linking-same t
+
+  pub resolved-none : NoDeclaration rows → resolved S rows ≡ rows
+  unfolding resolved resolvedWord resolvedName
+  resolved-none none = made-of-itself rows (resolvedWord S rows) same
+    where
+      unnamed : (b : Bool) (u w : ℤ) → pick (b && false) u w ≡ w
+      unnamed true u w = refl
+      unnamed false u w = refl
+
+      same : (row field : ℕ) → resolvedWord S rows row field ≡ wordAt rows row field
+      same row field =
+          by-cases (eqb field 1)
+          (λ e. rw (e, none row, meant-none rows none row (numberAt rows row 1)) (unnamed (isName rows row) _ _ ∙ ap (wordAt rows row) (sym (eqb-true _ _ e))))
+          (λ e. rw e)
+
+-- ---- tables of today
+
+-- No form has the kind yet, so an accepted table is its own resolved table.
+pub structured-none : (form : Form) (bounds : Bounds) (rows : List ℤ) → Structured form bounds rows → NoDeclaration rows
+unfolding isDeclaration inLanguage kindOf kindIn kinds kindRow
+structured-none form bounds rows s row =
+    by-cases (isDeclaration rows row) (λ e. absurd (within e (decLt row (rowCount rows)))) (λ e. e)
+  where
+    no-form : (form : Form) → inLanguage form declarationKind ≡ true → ⊥
+    no-form Source e = false≢true e
+    no-form Kernel e = false≢true e
+
+    within : isDeclaration rows row ≡ true → Dec (row < rowCount rows) → ⊥
+    within e (yes b) = no-form form (rw (eqb-true (numberAt rows row 0) declarationKind e) at (s .known row b))
+    within e (no b) = true≢false (sym e ∙ declaration-beyond rows row (let whole = countFits-facts form (length rows) (s .count-fits) .whole in omega (arith, b)))
+
+pub structured-resolved : (S : ℕ) (form : Form) (bounds : Bounds) (rows : List ℤ) → Structured form bounds rows → resolved S rows ≡ rows
+structured-resolved S form bounds rows s = resolved-none S rows (structured-none form bounds rows s)

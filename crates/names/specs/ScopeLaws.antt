@@ -1,0 +1,131 @@
+-- Laws of scope: what a row's scope and a number's meaning are; a declaration's word is its own.
+use mathlib.Core.Path.{_≡_, refl, sym, ap, _∙_, subst}
+use mathlib.Core.Bool.{Bool, true, false, _&&_, _||_, true≢false}
+use mathlib.Core.Logic.{_⊎_, inl, inr}
+use mathlib.Core.List.{List}
+use Prim.Native.Nat.{ℕ, zero, suc, _+_, _-_, _≤_, _<_}
+use native.Mathlib.Nat.{add-zero, add-suc}
+use native.Mathlib.Omega.{arith}
+use lib.Dec.{ltb, eqb}
+use lib.IntN.{ℤ, pos}
+use borrow.Author.Tests.{eqb-true}
+use Rattle.words.specs.Word.{pick}
+use Rattle.words.specs.Table.{rowCount, numberAt}
+use Rattle.words.specs.Laws.{by-cases, both}
+use Rattle.words.specs.Links.{link, linker, received, noteBy, note}
+use Rattle.words.specs.declared.Found.{Found}
+use Rattle.words.specs.declared.Found.the-variants.{At, Nothing}
+use Rattle.structure.specs.Links.{one}
+use Rattle.structure.specs.Structured.{Leads, Tree}
+use Rattle.structure.specs.LinkLaws.{by-owner}
+use Rattle.structure.specs.NoteLaws.{note-root, note-link}
+use Rattle.names.specs.Names.{isDeclaration, linking, inScope, scopeAt, declarationsBefore, declarationCount, wordOf, meantFrom, meantAt}
+use Rattle.names.specs.LinkingLaws.{NoDeclaration, linking-count}
+
+-- ---- notes of any table
+
+-- what holds of the first note, and of what is handed on, holds of every note
+noted : (P : ℕ → Type 0) (hand : ℕ → ℕ → ℕ → ℕ) (first : ℕ) (rows : List ℤ) → P first → ((owner field own : ℕ) → P own → P (hand owner field own)) → (row : ℕ) → P (note hand first rows row)
+unfolding note noteBy received
+noted P hand first rows start on row = go row row
+  where
+    handed : (noteOf : ℕ → ℕ) → ((row : ℕ) → P (noteOf row)) → (found : Found) → P (received hand first noteOf found)
+    handed noteOf h Nothing = start
+    handed noteOf h (At word) = on _ _ _ (h _)
+
+    go : (links row : ℕ) → P (noteBy links hand first rows row)
+    go zero row = start
+    go (suc links) row = handed (noteBy links hand first rows) (go links) (linker rows row)
+
+module _ (rows : List ℤ) where
+  -- No declaration, or one.
+  abbrev pub NoneOrDeclared : ℕ → Type 0
+  NoneOrDeclared row = (row ≡ 0) ⊎ (isDeclaration rows row ≡ true)
+
+  pub scope-declared : (row : ℕ) → NoneOrDeclared (scopeAt rows row)
+  unfolding scopeAt inScope
+  scope-declared row = noted NoneOrDeclared (inScope rows) 0 (linking rows) (inl refl) (λ owner field own h. by-cases (eqb field 5 && isDeclaration rows owner) (λ e. rw e (inr (both (eqb field 5) (isDeclaration rows owner) e .1))) (λ e. rw e h)) row
+
+  -- the declaration that a number means has that number
+  pub meant-from : (outward declaration number : ℕ) → NoneOrDeclared declaration
+      → (meantFrom outward rows declaration number ≡ 0) ⊎ ((isDeclaration rows (meantFrom outward rows declaration number) ≡ true) × (numberAt rows (meantFrom outward rows declaration number) 1 ≡ number))
+  unfolding meantFrom
+  meant-from zero declaration number h = inl refl
+  meant-from (suc outward) declaration number (inl z) = inl (rw z refl)
+  meant-from (suc outward) declaration number (inr d) =
+      by-cases (eqb declaration 0 || eqb (numberAt rows declaration 1) number)
+      (λ e. rw e (by-cases (eqb declaration 0) (λ z. inl (eqb-true _ _ z)) (λ z. inr (d, eqb-true _ _ (rw z at e)))))
+      (λ e. rw e (meant-from outward (scopeAt rows declaration) number (scope-declared declaration)))
+
+  pub meant-declared : (row number : ℕ) → (meantAt rows row number ≡ 0) ⊎ ((isDeclaration rows (meantAt rows row number) ≡ true) × (numberAt rows (meantAt rows row number) 1 ≡ number))
+  unfolding meantAt
+  meant-declared row number = meant-from 64 (scopeAt rows row) number (scope-declared row)
+
+  -- ---- words of declarations
+
+  before-grow : (row more : ℕ) → declarationsBefore rows row ≤ declarationsBefore rows (row + more)
+  unfolding declarationsBefore
+  before-grow row zero = rw add-zero (omega arith)
+  before-grow row (suc more) = rw add-suc (omega (arith, before-grow row more))
+
+  -- a declaration has fewer before it than any later row
+  before-later : (declaration row : ℕ) → isDeclaration rows declaration ≡ true → declaration < row → declarationsBefore rows declaration < declarationsBefore rows row
+  unfolding declarationsBefore
+  before-later declaration row e h =
+      let z : suc declaration + (row - suc declaration) ≡ row = omega arith in
+      let grown = rw (z, e) at (before-grow (suc declaration) (row - suc declaration)) in
+      omega arith
+
+  pub word-after : (S declaration : ℕ) → S ≤ wordOf S rows declaration
+  unfolding wordOf
+  word-after S declaration = omega arith
+
+  -- "there are D of them"
+  pub word-below : (S declaration : ℕ) → isDeclaration rows declaration ≡ true → declaration < rowCount rows → wordOf S rows declaration < S + declarationCount rows
+  unfolding wordOf declarationCount
+  word-below S declaration e h = omega (arith, before-later declaration (rowCount rows) e h)
+
+  -- "its own store word", "in row order"
+  pub word-later : (S declaration later : ℕ) → isDeclaration rows declaration ≡ true → declaration < later → wordOf S rows declaration < wordOf S rows later
+  unfolding wordOf
+  word-later S declaration later e h = omega (arith, before-later declaration later e h)
+
+  -- a row has at most as many declarations before it as there are rows
+  pub before-few : (row : ℕ) → declarationsBefore rows row ≤ row
+  unfolding declarationsBefore
+  before-few zero = omega arith
+  before-few (suc row) = omega (arith, before-few row, at-most-one (isDeclaration rows row))
+    where
+      at-most-one : (b : Bool) → one b ≤ 1
+      at-most-one true = omega arith
+      at-most-one false = omega arith
+
+  -- ---- without declarations
+
+  module _ (none : NoDeclaration rows) where
+    pub scope-none : (row : ℕ) → scopeAt rows row ≡ 0
+    unfolding scopeAt inScope
+    scope-none row = noted (λ (n : ℕ). n ≡ 0) (inScope rows) 0 (linking rows) refl (λ owner field own h. rw (none owner) (own-kept (eqb field 5) own owner h)) row
+      where
+        own-kept : (b : Bool) (own owner : ℕ) → own ≡ 0 → pick (b && false) owner own ≡ 0
+        own-kept true own owner h = h
+        own-kept false own owner h = h
+
+    pub meant-none : (row number : ℕ) → meantAt rows row number ≡ 0
+    unfolding meantAt meantFrom
+    meant-none row number = rw (scope-none row)
+
+-- ---- in a tree of rows
+
+module _ (rows : List ℤ) (t : Tree (linking rows)) where
+  -- a row stands in no scope, or in that of an earlier row
+  pub scope-before : (row : ℕ) → row < rowCount rows → scopeAt rows row ≤ row
+  unfolding scopeAt inScope
+  scope-before row n =
+      by-owner (linking rows) t (λ (row : ℕ). note (inScope rows) 0 (linking rows) row ≤ row)
+      (let z = note-root (inScope rows) 0 (linking rows) in omega arith)
+      (λ owner field h leads below. let e = note-link (inScope rows) 0 (linking rows) t owner field h leads in let l = leads .later in omega (arith, e, l, handed owner field _ below))
+      row (rw linking-count n)
+    where
+      handed : (owner field own : ℕ) → own ≤ owner → inScope rows owner field own ≤ owner
+      handed owner field own h = by-cases (eqb field 5 && isDeclaration rows owner) (λ e. rw e (omega arith)) (λ e. rw e h)

@@ -1,0 +1,49 @@
+// The rows of a line, and the lines of a page.
+use page_words::Line;
+use page_words::Value;
+ghost use mathlib.Core.Path.{_≡_};
+ghost use Prim.Native.Nat.{_/_, _≤_, min};
+ghost use Rattle.page_blocks.specs.Scans.{valueRows, lineRows};
+
+fn value_rows(value: Value) -> usize
+    ensures { λ r. ⌜ r ≡ valueRows value ⌝ }
+    ensures { λ r. ⌜ r ≤ 3 ⌝ }
+{
+    match value {
+        Value::Single(_) => 1,
+        Value::Element(_, _) => 2,
+        Value::Minus(_) => 2,
+        Value::Binary(_, _, _) => 3,
+    }
+}
+
+// The rows that a line has, without those of the blocks between its statement's lines.
+pub fn rows_of(line: Line) -> usize
+    ensures { λ r. ⌜ r ≡ lineRows line ⌝ }
+    ensures { λ r. ⌜ r ≤ 6 ⌝ }
+{
+    match line {
+        Line::Empty => 1,
+        Line::Abort => 1,
+        Line::Goto(_) => 1,
+        Line::Label(_) => 1,
+        Line::Store(_, value) => 3 + value_rows(value),
+        Line::Put(_, _, _) => 5,
+        Line::Opens => 1,
+        Line::While(_) => 3,
+        Line::If(_) => 3,
+        Line::Turns => 1,
+        Line::Closes => 0,
+    }
+}
+
+// The whole lines of a page of so many bytes, as many of them as a page can have.
+pub fn line_count(bytes: usize) -> usize
+    ensures { λ r. ⌜ r ≡ min (bytes / 81) 81958 ⌝ }
+{
+    let lines = bytes / 81;
+    if lines < 81958 {
+        return lines;
+    }
+    81958
+}

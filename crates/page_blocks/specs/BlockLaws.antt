@@ -8,8 +8,9 @@ use Prim.Native.Nat.{ℕ, suc, _+_, _-_}
 use native.Mathlib.Omega.{arith}
 use native.Mathlib.Numerals.{add-one}
 use lib.ListN.{length}
+use Rattle.text_form.specs.NumberLaws.{not-some}
 use Rattle.language.specs.Trees.{Items, none as noItem, _then_, _here_, block, while, ifElse}
-use Rattle.page.specs.Lines.{Indented, indented, turns, closes, statementLines, itemsLines, Waiting, outermost, closed, Reading, reading, malformed, readLine, readBefore, readLines}
+use Rattle.page.specs.Lines.{Indented, indented, turns, closes, statementLines, itemsLines, Waiting, outermost, closed, Reading, reading, malformed, readLine, readBefore, whole, readLines}
 use Rattle.page.specs.Lines.{turned as elseWaiting}
 use Rattle.page_words.specs.Trees.{lineTree}
 use Rattle.page_words.specs.declared.Line.{Line}
@@ -232,3 +233,14 @@ balanced-program S lines e =
     from (reading is outermost) all f l q p = record { items = is; read = rw q; printed = p ∙ l f ∙ append-nil (itemsLines 0 is) }
     from (reading is (closed later waiting)) all f l q p = never f
     from (reading is (elseWaiting onFalse waiting)) all f l q p = never f
+
+-- Lines that are read are balanced.
+pub read-balanced : (S : ℕ) (lines : List Line) (items : Items) → readLines (trees S lines) ≡ some items → balanced lines [] ≡ true
+unfolding readLines fits matches
+read-balanced S lines items e = balanced-fits S lines [] ∙ from (readBefore (trees S lines) start) e
+  where
+    from : (r : Reading) → whole r ≡ some items → fits [] r ≡ true
+    from malformed q = not-some q
+    from (reading is outermost) q = refl
+    from (reading is (closed later waiting)) q = not-some q
+    from (reading is (elseWaiting onFalse waiting)) q = not-some q

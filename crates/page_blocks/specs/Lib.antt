@@ -10,3 +10,9 @@ pub mod Scans
 pub mod BlockLaws
 -- Laws of scans: a page without a wrong line is the page of its program.
 pub mod ScanLaws
+-- Complete: the page of balanced lines that fit is scanned to its end.
+pub mod ScanComplete
+-- Laws of rows: the rows counted are those of the program.
+pub mod RowLaws
+-- Laws of tables: the page of every legal kernel table is scanned to its end.
+pub mod TableScans

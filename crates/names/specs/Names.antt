@@ -3,7 +3,7 @@
 use mathlib.Core.Bool.{Bool, _&&_, _||_}
 use mathlib.Core.List.{List}
 use Prim.Native.Nat.{ℕ, zero, suc, _+_, _/_, _%_}
-use lib.Dec.{ltb, eqb}
+use lib.Dec.{eqb}
 use lib.IntN.{ℤ, pos}
 use lib.ListN.{length}
 use Rattle.words.specs.Word.{pick}
@@ -84,13 +84,17 @@ meantAt rows row number = meantFrom declarationLimit rows (scopeAt rows row) num
 
 -- ---- the resolved table
 
--- Field a of a row, as the store word that it means: a declaration's own, or that of the declaration that a name means. The header's
--- variable v is word v.
+-- Field a of a name: the word of the declaration that it means, or the header's variable, whose number is its word.
+unfoldable pub variableWord : ℕ → List ℤ → ℕ → ℤ
+variableWord S rows row =
+    let declaration = meantAt rows row (numberAt rows row 1) in
+    pick (eqb declaration 0) (wordAt rows row 1) (pos (wordOf S rows declaration))
+
+-- Field a of a row: a declaration's own word, the word of a name; else as it was.
 unfoldable pub resolvedName : ℕ → List ℤ → ℕ → ℤ
 resolvedName S rows row =
-    let declaration = meantAt rows row (numberAt rows row 1) in
     pick (isDeclaration rows row) (pos (wordOf S rows row))
-    (pick (isName rows row && ltb 0 declaration) (pos (wordOf S rows declaration)) (wordAt rows row 1))
+    (pick (isName rows row) (variableWord S rows row) (wordAt rows row 1))
 
 unfoldable pub resolvedWord : ℕ → List ℤ → ℕ → ℕ → ℤ
 resolvedWord S rows row field = pick (eqb field 1) (resolvedName S rows row) (wordAt rows row field)

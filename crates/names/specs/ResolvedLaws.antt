@@ -1,12 +1,12 @@
 -- Laws of the resolved table: its length, kinds, sorts and links are the table's; only the names change; a table without declarations is
 -- its own resolved table.
 use mathlib.Core.Path.{_≡_, refl, sym, ap, _∙_}
-use mathlib.Core.Bool.{Bool, true, false, _&&_, _||_, true≢false, false≢true}
+use mathlib.Core.Bool.{Bool, true, false, _||_, true≢false, false≢true}
 use mathlib.Core.List.{List}
 use Prim.Native.Nat.{ℕ, zero, suc, _+_, _*_, _/_, _%_, _≤_, _<_}
 use native.Mathlib.Omega.{arith}
 use native.Mathlib.Decide.{ℕ-discrete, decLt}
-use lib.Dec.{ltb, eqb}
+use lib.Dec.{eqb}
 use lib.IntN.{ℤ, pos}
 use lib.ListN.{length}
 use borrow.Author.Tests.{eqb-true, ne-eqb}
@@ -20,7 +20,7 @@ use Rattle.words.specs.Links.{link, target}
 use Rattle.structure.specs.Links.{linksAmong, linkCount}
 use Rattle.structure.specs.Structured.{Leads, Tree, Structured}
 use Rattle.structure.specs.declared.Bounds.{Bounds}
-use Rattle.names.specs.Names.{declarationKind, isDeclaration, isName, linking, resolvedName, resolvedWord, resolved}
+use Rattle.names.specs.Names.{declarationKind, isDeclaration, isName, linking, variableWord, resolvedName, resolvedWord, resolved}
 use Rattle.names.specs.TableLaws.{table-length, table-word, table-all, word-beyond, made-of-itself}
 use Rattle.names.specs.LinkingLaws.{NoDeclaration, declaration-beyond, linking-length, linking-link}
 use Rattle.names.specs.ScopeLaws.{meant-none}
@@ -123,17 +123,17 @@ module _ (S : ℕ) (rows : List ℤ) where
       same-tree (linking rows) (linking (resolved S rows)) (linking-length (resolved S rows) ∙ resolved-length ∙ sym (linking-length rows)) linking-same t
 
   pub resolved-none : NoDeclaration rows → resolved S rows ≡ rows
-  unfolding resolved resolvedWord resolvedName
+  unfolding resolved resolvedWord resolvedName variableWord
   resolved-none none = made-of-itself rows (resolvedWord S rows) same
     where
-      unnamed : (b : Bool) (u w : ℤ) → pick (b && false) u w ≡ w
-      unnamed true u w = refl
-      unnamed false u w = refl
+      either : (b : Bool) (w : ℤ) → pick b w w ≡ w
+      either true w = refl
+      either false w = refl
 
       same : (row field : ℕ) → resolvedWord S rows row field ≡ wordAt rows row field
       same row field =
           by-cases (eqb field 1)
-          (λ e. rw (e, none row, meant-none rows none row (numberAt rows row 1)) (unnamed (isName rows row) _ _ ∙ ap (wordAt rows row) (sym (eqb-true _ _ e))))
+          (λ e. rw (e, none row, meant-none rows none row (numberAt rows row 1)) (either (isName rows row) _ ∙ ap (wordAt rows row) (sym (eqb-true _ _ e))))
           (λ e. rw e)
 
 -- ---- tables of today

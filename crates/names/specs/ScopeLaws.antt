@@ -118,7 +118,7 @@ module _ (rows : List ℤ) where
 -- ---- in a tree of rows
 
 module _ (rows : List ℤ) (t : Tree (linking rows)) where
-  -- a row stands in no scope, or in that of an earlier row
+  -- a row stands in no scope, or in that of an earlier row, which is inside the table
   pub scope-before : (row : ℕ) → row < rowCount rows → scopeAt rows row ≤ row
   unfolding scopeAt inScope
   scope-before row n =
@@ -129,3 +129,15 @@ module _ (rows : List ℤ) (t : Tree (linking rows)) where
     where
       handed : (owner field own : ℕ) → own ≤ owner → inScope rows owner field own ≤ owner
       handed owner field own h = by-cases (eqb field 5 && isDeclaration rows owner) (λ e. rw e (omega arith)) (λ e. rw e h)
+
+  -- so is the declaration that a number means
+  meant-from-inside : (outward declaration number : ℕ) → declaration < rowCount rows → meantFrom outward rows declaration number < rowCount rows
+  unfolding meantFrom
+  meant-from-inside zero declaration number n = omega arith
+  meant-from-inside (suc outward) declaration number n =
+      by-cases (eqb declaration 0 || eqb (numberAt rows declaration 1) number) (λ e. rw e n)
+      (λ e. rw e (meant-from-inside outward (scopeAt rows declaration) number (omega (arith, scope-before declaration n, n))))
+
+  pub meant-inside : (row number : ℕ) → row < rowCount rows → meantAt rows row number < rowCount rows
+  unfolding meantAt
+  meant-inside row number n = meant-from-inside 64 (scopeAt rows row) number (omega (arith, scope-before row n, n))

@@ -1,0 +1,25 @@
+-- `counted` makes one test.
+use native.Mathlib.Omega.{arith}
+use borrow.Author.Needs.{needs}
+use Rattle.resolver.proofs.counts.counted.Statement.{statement}
+use Rattle.resolver.proofs.counts.counted.Tie as tie
+use Rattle.resolver.proofs.counts.counted.Reads as reads
+use Rattle.resolver.proofs.counts.counted.Lts as lts
+use Rattle.resolver.proofs.scopes.is_declaration.Reads as is-declaration-reads
+
+is-declaration-requires : tie.Need-is-declaration-requires
+is-declaration-requires c κs = search needs
+
+add-result : tie.Need-add-result
+add-result c = search needs
+
+returns : tie.Need-returns
+returns c =
+    rw (← c .before .is-declaration .ensures, c .if1 .taken)
+
+returns-2 : tie.Need-returns-2
+returns-2 c =
+    rw (← c .before .is-declaration .ensures, c .if1 .left) (omega arith)
+
+pub counted-spec : {M : Type 1} → statement M
+counted-spec = tie.close (tie.spec is-declaration-requires add-result returns returns-2)

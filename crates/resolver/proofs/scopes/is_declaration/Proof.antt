@@ -1,0 +1,19 @@
+-- `is_declaration` asks for the number of the row's kind.
+use Rattle.names.specs.Names.{isDeclaration}
+use borrow.Author.Needs.{needs}
+use Rattle.resolver.proofs.scopes.is_declaration.Statement.{statement}
+use Rattle.resolver.proofs.scopes.is_declaration.Tie as tie
+use Rattle.resolver.proofs.scopes.is_declaration.Reads as reads
+use Rattle.resolver.proofs.scopes.is_declaration.Lts as lts
+use Rattle.words.proofs.table.number_at.Reads as number-at-reads
+
+number-at-requires : tie.Need-number-at-requires
+number-at-requires c κs = search needs
+
+returns : tie.Need-returns
+unfolding isDeclaration
+returns c =
+    rw (← c .number-at .ensures)
+
+pub is-declaration-spec : {M : Type 1} → statement M
+is-declaration-spec = tie.close (tie.spec number-at-requires returns)

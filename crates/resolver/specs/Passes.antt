@@ -1,0 +1,15 @@
+-- Passes: what the two passes over a table leave.
+use Prim.Native.Nat.{ℕ, _≤_}
+use mathlib.Core.List.{List}
+use lib.IntN.{ℤ}
+use Rattle.words.specs.Table.{rowCount}
+use Rattle.structure.specs.Structured.{Tree}
+use Rattle.structure.specs.Passes.{Notes}
+use Rattle.names.specs.Names.{linking, scopeAt, declarationsBefore}
+
+-- The scope of every row, and how many declarations stand before it.
+pub record Scanned (rows : List ℤ) (scopes counts : List ℕ) : Type 0 where
+  pub tree : Tree (linking rows)
+  pub few : rowCount rows ≤ 2048
+  pub scoped : Notes (linking rows) (scopeAt rows) scopes
+  pub counted : Notes rows (declarationsBefore rows) counts

@@ -1,0 +1,89 @@
+// The scope of each row: the innermost declaration that it stands behind, handed along the links.
+use grammar::KindTable;
+use grammar::link;
+use structure::row_number::narrow;
+use words::table::number_at;
+ghost use mathlib.Core.Path.{_≡_};
+ghost use mathlib.Core.Bool.{_||_};
+ghost use Prim.Native.Nat.{_+_, _*_, _/_, _<_, _≤_};
+ghost use lib.Dec.{eqb};
+ghost use lib.ListN.{length, getD};
+ghost use Rattle.words.specs.Word.{pick};
+ghost use Rattle.words.specs.Table.{numberAt};
+ghost use Rattle.words.specs.Links.{link as linkOf, target};
+ghost use Rattle.grammar.specs.Grammar.{grammar};
+ghost use Rattle.structure.specs.Structured.{Tree};
+ghost use Rattle.structure.specs.Passes.{written, Notes};
+ghost use Rattle.names.specs.Names.{isDeclaration, linking, inScope, scopeAt};
+
+// "Kind 58": the one place in the code that says the number.
+const DECLARATION: usize = 58;
+
+pub fn is_declaration(rows: &[i32], row: usize) -> bool
+    requires { ⌜ 6 * row < length (now rows) ⌝ }
+    ensures { λ r. ⌜ r ≡ isDeclaration (now (rows .entry)) row ⌝ }
+{
+    number_at(rows, row, 0) == DECLARATION
+}
+
+// What a declaration links: b and next.
+fn declared_link(rows: &[i32], row: usize, field: usize) -> usize
+    requires { ⌜ (6 * row + 5 < length (now rows)) × (field < 6) ⌝ }
+    ensures { λ r. ⌜ r ≡ pick (eqb field 2 || eqb field 5) (numberAt (now (rows .entry)) row field) 0 ⌝ }
+{
+    if field == 2 {
+        return number_at(rows, row, field);
+    }
+    if field == 5 {
+        return number_at(rows, row, field);
+    }
+    0
+}
+
+// The row that a field links, or 0. Once the table of kinds has kind 58, this is `grammar::link`.
+fn linked_row(kinds: &KindTable, rows: &[i32], row: usize, field: usize) -> usize
+    requires { ⌜ (6 * row + 5 < length (now rows)) × (field < 6) × (now kinds ≡ grammar) ⌝ }
+    ensures { λ r. ⌜ r ≡ linkOf (linking (now (rows .entry))) row field ⌝ }
+{
+    if is_declaration(rows, row) {
+        return declared_link(rows, row, field);
+    }
+    link(kinds, rows, row, field)
+}
+
+// What a row hands to the row that its field links.
+fn hand(rows: &[i32], owner: usize, field: usize, own: u16) -> u16
+    requires { ⌜ (6 * owner + 5 < length (now rows)) × (owner < 65536) ⌝ }
+    ensures { λ r. ⌜ r ≡ inScope (now (rows .entry)) owner field own ⌝ }
+{
+    if field == 5 { // the next item
+        if is_declaration(rows, owner) {
+            return narrow(owner);
+        }
+        return own;
+    }
+    own
+}
+
+// A word that links a row writes that row's scope.
+fn write_scope(rows: &[i32], scopes: &mut [u16], word: usize, linked: usize)
+    requires { ⌜ Tree (linking (now rows)) × (length (now rows) / 6 ≤ length (now scopes)) × (word < length (now rows)) × (linked ≡ target (linking (now rows)) word) ⌝ }
+    ensures { λ _. ⌜ now (scopes .exit) ≡ written (inScope (now (rows .entry))) (linking (now (rows .entry))) word (now (scopes .entry)) ⌝ }
+{
+    if linked != 0 {
+        let row = word / 6;
+        let scope = hand(rows, row, word % 6, scopes[row]);
+        scopes[linked] = scope;
+    }
+}
+
+// The scopes of all rows, in one pass: a row's own is written before those of the rows that it links.
+pub fn write_scopes(kinds: &KindTable, rows: &[i32], scopes: &mut [u16])
+    requires { ⌜ Tree (linking (now rows)) × (length (now rows) / 6 ≤ length (now scopes)) × (getD (now scopes) 0 0 ≡ 0) × (now kinds ≡ grammar) ⌝ }
+    ensures { λ _. ⌜ Notes (linking (now (rows .entry))) (scopeAt (now (rows .entry))) (now (scopes .exit)) ⌝ }
+{
+    for word in 0..rows.len() {
+        let linked = linked_row(kinds, rows, word / 6, word % 6);
+        write_scope(rows, scopes, word, linked);
+    }
+}

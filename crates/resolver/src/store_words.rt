@@ -1,0 +1,84 @@
+// What a name means, and its store word.
+use super::scopes::is_declaration;
+use structure::row_number::wide;
+use words::table::number_at;
+use words::table::word_at;
+ghost use mathlib.Core.Path.{_≡_};
+ghost use Prim.Native.Nat.{_+_, _*_, _/_, _<_, _≤_};
+ghost use lib.IntN.{pos};
+ghost use lib.ListN.{length, getD};
+ghost use Rattle.names.specs.Names.{meantAt, variableWord, resolvedName, resolvedWord};
+ghost use Rattle.resolver.specs.Passes.{Scanned};
+
+// "At most 64."
+const LIMIT: usize = 64;
+
+// The declaration that a number means at a row, or 0: the first with the number, outward from the row's scope.
+fn meant(rows: &[i32], scopes: &[u16], counts: &[u16], row: usize, number: usize) -> usize
+    requires { ⌜ Scanned (now rows) (now scopes) (now counts) × (row < length (now rows) / 6) ⌝ }
+    ensures { λ r. ⌜ r ≡ meantAt (now (rows .entry)) row number ⌝ }
+{
+    let mut declaration = wide(scopes[row]);
+    for _outward in 0..LIMIT {
+        if declaration == 0 {
+            return 0;
+        }
+        if number_at(rows, declaration, 1) == number {
+            return declaration;
+        }
+        declaration = wide(scopes[declaration]);
+    }
+    0
+}
+
+// The store word of a declaration.
+fn store_word(store: usize, counts: &[u16], declaration: usize) -> i32
+    requires { ⌜ (store ≤ 8192) × (declaration < length (now counts)) × (getD (now counts) declaration 0 ≤ 2048) ⌝ }
+    ensures { λ r. ⌜ r ≡ pos (store + getD (now (counts .entry)) declaration 0) ⌝ }
+{
+    (store + wide(counts[declaration])) as i32
+}
+
+// Field a of a row that names a variable.
+fn variable_word(store: usize, rows: &[i32], scopes: &[u16], counts: &[u16], row: usize) -> i32
+    requires { ⌜ Scanned (now rows) (now scopes) (now counts) × (store ≤ 8192) × (row < length (now rows) / 6) ⌝ }
+    ensures { λ r. ⌜ r ≡ variableWord store (now (rows .entry)) row ⌝ }
+{
+    let declaration = meant(rows, scopes, counts, row, number_at(rows, row, 1));
+    if declaration == 0 {
+        return word_at(rows, row, 1);
+    }
+    store_word(store, counts, declaration)
+}
+
+// Field a of a row of the resolved table.
+fn resolved_name(store: usize, rows: &[i32], scopes: &[u16], counts: &[u16], row: usize) -> i32
+    requires { ⌜ Scanned (now rows) (now scopes) (now counts) × (store ≤ 8192) × (row < length (now rows) / 6) ⌝ }
+    ensures { λ r. ⌜ r ≡ resolvedName store (now (rows .entry)) row ⌝ }
+{
+    if is_declaration(rows, row) {
+        return store_word(store, counts, row);
+    }
+    if number_at(rows, row, 0) == 2 {
+        return variable_word(store, rows, scopes, counts, row);
+    }
+    word_at(rows, row, 1)
+}
+
+// A word of the resolved table.
+pub fn resolved_word(
+    store: usize,
+    rows: &[i32],
+    scopes: &[u16],
+    counts: &[u16],
+    row: usize,
+    field: usize,
+) -> i32
+    requires { ⌜ Scanned (now rows) (now scopes) (now counts) × (store ≤ 8192) × (row < length (now rows) / 6) × (field < 6) ⌝ }
+    ensures { λ r. ⌜ r ≡ resolvedWord store (now (rows .entry)) row field ⌝ }
+{
+    if field == 1 {
+        return resolved_name(store, rows, scopes, counts, row);
+    }
+    word_at(rows, row, field)
+}

@@ -1,10 +1,10 @@
 -- The numbers of a value's line: that they have room, how they are put together, and that they are those of its day.
 use mathlib.Core.Path.{_≡_, refl, sym, ap, _∙_}
-use mathlib.Core.List.{List, [], _∷_, _++_}
+use mathlib.Core.List.{List, [], _∷_}
 use Prim.Native.Nat.{ℕ, _+_, _-_, _*_, _^_, _≤_, _<_}
 use native.Mathlib.Omega.{arith}
 use lib.IntN.{ℤ, pos}
-use lib.ListN.{length, take, getD, set, length-append, length-map, length-replicate}
+use lib.ListN.{length, take, getD, set, length-map, length-replicate}
 use lib.Signed.{mag}
 use mir.Syntax.{w32}
 use mir.Val.{toZ, ofZ}
@@ -15,10 +15,9 @@ use Rattle.words.specs.Word.{natural}
 use Rattle.words.specs.Layout.{layoutOf, storeSize, storeWords, zeros}
 use Rattle.words.specs.Laws.{back, headerFits-facts}
 use Rattle.words.specs.declared.Form.the-variants.{Source}
-use Rattle.text_form.specs.Number.{numberBytes}
 use Rattle.text_form.specs.Line.{Line, lineBytes}
-use Rattle.text_form.specs.Writer.{bytesOf, Measured}
-use Rattle.text_form.proofs.Writing.{line-one, line-more}
+use Rattle.text_form.specs.Writer.{Measured}
+use Rattle.text_form.proofs.Sizing.{bytes-line}
 use Rattle.rule_text.specs.Rules.{mostWords, IsAccepted}
 use Rattle.day_form.specs.Lines.{lineWords}
 use Rattle.day_run.specs.Days.{Day, newDay, doLines, pairsOf}
@@ -29,26 +28,12 @@ use Rattle.day_values.specs.Values.{dayOf, dayNumbers, dayLine}
 
 -- ---- how many bytes a line of numbers has
 
--- each number takes its bytes, and one more for the tab or newline behind it
-line-bytes : (numbers : List ℤ) → 0 < length numbers → length (lineBytes numbers) ≡ bytesOf numbers
-unfolding bytesOf
-line-bytes [] h = absurd (omega arith)
-line-bytes (z ∷ []) h = omega (arith, ap length (line-one (z ∷ []) refl), length-append (numberBytes z) (10 ∷ []))
-line-bytes (z ∷ (y ∷ zs)) h =
-    omega (
-      arith,
-      ap length (line-more (z ∷ (y ∷ zs)) (omega arith)),
-      length-append (numberBytes z ++ (9 ∷ [])) (lineBytes (y ∷ zs)),
-      length-append (numberBytes z) (9 ∷ []),
-      line-bytes (y ∷ zs) (omega arith),
-    )
-
 module _ {numbers : List ℤ} {size : ℕ} (m : Measured numbers size) (some : 0 < length numbers) where
   pub line-fits : length numbers ≤ 259 → (room : ℕ) → 12 * 259 ≤ room → length (lineBytes numbers) ≤ room
-  line-fits few room h = omega (arith, line-bytes numbers some, m .sum, m .most)
+  line-fits few room h = omega (arith, bytes-line numbers some, m .sum, m .most)
 
   pub line-size : size ≡ length (lineBytes numbers)
-  line-size = m .sum ∙ sym (line-bytes numbers some)
+  line-size = m .sum ∙ sym (bytes-line numbers some)
 
 -- ---- the numbers of a line, put together in a table
 

@@ -41,7 +41,7 @@ bytes-more : (z : ℤ) (zs : List ℤ) → bytesOf (z ∷ zs) ≡ length (number
 unfolding bytesOf
 bytes-more z zs = refl
 
-bytes-line : (words : List ℤ) → 0 < length words → length (lineBytes words) ≡ bytesOf words
+pub bytes-line : (words : List ℤ) → 0 < length words → length (lineBytes words) ≡ bytesOf words
 bytes-line [] h = absurd (omega arith)
 bytes-line (z ∷ []) h = omega (arith, ap length (line-one (z ∷ []) refl), length-append (numberBytes z) (10 ∷ []), bytes-one z)
 bytes-line (z ∷ (y ∷ zs)) h =

@@ -28,7 +28,7 @@ use Rattle.page_blocks.specs.Scans.{lineRows, ended, stepped, scanFrom, 
 use Rattle.page_blocks.specs.declared.Scan.{Scan}
 use Rattle.page_blocks.specs.declared.Scan.the-variants.{Whole, Wrong}
 
-abbrev linesRows : List Line → ℕ
+abbrev pub linesRows : List Line → ℕ
 linesRows [] = 0
 linesRows (line ∷ lines) = lineRows line + linesRows lines
 

@@ -1,13 +1,10 @@
+-- `at_level`: a line is kept where it stands as far in as its level asks.
 use mathlib.Core.Path.{sym, ap, _∙_}
 use Rattle.page.specs.Page.{indent}
 use Rattle.page_frame.proofs.Steps.{level-none, level-is, level-not}
 use borrow.Author.Needs.{needs}
 use Rattle.page_frame.proofs.at_level.Statement.{statement}
 use Rattle.page_frame.proofs.at_level.Tie as tie
-use Rattle.page_frame.proofs.at_level.Reads as reads
-use Rattle.page_frame.proofs.at_level.Lts as lts
-use Rattle.page_frame.proofs.indent_of.Reads as indent-of-reads
-use Rattle.page_frame.proofs.level_of.Reads as level-of-reads
 
 enum-known-read : tie.Need-enum-known-read
 enum-known-read c = search needs

@@ -1,3 +1,4 @@
+-- `body`: the statement stands between the blanks before it and those behind it.
 use mathlib.Core.Path.{ap, _∙_}
 use native.Mathlib.Omega.{arith}
 use Rattle.page_frame.specs.Frames.{levelled}
@@ -6,12 +7,6 @@ use Rattle.page_frame.proofs.Steps.{body-short, body-long}
 use borrow.Author.Needs.{needs}
 use Rattle.page_frame.proofs.body.Statement.{statement}
 use Rattle.page_frame.proofs.body.Tie as tie
-use Rattle.page_frame.proofs.body.Reads as reads
-use Rattle.page_frame.proofs.body.Lts as lts
-use Rattle.page_frame.proofs.at_level.Reads as at-level-reads
-use Rattle.page_frame.proofs.filled_size.Reads as filled-size-reads
-use Rattle.page_frame.proofs.leading_blanks.Reads as leading-blanks-reads
-use Rattle.page_words.proofs.lines.line.Reads as line-reads
 
 leading-blanks-requires : tie.Need-leading-blanks-requires
 leading-blanks-requires c κs = search needs

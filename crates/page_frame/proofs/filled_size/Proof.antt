@@ -1,11 +1,10 @@
+-- `filled_size`: from the end; the invariant is `Kept`.
 use Prim.Native.Nat.{_-_}
 use native.Mathlib.Omega.{arith}
 use lib.ListN.{length}
 use Rattle.page_frame.proofs.Walks.{Kept, kept-start, kept-end, kept-here, kept-next}
 use Rattle.page_frame.proofs.filled_size.Statement.{statement}
 use Rattle.page_frame.proofs.filled_size.Tie as tie
-use Rattle.page_frame.proofs.filled_size.Reads as reads
-use Rattle.page_frame.proofs.filled_size.Lts as lts
 
 abbrev Inv-loop : tie.InvT-loop
 Inv-loop text end₀ end =

@@ -1,3 +1,4 @@
+-- `is_numbered`: the number behind the blanks of the five columns.
 use mathlib.Core.Path.{sym, ap, _∙_}
 use native.Mathlib.Omega.{arith}
 use Rattle.page_frame.specs.Frames.{isNumber}
@@ -6,10 +7,6 @@ use Rattle.page_frame.proofs.Steps.{numbered-by}
 use borrow.Author.Needs.{needs}
 use Rattle.page_frame.proofs.is_numbered.Statement.{statement}
 use Rattle.page_frame.proofs.is_numbered.Tie as tie
-use Rattle.page_frame.proofs.is_numbered.Reads as reads
-use Rattle.page_frame.proofs.is_numbered.Lts as lts
-use Rattle.page_frame.proofs.leading_blanks.Reads as leading-blanks-reads
-use Rattle.page_words.proofs.atoms.number_below.Reads as number-below-reads
 
 leading-blanks-requires : tie.Need-leading-blanks-requires
 leading-blanks-requires c κs = search needs

@@ -1,11 +1,10 @@
+-- `leading_blanks`: from the front; the invariant is `Led`.
 use Prim.Native.Nat.{_-_}
 use native.Mathlib.Omega.{arith}
 use lib.ListN.{length}
 use Rattle.page_frame.proofs.Walks.{Led, led-start, led-end, led-here, led-next}
 use Rattle.page_frame.proofs.leading_blanks.Statement.{statement}
 use Rattle.page_frame.proofs.leading_blanks.Tie as tie
-use Rattle.page_frame.proofs.leading_blanks.Reads as reads
-use Rattle.page_frame.proofs.leading_blanks.Lts as lts
 
 abbrev Inv-loop : tie.InvT-loop
 Inv-loop text i₀ i =

@@ -1,9 +1,7 @@
+-- `level_of`: lines that close or turn stand one level out.
 use borrow.Author.Needs.{needs}
 use Rattle.page_frame.proofs.level_of.Statement.{statement}
 use Rattle.page_frame.proofs.level_of.Tie as tie
-use Rattle.page_frame.proofs.level_of.Reads as reads
-use Rattle.page_frame.proofs.level_of.Lts as lts
-use Rattle.page_frame.proofs.one_less.Reads as one-less-reads
 
 enum-told : tie.Need-enum-told
 enum-told c = search needs

@@ -1,13 +1,10 @@
+-- `line_in`: number, blank and newline first, then the body.
 use mathlib.Core.Path.{sym, _∙_}
 use borrow.Author.Tests.{eq-eqb, ne-eqb, not-true, not-false}
 use Rattle.page_frame.specs.Frames.{lineIn}
 use borrow.Author.Needs.{needs}
 use Rattle.page_frame.proofs.line_in.Statement.{statement}
 use Rattle.page_frame.proofs.line_in.Tie as tie
-use Rattle.page_frame.proofs.line_in.Reads as reads
-use Rattle.page_frame.proofs.line_in.Lts as lts
-use Rattle.page_frame.proofs.body.Reads as body-reads
-use Rattle.page_frame.proofs.is_numbered.Reads as is-numbered-reads
 
 sub-is-numbered : tie.Need-sub-is-numbered
 sub-is-numbered c = search needs

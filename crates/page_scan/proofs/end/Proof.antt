@@ -1,9 +1,8 @@
+-- `end`: no byte left, and no block open.
 use borrow.Author.Tests.{eq-eqb, ne-eqb, not-true, not-false}
 use Rattle.page_scan.specs.Stacks.{endOf}
 use Rattle.page_scan.proofs.end.Statement.{statement}
 use Rattle.page_scan.proofs.end.Tie as tie
-use Rattle.page_scan.proofs.end.Reads as reads
-use Rattle.page_scan.proofs.end.Lts as lts
 
 returns : tie.Need-returns
 unfolding endOf

@@ -1,3 +1,4 @@
+-- `scan`: line by line; the invariant is `Scanning`.
 use mathlib.Core.Path.{_≡_, sym, ap, _∙_}
 use Prim.Native.Nat.{_-_}
 use native.Mathlib.Omega.{arith}
@@ -6,13 +7,6 @@ use borrow.Author.Needs.{needs}
 use Rattle.page_scan.proofs.Scanning.{Scanning, slice-long, scanning-start, scanning-end, wrong-line, wrong-block, scanning-next}
 use Rattle.page_scan.proofs.scan.Statement.{statement}
 use Rattle.page_scan.proofs.scan.Tie as tie
-use Rattle.page_scan.proofs.scan.Reads as reads
-use Rattle.page_scan.proofs.scan.Lts as lts
-use Rattle.page_frame.proofs.line_in.Reads as line-in-reads
-use Rattle.page_scan.proofs.blocks.pass_line.Reads as pass-line-reads
-use Rattle.page_scan.proofs.end.Reads as end-reads
-use Rattle.page_scan.proofs.rows.line_count.Reads as line-count-reads
-use Rattle.page_scan.proofs.rows.rows_of.Reads as rows-of-reads
 
 abbrev Inv-loop : tie.InvT-loop
 Inv-loop names page count around₀ depth₀ rows₀ k₀ around depth rows k =

@@ -1,12 +1,8 @@
+-- `pass_line`: by the sort of the line.
 use native.Mathlib.Omega.{arith}
 use borrow.Author.Needs.{needs}
 use Rattle.page_scan.proofs.blocks.pass_line.Statement.{statement}
 use Rattle.page_scan.proofs.blocks.pass_line.Tie as tie
-use Rattle.page_scan.proofs.blocks.pass_line.Reads as reads
-use Rattle.page_scan.proofs.blocks.pass_line.Lts as lts
-use Rattle.page_scan.proofs.blocks.push.Reads as push-reads
-use Rattle.page_scan.proofs.blocks.shut.Reads as shut-reads
-use Rattle.page_scan.proofs.blocks.turn.Reads as turn-reads
 
 enum-told : tie.Need-enum-told
 enum-told c = search needs

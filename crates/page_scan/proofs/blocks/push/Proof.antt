@@ -1,3 +1,4 @@
+-- `push`: a byte more is a block more.
 use mathlib.Core.Path.{ap}
 use mathlib.Core.Option.{some}
 use native.Mathlib.Omega.{arith}
@@ -6,8 +7,6 @@ use Rattle.page_scan.specs.StackLaws.{pushed}
 use borrow.Author.Needs.{needs}
 use Rattle.page_scan.proofs.blocks.push.Statement.{statement}
 use Rattle.page_scan.proofs.blocks.push.Tie as tie
-use Rattle.page_scan.proofs.blocks.push.Reads as reads
-use Rattle.page_scan.proofs.blocks.push.Lts as lts
 
 element-write-around : tie.Need-element-write-around
 element-write-around c = search needs

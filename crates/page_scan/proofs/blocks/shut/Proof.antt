@@ -1,10 +1,9 @@
+-- `shut`: the innermost block, where it need not turn.
 use native.Mathlib.Omega.{arith}
 use Rattle.page_scan.specs.StackLaws.{shut-none, shut-wrong, shut-right}
 use borrow.Author.Needs.{needs}
 use Rattle.page_scan.proofs.blocks.shut.Statement.{statement}
 use Rattle.page_scan.proofs.blocks.shut.Tie as tie
-use Rattle.page_scan.proofs.blocks.shut.Reads as reads
-use Rattle.page_scan.proofs.blocks.shut.Lts as lts
 
 returns : tie.Need-returns
 returns c =

@@ -1,11 +1,10 @@
+-- `turn`: the innermost block, where it must turn.
 use native.Mathlib.Omega.{arith}
 use lib.ListN.{length-set}
 use Rattle.page_scan.specs.StackLaws.{turn-none, turn-wrong, turn-right}
 use borrow.Author.Needs.{needs}
 use Rattle.page_scan.proofs.blocks.turn.Statement.{statement}
 use Rattle.page_scan.proofs.blocks.turn.Tie as tie
-use Rattle.page_scan.proofs.blocks.turn.Reads as reads
-use Rattle.page_scan.proofs.blocks.turn.Lts as lts
 
 returns : tie.Need-returns
 returns c =

@@ -1,12 +1,10 @@
+-- `rows_of`: an assignment has the rows of its value, and three.
 use mathlib.Core.Path.{ap}
 use Prim.Native.Nat.{ℕ, _+_}
 use native.Mathlib.Omega.{arith}
 use borrow.Author.Needs.{needs}
 use Rattle.page_scan.proofs.rows.rows_of.Statement.{statement}
 use Rattle.page_scan.proofs.rows.rows_of.Tie as tie
-use Rattle.page_scan.proofs.rows.rows_of.Reads as reads
-use Rattle.page_scan.proofs.rows.rows_of.Lts as lts
-use Rattle.page_scan.proofs.rows.value_rows.Reads as value-rows-reads
 
 enum-told : tie.Need-enum-told
 enum-told c = search needs

@@ -1,3 +1,4 @@
+-- `atom`: by its first byte: a variable, a temporary, or else a constant.
 use mathlib.Core.Path.{sym, ap, _∙_}
 use Rattle.words.specs.OverLaws.{rest-of}
 use Rattle.page_words.specs.Reads.{numberRead, variableOf, temporaryOf, constantOf}
@@ -5,13 +6,6 @@ use Rattle.page_words.proofs.FirstBytes.{atom-none, atom-variable, atom
 use borrow.Author.Needs.{needs}
 use Rattle.page_words.proofs.atoms.atom.Statement.{statement}
 use Rattle.page_words.proofs.atoms.atom.Tie as tie
-use Rattle.page_words.proofs.atoms.atom.Reads as reads
-use Rattle.page_words.proofs.atoms.atom.Lts as lts
-use Rattle.page_words.proofs.atoms.constant_of.Reads as constant-of-reads
-use Rattle.page_words.proofs.atoms.number_below.Reads as number-below-reads
-use Rattle.page_words.proofs.atoms.temporary_of.Reads as temporary-of-reads
-use Rattle.page_words.proofs.atoms.variable_of.Reads as variable-of-reads
-use Rattle.text_form.proofs.number.number.Reads as number-reads
 
 returns : tie.Need-returns
 returns c =

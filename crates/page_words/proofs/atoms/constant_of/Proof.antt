@@ -1,3 +1,4 @@
+-- `constant_of`: a field that is a number is a constant; its word fits 32 bits.
 use mathlib.Core.Path.{ap}
 use Rattle.words.specs.Laws.{back}
 use Rattle.page_words.specs.declared.Atom.the-variants.{Constant}
@@ -5,8 +6,6 @@ use Rattle.page_words.specs.declared.AtomRead.the-variants.{Read}
 use borrow.Author.Needs.{needs}
 use Rattle.page_words.proofs.atoms.constant_of.Statement.{statement}
 use Rattle.page_words.proofs.atoms.constant_of.Tie as tie
-use Rattle.page_words.proofs.atoms.constant_of.Reads as reads
-use Rattle.page_words.proofs.atoms.constant_of.Lts as lts
 
 enum-known-field : tie.Need-enum-known-field
 enum-known-field c = search needs

@@ -1,3 +1,4 @@
+-- `element`: what stands between the letter and the last bracket is read, where both are there.
 use mathlib.Core.Path.{sym, ap, _∙_}
 use mathlib.Core.List.{List, [], _∷_}
 use Prim.Native.Nat.{ℕ}
@@ -8,10 +9,6 @@ use Rattle.page_words.specs.CompareLaws.{framed-long}
 use borrow.Author.Needs.{needs}
 use Rattle.page_words.proofs.atoms.element.Statement.{statement}
 use Rattle.page_words.proofs.atoms.element.Tie as tie
-use Rattle.page_words.proofs.atoms.element.Reads as reads
-use Rattle.page_words.proofs.atoms.element.Lts as lts
-use Rattle.page_words.proofs.atoms.element_in.Reads as element-in-reads
-use Rattle.page_words.proofs.compare.is_framed.Reads as is-framed-reads
 
 slice-aggregate-is-framed : tie.Need-slice-aggregate-is-framed
 slice-aggregate-is-framed c = search needs

@@ -1,3 +1,4 @@
+-- `element_in`: the first bracket parts the array from its index.
 use mathlib.Core.Path.{ap₂, _∙_}
 use Rattle.page_words.specs.Reads.{elementOf}
 use mathlib.Core.Path.{sym, ap, ap₂, _∙_}
@@ -8,12 +9,6 @@ use Rattle.page_words.proofs.Parts.{piece-within, element-unparted, ele
 use borrow.Author.Needs.{needs}
 use Rattle.page_words.proofs.atoms.element_in.Statement.{statement}
 use Rattle.page_words.proofs.atoms.element_in.Tie as tie
-use Rattle.page_words.proofs.atoms.element_in.Reads as reads
-use Rattle.page_words.proofs.atoms.element_in.Lts as lts
-use Rattle.page_words.proofs.atoms.atom.Reads as atom-reads
-use Rattle.page_words.proofs.atoms.element_of.Reads as element-of-reads
-use Rattle.page_words.proofs.atoms.number_below.Reads as number-below-reads
-use Rattle.text_form.proofs.line.piece_end.Reads as piece-end-reads
 
 piece-end-requires : tie.Need-piece-end-requires
 piece-end-requires c κs = search needs

@@ -1,8 +1,7 @@
+-- `element_of`: an element where both its parts are read.
 use borrow.Author.Needs.{needs}
 use Rattle.page_words.proofs.atoms.element_of.Statement.{statement}
 use Rattle.page_words.proofs.atoms.element_of.Tie as tie
-use Rattle.page_words.proofs.atoms.element_of.Reads as reads
-use Rattle.page_words.proofs.atoms.element_of.Lts as lts
 
 enum-known-array : tie.Need-enum-known-array
 enum-known-array c = search needs

@@ -1,8 +1,7 @@
+-- `name_of`: every atom but a constant is a name.
 use borrow.Author.Needs.{needs}
 use Rattle.page_words.proofs.atoms.name_of.Statement.{statement}
 use Rattle.page_words.proofs.atoms.name_of.Tie as tie
-use Rattle.page_words.proofs.atoms.name_of.Reads as reads
-use Rattle.page_words.proofs.atoms.name_of.Lts as lts
 
 enum-known-atom : tie.Need-enum-known-atom
 enum-known-atom c = search needs

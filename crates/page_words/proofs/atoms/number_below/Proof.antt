@@ -1,3 +1,4 @@
+-- `number_below`: a number up to the bound, and then below it.
 use mathlib.Core.Path.{sym, ap, _∙_}
 use Rattle.text_form.specs.Reader.{digitsValue}
 use Rattle.page_words.specs.Reads.{numberRead}
@@ -5,9 +6,6 @@ use Rattle.page_words.proofs.FirstBytes.{below-none, below-inside, belo
 use borrow.Author.Needs.{needs}
 use Rattle.page_words.proofs.atoms.number_below.Statement.{statement}
 use Rattle.page_words.proofs.atoms.number_below.Tie as tie
-use Rattle.page_words.proofs.atoms.number_below.Reads as reads
-use Rattle.page_words.proofs.atoms.number_below.Lts as lts
-use Rattle.text_form.proofs.number.natural.Reads as natural-reads
 
 natural-requires : tie.Need-natural-requires
 natural-requires c κs = search needs

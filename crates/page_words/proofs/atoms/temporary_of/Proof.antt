@@ -1,8 +1,7 @@
+-- `temporary_of`: a number is a temporary.
 use borrow.Author.Needs.{needs}
 use Rattle.page_words.proofs.atoms.temporary_of.Statement.{statement}
 use Rattle.page_words.proofs.atoms.temporary_of.Tie as tie
-use Rattle.page_words.proofs.atoms.temporary_of.Reads as reads
-use Rattle.page_words.proofs.atoms.temporary_of.Lts as lts
 
 enum-known-number : tie.Need-enum-known-number
 enum-known-number c = search needs

@@ -1,8 +1,7 @@
+-- `variable_of`: a number is a variable.
 use borrow.Author.Needs.{needs}
 use Rattle.page_words.proofs.atoms.variable_of.Statement.{statement}
 use Rattle.page_words.proofs.atoms.variable_of.Tie as tie
-use Rattle.page_words.proofs.atoms.variable_of.Reads as reads
-use Rattle.page_words.proofs.atoms.variable_of.Lts as lts
 
 enum-known-number : tie.Need-enum-known-number
 enum-known-number c = search needs

@@ -1,12 +1,10 @@
+-- `is_framed`: the lengths first, so that the two do not meet; then the start, then the end.
 use mathlib.Core.Path.{sym, _∙_}
 use borrow.Author.Tests.{not-true, not-false}
 use Rattle.page_words.proofs.Parts.{framed-short, framed-begins, framed-ends}
 use borrow.Author.Needs.{needs}
 use Rattle.page_words.proofs.compare.is_framed.Statement.{statement}
 use Rattle.page_words.proofs.compare.is_framed.Tie as tie
-use Rattle.page_words.proofs.compare.is_framed.Reads as reads
-use Rattle.page_words.proofs.compare.is_framed.Lts as lts
-use Rattle.page_words.proofs.compare.stands.Reads as stands-reads
 
 add-if1 : tie.Need-add-if1
 add-if1 c = search needs

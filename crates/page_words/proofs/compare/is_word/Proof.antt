@@ -1,11 +1,9 @@
+-- `is_word`: as long as the word, and beginning with it.
 use mathlib.Core.Path.{_∙_}
 use Rattle.page_words.proofs.Parts.{other-word, as-long-word}
 use borrow.Author.Needs.{needs}
 use Rattle.page_words.proofs.compare.is_word.Statement.{statement}
 use Rattle.page_words.proofs.compare.is_word.Tie as tie
-use Rattle.page_words.proofs.compare.is_word.Reads as reads
-use Rattle.page_words.proofs.compare.is_word.Lts as lts
-use Rattle.page_words.proofs.compare.stands.Reads as stands-reads
 
 returns : tie.Need-returns
 returns c =

@@ -1,11 +1,10 @@
+-- `stands`: byte by byte; the invariant is `Standing`.
 use Prim.Native.Nat.{_-_}
 use native.Mathlib.Omega.{arith}
 use lib.ListN.{length}
 use Rattle.page_words.proofs.Standing.{Standing, standing-start, standing-end, standing-differ, standing-next}
 use Rattle.page_words.proofs.compare.stands.Statement.{statement}
 use Rattle.page_words.proofs.compare.stands.Tie as tie
-use Rattle.page_words.proofs.compare.stands.Reads as reads
-use Rattle.page_words.proofs.compare.stands.Lts as lts
 
 abbrev Inv-loop : tie.InvT-loop
 Inv-loop bytes text at i₀ i =

@@ -1,10 +1,7 @@
+-- `assigned_of`: to an element, or else to a name.
 use borrow.Author.Needs.{needs}
 use Rattle.page_words.proofs.lines.assigned_of.Statement.{statement}
 use Rattle.page_words.proofs.lines.assigned_of.Tie as tie
-use Rattle.page_words.proofs.lines.assigned_of.Reads as reads
-use Rattle.page_words.proofs.lines.assigned_of.Lts as lts
-use Rattle.page_words.proofs.lines.put_of.Reads as put-of-reads
-use Rattle.page_words.proofs.lines.store_of.Reads as store-of-reads
 
 enum-known-element : tie.Need-enum-known-element
 enum-known-element c = search needs

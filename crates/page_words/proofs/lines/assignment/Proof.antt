@@ -1,3 +1,4 @@
+-- `assignment`: the first blank parts the target from the rest.
 use mathlib.Core.Path.{ap₂, _∙_}
 use native.Mathlib.Omega.{arith}
 use Rattle.page_words.specs.Reads.{assignmentOf, assignmentRead}
@@ -5,10 +6,6 @@ use Rattle.page_words.proofs.Parts.{piece-within, target-is, rest-is}
 use borrow.Author.Needs.{needs}
 use Rattle.page_words.proofs.lines.assignment.Statement.{statement}
 use Rattle.page_words.proofs.lines.assignment.Tie as tie
-use Rattle.page_words.proofs.lines.assignment.Reads as reads
-use Rattle.page_words.proofs.lines.assignment.Lts as lts
-use Rattle.page_words.proofs.lines.assignment_of.Reads as assignment-of-reads
-use Rattle.text_form.proofs.line.piece_end.Reads as piece-end-reads
 
 piece-end-requires : tie.Need-piece-end-requires
 piece-end-requires c κs = search needs

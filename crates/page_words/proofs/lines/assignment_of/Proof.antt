@@ -1,3 +1,4 @@
+-- `assignment_of`: the rest without its equals sign and semicolon is the value.
 use mathlib.Core.Path.{sym, ap, _∙_}
 use mathlib.Core.List.{List, [], _∷_}
 use native.Mathlib.Omega.{arith}
@@ -7,14 +8,6 @@ use Rattle.page_words.specs.CompareLaws.{framed-long}
 use borrow.Author.Needs.{needs}
 use Rattle.page_words.proofs.lines.assignment_of.Statement.{statement}
 use Rattle.page_words.proofs.lines.assignment_of.Tie as tie
-use Rattle.page_words.proofs.lines.assignment_of.Reads as reads
-use Rattle.page_words.proofs.lines.assignment_of.Lts as lts
-use Rattle.page_words.proofs.atoms.atom.Reads as atom-reads
-use Rattle.page_words.proofs.atoms.element.Reads as element-reads
-use Rattle.page_words.proofs.atoms.name_of.Reads as name-of-reads
-use Rattle.page_words.proofs.compare.is_framed.Reads as is-framed-reads
-use Rattle.page_words.proofs.lines.assigned_of.Reads as assigned-of-reads
-use Rattle.page_words.proofs.values.value.Reads as value-reads
 
 slice-aggregate-is-framed : tie.Need-slice-aggregate-is-framed
 slice-aggregate-is-framed c = search needs

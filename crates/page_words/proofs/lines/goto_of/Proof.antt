@@ -1,8 +1,7 @@
+-- `goto_of`: a number is a goto.
 use borrow.Author.Needs.{needs}
 use Rattle.page_words.proofs.lines.goto_of.Statement.{statement}
 use Rattle.page_words.proofs.lines.goto_of.Tie as tie
-use Rattle.page_words.proofs.lines.goto_of.Reads as reads
-use Rattle.page_words.proofs.lines.goto_of.Lts as lts
 
 enum-known-number : tie.Need-enum-known-number
 enum-known-number c = search needs

@@ -1,8 +1,7 @@
+-- `if_of`: an atom is a test.
 use borrow.Author.Needs.{needs}
 use Rattle.page_words.proofs.lines.if_of.Statement.{statement}
 use Rattle.page_words.proofs.lines.if_of.Tie as tie
-use Rattle.page_words.proofs.lines.if_of.Reads as reads
-use Rattle.page_words.proofs.lines.if_of.Lts as lts
 
 enum-known-test : tie.Need-enum-known-test
 enum-known-test c = search needs

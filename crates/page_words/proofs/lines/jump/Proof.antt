@@ -1,3 +1,4 @@
+-- `jump`: goto and label by what stands around their numbers.
 use mathlib.Core.Path.{sym, ap, _∙_}
 use mathlib.Core.List.{List, [], _∷_}
 use mathlib.Core.Bool.{true}
@@ -7,13 +8,6 @@ use Rattle.page_words.specs.CompareLaws.{framed-long}
 use borrow.Author.Needs.{needs}
 use Rattle.page_words.proofs.lines.jump.Statement.{statement}
 use Rattle.page_words.proofs.lines.jump.Tie as tie
-use Rattle.page_words.proofs.lines.jump.Reads as reads
-use Rattle.page_words.proofs.lines.jump.Lts as lts
-use Rattle.page_words.proofs.atoms.number_below.Reads as number-below-reads
-use Rattle.page_words.proofs.compare.is_framed.Reads as is-framed-reads
-use Rattle.page_words.proofs.lines.goto_of.Reads as goto-of-reads
-use Rattle.page_words.proofs.lines.label_of.Reads as label-of-reads
-use Rattle.page_words.proofs.lines.tested.Reads as tested-reads
 
 slice-aggregate-is-framed : tie.Need-slice-aggregate-is-framed
 slice-aggregate-is-framed c = search needs

@@ -1,8 +1,7 @@
+-- `label_of`: a number is a label.
 use borrow.Author.Needs.{needs}
 use Rattle.page_words.proofs.lines.label_of.Statement.{statement}
 use Rattle.page_words.proofs.lines.label_of.Tie as tie
-use Rattle.page_words.proofs.lines.label_of.Reads as reads
-use Rattle.page_words.proofs.lines.label_of.Lts as lts
 
 enum-known-number : tie.Need-enum-known-number
 enum-known-number c = search needs

@@ -1,12 +1,9 @@
+-- `line`: the fixed words one after the other.
 use mathlib.Core.Path.{sym, _∙_}
 use Rattle.page_words.specs.Reads.{lineRead}
 use borrow.Author.Needs.{needs}
 use Rattle.page_words.proofs.lines.line.Statement.{statement}
 use Rattle.page_words.proofs.lines.line.Tie as tie
-use Rattle.page_words.proofs.lines.line.Reads as reads
-use Rattle.page_words.proofs.lines.line.Lts as lts
-use Rattle.page_words.proofs.compare.is_word.Reads as is-word-reads
-use Rattle.page_words.proofs.lines.jump.Reads as jump-reads
 
 slice-aggregate-is-word : tie.Need-slice-aggregate-is-word
 slice-aggregate-is-word c = search needs

@@ -1,8 +1,7 @@
+-- `put_of`: only an atom is put into an element.
 use borrow.Author.Needs.{needs}
 use Rattle.page_words.proofs.lines.put_of.Statement.{statement}
 use Rattle.page_words.proofs.lines.put_of.Tie as tie
-use Rattle.page_words.proofs.lines.put_of.Reads as reads
-use Rattle.page_words.proofs.lines.put_of.Lts as lts
 
 enum-known-value : tie.Need-enum-known-value
 enum-known-value c = search needs

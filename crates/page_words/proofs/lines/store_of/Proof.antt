@@ -1,8 +1,7 @@
+-- `store_of`: a line where name and value are read.
 use borrow.Author.Needs.{needs}
 use Rattle.page_words.proofs.lines.store_of.Statement.{statement}
 use Rattle.page_words.proofs.lines.store_of.Tie as tie
-use Rattle.page_words.proofs.lines.store_of.Reads as reads
-use Rattle.page_words.proofs.lines.store_of.Lts as lts
 
 enum-known-name : tie.Need-enum-known-name
 enum-known-name c = search needs

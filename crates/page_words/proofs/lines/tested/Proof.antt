@@ -1,3 +1,4 @@
+-- `tested`: if and while by what stands around their atoms.
 use mathlib.Core.Path.{sym, ap, _∙_}
 use mathlib.Core.List.{List, [], _∷_}
 use mathlib.Core.Bool.{true}
@@ -7,13 +8,6 @@ use Rattle.page_words.specs.CompareLaws.{framed-long}
 use borrow.Author.Needs.{needs}
 use Rattle.page_words.proofs.lines.tested.Statement.{statement}
 use Rattle.page_words.proofs.lines.tested.Tie as tie
-use Rattle.page_words.proofs.lines.tested.Reads as reads
-use Rattle.page_words.proofs.lines.tested.Lts as lts
-use Rattle.page_words.proofs.atoms.atom.Reads as atom-reads
-use Rattle.page_words.proofs.compare.is_framed.Reads as is-framed-reads
-use Rattle.page_words.proofs.lines.assignment.Reads as assignment-reads
-use Rattle.page_words.proofs.lines.if_of.Reads as if-of-reads
-use Rattle.page_words.proofs.lines.while_of.Reads as while-of-reads
 
 slice-aggregate-is-framed : tie.Need-slice-aggregate-is-framed
 slice-aggregate-is-framed c = search needs

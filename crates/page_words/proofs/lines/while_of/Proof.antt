@@ -1,8 +1,7 @@
+-- `while_of`: an atom is a test.
 use borrow.Author.Needs.{needs}
 use Rattle.page_words.proofs.lines.while_of.Statement.{statement}
 use Rattle.page_words.proofs.lines.while_of.Tie as tie
-use Rattle.page_words.proofs.lines.while_of.Reads as reads
-use Rattle.page_words.proofs.lines.while_of.Lts as lts
 
 enum-known-test : tie.Need-enum-known-test
 enum-known-test c = search needs

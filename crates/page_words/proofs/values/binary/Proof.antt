@@ -1,3 +1,4 @@
+-- `binary`: the first blank parts the operator from the second operand.
 use mathlib.Core.Path.{ap₂, ap, _∙_}
 use Rattle.page_words.specs.Reads.{binaryOf, operatorRead, atomRead}
 use mathlib.Core.Path.{sym, ap, ap₂, _∙_}
@@ -8,12 +9,6 @@ use Rattle.page_words.proofs.Parts.{piece-within, binary-unparted, bina
 use borrow.Author.Needs.{needs}
 use Rattle.page_words.proofs.values.binary.Statement.{statement}
 use Rattle.page_words.proofs.values.binary.Tie as tie
-use Rattle.page_words.proofs.values.binary.Reads as reads
-use Rattle.page_words.proofs.values.binary.Lts as lts
-use Rattle.page_words.proofs.atoms.atom.Reads as atom-reads
-use Rattle.page_words.proofs.values.binary_of.Reads as binary-of-reads
-use Rattle.page_words.proofs.values.operator.Reads as operator-reads
-use Rattle.text_form.proofs.line.piece_end.Reads as piece-end-reads
 
 piece-end-requires : tie.Need-piece-end-requires
 piece-end-requires c κs = search needs

@@ -1,8 +1,7 @@
+-- `binary_of`: a value where all three parts are read.
 use borrow.Author.Needs.{needs}
 use Rattle.page_words.proofs.values.binary_of.Statement.{statement}
 use Rattle.page_words.proofs.values.binary_of.Tie as tie
-use Rattle.page_words.proofs.values.binary_of.Reads as reads
-use Rattle.page_words.proofs.values.binary_of.Lts as lts
 
 enum-known-operator : tie.Need-enum-known-operator
 enum-known-operator c = search needs

@@ -1,8 +1,7 @@
+-- `minus_of`: an atom behind a minus.
 use borrow.Author.Needs.{needs}
 use Rattle.page_words.proofs.values.minus_of.Statement.{statement}
 use Rattle.page_words.proofs.values.minus_of.Tie as tie
-use Rattle.page_words.proofs.values.minus_of.Reads as reads
-use Rattle.page_words.proofs.values.minus_of.Lts as lts
 
 enum-known-atom : tie.Need-enum-known-atom
 enum-known-atom c = search needs

@@ -1,12 +1,9 @@
+-- `operator`: by the length of the word.
 use mathlib.Core.Path.{sym, ap, _∙_}
 use Rattle.page_words.proofs.FirstBytes.{operator-one, operator-other, operator-unended, operator-two}
 use borrow.Author.Needs.{needs}
 use Rattle.page_words.proofs.values.operator.Statement.{statement}
 use Rattle.page_words.proofs.values.operator.Tie as tie
-use Rattle.page_words.proofs.values.operator.Reads as reads
-use Rattle.page_words.proofs.values.operator.Lts as lts
-use Rattle.page_words.proofs.values.operator_of_one.Reads as operator-of-one-reads
-use Rattle.page_words.proofs.values.operator_of_two.Reads as operator-of-two-reads
 
 shared-slice-read-operator-of-one : tie.Need-shared-slice-read-operator-of-one
 shared-slice-read-operator-of-one c = search needs

@@ -1,9 +1,8 @@
+-- `operator_of_one`: the bytes one after the other.
 use borrow.Author.Tests.{eq-eqb, ne-eqb}
 use Rattle.page_words.specs.Reads.{operatorOfOne}
 use Rattle.page_words.proofs.values.operator_of_one.Statement.{statement}
 use Rattle.page_words.proofs.values.operator_of_one.Tie as tie
-use Rattle.page_words.proofs.values.operator_of_one.Reads as reads
-use Rattle.page_words.proofs.values.operator_of_one.Lts as lts
 
 returns : tie.Need-returns
 unfolding operatorOfOne

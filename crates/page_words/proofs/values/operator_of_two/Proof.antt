@@ -1,9 +1,8 @@
+-- `operator_of_two`: the first bytes one after the other.
 use borrow.Author.Tests.{eq-eqb, ne-eqb}
 use Rattle.page_words.specs.Reads.{operatorOfTwo}
 use Rattle.page_words.proofs.values.operator_of_two.Statement.{statement}
 use Rattle.page_words.proofs.values.operator_of_two.Tie as tie
-use Rattle.page_words.proofs.values.operator_of_two.Reads as reads
-use Rattle.page_words.proofs.values.operator_of_two.Lts as lts
 
 returns : tie.Need-returns
 unfolding operatorOfTwo

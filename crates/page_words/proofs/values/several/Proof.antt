@@ -1,14 +1,9 @@
+-- `several`: a minus by itself, or else an operand.
 use mathlib.Core.Path.{sym, ap, _∙_}
 use Rattle.page_words.specs.Reads.{severalRead, minusOf}
 use borrow.Author.Needs.{needs}
 use Rattle.page_words.proofs.values.several.Statement.{statement}
 use Rattle.page_words.proofs.values.several.Tie as tie
-use Rattle.page_words.proofs.values.several.Reads as reads
-use Rattle.page_words.proofs.values.several.Lts as lts
-use Rattle.page_words.proofs.atoms.atom.Reads as atom-reads
-use Rattle.page_words.proofs.compare.is_word.Reads as is-word-reads
-use Rattle.page_words.proofs.values.binary.Reads as binary-reads
-use Rattle.page_words.proofs.values.minus_of.Reads as minus-of-reads
 
 slice-aggregate-is-word : tie.Need-slice-aggregate-is-word
 slice-aggregate-is-word c = search needs

@@ -1,8 +1,7 @@
+-- `single_of`: an element, or else an atom.
 use borrow.Author.Needs.{needs}
 use Rattle.page_words.proofs.values.single_of.Statement.{statement}
 use Rattle.page_words.proofs.values.single_of.Tie as tie
-use Rattle.page_words.proofs.values.single_of.Reads as reads
-use Rattle.page_words.proofs.values.single_of.Lts as lts
 
 enum-known-element : tie.Need-enum-known-element
 enum-known-element c = search needs

@@ -1,3 +1,4 @@
+-- `value`: one word, or several parted by blanks.
 use mathlib.Core.Path.{ap₂, _∙_}
 use native.Mathlib.Omega.{arith}
 use Rattle.page_words.specs.Reads.{singleOf}
@@ -5,13 +6,6 @@ use Rattle.page_words.proofs.Parts.{piece-within, value-unparted, value
 use borrow.Author.Needs.{needs}
 use Rattle.page_words.proofs.values.value.Statement.{statement}
 use Rattle.page_words.proofs.values.value.Tie as tie
-use Rattle.page_words.proofs.values.value.Reads as reads
-use Rattle.page_words.proofs.values.value.Lts as lts
-use Rattle.page_words.proofs.atoms.atom.Reads as atom-reads
-use Rattle.page_words.proofs.atoms.element.Reads as element-reads
-use Rattle.page_words.proofs.values.several.Reads as several-reads
-use Rattle.page_words.proofs.values.single_of.Reads as single-of-reads
-use Rattle.text_form.proofs.line.piece_end.Reads as piece-end-reads
 
 piece-end-requires : tie.Need-piece-end-requires
 piece-end-requires c κs = search needs

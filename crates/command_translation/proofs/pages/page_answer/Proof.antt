@@ -1,5 +1,4 @@
 -- `page_answer`: either page.
-
 use borrow.Author.Needs.{needs}
 use Rattle.command_translation.proofs.pages.page_answer.Statement.{statement}
 use Rattle.command_translation.proofs.pages.page_answer.Tie as tie

@@ -5,6 +5,7 @@
 //! store of zeros.
 
 use crate::check::check;
+use crate::flat;
 use crate::form::Form::{self, Kernel, Source};
 use crate::join;
 use crate::machine::{run, Ending, Outcome};
@@ -147,6 +148,18 @@ pub fn compare_join(first: &Case, second: &Case, printed: &[u8]) -> Result<usize
     let one = text::read(Source, &first.text).map_err(refused)?;
     let other = text::read(Source, &second.text).map_err(refused)?;
     join::compare(&one, &other, &rows, &start(Source, &header, first))
+}
+
+/// What is printed for the run of a flat list's text.
+pub fn list_answer(case: &Case) -> String {
+    let evaluated = text::read_list(&case.text).and_then(|(header, list)| {
+        let mut store = start(Kernel, &header, case);
+        flat::run(&header, &list, &mut store, case.budget).map(|outcome| (outcome, store))
+    });
+    match evaluated {
+        Ok((outcome, store)) => answer_line(outcome, &store),
+        Err(refusal) => refusal.to_string(),
+    }
 }
 
 pub fn answer(form: Form, case: &Case) -> String {

@@ -5,7 +5,8 @@ use interpreter::generate::{self, Size};
 use interpreter::tally::Tally;
 use interpreter::Form::{self, Kernel, Source};
 use interpreter::{
-    check, damage, day, generate_day, generate_joins, generate_kernel, page, rules, text, trial,
+    check, damage, day, flat, generate_day, generate_joins, generate_kernel, page, rules, text,
+    trial,
 };
 use std::io::{self, Read, Write};
 use std::process::ExitCode;
@@ -30,6 +31,9 @@ Texts and case files are read from standard input.
   kernel-run BUDGET [WORD ...]
   kernel-writes N [WORD ...]
   page                       the page of a kernel text, or refused NUMBER PLACE
+  flat-check                 check, run of the text of a flat list
+  flat-run BUDGET [WORD ...]
+  flatten                    the flat list of a kernel text, or refused NUMBER PLACE
   read-page V T [LENGTH ...] reads a page; the kernel text of its rows with this
                              header, or `no page`
   trial                      the trial program's line for the source form, or
@@ -113,6 +117,9 @@ fn act(arguments: &[&str], tally: bool) -> Result<Vec<u8>, String> {
         ["compare-joins"] => Ok(line(compare_joins(&cases::read_all(&input()?)?))),
         ["kernel-check"] => Ok(check_text(Kernel, &input()?)),
         ["page"] => Ok(page_text(&input()?)),
+        ["flat-check"] => Ok(list_check_text(&input()?)),
+        ["flat-run", budget, words @ ..] => Ok(line(cases::list_answer(&case(budget, words)?))),
+        ["flatten"] => Ok(flatten_text(&input()?)),
         ["read-page", header @ ..] => read_page(header),
         ["kernel-run", budget, words @ ..] => run_text(Kernel, budget, words),
         ["trial"] => Ok(line(trial::trial(&input()?))),
@@ -263,6 +270,22 @@ fn page_text(bytes: &[u8]) -> Vec<u8> {
         .and_then(|(header, rows)| check(Kernel, &header, &rows).map(|()| (header, rows)));
     match program {
         Ok((header, rows)) => page::print(&header, &rows),
+        Err(refusal) => line(refusal.to_string()),
+    }
+}
+
+fn list_check_text(bytes: &[u8]) -> Vec<u8> {
+    match text::read_list(bytes).and_then(|(header, list)| flat::check(&header, &list)) {
+        Ok(()) => line("ok".to_string()),
+        Err(refusal) => line(refusal.to_string()),
+    }
+}
+
+fn flatten_text(bytes: &[u8]) -> Vec<u8> {
+    let program = text::read(Kernel, bytes)
+        .and_then(|(header, rows)| check(Kernel, &header, &rows).map(|()| (header, rows)));
+    match program {
+        Ok((header, rows)) => text::write_list(&header, &flat::flatten::flatten(&rows)),
         Err(refusal) => line(refusal.to_string()),
     }
 }

@@ -1,6 +1,7 @@
 //! The text form: reader and writer.
 
-use crate::check::check_sizes;
+use crate::check::{check_header, check_sizes};
+use crate::flat::LINE;
 use crate::form::Form;
 use crate::table::{Refusal, MAX_ARRAYS, WORDS};
 
@@ -16,6 +17,19 @@ pub fn read(form: Form, bytes: &[u8]) -> Result<Program, Refusal> {
 
 /// Reads the words of a text, testing its lines (14) alone.
 pub fn read_lines(form: Form, bytes: &[u8]) -> Result<Program, Refusal> {
+    read_table(form, WORDS, bytes)
+}
+
+/// Reads the text of a flat list: the kernel's first line, then five words a line.
+/// 14 first, then 1.
+pub fn read_list(bytes: &[u8]) -> Result<Program, Refusal> {
+    let (header, list) = read_table(Form::Kernel, LINE, bytes)?;
+    check_header(Form::Kernel, &header)?;
+    Ok((header, list))
+}
+
+/// The words of a text whose lines behind the first have so many.
+fn read_table(form: Form, width: usize, bytes: &[u8]) -> Result<Program, Refusal> {
     let header_words = form.leading_words()..=form.leading_words() + MAX_ARRAYS;
     let mut header = Vec::new();
     let mut rows = Vec::new();
@@ -30,7 +44,7 @@ pub fn read_lines(form: Form, bytes: &[u8]) -> Result<Program, Refusal> {
             words.push(number(field).ok_or(malformed)?);
         }
         let count = words.len() - before;
-        let well = if line == 1 { header_words.contains(&count) } else { count == WORDS };
+        let well = if line == 1 { header_words.contains(&count) } else { count == width };
         if !well {
             return Err(malformed);
         }
@@ -67,9 +81,18 @@ pub fn number(field: &[u8]) -> Option<i32> {
 
 /// Writes a program; rows are groups of six words.
 pub fn write(header: &[i32], rows: &[i32]) -> Vec<u8> {
+    write_table(header, WORDS, rows)
+}
+
+/// Writes a flat list; lines are groups of five words.
+pub fn write_list(header: &[i32], list: &[i32]) -> Vec<u8> {
+    write_table(header, LINE, list)
+}
+
+fn write_table(header: &[i32], width: usize, rows: &[i32]) -> Vec<u8> {
     let mut bytes = Vec::with_capacity(rows.len() * 3 + header.len() * 5);
     write_line(&mut bytes, header);
-    for row in rows.chunks(WORDS) {
+    for row in rows.chunks(width) {
         write_line(&mut bytes, row);
     }
     bytes

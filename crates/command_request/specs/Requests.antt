@@ -11,11 +11,11 @@ use Rattle.text_form.specs.Number.{natural}
 use Rattle.text_form.specs.Reader.{atMost}
 use Rattle.command_request.specs.Ascii.{ascii}
 use Rattle.command_request.specs.declared.request.Task.{Task}
-use Rattle.command_request.specs.declared.request.Task.the-variants.{Run, Preview, DispatcherRun}
+use Rattle.command_request.specs.declared.request.Task.the-variants.{Run, Preview, DispatcherRun, FlatRun}
 use Rattle.command_request.specs.declared.request.Verb.{Verb}
 use Rattle.command_request.specs.declared.request.Verb.the-variants as verb-cases
 use Rattle.command_request.specs.declared.request.Request.{Request}
-use Rattle.command_request.specs.declared.request.Request.the-variants.{Check, Start, Translate, Writes, Join, Page, WrongArguments, WrongBudget}
+use Rattle.command_request.specs.declared.request.Request.the-variants.{Check, Start, Translate, Writes, Join, Page, FlatCheck, WrongArguments, WrongBudget}
 
 unfoldable pub sameBytes : List ℕ → List ℕ → Bool
 sameBytes [] [] = true
@@ -23,14 +23,21 @@ sameBytes [] (second ∷ seconds) = false
 sameBytes (first ∷ firsts) [] = false
 sameBytes (first ∷ firsts) (second ∷ seconds) = eqb first second && sameBytes firsts seconds
 
--- The first argument says what to do with a kernel text,
+-- The first argument says what to do with the text of a flat list,
+unfoldable pub flatVerbOf : List ℕ → Verb
+flatVerbOf name =
+    pick (sameBytes name (ascii "flat-check")) verb-cases.FlatCheck
+    (pick (sameBytes name (ascii "flat-run")) (verb-cases.Start FlatRun)
+    verb-cases.Unknown)
+
+-- with a kernel text,
 unfoldable pub kernelVerbOf : List ℕ → Verb
 kernelVerbOf name =
     pick (sameBytes name (ascii "kernel-check")) (verb-cases.Check Kernel)
     (pick (sameBytes name (ascii "kernel-run")) (verb-cases.Start (Run Kernel))
     (pick (sameBytes name (ascii "dispatcher-run")) (verb-cases.Start DispatcherRun)
     (pick (sameBytes name (ascii "page")) (verb-cases.Page Kernel)
-    verb-cases.Unknown)))
+    (flatVerbOf name))))
 
 -- or with a source text.
 unfoldable pub verbOf : List ℕ → Verb
@@ -61,6 +68,7 @@ requestBy verb-cases.Translate count second = pick (eqb count 1) Translate Wrong
 requestBy verb-cases.Writes count second = pick (eqb count 1) Writes WrongArguments
 requestBy verb-cases.Join count second = pick (eqb count 2) Join WrongArguments
 requestBy (verb-cases.Page form) count second = pick (eqb count 1) (Page form) WrongArguments
+requestBy verb-cases.FlatCheck count second = pick (eqb count 1) FlatCheck WrongArguments
 requestBy verb-cases.Unknown count second = WrongArguments
 
 unfoldable pub requestOf : (count : ℕ) → (first second : List ℕ) → Request
@@ -74,6 +82,7 @@ readsText Translate = true
 readsText Writes = true
 readsText Join = true
 readsText (Page form) = true
+readsText FlatCheck = true
 readsText WrongArguments = false
 readsText WrongBudget = false
 
@@ -84,6 +93,7 @@ readsStore Translate = false
 readsStore Writes = false
 readsStore Join = true
 readsStore (Page form) = false
+readsStore FlatCheck = false
 readsStore WrongArguments = false
 readsStore WrongBudget = false
 
@@ -95,5 +105,6 @@ fileArgument Translate = 3
 fileArgument Writes = 3
 fileArgument Join = 2
 fileArgument (Page form) = 3
+fileArgument FlatCheck = 3
 fileArgument WrongArguments = 3
 fileArgument WrongBudget = 3

@@ -8,14 +8,15 @@ ghost use Rattle.words.specs.Word.{pick};
 ghost use Rattle.text_form.specs.Reader.{digitsValue};
 ghost use Rattle.command_request.specs.declared.request.Verb.the-variants.{Start as StartVerb};
 ghost use Rattle.command_request.specs.declared.request.Request.the-variants.{WrongArguments};
-ghost use Rattle.command_request.specs.Requests.{sameBytes, kernelVerbOf, verbOf, startRequest, requestBy, requestOf, readsText, readsStore, fileArgument};
+ghost use Rattle.command_request.specs.Requests.{sameBytes, flatVerbOf, kernelVerbOf, verbOf, startRequest, requestBy, requestOf, readsText, readsStore, fileArgument};
 
-// What starts from a store: the run of a program, the preview of a source program's run, or the run of a kernel program that a dispatcher
-// sees.
+// What starts from a store: the run of a program, the preview of a source program's run, the run of a kernel program that a dispatcher
+// sees, or the run of a flat list.
 pub enum Task {
     Run(Form),
     Preview,
     DispatcherRun,
+    FlatRun,
 }
 
 // What the first argument says.
@@ -26,6 +27,7 @@ pub enum Verb {
     Writes,
     Join,
     Page(Form),
+    FlatCheck,
     Unknown,
 }
 
@@ -38,6 +40,7 @@ pub enum Request {
     Writes,
     Join,
     Page(Form),
+    FlatCheck,
     WrongArguments,
     WrongBudget,
 }
@@ -58,7 +61,20 @@ fn is_same(bytes: &[u8], name: &[u8]) -> bool
     true
 }
 
-// The names of what is done with a kernel text.
+// The names of what is done with the text of a flat list.
+fn flat_verb_of(name: &[u8]) -> Verb
+    ensures { λ r. ⌜ r ≡ flatVerbOf (now (name .entry)) ⌝ }
+{
+    if is_same(name, b"flat-check") {
+        return Verb::FlatCheck;
+    }
+    if is_same(name, b"flat-run") {
+        return Verb::Start(Task::FlatRun);
+    }
+    Verb::Unknown
+}
+
+// The names of what is done with a kernel text, then with a flat list's.
 fn kernel_verb_of(name: &[u8]) -> Verb
     ensures { λ r. ⌜ r ≡ kernelVerbOf (now (name .entry)) ⌝ }
 {
@@ -74,7 +90,7 @@ fn kernel_verb_of(name: &[u8]) -> Verb
     if is_same(name, b"page") {
         return Verb::Page(Form::Kernel);
     }
-    Verb::Unknown
+    flat_verb_of(name)
 }
 
 // The names of what is done with a source text, then the others.
@@ -157,6 +173,7 @@ fn request_by(verb: Verb, count: usize, second: &[u8]) -> Request
         Verb::Writes => alone(Request::Writes, count),
         Verb::Join => with_file(Request::Join, count),
         Verb::Page(form) => alone(Request::Page(form), count),
+        Verb::FlatCheck => alone(Request::FlatCheck, count),
         Verb::Unknown => Request::WrongArguments,
     }
 }
@@ -179,6 +196,7 @@ pub fn reads_text(request: Request) -> bool
         Request::Writes => true,
         Request::Join => true,
         Request::Page(_) => true,
+        Request::FlatCheck => true,
         Request::WrongArguments => false,
         Request::WrongBudget => false,
     }
@@ -195,6 +213,7 @@ pub fn reads_store(request: Request) -> bool
         Request::Writes => false,
         Request::Join => true,
         Request::Page(_) => false,
+        Request::FlatCheck => false,
         Request::WrongArguments => false,
         Request::WrongBudget => false,
     }
@@ -211,6 +230,7 @@ pub fn file_argument(request: Request) -> usize
         Request::Writes => 3,
         Request::Join => 2,
         Request::Page(_) => 3,
+        Request::FlatCheck => 3,
         Request::WrongArguments => 3,
         Request::WrongBudget => 3,
     }

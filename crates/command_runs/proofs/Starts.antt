@@ -16,7 +16,7 @@ use Rattle.words.specs.OverLaws.{first-of, over-fits, written-part}
 use Rattle.report.specs.Lines.{lineRoom}
 use Rattle.command_request.specs.StoreFile.{Stored}
 use Rattle.command_request.specs.declared.request.Task.{Task}
-use Rattle.command_request.specs.declared.request.Task.the-variants.{Run, Preview, DispatcherRun}
+use Rattle.command_request.specs.declared.request.Task.the-variants.{Run, Preview, DispatcherRun, FlatRun}
 use Rattle.command_text.specs.Texts.{outputRoom}
 use Rattle.command_runs.specs.Tasks.{formOf, startWords}
 
@@ -33,6 +33,7 @@ pub start-most : (task : Task) (header : List ℤ) → headerFits (formOf task) 
 start-most (Run form) header h = words-most form header h
 start-most Preview header h = words-most Source header h
 start-most DispatcherRun header h = omega (arith, headerFits-facts Kernel header h .small-store)
+start-most FlatRun header h = words-most Kernel header h
 
 -- the line of a run on the first part of a store
 pub part-room : (n : ℕ) (store : List ℤ) → n ≤ length store → length store ≤ 98304 → {room : ℕ} → outputRoom ≤ room → lineRoom (length (take (n - 0) store)) ≤ room

@@ -17,18 +17,28 @@ use Rattle.command_request.specs.StoreFile.{storeIn}
 use Rattle.command_request.specs.declared.request.Task.{Task}
 use Rattle.command_request.specs.declared.request.Task.the-variants as task-cases
 use Rattle.command_text.specs.Texts.{textOutput}
+use Rattle.command_flat.specs.Lists.{listOutput, listRunLine}
 
--- A preview is of a source program, a dispatcher's run of a kernel program.
+-- A preview is of a source program, a dispatcher's run of a kernel program; a flat list has the kernel's header.
 abbrev pub formOf : Task → Form
 formOf (task-cases.Run form) = form
 formOf task-cases.Preview = Source
 formOf task-cases.DispatcherRun = Kernel
+formOf task-cases.FlatRun = Kernel
+
+-- What is printed for the text that it is about, by what is printed for its words.
+abbrev pub taskText : Task → List ℕ → (List ℤ → List ℤ → List ℕ) → List ℕ
+taskText (task-cases.Run form) text = textOutput form text
+taskText task-cases.Preview text = textOutput Source text
+taskText task-cases.DispatcherRun text = textOutput Kernel text
+taskText task-cases.FlatRun text = listOutput text
 
 -- How many words it starts from: a dispatcher has no temporaries.
 abbrev pub startWords : Task → List ℤ → ℕ
 startWords (task-cases.Run form) header = storeWords form header
 startWords task-cases.Preview header = storeWords Source header
 startWords task-cases.DispatcherRun header = storeSize (layoutOf Kernel header)
+startWords task-cases.FlatRun header = storeWords Kernel header
 
 abbrev pub resultLine : RunResult → List ℕ
 resultLine result = runLine (result .answer) (result .store)
@@ -45,16 +55,17 @@ abbrev pub taskLines : Task → ℕ → (store header rows : List ℤ) → List 
 taskLines (task-cases.Run form) budget store header rows = resultLine (runResult form header rows budget store)
 taskLines task-cases.Preview budget store header rows = resultLines (previewResult header rows budget store (zeros (storeWords Source header)))
 taskLines task-cases.DispatcherRun budget store header rows = shownLine (dispatcherResult header rows budget store)
+taskLines task-cases.FlatRun budget store header rows = listRunLine budget store header rows
 
 unfoldable pub taskOutput : Task → ℕ → List ℕ → List ℤ → List ℕ
-taskOutput task budget text store = textOutput (formOf task) text (taskLines task budget store)
+taskOutput task budget text store = taskText task text (taskLines task budget store)
 
 -- "else zeros"
 abbrev pub zerosLines : Task → ℕ → (header rows : List ℤ) → List ℕ
 zerosLines task budget header rows = taskLines task budget (zeros (startWords task header)) header rows
 
 unfoldable pub zerosOutput : Task → ℕ → List ℕ → List ℕ
-zerosOutput task budget text = textOutput (formOf task) text (zerosLines task budget)
+zerosOutput task budget text = taskText task text (zerosLines task budget)
 
 -- A malformed word is told before the text is read; a wrong number of words is cause 11, in its place.
 unfoldable pub storedOutput : Task → ℕ → List ℕ → Parsed (List ℤ) → List ℕ

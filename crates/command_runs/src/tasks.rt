@@ -3,12 +3,15 @@
 use super::previews::put_preview;
 use clight::dispatcher::dispatcher_run;
 use clight::runs;
+use command_flat::put_list_run;
+use command_flat::read_list;
 use command_lines::dispatcher_line;
 use command_lines::malformed_line;
 use command_lines::run_line;
 use command_request::request::Task;
 use command_request::store_file::StoreRead;
 use command_request::store_file::read_words;
+use command_text::read_program;
 use report::line::refused_line;
 use text_form::ReadAnswer;
 use words::Form;
@@ -26,7 +29,8 @@ ghost use Rattle.dispatcher_runs.specs.DispatcherRuns.{dispatcherResult};
 ghost use Rattle.program_runs.specs.Runs.{runResult, answerAndStore};
 ghost use Rattle.command_request.specs.StoreFile.{storeIn};
 ghost use Rattle.command_text.specs.Texts.{Roomy, outputRoom, storeLimit};
-ghost use Rattle.command_runs.specs.Tasks.{formOf, startWords, resultLine, shownLine, taskLines, taskOutput, zerosLines, zerosOutput, storedOutput, startedOutput};
+ghost use Rattle.command_text.specs.Read.{ReadFor};
+ghost use Rattle.command_runs.specs.Tasks.{formOf, taskText, startWords, resultLine, shownLine, taskLines, taskOutput, zerosLines, zerosOutput, storedOutput, startedOutput};
 
 fn run_form(form: Form, header: &[i32], rows: &[i32], store: &mut [i32], budget: u32) -> RunVerdict
     ensures { λ r. ⌜ answerAndStore r (now (store .exit)) ≡ runResult form (now (header .entry)) (now (rows .entry)) budget (now (store .entry)) ⌝ }
@@ -68,13 +72,16 @@ fn put_dispatcher_run(
     dispatcher_line(verdict, words, out)
 }
 
-fn form_of(task: Task) -> Form
-    ensures { λ r. ⌜ r ≡ formOf task ⌝ }
+// Reads the text that a task is about.
+fn read_task(task: Task, text: &[u8], header: &mut [i32], rows: &mut [i32]) -> ReadAnswer
+    requires { ⌜ Roomy (formOf task) (now header) (now rows) ⌝ }
+    ensures { λ r. ⌜ ReadFor (taskText task (now (text .entry))) (formOf task) r (now (header .exit)) (now (rows .exit)) ⌝ }
 {
     match task {
-        Task::Run(form) => form,
-        Task::Preview => Form::Source,
-        Task::DispatcherRun => Form::Kernel,
+        Task::Run(form) => read_program(form, text, header, rows),
+        Task::Preview => read_program(Form::Source, text, header, rows),
+        Task::DispatcherRun => read_program(Form::Kernel, text, header, rows),
+        Task::FlatRun => read_list(text, header, rows),
     }
 }
 
@@ -87,6 +94,7 @@ fn start_words(task: Task, header: &[i32]) -> usize
         Task::Run(form) => store_words(form, header),
         Task::Preview => store_words(Form::Source, header),
         Task::DispatcherRun => store_size(Form::Kernel, header),
+        Task::FlatRun => store_words(Form::Kernel, header),
     }
 }
 
@@ -108,6 +116,7 @@ fn put_task(
         Task::Run(form) => put_run(form, header, rows, store, budget, out),
         Task::Preview => put_preview(header, rows, store, budget, out),
         Task::DispatcherRun => put_dispatcher_run(header, rows, store, budget, out),
+        Task::FlatRun => put_list_run(header, rows, store, budget, out),
     }
 }
 
@@ -126,7 +135,7 @@ fn start_text(
     requires { ⌜ outputRoom ≤ length (now out) ⌝ }
     ensures { λ r. ⌜ Put (taskOutput task budget (now (text .entry)) (now (store .entry))) (now (out .entry)) r (now (out .exit)) ⌝ }
 {
-    let answer = text_form::read(form_of(task), text, header, rows);
+    let answer = read_task(task, text, header, rows);
     match answer {
         ReadAnswer::Refused(refusal) => refused_line(refusal, out),
         ReadAnswer::Read(numbers, words) => put_task(
@@ -164,7 +173,7 @@ fn start_zeros(
     requires { ⌜ outputRoom ≤ length (now out) ⌝ }
     ensures { λ r. ⌜ Put (zerosOutput task budget (now (text .entry))) (now (out .entry)) r (now (out .exit)) ⌝ }
 {
-    let answer = text_form::read(form_of(task), text, header, rows);
+    let answer = read_task(task, text, header, rows);
     match answer {
         ReadAnswer::Refused(refusal) => refused_line(refusal, out),
         ReadAnswer::Read(numbers, words) => {
@@ -204,7 +213,7 @@ fn start_stored(
     }
 }
 
-// `run`, `kernel-run`, `preview` and `dispatcher-run`.
+// `run`, `kernel-run`, `preview`, `dispatcher-run` and `flat-run`.
 pub fn start_answer(
     task: Task,
     budget: u32,

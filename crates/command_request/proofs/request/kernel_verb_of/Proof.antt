@@ -1,4 +1,4 @@
--- `kernel_verb_of` tries the names one after the other.
+-- `kernel_verb_of` tries the names one after the other, then those of the other texts.
 use mathlib.Core.Path.{sym, _∙_}
 use borrow.Author.Needs.{needs}
 use Rattle.command_request.specs.Requests.{kernelVerbOf}
@@ -45,9 +45,12 @@ returns-4 : tie.Need-returns-4
 unfolding kernelVerbOf
 returns-4 c = rw (sym (c .before .before .before .before .before .before .before .before .before .before .is-same .ensures) ∙ c .before .before .before .before .before .before .before .before .before .if1 .left, sym (c .before .before .before .before .before .before .before .is-same2 .ensures) ∙ c .before .before .before .before .before .before .if2 .left, sym (c .before .before .before .before .is-same3 .ensures) ∙ c .before .before .before .if3 .left, sym (c .before .is-same4 .ensures) ∙ c .if4 .taken)
 
+flat-verb-of-requires : tie.Need-flat-verb-of-requires
+flat-verb-of-requires c κs = search needs
+
 returns-5 : tie.Need-returns-5
 unfolding kernelVerbOf
-returns-5 c = rw (sym (c .before .before .before .before .before .before .before .before .before .before .is-same .ensures) ∙ c .before .before .before .before .before .before .before .before .before .if1 .left, sym (c .before .before .before .before .before .before .before .is-same2 .ensures) ∙ c .before .before .before .before .before .before .if2 .left, sym (c .before .before .before .before .is-same3 .ensures) ∙ c .before .before .before .if3 .left, sym (c .before .is-same4 .ensures) ∙ c .if4 .left)
+returns-5 c = rw (sym (c .before .before .before .before .before .before .before .before .before .before .before .is-same .ensures) ∙ c .before .before .before .before .before .before .before .before .before .before .if1 .left, sym (c .before .before .before .before .before .before .before .before .is-same2 .ensures) ∙ c .before .before .before .before .before .before .before .if2 .left, sym (c .before .before .before .before .before .is-same3 .ensures) ∙ c .before .before .before .before .if3 .left, sym (c .before .before .is-same4 .ensures) ∙ c .before .if4 .left) (c .flat-verb-of .ensures)
 
 pub kernel-verb-of-spec : {M : Type 1} → statement M
 kernel-verb-of-spec =
@@ -65,4 +68,5 @@ kernel-verb-of-spec =
     slice-aggregate-is-same-4
     is-same-requires-4
     returns-4
+    flat-verb-of-requires
     returns-5)

@@ -43,6 +43,12 @@ alone-requires-4 c κs = search needs
 enum-told-4 : tie.Need-enum-told-4
 enum-told-4 c = search needs
 
+alone-requires-5 : tie.Need-alone-requires-5
+alone-requires-5 c κs = search needs
+
+enum-told-5 : tie.Need-enum-told-5
+enum-told-5 c = search needs
+
 returns : tie.Need-returns
 unfolding requestBy
 returns c = rw (c .before .before .verb .given .1) (c .alone .ensures)
@@ -68,7 +74,11 @@ returns-6 c = rw (c .before .before .verb3 .given .1) (c .alone4 .ensures)
 
 returns-7 : tie.Need-returns-7
 unfolding requestBy
-returns-7 c = rw (c .enum-told4 .given .1)
+returns-7 c = rw (c .before .enum-told4 .given .1) (c .alone5 .ensures)
+
+returns-8 : tie.Need-returns-8
+unfolding requestBy
+returns-8 c = rw (c .enum-told5 .given .1)
 
 pub request-by-spec : {M : Type 1} → statement M
 request-by-spec =
@@ -87,10 +97,13 @@ request-by-spec =
     enum-known-verb-3
     alone-requires-4
     enum-told-4
+    alone-requires-5
+    enum-told-5
     returns
     returns-2
     returns-3
     returns-4
     returns-5
     returns-6
-    returns-7)
+    returns-7
+    returns-8)

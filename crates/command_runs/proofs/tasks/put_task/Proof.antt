@@ -1,4 +1,4 @@
--- `put_task`: the run, the preview, or the dispatcher's run.
+-- `put_task`: the run, the preview, the dispatcher's run, or the run of a flat list.
 use borrow.Author.Needs.{needs}
 use Rattle.command_runs.proofs.tasks.put_task.Statement.{statement}
 use Rattle.command_runs.proofs.tasks.put_task.Tie as tie
@@ -20,6 +20,12 @@ enum-told-2 c = search needs
 
 put-dispatcher-run-requires : tie.Need-put-dispatcher-run-requires
 put-dispatcher-run-requires c κs = search needs
+
+enum-told-3 : tie.Need-enum-told-3
+enum-told-3 c = search needs
+
+put-list-run-requires : tie.Need-put-list-run-requires
+put-list-run-requires c κs = search needs
 
 same-length : tie.Need-same-length
 same-length c = search needs
@@ -48,6 +54,15 @@ same-length-6 c = search needs
 returns-3 : tie.Need-returns-3
 returns-3 c = rw (c .before .before .before .before .before .before .enum-told2 .given .1) (c .before .before .before .put-dispatcher-run .ensures)
 
+same-length-7 : tie.Need-same-length-7
+same-length-7 c = search needs
+
+same-length-8 : tie.Need-same-length-8
+same-length-8 c = search needs
+
+returns-4 : tie.Need-returns-4
+returns-4 c = rw (c .before .before .before .before .before .before .enum-told3 .given .1) (c .before .before .before .put-list-run .ensures)
+
 pub put-task-spec : {M : Type 1} → statement M
 put-task-spec =
     tie.close
@@ -58,6 +73,8 @@ put-task-spec =
     put-preview-requires
     enum-told-2
     put-dispatcher-run-requires
+    enum-told-3
+    put-list-run-requires
     same-length
     same-length-2
     returns
@@ -66,4 +83,7 @@ put-task-spec =
     returns-2
     same-length-5
     same-length-6
-    returns-3)
+    returns-3
+    same-length-7
+    same-length-8
+    returns-4)

@@ -21,6 +21,12 @@ enum-told-2 c = search needs
 store-size-requires : tie.Need-store-size-requires
 store-size-requires c κs = rw (c .enum-told2 .given .1) at (c .before .before .pre)
 
+enum-told-3 : tie.Need-enum-told-3
+enum-told-3 c = search needs
+
+store-words-requires-3 : tie.Need-store-words-requires-3
+store-words-requires-3 c κs = rw (c .enum-told3 .given .1) at (c .before .before .pre)
+
 returns : tie.Need-returns
 returns c = rw (c .before .before .task .given .1) (c .store-words .ensures)
 
@@ -29,6 +35,9 @@ returns-2 c = rw (c .before .enum-told .given .1) (c .store-words2 .ensures)
 
 returns-3 : tie.Need-returns-3
 returns-3 c = rw (c .before .enum-told2 .given .1) (c .store-size .ensures)
+
+returns-4 : tie.Need-returns-4
+returns-4 c = rw (c .before .enum-told3 .given .1) (c .store-words3 .ensures)
 
 pub start-words-spec : {M : Type 1} → statement M
 start-words-spec =
@@ -40,6 +49,9 @@ start-words-spec =
     store-words-requires-2
     enum-told-2
     store-size-requires
+    enum-told-3
+    store-words-requires-3
     returns
     returns-2
-    returns-3)
+    returns-3
+    returns-4)

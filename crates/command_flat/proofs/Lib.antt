@@ -1,0 +1,3 @@
+-- Laws that several functions use, then a folder for each function.
+-- ListReadings: what is printed for the text of a list that the reader refused or read.
+pub mod ListReadings

@@ -3,6 +3,8 @@
 -- ---- definitions
 -- Names: the store word that a number means at a row, and the table in which each name stands for its store word.
 pub mod Names
+-- Scope: the rows in a declaration's scope, as a relation in the request's words.
+pub mod Scope
 -- Examples: resolved tables, by computing.
 pub mod Examples
 -- ---- laws
@@ -14,3 +16,5 @@ pub mod LinkingLaws
 pub mod ScopeLaws
 -- Laws of the resolved table: its length, kinds, sorts and links are the table's; only the names change.
 pub mod ResolvedLaws
+-- Laws of meaning: a row's scope is the innermost declaration in whose scope it stands; a number means the innermost one that has it.
+pub mod MeaningLaws

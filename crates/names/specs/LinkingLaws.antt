@@ -1,9 +1,9 @@
 -- Laws of linking: the links of a declaration are b and next, those of another row are the table's; a table without declarations links as
 -- it stands.
-use mathlib.Core.Path.{_≡_, refl, sym, ap, _∙_}
-use mathlib.Core.Bool.{Bool, true, false, _||_}
+use mathlib.Core.Path.{_≡_, refl, ap}
+use mathlib.Core.Bool.{false, _||_}
 use mathlib.Core.List.{List}
-use Prim.Native.Nat.{ℕ, zero, suc, _+_, _*_, _/_, _%_, _≤_, _<_}
+use Prim.Native.Nat.{ℕ, zero, suc, _+_, _*_, _/_, _≤_, _<_}
 use native.Mathlib.Omega.{arith}
 use lib.Dec.{eqb}
 use lib.IntN.{ℤ, pos}
@@ -14,7 +14,7 @@ use Rattle.words.specs.Table.{rowCount, wordAt, numberAt}
 use Rattle.words.specs.Laws.{by-cases}
 use Rattle.words.specs.Kinds.{kinds, kindIn, kindOf, isLink, sortAt, sortOf, sortIn, kindRow, statementFields}
 use Rattle.words.specs.Links.{link}
-use Rattle.names.specs.Names.{tableOf, isDeclaration, linkingWord, linking}
+use Rattle.names.specs.Names.{isDeclaration, linkingWord, linking}
 use Rattle.names.specs.TableLaws.{table-length, table-all, word-beyond, made-of-itself}
 
 -- No row is a declaration.

@@ -1,22 +1,22 @@
 -- Laws of scope: what a row's scope and a number's meaning are; a declaration's word is its own.
-use mathlib.Core.Path.{_≡_, refl, sym, ap, _∙_, subst}
-use mathlib.Core.Bool.{Bool, true, false, _&&_, _||_, true≢false}
+use mathlib.Core.Path.{_≡_, refl}
+use mathlib.Core.Bool.{Bool, true, false, _&&_, _||_}
 use mathlib.Core.Logic.{_⊎_, inl, inr}
 use mathlib.Core.List.{List}
 use Prim.Native.Nat.{ℕ, zero, suc, _+_, _-_, _≤_, _<_}
 use native.Mathlib.Nat.{add-zero, add-suc}
 use native.Mathlib.Omega.{arith}
-use lib.Dec.{ltb, eqb}
-use lib.IntN.{ℤ, pos}
+use lib.Dec.{eqb}
+use lib.IntN.{ℤ}
 use borrow.Author.Tests.{eqb-true}
 use Rattle.words.specs.Word.{pick}
 use Rattle.words.specs.Table.{rowCount, numberAt}
 use Rattle.words.specs.Laws.{by-cases, both}
-use Rattle.words.specs.Links.{link, linker, received, noteBy, note}
+use Rattle.words.specs.Links.{linker, received, noteBy, note}
 use Rattle.words.specs.declared.Found.{Found}
 use Rattle.words.specs.declared.Found.the-variants.{At, Nothing}
 use Rattle.structure.specs.Links.{one}
-use Rattle.structure.specs.Structured.{Leads, Tree}
+use Rattle.structure.specs.Structured.{Tree}
 use Rattle.structure.specs.LinkLaws.{by-owner}
 use Rattle.structure.specs.NoteLaws.{note-root, note-link}
 use Rattle.names.specs.Names.{isDeclaration, linking, inScope, scopeAt, declarationsBefore, declarationCount, wordOf, meantFrom, meantAt}
@@ -69,7 +69,7 @@ module _ (rows : List ℤ) where
   before-grow row (suc more) = rw add-suc (omega (arith, before-grow row more))
 
   -- a declaration has fewer before it than any later row
-  before-later : (declaration row : ℕ) → isDeclaration rows declaration ≡ true → declaration < row → declarationsBefore rows declaration < declarationsBefore rows row
+  pub before-later : (declaration row : ℕ) → isDeclaration rows declaration ≡ true → declaration < row → declarationsBefore rows declaration < declarationsBefore rows row
   unfolding declarationsBefore
   before-later declaration row e h =
       let z : suc declaration + (row - suc declaration) ≡ row = omega arith in

@@ -1,9 +1,8 @@
 -- Declared words: what a declaration is to do, and how the rest of its list goes on. Its word becomes known there, whatever it held before.
 -- No kind of today declares a word: these are laws of computations.
 use mathlib.Core.Path.{_≡_, refl, subst, sym}
-use mathlib.Core.Logic.{_⊎_, inl, inr}
+use mathlib.Core.Logic.{inl, inr}
 use Prim.Native.Nat.{ℕ}
-use lib.IntN.{ℤ}
 use Rattle.words.specs.Layout.{Layout}
 use Rattle.computation.specs.Computation.{Computation, ret, _>>=_, _>>_, save}
 use Rattle.computation.specs.Agreement.{Words, _within_}

@@ -8,7 +8,7 @@ pub mod Twin
 -- ---- laws
 -- Laws of renaming: the marks of a list stay; a renaming that moves no word gives the program itself.
 pub mod RenamingLaws
--- Laws of twins: a rule for each computation.
+-- Laws of twins: a rule for each computation; how twin runs begin and end.
 pub mod TwinLaws
 -- Renamed programs: a line for each kind, and the theorem: a renamed program runs alike under every limit.
 pub mod Renamed

@@ -1,18 +1,16 @@
 -- Renamed programs: a line for each kind, and the theorem: a renamed program runs alike under every limit, so that a run that is cut off
 -- is covered too.
-use mathlib.Core.Path.{_≡_, refl, subst}
-use mathlib.Core.Bool.{Bool, true, false}
+use mathlib.Core.Path.{refl, subst}
 use Prim.Native.Nat.{ℕ}
 use lib.IntN.{ℤ, pos}
-use Rattle.words.specs.Word.{pick}
 use Rattle.words.specs.Layout.{Layout, arrayBase, arrayLength}
 use Rattle.words.specs.declared.Operator.{Operator}
 use Rattle.words.specs.declared.FaultSort.the-variants.{Guard}
 use Rattle.arithmetic.specs.Laws.{element-inside}
 use Rattle.arithmetic.specs.Arithmetic.{isTrue, apply, minus as minusWord, element as elementWord}
-use Rattle.computation.specs.Computation.{Turn, again, leave, Computation, ret, _>>=_, _>>_, save}
+use Rattle.computation.specs.Computation.{Turn, again, leave, Computation, save}
 use Rattle.computation.specs.Run.{State, Limit, run}
-use Rattle.computation.specs.Agreement.{Words, _within_}
+use Rattle.computation.specs.Agreement.{Words}
 use Rattle.language.specs.Trees.{Expression, constant, read, minus, not, binary, and, or, comma, conditional, assign, compound, prefix, postfix, Place, variable, element, Part, absent, present, Statement, empty, express, block, ifThen, ifElse, while, doWhile, for, switch, break, continue, goto, guardedIf, guardedDo, abort, Arms, noArm, arm, Items, none, _then_, _here_}
 use Rattle.language.specs.Meaning.{enter, update, evaluate, locate, value, valueOf, Signal, next, breaking, continuing, seeking, entersStatement, entersMark, target, afterBody, Choice, noneTrue, ran, afterChoice, afterArms, tryArm, rounds, perform, choose, choiceRounds, items, exec}
 use Rattle.language.specs.WellFormed.{NamedExpression, NamedPlace, NamedPart, NamedStatement, NamedArms, NamedItems}

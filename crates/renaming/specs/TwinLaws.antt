@@ -1,21 +1,20 @@
--- Laws of twins: a rule for each computation.
+-- Laws of twins: a rule for each computation; how twin runs begin and end.
 use mathlib.Core.Path.{_≡_, refl, sym, _∙_, ap}
 use mathlib.Core.Bool.{Bool, true, false}
-use mathlib.Core.List.{List, _∷_, map}
-use Prim.Native.Nat.{ℕ, zero, suc, _-_}
+use mathlib.Core.List.{List, _∷_}
+use Prim.Native.Nat.{ℕ, zero, suc, _-_, _<_}
 use native.Mathlib.Decide.{ℕ-discrete}
 use lib.Dec.{ltb}
 use lib.IntN.{ℤ, pos}
-use lib.ListN.{getD, set, length-set}
+use lib.ListN.{length, getD, set, length-set}
 use lib.Seq.{getD-set-same, getD-set-other}
 use Rattle.words.specs.Word.{pick}
 use Rattle.words.specs.declared.FaultSort.{FaultSort}
-use Rattle.words.specs.declared.Operator.{Operator}
-use Rattle.arithmetic.specs.Arithmetic.{Outcome, value as valued, fault as faulty, apply}
+use Rattle.arithmetic.specs.Arithmetic.{Outcome, value as valued, fault as faulty}
 use Rattle.computation.specs.Computation.{Turn, again, leave, Computation, ret, _>>=_, step, load, save, fail, loop, settle}
-use Rattle.computation.specs.Run.{Write, State, stepped, written, spent, Result, ok, stopped, Limit, steps, rounds, andThen, hasRoom, runStep, roundsFrom, afterTurn, iterate, run}
+use Rattle.computation.specs.Run.{Write, State, start, stepped, written, spent, fault, Result, ok, stopped, Limit, steps, rounds, andThen, hasRoom, runStep, roundsFrom, afterTurn, iterate, run, final, endingOf}
 use Rattle.computation.specs.Agreement.{Words, _within_}
-use Rattle.language.specs.Meaning.{enter, update}
+use Rattle.language.specs.Meaning.{enter}
 use Rattle.renaming.specs.Twin.{moved, Twin, TwinResult, twin-ok, twin-stopped, Alike, Equal, There, TurnOf}
 
 module _ {All : Words} {π : ℕ → ℕ} where
@@ -135,3 +134,20 @@ module _ {All : Words} {π : ℕ → ℕ} {Visible : Words} where
   unfolding run
   alike-loop {m = m} {n = n} v p =
       record { goes = λ l σ τ t. rw (rounds-same l t) (iterate-twins v l (run l m) (run l n) (λ σ τ t. p .goes l σ τ t) (roundsFrom l σ) σ τ t) }
+
+-- ---- starts and ends
+
+-- two stores with the same values in the known words
+pub twin-start : {All : Words} {π : ℕ → ℕ} {P : Words} (s t : List ℤ) → ((i : ℕ) → P i → getD t (π i) (pos 0) ≡ getD s i (pos 0)) → ((i : ℕ) → All i → (i < length s) × (π i < length t)) → Twin All π P (start s) (start t)
+twin-start s t values inside = record { values = values; inside = inside; counts = refl; writes = refl }
+
+module _ {All : Words} {π : ℕ → ℕ} {Visible Q : Words} {A B : Type 0} {Val : A → B → Type 0} where
+  pub twin-ending : {r : Result A} {q : Result B} → TwinResult All π Visible Q Val r q → endingOf q ≡ endingOf r
+  twin-ending (twin-ok v t) = refl
+  twin-ending (twin-stopped {why = spent} t) = refl
+  twin-ending (twin-stopped {why = fault sort} t) = refl
+
+  -- count, writes and visible words, however the runs ended
+  pub twin-final : {r : Result A} {q : Result B} → Visible within Q → TwinResult All π Visible Q Val r q → Twin All π Visible (final r) (final q)
+  twin-final h (twin-ok v t) = twin-fewer h t
+  twin-final h (twin-stopped t) = t

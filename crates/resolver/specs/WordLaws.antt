@@ -1,18 +1,15 @@
 -- Laws of the resolved words, a case each; and a table filled word by word.
 use mathlib.Core.Path.{_≡_, sym, ap, _∙_}
-use mathlib.Core.Bool.{Bool, true, false}
+use mathlib.Core.Bool.{true, false}
 use mathlib.Core.List.{List, [], _∷_, _++_}
 use Prim.Native.Nat.{ℕ, suc, _+_, _/_, _%_, _<_}
 use native.Mathlib.Omega.{arith}
-use lib.Dec.{eqb}
 use lib.IntN.{ℤ, pos}
 use lib.ListN.{length, getD, set}
 use borrow.Author.Tests.{eq-eqb, ne-eqb}
-use Rattle.words.specs.Word.{pick}
 use Rattle.words.specs.Table.{rowCount, wordAt, numberAt}
 use Rattle.words.specs.Over.{over}
 use Rattle.words.specs.OverLaws.{over-set}
-use Rattle.grammar.specs.Grammar.{tabulate}
 use Rattle.names.specs.Names.{tableOf, isDeclaration, isName, wordOf, meantAt, variableWord, resolvedName, resolvedWord}
 use Rattle.names.specs.TableLaws.{tabulate-more, table-length}
 use Rattle.resolver.specs.Passes.{Scanned}

@@ -56,7 +56,7 @@ fn hand(rows: &[i32], owner: usize, field: usize, own: u16) -> u16
     requires { ⌜ (6 * owner + 5 < length (now rows)) × (owner < 65536) ⌝ }
     ensures { λ r. ⌜ r ≡ inScope (now (rows .entry)) owner field own ⌝ }
 {
-    if field == 5 { // the next item
+    if field == 5 {
         if is_declaration(rows, owner) {
             return narrow(owner);
         }

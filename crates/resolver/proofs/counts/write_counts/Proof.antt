@@ -1,6 +1,6 @@
 -- `write_counts` goes over the rows in order. The invariant: the counts of the rows passed are written, and the next one is known.
 use mathlib.Core.Path.{_≡_, refl, _∙_}
-use Prim.Native.Nat.{ℕ, _-_, _/_, _≤_}
+use Prim.Native.Nat.{_-_, _/_, _≤_}
 use native.Mathlib.Omega.{arith}
 use lib.ListN.{length, length-set}
 use Rattle.names.specs.ScopeLaws.{before-few}

@@ -1,5 +1,5 @@
 -- `write_scopes` goes over the words in order. The invariant: the scopes of row 0 and of the rows linked so far are written.
-use Prim.Native.Nat.{ℕ, _-_, _≤_}
+use Prim.Native.Nat.{_-_, _≤_}
 use native.Mathlib.Omega.{arith}
 use lib.ListN.{length}
 use Rattle.words.specs.Links.{target}

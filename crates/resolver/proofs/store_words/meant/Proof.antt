@@ -1,5 +1,5 @@
 -- `meant` goes outward from the row's scope. The invariant: what is meant is what is meant from the declaration reached.
-use mathlib.Core.Path.{_≡_, refl, sym, ap, _∙_}
+use mathlib.Core.Path.{_≡_, sym, ap, _∙_}
 use Prim.Native.Nat.{ℕ, _+_, _-_, _≤_, _<_}
 use native.Mathlib.Omega.{arith}
 use Rattle.words.specs.Table.{rowCount}

@@ -1,6 +1,5 @@
 -- `resolved_name` makes its two tests in order.
-use mathlib.Core.Path.{_≡_, sym, ap, _∙_}
-use native.Mathlib.Omega.{arith}
+use mathlib.Core.Path.{sym, _∙_}
 use Rattle.words.specs.Laws.{back}
 use Rattle.resolver.specs.ScanLaws.{count-room, count-few}
 use Rattle.resolver.specs.WordLaws.{name-declared, name-variable, name-other, declared-word}

@@ -1,5 +1,5 @@
 -- `resolved_word` makes one test.
-use mathlib.Core.Path.{_≡_, sym, ap, _∙_}
+use mathlib.Core.Path.{sym, _∙_}
 use Rattle.words.specs.Laws.{back}
 use Rattle.resolver.specs.WordLaws.{word-named, word-kept}
 use borrow.Author.Needs.{needs}

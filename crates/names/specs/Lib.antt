@@ -18,3 +18,5 @@ pub mod ScopeLaws
 pub mod ResolvedLaws
 -- Laws of meaning: a row's scope is the innermost declaration in whose scope it stands; a number means the innermost one that has it.
 pub mod MeaningLaws
+-- Laws of resolved names: a declaration names its own word, a name its declaration's word or the header's variable.
+pub mod ResolvedNames

@@ -12,9 +12,6 @@ use Rattle.names.specs.LinkingLaws.{linking-length}
 use Rattle.resolver.specs.WordLaws.{fill-more}
 use Rattle.resolver.proofs.put_resolved.Statement.{statement}
 use Rattle.resolver.proofs.put_resolved.Tie as tie
-use Rattle.resolver.proofs.put_resolved.Reads as reads
-use Rattle.resolver.proofs.put_resolved.Lts as lts
-use Rattle.resolver.proofs.store_words.resolved_word.Reads as resolved-word-reads
 
 abbrev Inv-loop : tie.InvT-loop
 Inv-loop store rows scopes counts out₀ word₀ out word =

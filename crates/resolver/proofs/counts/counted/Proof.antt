@@ -3,9 +3,6 @@ use native.Mathlib.Omega.{arith}
 use borrow.Author.Needs.{needs}
 use Rattle.resolver.proofs.counts.counted.Statement.{statement}
 use Rattle.resolver.proofs.counts.counted.Tie as tie
-use Rattle.resolver.proofs.counts.counted.Reads as reads
-use Rattle.resolver.proofs.counts.counted.Lts as lts
-use Rattle.resolver.proofs.scopes.is_declaration.Reads as is-declaration-reads
 
 is-declaration-requires : tie.Need-is-declaration-requires
 is-declaration-requires c κs = search needs

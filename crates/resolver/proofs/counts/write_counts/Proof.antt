@@ -7,9 +7,6 @@ use Rattle.names.specs.ScopeLaws.{before-few}
 use Rattle.resolver.specs.ScanLaws.{Counting, counting-begun, counting-on, counting-ended}
 use Rattle.resolver.proofs.counts.write_counts.Statement.{statement}
 use Rattle.resolver.proofs.counts.write_counts.Tie as tie
-use Rattle.resolver.proofs.counts.write_counts.Reads as reads
-use Rattle.resolver.proofs.counts.write_counts.Lts as lts
-use Rattle.resolver.proofs.counts.counted.Reads as counted-reads
 
 abbrev Inv-loop : tie.InvT-loop
 Inv-loop rows counts₀ count₀ row₀ row-end counts count row =

@@ -3,9 +3,6 @@ use borrow.Author.Tests.{eq-eqb, ne-eqb}
 use borrow.Author.Needs.{needs}
 use Rattle.resolver.proofs.scopes.declared_link.Statement.{statement}
 use Rattle.resolver.proofs.scopes.declared_link.Tie as tie
-use Rattle.resolver.proofs.scopes.declared_link.Reads as reads
-use Rattle.resolver.proofs.scopes.declared_link.Lts as lts
-use Rattle.words.proofs.table.number_at.Reads as number-at-reads
 
 number-at-requires : tie.Need-number-at-requires
 number-at-requires c κs = search needs

@@ -4,10 +4,6 @@ use Rattle.names.specs.Names.{inScope}
 use borrow.Author.Needs.{needs}
 use Rattle.resolver.proofs.scopes.hand.Statement.{statement}
 use Rattle.resolver.proofs.scopes.hand.Tie as tie
-use Rattle.resolver.proofs.scopes.hand.Reads as reads
-use Rattle.resolver.proofs.scopes.hand.Lts as lts
-use Rattle.resolver.proofs.scopes.is_declaration.Reads as is-declaration-reads
-use Rattle.structure.proofs.row_number.narrow.Reads as narrow-reads
 
 is-declaration-requires : tie.Need-is-declaration-requires
 is-declaration-requires c κs = search needs

@@ -3,9 +3,6 @@ use Rattle.names.specs.Names.{isDeclaration}
 use borrow.Author.Needs.{needs}
 use Rattle.resolver.proofs.scopes.is_declaration.Statement.{statement}
 use Rattle.resolver.proofs.scopes.is_declaration.Tie as tie
-use Rattle.resolver.proofs.scopes.is_declaration.Reads as reads
-use Rattle.resolver.proofs.scopes.is_declaration.Lts as lts
-use Rattle.words.proofs.table.number_at.Reads as number-at-reads
 
 number-at-requires : tie.Need-number-at-requires
 number-at-requires c κs = search needs

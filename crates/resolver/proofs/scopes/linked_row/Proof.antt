@@ -3,11 +3,6 @@ use Rattle.names.specs.LinkingLaws.{linking-link}
 use borrow.Author.Needs.{needs}
 use Rattle.resolver.proofs.scopes.linked_row.Statement.{statement}
 use Rattle.resolver.proofs.scopes.linked_row.Tie as tie
-use Rattle.resolver.proofs.scopes.linked_row.Reads as reads
-use Rattle.resolver.proofs.scopes.linked_row.Lts as lts
-use Rattle.grammar.proofs.link.Reads as link-reads
-use Rattle.resolver.proofs.scopes.declared_link.Reads as declared-link-reads
-use Rattle.resolver.proofs.scopes.is_declaration.Reads as is-declaration-reads
 
 is-declaration-requires : tie.Need-is-declaration-requires
 is-declaration-requires c κs = search needs

@@ -9,9 +9,6 @@ use Rattle.names.specs.LinkingLaws.{linking-length, linking-count}
 use borrow.Author.Needs.{needs}
 use Rattle.resolver.proofs.scopes.write_scope.Statement.{statement}
 use Rattle.resolver.proofs.scopes.write_scope.Tie as tie
-use Rattle.resolver.proofs.scopes.write_scope.Reads as reads
-use Rattle.resolver.proofs.scopes.write_scope.Lts as lts
-use Rattle.resolver.proofs.scopes.hand.Reads as hand-reads
 
 mul-hand : tie.Need-mul-hand
 mul-hand c = search needs

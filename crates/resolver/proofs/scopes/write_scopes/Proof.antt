@@ -7,10 +7,6 @@ use Rattle.names.specs.LinkingLaws.{linking-length}
 use Rattle.resolver.specs.ScanLaws.{Scoping, scoping-begun, scoping-on, scoping-ended}
 use Rattle.resolver.proofs.scopes.write_scopes.Statement.{statement}
 use Rattle.resolver.proofs.scopes.write_scopes.Tie as tie
-use Rattle.resolver.proofs.scopes.write_scopes.Reads as reads
-use Rattle.resolver.proofs.scopes.write_scopes.Lts as lts
-use Rattle.resolver.proofs.scopes.linked_row.Reads as linked-row-reads
-use Rattle.resolver.proofs.scopes.write_scope.Reads as write-scope-reads
 
 abbrev Inv-loop : tie.InvT-loop
 Inv-loop kinds rows scopes₀ word₀ word-end scopes word =

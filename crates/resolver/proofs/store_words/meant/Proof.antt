@@ -9,10 +9,6 @@ use Rattle.resolver.specs.ScanLaws.{scope-room, scope-is, scope-inside}
 use Rattle.resolver.specs.MeantLaws.{meant-nothing, meant-here, meant-outward}
 use Rattle.resolver.proofs.store_words.meant.Statement.{statement}
 use Rattle.resolver.proofs.store_words.meant.Tie as tie
-use Rattle.resolver.proofs.store_words.meant.Reads as reads
-use Rattle.resolver.proofs.store_words.meant.Lts as lts
-use Rattle.structure.proofs.row_number.wide.Reads as wide-reads
-use Rattle.words.proofs.table.number_at.Reads as number-at-reads
 
 abbrev Inv-loop : tie.InvT-loop
 Inv-loop rows scopes counts row number declaration₀ -outward₀ declaration -outward =

@@ -6,13 +6,6 @@ use Rattle.resolver.specs.WordLaws.{name-declared, name-variable, name-o
 use borrow.Author.Needs.{needs}
 use Rattle.resolver.proofs.store_words.resolved_name.Statement.{statement}
 use Rattle.resolver.proofs.store_words.resolved_name.Tie as tie
-use Rattle.resolver.proofs.store_words.resolved_name.Reads as reads
-use Rattle.resolver.proofs.store_words.resolved_name.Lts as lts
-use Rattle.resolver.proofs.scopes.is_declaration.Reads as is-declaration-reads
-use Rattle.resolver.proofs.store_words.store_word.Reads as store-word-reads
-use Rattle.resolver.proofs.store_words.variable_word.Reads as variable-word-reads
-use Rattle.words.proofs.table.number_at.Reads as number-at-reads
-use Rattle.words.proofs.table.word_at.Reads as word-at-reads
 
 is-declaration-requires : tie.Need-is-declaration-requires
 is-declaration-requires c κs = search needs

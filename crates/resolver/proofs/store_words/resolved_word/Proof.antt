@@ -5,10 +5,6 @@ use Rattle.resolver.specs.WordLaws.{word-named, word-kept}
 use borrow.Author.Needs.{needs}
 use Rattle.resolver.proofs.store_words.resolved_word.Statement.{statement}
 use Rattle.resolver.proofs.store_words.resolved_word.Tie as tie
-use Rattle.resolver.proofs.store_words.resolved_word.Reads as reads
-use Rattle.resolver.proofs.store_words.resolved_word.Lts as lts
-use Rattle.resolver.proofs.store_words.resolved_name.Reads as resolved-name-reads
-use Rattle.words.proofs.table.word_at.Reads as word-at-reads
 
 resolved-name-requires : tie.Need-resolved-name-requires
 resolved-name-requires c κs = search needs

@@ -8,9 +8,6 @@ use native.Mathlib.Omega.{arith}
 use borrow.Author.Needs.{needs}
 use Rattle.resolver.proofs.store_words.store_word.Statement.{statement}
 use Rattle.resolver.proofs.store_words.store_word.Tie as tie
-use Rattle.resolver.proofs.store_words.store_word.Reads as reads
-use Rattle.resolver.proofs.store_words.store_word.Lts as lts
-use Rattle.structure.proofs.row_number.wide.Reads as wide-reads
 
 mul-wide : tie.Need-mul-wide
 mul-wide c = search needs

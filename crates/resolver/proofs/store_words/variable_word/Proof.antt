@@ -11,12 +11,6 @@ use Rattle.resolver.specs.WordLaws.{variable-outer, variable-declared, d
 use borrow.Author.Needs.{needs}
 use Rattle.resolver.proofs.store_words.variable_word.Statement.{statement}
 use Rattle.resolver.proofs.store_words.variable_word.Tie as tie
-use Rattle.resolver.proofs.store_words.variable_word.Reads as reads
-use Rattle.resolver.proofs.store_words.variable_word.Lts as lts
-use Rattle.resolver.proofs.store_words.meant.Reads as meant-reads
-use Rattle.resolver.proofs.store_words.store_word.Reads as store-word-reads
-use Rattle.words.proofs.table.number_at.Reads as number-at-reads
-use Rattle.words.proofs.table.word_at.Reads as word-at-reads
 
 number-at-requires : tie.Need-number-at-requires
 number-at-requires c κs = search needs

@@ -14,7 +14,7 @@ use Rattle.language.specs.Decode.{expressionAt, statementAt, decode, listAt, ar
 use Rattle.language.specs.Sizes.{expressionDepth, placeDepth, partDepth, statementDepth, armsDepth, itemsDepth}
 use Rattle.words.specs.Kinds.{between}
 use Rattle.words.specs.Links.{link}
-use Rattle.structure.specs.declared.Bounds.{Bounds}
+use Rattle.row_fields.specs.declared.Bounds.{Bounds}
 use Rattle.structure.specs.Structured.{Leads, Structured, Depth, root, owned, beside, Shallow}
 use Rattle.structure.specs.StructuredLaws.{structured-tree}
 use Rattle.structure.specs.DepthLaws.{depth-inside}

@@ -22,7 +22,7 @@ use Rattle.language.specs.Decode.{placeOf, expressionAt}
 use Rattle.language.specs.DecodeLaws.{at-constant, at-variable, at-element, at-minus, at-not, at-binary, at-and, at-or, at-comma, at-conditional, at-assign, at-compound, at-prefix, at-postfix}
 use Rattle.words.specs.Links.{isExpression, isPlace, link, fits}
 use Rattle.structure.specs.StructuredLaws.{structured-tree}
-use Rattle.structure.specs.declared.Bounds.{Bounds}
+use Rattle.row_fields.specs.declared.Bounds.{Bounds}
 use Rattle.structure.specs.Structured.{Leads, Structured}
 use Rattle.accepted.specs.Sorts.{sort-is, place-kind}
 use Rattle.accepted.specs.Fields.{holds, Linked, linked}

@@ -17,8 +17,8 @@ use Rattle.words.specs.declared.Kind.{Kind}
 use Rattle.language.specs.Decode.{Forward}
 use Rattle.words.specs.KindLaws.{required-link}
 use Rattle.words.specs.Links.{isStatement, link, fits}
-use Rattle.structure.specs.Fields.{numberFits}
-use Rattle.structure.specs.declared.Bounds.{Bounds}
+use Rattle.row_fields.specs.Fields.{numberFits}
+use Rattle.row_fields.specs.declared.Bounds.{Bounds}
 use Rattle.structure.specs.Structured.{Leads, Structured}
 use Rattle.accepted.specs.Sorts.{sort-is, item-next, between-true}
 

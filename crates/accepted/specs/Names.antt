@@ -16,8 +16,8 @@ use Rattle.language.specs.Decode.{expressionAt, statementAt, decode, listAt, ar
 use Rattle.language.specs.Program.{contents}
 use Rattle.language.specs.WellFormed.{NamedExpression, NamedPlace, NamedPart, NamedStatement, NamedArms, NamedItems}
 use Rattle.words.specs.Links.{link}
-use Rattle.structure.specs.Fields.{boundsOf}
-use Rattle.structure.specs.declared.Bounds.{Bounds}
+use Rattle.row_fields.specs.Fields.{boundsOf}
+use Rattle.row_fields.specs.declared.Bounds.{Bounds}
 use Rattle.structure.specs.Structured.{Structured}
 use Rattle.accepted.specs.Fields.{NamesVariable, stays, names-variable, names-array}
 use Rattle.accepted.specs.Expressions.{ExpressionRow, constant-row, variable-row, element-row, minus-row, not-row, binary-row, and-row, or-row, comma-row, conditional-row, assign-row, compound-row, prefix-row, postfix-row, placeAt}

@@ -19,10 +19,10 @@ use Rattle.language.specs.WellFormed.{Placed, PlacedArms, PlacedItems}
 use Rattle.words.specs.Links.{link}
 use Rattle.structure.specs.LinkLaws.{linker-of}
 use Rattle.structure.specs.StructuredLaws.{structured-tree}
-use Rattle.structure.specs.Fields.{boundsOf}
-use Rattle.structure.specs.declared.Bounds.{Bounds}
+use Rattle.row_fields.specs.Fields.{boundsOf}
+use Rattle.row_fields.specs.declared.Bounds.{Bounds}
 use Rattle.structure.specs.Structured.{Leads, Structured, Tree}
-use Rattle.source_check.specs.Places.{isLoop, isLoopOrSwitch, isMark}
+use Rattle.statement_places.specs.Places.{isLoop, isLoopOrSwitch, isMark}
 use Rattle.source_check.specs.Legal.{Inside, part, along, SwitchItem, first, next, Legal}
 use Rattle.accepted.specs.Sorts.{between-true, statementNumber, number-is, in-language}
 use Rattle.accepted.specs.Fields.{leads-on}

@@ -25,7 +25,7 @@ use Rattle.language.specs.Sizes.{expressionRows, placeRows, partRows, statement
 use Rattle.words.specs.Links.{isExpression, isStatement, isBlock, isArm, link, fits}
 use Rattle.structure.specs.NoteLaws.{above-zero}
 use Rattle.structure.specs.StructuredLaws.{structured-tree}
-use Rattle.structure.specs.declared.Bounds.{Bounds}
+use Rattle.row_fields.specs.declared.Bounds.{Bounds}
 use Rattle.structure.specs.Structured.{Leads, Structured}
 use Rattle.accepted.specs.Sorts.{expression-statement-or-arm, statement-kind, block-statement, arm-is}
 use Rattle.accepted.specs.Fields.{holds, noLink, MayLink, link-none, linked, may-link, next-link}

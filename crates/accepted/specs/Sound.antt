@@ -19,7 +19,7 @@ use Rattle.words.specs.declared.Kind.the-variants.{OfMember}
 use Rattle.words.specs.declared.MemberKind.the-variants.{Arm}
 use Rattle.language.specs.Sound.{OptionalLink, SoundField, Sound}
 use Rattle.words.specs.Links.{isPlace, link, fits}
-use Rattle.structure.specs.Fields.{boundsIn, boundsOf, numberFits}
+use Rattle.row_fields.specs.Fields.{boundsIn, boundsOf, numberFits}
 use Rattle.structure.specs.StructuredLaws.{structured-tree}
 use Rattle.structure.specs.Structured.{Structured}
 use Rattle.accepted.specs.Sorts.{sort-is, arm-is, kind-known}

@@ -16,7 +16,7 @@ use Rattle.language.specs.Program.{contents, programOf, runUnder}
 use Rattle.language.specs.Sizes.{statementRows, statementDepth}
 use Rattle.language.specs.Sound.{Sound}
 use Rattle.language.specs.WellFormed.{NamedItems, SourceTree}
-use Rattle.structure.specs.Fields.{boundsOf}
+use Rattle.row_fields.specs.Fields.{boundsOf}
 use Rattle.source_check.specs.Legal.{Legal}
 use Rattle.accepted.specs.Statements.{program-block}
 use Rattle.accepted.specs.Names.{named-contents, source-variable}

@@ -24,7 +24,7 @@ use Rattle.language.specs.DecodeLaws.{statement-at, at-empty, at-express, at-bl
 use Rattle.words.specs.Links.{link, isStatement, isBlock, isArm, fits}
 use Rattle.language.specs.Program.{contents}
 use Rattle.structure.specs.StructuredLaws.{structured-tree}
-use Rattle.structure.specs.declared.Bounds.{Bounds}
+use Rattle.row_fields.specs.declared.Bounds.{Bounds}
 use Rattle.structure.specs.Structured.{Leads, Structured}
 use Rattle.accepted.specs.Sorts.{sort-is, operand-is, statement-kind, block-statement, arm-is}
 use Rattle.accepted.specs.Fields.{holds, Linked, MayLink, linked, may-link, next-link}

@@ -10,7 +10,7 @@ use Rattle.words.specs.declared.Form.{Form}
 use Rattle.language.specs.Trees.{read}
 use Rattle.language.specs.Decode.{expressionAt, statementAt, decode, listAt, armListAt, partAt}
 use Rattle.words.specs.Links.{link}
-use Rattle.structure.specs.declared.Bounds.{Bounds}
+use Rattle.row_fields.specs.declared.Bounds.{Bounds}
 use Rattle.structure.specs.Structured.{Structured}
 use Rattle.accepted.specs.Worded.{ValuedExpression, ValuedPlace, ValuedPart, ValuedStatement, ValuedArms, ValuedItems, IsWord, Worded}
 use Rattle.accepted.specs.Expressions.{ExpressionRow, constant-row, variable-row, element-row, minus-row, not-row, binary-row, and-row, or-row, comma-row, conditional-row, assign-row, compound-row, prefix-row, postfix-row, placeAt}

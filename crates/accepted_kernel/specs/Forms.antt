@@ -22,9 +22,9 @@ use Rattle.language.specs.Decode.{statementOf, statementAt, listAt}
 use Rattle.language.specs.DecodeLaws.{statement-at, at-empty, at-express, at-block, at-ifElse, at-while, at-goto, at-abort, at-item, at-label}
 use Rattle.words.specs.Links.{isStatement, link, fits}
 use Rattle.language.specs.Program.{contents}
-use Rattle.structure.specs.Fields.{boundsOf}
+use Rattle.row_fields.specs.Fields.{boundsOf}
 use Rattle.structure.specs.NoteLaws.{above-zero}
-use Rattle.structure.specs.declared.Bounds.{Bounds}
+use Rattle.row_fields.specs.declared.Bounds.{Bounds}
 use Rattle.structure.specs.Structured.{Leads, Structured}
 use Rattle.structure.specs.Lists.{Step, once, on, before-step}
 use Rattle.structure.specs.StructuredLaws.{structured-tree}

@@ -18,7 +18,7 @@ use Rattle.language.specs.TreeLaws.{has-next, has-left, has-right}
 use Rattle.language.specs.Decode.{listAt}
 use Rattle.language.specs.DecodeLaws.{at-label}
 use Rattle.words.specs.Links.{isStatement, link, fits}
-use Rattle.structure.specs.declared.Bounds.{Bounds}
+use Rattle.row_fields.specs.declared.Bounds.{Bounds}
 use Rattle.structure.specs.Structured.{Leads, Structured}
 use Rattle.structure.specs.Lists.{Before, adjacent, further}
 use Rattle.structure.specs.StructuredLaws.{structured-tree}

@@ -6,13 +6,13 @@ use Rattle.words.specs.Table.{wordAt, numberAt}
 use Rattle.words.specs.Layout.{layoutOf, sum, storeSize, storeWords, allWithin, headerFits, countFits}
 use Rattle.words.specs.declared.Verdict.{Verdict}
 use Rattle.words.specs.Links.{fits, isExpression, isPlace, isStatement, isBlock, isArm, link, target, linker, received, noteBy, note}
-use Rattle.structure.specs.Fields.{foreign, leadsRight, mislinked, boundsOf, numberFits, outside}
+use Rattle.row_fields.specs.Fields.{foreign, leadsRight, mislinked, boundsOf, numberFits, outside}
 use Rattle.words.specs.Kinds.{kindOf, kindIn, kinds, sortIn, kindRow, expressionFields, statementFields, markFields, memberFields, sortOf, sortAt, inLanguage, isLink, isRequired}
 use Rattle.structure.specs.Links.{linksAmong, linkCount, loneBlock, notOnce, deeper, depthAt, tooDeep}
 use Rattle.structure.specs.Refusal.{at, unless, _next_, rowCauses, structuralRefusal}
 use Rattle.words.specs.Search.{lowest, some, lowestRow, someField}
-use Rattle.source_check.specs.Marks.{sameMark, equalAmong, repeated}
-use Rattle.source_check.specs.Places.{handed, noteAt, outOfPlace, misplaced}
+use Rattle.repeated_marks.specs.Marks.{sameMark, equalAmong, repeated}
+use Rattle.statement_places.specs.Places.{handed, noteAt, outOfPlace, misplaced}
 use Rattle.source_check.specs.Refusal.{laterRefusal, refusal}
 use Rattle.check_answers.specs.Sample.{Sample}
 use Rattle.check_answers.specs.SourceSamples.{sourceSamples}

@@ -18,8 +18,8 @@ use Rattle.language.specs.TreeLaws.{statement-some}
 use Rattle.translation.specs.KernelForm.{isLabelNumber, KernelStatement, kernel-block, kernel-if, kernel-while, kernel-goto, KernelItems, kernel-then, kernel-label}
 use Rattle.words.specs.Kinds.{unused, variable, array, label, expression, place, branch, optionalBranch, optionalItem, sortOf, sortAt, between, inLanguage, kindOf, kindIn, kinds, sortIn, kindRow, expressionFields, statementFields, markFields}
 use Rattle.words.specs.Links.{isExpression, isPlace, isStatement, fits}
-use Rattle.structure.specs.Fields.{numberFits}
-use Rattle.structure.specs.declared.Bounds.{Bounds}
+use Rattle.row_fields.specs.Fields.{numberFits}
+use Rattle.row_fields.specs.declared.Bounds.{Bounds}
 use Rattle.emission.specs.Emission.{operatorNumber, listLink}
 use Rattle.emission.specs.Emitted.{Row, EmittedExpression, constant-at, read-at, minus-at, binary-at, assign-at, EmittedPlace, variable-at, element-at, EmittedStatement, empty-at, express-at, block-at, if-at, while-at, goto-at, abort-at, EmittedItems, none-at, then-at, label-at}
 use Rattle.emission.specs.ReadBack.{kind-binary}

@@ -18,7 +18,7 @@ use Rattle.language.specs.Sizes.{statementRows}
 use Rattle.language.specs.TreeLaws.{statement-some}
 use Rattle.translation.specs.KernelForm.{isLabelNumber, KernelName, name-variable, name-temporary, KernelItems, kernel-block}
 use Rattle.words.specs.Kinds.{variable, array, label}
-use Rattle.structure.specs.Fields.{boundsOf, numberFits}
+use Rattle.row_fields.specs.Fields.{boundsOf, numberFits}
 use Rattle.structure.specs.Structured.{Structured}
 use Rattle.emission.specs.Emission.{listLink, emit}
 use Rattle.emission.specs.EmissionLaws.{length-emit}

@@ -12,10 +12,10 @@ use Rattle.words.specs.Table.{rowCount, numberAt}
 use Rattle.words.specs.declared.Form.the-variants.{Kernel}
 use Rattle.words.specs.Kinds.{unused, value, variable, label, expression, optionalItem, sortOf, sortAt, inLanguage, isLink, isRequired}
 use Rattle.words.specs.Links.{link, fits}
-use Rattle.structure.specs.Fields.{numberFits}
+use Rattle.row_fields.specs.Fields.{numberFits}
 use Rattle.grammar.specs.GrammarLaws.{kind-links-none}
 use Rattle.structure.specs.Structured.{Leads}
-use Rattle.structure.specs.declared.Bounds.{Bounds}
+use Rattle.row_fields.specs.declared.Bounds.{Bounds}
 use Rattle.emission.specs.Emitted.{Row}
 
 -- ---- one field

@@ -18,7 +18,7 @@ use Rattle.language.specs.Rule.{row}
 use Rattle.language.specs.Decode.{expressionOf, expressionBy, expressionAt, statementOf, itemsOf, armsOf, treesOf, treesBy, statementAt, itemsAt, decode}
 use Rattle.language.specs.Meaning.{evaluate, perform}
 use Rattle.language.specs.Program.{programOf, runUnder, runProgram}
-use Rattle.structure.specs.Fields.{foreign, leadsRight, mislinked, boundsOf, numberFits, outside}
+use Rattle.row_fields.specs.Fields.{foreign, leadsRight, mislinked, boundsOf, numberFits, outside}
 use Rattle.structure.specs.Links.{linksAmong, linkCount, loneBlock, notOnce, deeper, depthAt, tooDeep}
 use Rattle.structure.specs.Refusal.{at, unless, _next_, rowCauses, structuralRefusal}
 use Rattle.kernel_check.specs.Labels.{isLabel, repeatedLabel, owning, ownerAt, labelBehind, labelAhead, gotoWithoutLabel, labelFault}

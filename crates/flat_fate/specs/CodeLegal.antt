@@ -14,8 +14,8 @@ use Rattle.words.specs.Kinds.{variable as variableSort, array as arraySort}
 use Rattle.words.specs.Layout.{Layout, layoutOf, storeSize, storeWords, temporariesOf, headerFits}
 use Rattle.words.specs.Laws.{or-right}
 use Rattle.words.specs.declared.Form.the-variants.{Kernel}
-use Rattle.structure.specs.Fields.{boundsOf, boundsIn, numberFits}
-use Rattle.structure.specs.declared.Bounds.{Bounds}
+use Rattle.row_fields.specs.Fields.{boundsOf, boundsIn, numberFits}
+use Rattle.row_fields.specs.declared.Bounds.{Bounds}
 use Rattle.language.specs.Trees.{Expression, Statement, Items, _then_, _here_}
 use Rattle.language.specs.WellFormed.{NamedExpression, NamedStatement, NamedItems}
 use Rattle.translation.specs.KernelForm.{IsAtom, constant-atom, variable-atom, Assigns, assigns-atom, assigns-minus, assigns-operation, assigns-element, assigns-to-element, KernelStatement, kernel-empty, kernel-assign, kernel-block, kernel-if, kernel-while, kernel-goto, kernel-abort, KernelItems, kernel-none, kernel-then, kernel-label, KernelName, name-variable, name-temporary, KernelTree}

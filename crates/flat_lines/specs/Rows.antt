@@ -12,7 +12,7 @@ use Rattle.words.specs.Links.{isStatement}
 use Rattle.words.specs.declared.Form.the-variants.{Kernel}
 use Rattle.language.specs.Decode.{expressionAt, statementAt}
 use Rattle.language.specs.Program.{contents}
-use Rattle.structure.specs.Fields.{boundsOf}
+use Rattle.row_fields.specs.Fields.{boundsOf}
 use Rattle.structure.specs.Lists.{before-inside}
 use Rattle.kernel_statements.specs.Statements.{isAtom, isAssignment}
 use Rattle.kernel_check.specs.Legal.{Ahead, behind, outward}

@@ -11,9 +11,9 @@ use Rattle.language.specs.Program.{Finished}
 use Rattle.flat.specs.Lines.{Line, does, jump, jumpZero, jumpOther, abort, Next, goes, faults, ends, onward, effect, nextOf, nextAt, stop, follow, runFrom}
 use Rattle.arithmetic.specs.Arithmetic.{Outcome, value, fault}
 use Rattle.flat.specs.Words.{lineCount, lineAt, linesFrom, linesOf}
-use Rattle.flat_machine.specs.Steps.{Makes}
-use Rattle.flat_machine.specs.declared.Step.{Step}
-use Rattle.flat_machine.specs.declared.Step.the-variants.{At, Fails}
+use Rattle.flat_steps.specs.Steps.{Makes}
+use Rattle.flat_steps.specs.declared.Step.{Step}
+use Rattle.flat_steps.specs.declared.Step.the-variants.{At, Fails}
 
 module _ (L : Layout) (list : List ℤ) where
   next-from : (i n k j : ℕ) (s : List ℤ) → k < n → nextAt L (linesFrom list i n) k j s ≡ nextOf L (lineAt list (i + k)) j s

@@ -12,8 +12,8 @@ use Rattle.words.specs.Laws.{HeaderFits, headerFits-facts}
 use Rattle.words.specs.Layout.{Layout, leading, layoutOf, storeWords}
 use Rattle.words.specs.declared.Form.the-variants.{Kernel}
 use Rattle.words.proofs.Lengths.{part, size-is}
-use Rattle.structure.specs.Fields.{boundsIn, boundsOf as numbersOf}
-use Rattle.structure.specs.declared.Bounds.{Bounds}
+use Rattle.row_fields.specs.Fields.{boundsIn, boundsOf as numbersOf}
+use Rattle.row_fields.specs.declared.Bounds.{Bounds}
 use Rattle.operations.specs.Bounds.{boundsFrom, layoutFrom}
 use Rattle.machine.proofs.Bounds.{layout-again, bounds-again}
 use Rattle.flat.specs.Lines.{copy, minus, operate, fetch, put, Line, does, jump, jumpZero, jumpOther, abort, runFrom}
@@ -23,7 +23,7 @@ use Rattle.flat.specs.Refusal.{landsInside}
 use Rattle.flat.specs.Legal.{Within, LegalFlat}
 use Rattle.flat.specs.Accepts.{LineKind, copies, fetches, negates, operates, puts, jumps-at-zero, jumps-otherwise, jumps, aborts, lands-distance}
 use Rattle.flat.specs.Results.{runList}
-use Rattle.flat_machine.specs.Steps.{Setting}
+use Rattle.flat_steps.specs.Steps.{Setting}
 use Rattle.flat_machine.specs.Whole.{Startable}
 
 -- ---- a line of a legal list

@@ -7,7 +7,7 @@ use lib.ListN.{length}
 use Rattle.words.specs.Word.{natural}
 use Rattle.words.specs.Layout.{sum}
 use Rattle.operations.specs.Bounds.{boundsFrom}
-use Rattle.flat_machine.specs.Steps.{Setting}
+use Rattle.flat_steps.specs.Steps.{Setting}
 
 -- There is room for the bounds, and the list is sound with them.
 pub record Startable (lengths : List ℤ) (variables : ℕ) (bounds : List ℕ) (list : List ℤ) (words : ℕ) : Type 0 where

@@ -1,7 +1,7 @@
 // The run of a list.
-use super::Step;
-use super::lines::make;
 use flat_check::check;
+use flat_steps::Step;
+use flat_steps::lines::make;
 use machine::whole::fill_bounds;
 use words::Ending;
 use words::Form;
@@ -25,7 +25,7 @@ ghost use Rattle.flat.specs.Lines.{runFrom};
 ghost use Rattle.flat.specs.Words.{linesOf};
 ghost use Rattle.flat.specs.Refusal.{refusal as refusalOf};
 ghost use Rattle.flat.specs.Results.{runList, answerAndStore, flatAfter, flatResult};
-ghost use Rattle.flat_machine.specs.Steps.{Setting};
+ghost use Rattle.flat_steps.specs.Steps.{Setting};
 ghost use Rattle.flat_machine.specs.Whole.{Startable};
 
 // The lines from line 0 on, until the end, a fault, or a line more than the budget.

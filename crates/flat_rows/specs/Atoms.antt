@@ -12,7 +12,7 @@ use Rattle.words.specs.Kinds.{kinds, kindIn, kindOf, kindAt}
 use Rattle.words.specs.declared.Form.the-variants.{Kernel}
 use Rattle.language.specs.Decode.{expressionAt}
 use Rattle.language.specs.DecodeLaws.{at-constant, at-variable}
-use Rattle.structure.specs.Fields.{boundsOf}
+use Rattle.row_fields.specs.Fields.{boundsOf}
 use Rattle.kernel_statements.specs.Statements.{isAtom}
 use Rattle.accepted.specs.Sorts.{between-true}
 use Rattle.accepted.specs.Expressions.{whole-rows}

@@ -17,7 +17,7 @@ use Rattle.words.specs.Links.{isStatement, link}
 use Rattle.words.specs.declared.Form.the-variants.{Kernel}
 use Rattle.language.specs.Decode.{statementAt, itemsAt, listAt}
 use Rattle.language.specs.Program.{contents}
-use Rattle.structure.specs.Fields.{boundsOf}
+use Rattle.row_fields.specs.Fields.{boundsOf}
 use Rattle.structure.specs.NoteLaws.{above-zero}
 use Rattle.kernel_check.specs.Legal.{Legal}
 use Rattle.accepted.specs.Statements.{list-some, root-inside, root-statement}

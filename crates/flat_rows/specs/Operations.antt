@@ -25,8 +25,8 @@ use Rattle.language.specs.Trees.{Expression, read, minus, binary, assign, varia
 use Rattle.language.specs.Decode.{placeOf, expressionAt}
 use Rattle.language.specs.DecodeLaws.{at-variable, at-element, at-minus, at-binary, at-assign}
 use Rattle.emission.specs.Emission.{operatorNumber}
-use Rattle.structure.specs.Fields.{boundsOf}
-use Rattle.structure.specs.declared.Bounds.{Bounds}
+use Rattle.row_fields.specs.Fields.{boundsOf}
+use Rattle.row_fields.specs.declared.Bounds.{Bounds}
 use Rattle.structure.specs.Structured.{Structured}
 use Rattle.kernel_statements.specs.Statements.{isAtom, isAtomMinus, isAtomOperation, isAtomElement, fitsVariable, isAssignment}
 use Rattle.accepted.specs.Sorts.{between-true}

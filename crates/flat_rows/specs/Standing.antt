@@ -20,7 +20,7 @@ use Rattle.words.specs.declared.Form.the-variants.{Kernel}
 use Rattle.language.specs.Trees.{Statement, block, ifElse, while, Items, none, _then_}
 use Rattle.language.specs.Decode.{expressionAt, statementAt, itemsAt, listAt}
 use Rattle.language.specs.Program.{contents}
-use Rattle.structure.specs.Fields.{boundsOf}
+use Rattle.row_fields.specs.Fields.{boundsOf}
 use Rattle.structure.specs.Structured.{Leads, Tree}
 use Rattle.structure.specs.StructuredLaws.{structured-tree}
 use Rattle.grammar.specs.GrammarLaws.{kind-links-none}

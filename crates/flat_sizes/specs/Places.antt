@@ -18,7 +18,7 @@ use Rattle.words.specs.Links.{isStatement, link}
 use Rattle.words.specs.declared.Form.the-variants.{Kernel}
 use Rattle.language.specs.Decode.{expressionAt, statementAt}
 use Rattle.language.specs.Program.{contents}
-use Rattle.structure.specs.Fields.{boundsOf}
+use Rattle.row_fields.specs.Fields.{boundsOf}
 use Rattle.structure.specs.Structured.{Leads, Tree}
 use Rattle.structure.specs.StructuredLaws.{structured-tree}
 use Rattle.grammar.specs.GrammarLaws.{kind-links-none}

@@ -20,7 +20,7 @@ use Rattle.words.specs.declared.Refusal.{Refusal}
 use Rattle.words.specs.declared.Verdict.the-variants.{Accepted, Refused}
 use Rattle.language.specs.Decode.{itemsAt}
 use Rattle.language.specs.Program.{contents}
-use Rattle.structure.specs.Fields.{boundsOf}
+use Rattle.row_fields.specs.Fields.{boundsOf}
 use Rattle.structure.specs.StructuredLaws.{structured-tree}
 use Rattle.kernel_check.specs.Legal.{Legal}
 use Rattle.kernel_check.specs.Refusal.{refusal as kernelRefusal}

@@ -18,14 +18,14 @@ use Rattle.words.specs.Search.{lowestRow}
 use Rattle.words.specs.declared.Form.{Form}
 use Rattle.words.specs.declared.Form.the-variants.{Source}
 use Rattle.words.specs.declared.Found.the-variants.{Nothing}
-use Rattle.structure.specs.Fields.{numberFits, boundsOf}
+use Rattle.row_fields.specs.Fields.{numberFits, boundsOf}
 use Rattle.grammar.specs.GrammarLaws.{zero-links-none}
 use Rattle.structure.specs.Links.{tooDeep}
 use Rattle.structure.specs.DepthLaws.{none-deep-shallow}
 use Rattle.structure.specs.Structured.{Leads, EachField, Structured}
 use Rattle.structure.specs.StructuredLaws.{structured-tree}
-use Rattle.structure.specs.declared.Bounds.{Bounds}
-use Rattle.source_check.specs.Places.{isMark}
+use Rattle.row_fields.specs.declared.Bounds.{Bounds}
+use Rattle.statement_places.specs.Places.{isMark}
 use Rattle.source_check.specs.Legal.{Placed, Distinct, Legal}
 use Rattle.join.specs.Join.{secondBegins, joinedRows}
 use Rattle.join.specs.JoinedRows.{length-joined}

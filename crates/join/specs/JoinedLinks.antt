@@ -22,7 +22,7 @@ use Rattle.structure.specs.Links.{linksAmong, linkCount}
 use Rattle.structure.specs.LinkLaws.{word-of, links-hit, links-miss, linker-of, Owner, owner-of}
 use Rattle.structure.specs.Structured.{Leads, Structured, Tree}
 use Rattle.structure.specs.StructuredLaws.{structured-tree}
-use Rattle.structure.specs.declared.Bounds.{Bounds}
+use Rattle.row_fields.specs.declared.Bounds.{Bounds}
 use Rattle.join.specs.Join.{outerBlock, secondBegins, joinedRows}
 use Rattle.join.specs.Moved.{Holds, link-is, number-held, link-leads}
 use Rattle.join.specs.MovedLegal.{Earlier, link-back}

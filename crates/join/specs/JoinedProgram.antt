@@ -19,7 +19,7 @@ use Rattle.language.specs.Trees.{Statement, block, none, _then_}
 use Rattle.language.specs.Decode.{statementAt, itemsAt, listAt, decode}
 use Rattle.language.specs.DecodeLaws.{at-block, at-item}
 use Rattle.language.specs.Program.{programOf, runUnder, runProgram}
-use Rattle.structure.specs.Fields.{boundsOf}
+use Rattle.row_fields.specs.Fields.{boundsOf}
 use Rattle.structure.specs.Structured.{Structured, Tree}
 use Rattle.structure.specs.StructuredLaws.{structured-tree}
 use Rattle.source_check.specs.Legal.{Legal}

@@ -14,7 +14,7 @@ use Rattle.words.specs.Links.{link}
 use Rattle.words.specs.declared.Form.{Form}
 use Rattle.grammar.specs.GrammarLaws.{kind-no-link, zero-links-none}
 use Rattle.structure.specs.Structured.{Leads, Structured}
-use Rattle.structure.specs.declared.Bounds.{Bounds}
+use Rattle.row_fields.specs.declared.Bounds.{Bounds}
 
 -- Where a link leads; 0 stays absent.
 abbrev pub movedLink : (ℕ → ℕ) → ℕ → ℕ

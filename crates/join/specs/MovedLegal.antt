@@ -15,10 +15,10 @@ use Rattle.words.specs.Kinds.{kinds, kindIn, kindOf, unused, variable, array, l
 use Rattle.words.specs.KindLaws.{between-both}
 use Rattle.words.specs.Links.{link, fits, isExpression, isPlace, isStatement, isBlock, isArm}
 use Rattle.words.specs.declared.Form.{Form}
-use Rattle.structure.specs.Fields.{numberFits}
+use Rattle.row_fields.specs.Fields.{numberFits}
 use Rattle.structure.specs.Structured.{Leads, Structured}
 use Rattle.structure.specs.Lists.{Before, adjacent, further, before-later}
-use Rattle.structure.specs.declared.Bounds.{Bounds}
+use Rattle.row_fields.specs.declared.Bounds.{Bounds}
 use Rattle.source_check.specs.Legal.{Inside, part, along, SwitchItem, first, next, Placed, Distinct}
 use Rattle.join.specs.Moved.{movedLink, Holds, number-held, sort-held, link-held, leads-own, link-leads, leads-held}
 use Rattle.join.specs.MovedTrees.{next-alike}

@@ -27,7 +27,7 @@ use Rattle.language.specs.DecodeLaws.{expression-at, statement-at, items-at, ar
 use Rattle.grammar.specs.GrammarLaws.{no-kind-has}
 use Rattle.structure.specs.Structured.{Leads, Structured, Tree}
 use Rattle.structure.specs.StructuredLaws.{structured-tree}
-use Rattle.structure.specs.declared.Bounds.{Bounds}
+use Rattle.row_fields.specs.declared.Bounds.{Bounds}
 use Rattle.join.specs.Moved.{movedLink, Holds, link-is, kind-held}
 
 -- ---- a row by its kind: words v and w of the fields, trees f and g at the links

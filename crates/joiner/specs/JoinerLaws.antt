@@ -20,12 +20,12 @@ use Rattle.words.specs.declared.Form.the-variants.{Source}
 use Rattle.words.specs.declared.Refusal.{Refusal}
 use Rattle.words.specs.declared.Verdict.{Verdict}
 use Rattle.words.specs.declared.Verdict.the-variants.{Accepted, Refused}
-use Rattle.structure.specs.Fields.{boundsOf}
+use Rattle.row_fields.specs.Fields.{boundsOf}
 use Rattle.grammar.specs.Grammar.{tabulate}
 use Rattle.structure.specs.Links.{tooDeep}
 use Rattle.structure.specs.Refusal.{at, unless, _next_}
 use Rattle.structure.specs.RefusalLaws.{next-accepts}
-use Rattle.structure.specs.declared.Bounds.{Bounds}
+use Rattle.row_fields.specs.declared.Bounds.{Bounds}
 use Rattle.words.specs.Search.{lowestRow}
 use Rattle.structure.specs.Structured.{Structured, Tree}
 use Rattle.structure.specs.StructuredLaws.{structured-tree}

@@ -15,14 +15,14 @@ use Rattle.words.specs.Laws.{neither}
 use Rattle.words.specs.declared.Form.the-variants.{Kernel}
 use Rattle.words.specs.declared.Verdict.the-variants.{Accepted}
 use Rattle.structure.specs.DepthLaws.{none-deep-shallow, shallow-none-deep}
-use Rattle.structure.specs.Fields.{numberFits}
+use Rattle.row_fields.specs.Fields.{numberFits}
 use Rattle.words.specs.Kinds.{sortOf, sortAt, isLink, sortIn, kindOf, kindIn, kinds, kindRow, expressionFields, statementFields, markFields, memberFields}
 use Rattle.words.specs.Links.{isStatement, link}
 use Rattle.structure.specs.Refusal.{at, structuralRefusal}
 use Rattle.structure.specs.RefusalLaws.{next-accepts, accepts-next, at-accepts, accepts-at}
 use Rattle.words.specs.Search.{some}
 use Rattle.words.specs.SearchLaws.{some-all, all-some, lowestRow-all, all-lowestRow}
-use Rattle.structure.specs.declared.Bounds.{Bounds}
+use Rattle.row_fields.specs.declared.Bounds.{Bounds}
 use Rattle.structure.specs.Structured.{Structured, Tree}
 use Rattle.structure.specs.StructuredLaws.{accepted-structured, structured-accepted, structured-tree}
 use Rattle.kernel_check.specs.LabelLaws.{label-test, test-label, label-inside, search-ahead, ahead-search}

@@ -8,7 +8,7 @@ use Rattle.words.specs.Table.{rowCount, numberAt}
 use Rattle.words.specs.Layout.{headerFits}
 use Rattle.words.specs.declared.Form.the-variants.{Kernel}
 use Rattle.words.specs.Links.{isStatement, link}
-use Rattle.structure.specs.Fields.{boundsOf}
+use Rattle.row_fields.specs.Fields.{boundsOf}
 use Rattle.structure.specs.Structured.{Leads, Structured, Shallow}
 use Rattle.structure.specs.Lists.{Before}
 use Rattle.kernel_statements.specs.Statements.{isKernelStatement}

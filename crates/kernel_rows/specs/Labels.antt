@@ -16,7 +16,7 @@ use Rattle.words.specs.declared.Form.the-variants.{Kernel}
 use Rattle.language.specs.Trees.{block, none, _then_}
 use Rattle.language.specs.Decode.{statementAt, itemsAt, listAt}
 use Rattle.language.specs.Program.{contents}
-use Rattle.structure.specs.Fields.{boundsOf}
+use Rattle.row_fields.specs.Fields.{boundsOf}
 use Rattle.structure.specs.NoteLaws.{above-zero}
 use Rattle.structure.specs.StructuredLaws.{structured-tree}
 use Rattle.translation.specs.KernelForm.{statementTimes, itemsTimes}

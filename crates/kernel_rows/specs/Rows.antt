@@ -24,9 +24,9 @@ use Rattle.words.specs.declared.MemberKind.the-variants.{Arm}
 use Rattle.language.specs.Trees.{empty, express, block, ifElse, while, goto, abort, label, none, _then_, _here_}
 use Rattle.language.specs.Decode.{expressionAt, statementOf, statementAt, itemsAt, listAt}
 use Rattle.language.specs.DecodeLaws.{statement-at, at-empty, at-express, at-block, at-ifElse, at-while, at-goto, at-abort, at-item, at-label}
-use Rattle.structure.specs.Fields.{boundsOf}
+use Rattle.row_fields.specs.Fields.{boundsOf}
 use Rattle.structure.specs.NoteLaws.{above-zero}
-use Rattle.structure.specs.declared.Bounds.{Bounds}
+use Rattle.row_fields.specs.declared.Bounds.{Bounds}
 use Rattle.structure.specs.Structured.{Leads, Structured}
 use Rattle.kernel_check.specs.Legal.{Legal}
 use Rattle.kernel_statements.specs.Statements.{isAtom, isAssignment, isBlock, isKernelIf, isKernelWhile, isKernelExpression, isKernelStatement}

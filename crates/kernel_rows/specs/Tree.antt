@@ -12,7 +12,7 @@ use Rattle.words.specs.Table.{numberAt}
 use Rattle.language.specs.Trees.{block, none, _then_}
 use Rattle.language.specs.Decode.{itemsAt}
 use Rattle.language.specs.Program.{contents}
-use Rattle.structure.specs.Fields.{boundsOf, boundsIn}
+use Rattle.row_fields.specs.Fields.{boundsOf, boundsIn}
 use Rattle.structure.specs.StructuredLaws.{structured-tree}
 use Rattle.translation.specs.KernelForm.{KernelName, name-variable, name-temporary, KernelTree}
 use Rattle.kernel_check.specs.Legal.{Legal}

@@ -19,7 +19,7 @@ use Rattle.words.specs.Kinds.{kinds, kindIn, kindOf, isLink, inLanguage, sortAt
 use Rattle.words.specs.Links.{link, target}
 use Rattle.structure.specs.Links.{linksAmong, linkCount}
 use Rattle.structure.specs.Structured.{Leads, Tree, Structured}
-use Rattle.structure.specs.declared.Bounds.{Bounds}
+use Rattle.row_fields.specs.declared.Bounds.{Bounds}
 use Rattle.names.specs.Names.{declarationKind, isDeclaration, isName, linking, variableWord, resolvedName, resolvedWord, resolved}
 use Rattle.names.specs.TableLaws.{table-length, table-word, table-all, word-beyond, made-of-itself}
 use Rattle.names.specs.LinkingLaws.{NoDeclaration, declaration-beyond, linking-length, linking-link}

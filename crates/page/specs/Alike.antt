@@ -24,7 +24,7 @@ use Rattle.language.specs.Trees.{Expression, read, minus, binary, assign, eleme
 use Rattle.language.specs.Decode.{placeOf, expressionAt, statementAt, itemsAt, listAt}
 use Rattle.language.specs.DecodeLaws.{at-constant, at-variable, at-element, at-minus, at-binary, at-assign, at-no-statement, at-express, at-block, at-ifThen, at-ifElse, at-while, at-goto, at-item, at-case, at-default, at-label}
 use Rattle.structure.specs.NoteLaws.{above-zero}
-use Rattle.structure.specs.declared.Bounds.{Bounds}
+use Rattle.row_fields.specs.declared.Bounds.{Bounds}
 use Rattle.structure.specs.Structured.{Leads, Structured}
 use Rattle.kernel_statements.specs.Statements.{isAtom, isBlock, isKernelIf, isKernelWhile, isKernelExpression, isKernelStatement}
 use Rattle.accepted.specs.Sorts.{sort-is, statement-kind, in-language, statementNumber, number-is}

@@ -14,7 +14,7 @@ use Rattle.words.specs.declared.Form.the-variants.{Kernel}
 use Rattle.words.specs.declared.Kind.the-variants.{OfExpression}
 use Rattle.words.specs.declared.ExpressionKind.the-variants.{Constant}
 use Rattle.language.specs.Decode.{decode}
-use Rattle.structure.specs.declared.Bounds.{Bounds}
+use Rattle.row_fields.specs.declared.Bounds.{Bounds}
 use Rattle.grammar.specs.GrammarLaws.{kind-links-none}
 use Rattle.structure.specs.LinkLaws.{by-owner}
 use Rattle.structure.specs.NoteLaws.{note-root, note-link}

@@ -19,8 +19,8 @@ use Rattle.language.specs.Decode.{decode}
 use Rattle.language.specs.Program.{contents}
 use Rattle.language.specs.Sizes.{statementRows, statementDepth}
 use Rattle.language.specs.WellFormed.{SourceTree}
-use Rattle.structure.specs.Fields.{boundsOf}
-use Rattle.structure.specs.declared.Bounds.{Bounds}
+use Rattle.row_fields.specs.Fields.{boundsOf}
+use Rattle.row_fields.specs.declared.Bounds.{Bounds}
 use Rattle.structure.specs.Structured.{Structured}
 use Rattle.translation.specs.KernelForm.{KernelName, name-variable, name-temporary}
 use Rattle.translation.specs.Translate.{translate, temporaries, kernelHeader}

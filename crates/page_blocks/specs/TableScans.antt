@@ -15,7 +15,7 @@ use Rattle.words.specs.Laws.{headerFits-facts, countFits-facts}
 use Rattle.words.specs.declared.Form.the-variants.{Kernel}
 use Rattle.language.specs.Trees.{Expression, constant, read, minus, binary, variable, element, Items}
 use Rattle.language.specs.Program.{contents}
-use Rattle.structure.specs.Fields.{boundsOf}
+use Rattle.row_fields.specs.Fields.{boundsOf}
 use Rattle.kernel_check.specs.Legal.{Legal}
 use Rattle.accepted.specs.Fields.{NamesVariable}
 use Rattle.accepted_kernel.specs.Kernel.{legal-form, legal-rows}

@@ -9,7 +9,7 @@ use Rattle.words.specs.declared.Verdict.the-variants.{Accepted}
 use Rattle.language.specs.Rule.{Rule}
 use Rattle.language.specs.KernelRules.{kernelTable}
 use Rattle.words.specs.Links.{fits, isExpression, isPlace, isStatement, link, target, linker, received, noteBy, note}
-use Rattle.structure.specs.Fields.{foreign, leadsRight, mislinked, boundsOf, numberFits, outside}
+use Rattle.row_fields.specs.Fields.{foreign, leadsRight, mislinked, boundsOf, numberFits, outside}
 use Rattle.words.specs.Kinds.{kindOf, kindIn, kinds, sortIn, kindRow, expressionFields, statementFields, markFields, memberFields, sortOf, sortAt, inLanguage, isLink, isRequired}
 use Rattle.structure.specs.Links.{linksAmong, linkCount, loneBlock, notOnce, deeper, depthAt, tooDeep}
 use Rattle.structure.specs.Refusal.{at, unless, _next_, rowCauses, structuralRefusal}

@@ -18,16 +18,16 @@ use Rattle.words.specs.SearchLaws.{lowestRow-all, all-lowestRow}
 use Rattle.structure.specs.DepthLaws.{none-deep-shallow, shallow-none-deep}
 use Rattle.structure.specs.Refusal.{at, _next_, structuralRefusal}
 use Rattle.structure.specs.RefusalLaws.{next-accepts, accepts-next, at-accepts, accepts-at}
-use Rattle.structure.specs.declared.Bounds.{Bounds}
+use Rattle.row_fields.specs.declared.Bounds.{Bounds}
 use Rattle.structure.specs.Structured.{Structured, Tree}
 use Rattle.structure.specs.Lists.{before-later}
 use Rattle.structure.specs.StructuredLaws.{accepted-structured, structured-accepted, structured-tree}
-use Rattle.source_check.specs.Places.{isMark, misplaced}
-use Rattle.source_check.specs.Marks.{repeated}
+use Rattle.statement_places.specs.Places.{isMark, misplaced}
+use Rattle.repeated_marks.specs.Marks.{repeated}
 use Rattle.source_check.specs.Refusal.{laterRefusal, refusal}
 use Rattle.source_check.specs.Legal.{Distinct, Legal}
 use Rattle.source_check.specs.PlaceLaws.{misplaced-placed, placed-misplaced}
-use Rattle.source_check.specs.DistinctLaws.{Repeats, repeated-by, repeats}
+use Rattle.repeated_marks.specs.DistinctLaws.{Repeats, repeated-by, repeats}
 
 module _ (bounds : Bounds) (rows : List ℤ) (s : Structured Source bounds rows) where
   tree : Tree rows

@@ -8,10 +8,10 @@ use Rattle.words.specs.Table.{rowCount, wordAt, numberAt}
 use Rattle.words.specs.Layout.{headerFits}
 use Rattle.words.specs.declared.Form.the-variants.{Source}
 use Rattle.words.specs.Links.{link}
-use Rattle.structure.specs.Fields.{boundsOf}
+use Rattle.row_fields.specs.Fields.{boundsOf}
 use Rattle.structure.specs.Structured.{Leads, Structured, Shallow}
 use Rattle.structure.specs.Lists.{Before}
-use Rattle.source_check.specs.Places.{isLoop, isLoopOrSwitch, isMark}
+use Rattle.statement_places.specs.Places.{isLoop, isLoopOrSwitch, isMark}
 
 -- A row stands inside a row of such a kind: as one of its parts, or linked by a row that does.
 pub data Inside (rows : List ℤ) (kinds : ℕ → Bool) : ℕ → Type 0 where

@@ -15,12 +15,12 @@ use Rattle.words.specs.Laws.{by-cases}
 use Rattle.words.specs.Links.{link}
 use Rattle.structure.specs.LinkLaws.{by-owner}
 use Rattle.structure.specs.Structured.{Leads, Tree}
-use Rattle.source_check.specs.Places.{isLoop, isLoopOrSwitch, isMark, handed, noteAt, outOfPlace, misplaced}
+use Rattle.statement_places.specs.Places.{isLoop, isLoopOrSwitch, isMark, handed, noteAt, outOfPlace, misplaced}
 use Rattle.source_check.specs.Legal.{Inside, part, along, SwitchItem, first, next, Placed}
-use Rattle.source_check.specs.MarkLaws.{noteAt-root, noteAt-link}
-use Rattle.source_check.specs.declared.Note.{Note}
-use Rattle.source_check.specs.declared.Note.the-variants.{InLoop, InLoopOrSwitch}
-use Rattle.source_check.specs.declared.Note.the-variants as note
+use Rattle.repeated_marks.specs.MarkLaws.{noteAt-root, noteAt-link}
+use Rattle.statement_places.specs.declared.Note.{Note}
+use Rattle.statement_places.specs.declared.Note.the-variants.{InLoop, InLoopOrSwitch}
+use Rattle.statement_places.specs.declared.Note.the-variants as note
 
 module _ (rows : List ℤ) (t : Tree rows) where
   -- ---- inside a loop, inside a loop or switch

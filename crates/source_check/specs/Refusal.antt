@@ -6,8 +6,8 @@ use Rattle.words.specs.declared.Verdict.{Verdict}
 use Rattle.words.specs.Search.{lowestRow}
 use Rattle.structure.specs.Links.{tooDeep}
 use Rattle.structure.specs.Refusal.{at, _next_, structuralRefusal}
-use Rattle.source_check.specs.Places.{misplaced}
-use Rattle.source_check.specs.Marks.{repeated}
+use Rattle.statement_places.specs.Places.{misplaced}
+use Rattle.repeated_marks.specs.Marks.{repeated}
 
 -- Causes 7 to 9.
 unfoldable pub laterRefusal : List ℤ → Verdict

@@ -1,9 +1,9 @@
 // The check of source programs: the causes that both forms share, then 7, 8 and 9.
 use grammar::KindTable;
 use grammar::kinds::kind_table;
-use marks::lowest_repeated;
-use notes::write_notes;
-use places::lowest_misplaced;
+use repeated_marks::marks::lowest_repeated;
+use statement_places::notes::write_notes;
+use statement_places::places::lowest_misplaced;
 use structure::causes::at;
 use structure::causes::structural_refusal;
 use structure::depth::lowest_deep_by;
@@ -11,12 +11,6 @@ use words::Form;
 use words::Found;
 use words::Refusal;
 use words::Verdict;
-
-pub mod mark_tree; // mark_tree.rt: a search tree for the marks of each list
-pub mod marks; // marks.rt: cause 8
-pub mod notes; // notes.rt: what a pass along the links notes of each row
-pub mod places; // places.rt: cause 7
-
 ghost use mathlib.Core.Path.{_≡_};
 ghost use Prim.Native.Nat.{_/_, _≤_};
 ghost use lib.ListN.{length};
@@ -25,19 +19,7 @@ ghost use Rattle.grammar.specs.Grammar.{grammar};
 ghost use Rattle.structure.specs.Refusal.{structuralRefusal};
 ghost use Rattle.words.specs.declared.Form.the-variants.{Source};
 ghost use Rattle.source_check.specs.Refusal.{laterRefusal, refusal};
-ghost use Rattle.source_check.specs.Passes.{AllNotes};
-
-// What a pass along the links notes of each row.
-pub enum Note {
-    // 1 inside a loop
-    InLoop,
-    // 1 inside a loop or switch
-    InLoopOrSwitch,
-    // 1 for an item of a switch's own list
-    SwitchItem,
-    // the nearest mark before the row in its own list, or 0
-    MarkBefore,
-}
+ghost use Rattle.statement_places.specs.Passes.{AllNotes};
 
 // Causes 7 to 9, in a tree of rows, with the notes of its rows.
 fn noted_refusal(

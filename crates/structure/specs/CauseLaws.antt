@@ -17,14 +17,14 @@ use Rattle.words.specs.declared.Form.{Form}
 use Rattle.words.specs.declared.Refusal.{Refusal}
 use Rattle.words.specs.declared.Verdict.{Verdict}
 use Rattle.words.specs.declared.Verdict.the-variants.{Accepted, Refused}
-use Rattle.structure.specs.Fields.{foreign, mislinked, outside}
+use Rattle.row_fields.specs.Fields.{foreign, mislinked, outside}
 use Rattle.structure.specs.Links.{linkCount, notOnce}
 use Rattle.structure.specs.Passes.{leastOf, fieldCause, leastCause, rowCause, lowered, lowestCause, laterCauses}
 use Rattle.structure.specs.Refusal.{at, _next_, rowCauses}
 use Rattle.structure.specs.RefusalLaws.{ends, goes-on}
 use Rattle.words.specs.Search.{lowestRow, someField}
 use Rattle.words.specs.SearchLaws.{all-lowestRow, someField-all, all-someField, lowest-at}
-use Rattle.structure.specs.declared.Bounds.{Bounds}
+use Rattle.row_fields.specs.declared.Bounds.{Bounds}
 use Rattle.words.specs.declared.Found.{Found}
 use Rattle.words.specs.declared.Found.the-variants.{At, Nothing}
 

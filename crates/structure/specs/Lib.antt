@@ -1,8 +1,6 @@
 -- What the checks of both forms share. A line of comment for each file.
 
 -- ---- definitions
--- Fields: the causes that lie in one field of a row: 3, 4 and 6.
-pub mod Fields
 -- Links: how often a row is linked; depth. Causes 5 and 9.
 pub mod Links
 -- Refusal: the causes 1 to 6 in order of number, each at the lowest row that breaks it.

@@ -14,12 +14,12 @@ use Rattle.words.specs.declared.Refusal.{Refusal}
 use Rattle.words.specs.declared.Verdict.{Verdict}
 use Rattle.words.specs.declared.Verdict.the-variants.{Accepted, Refused}
 use Rattle.words.specs.Links.{link, target}
-use Rattle.structure.specs.Fields.{foreign, mislinked, outside}
+use Rattle.row_fields.specs.Fields.{foreign, mislinked, outside}
 use Rattle.structure.specs.Links.{linksAmong, linkCount, notOnce, depthAt}
 use Rattle.structure.specs.Refusal.{at, _next_}
 use Rattle.words.specs.Search.{lowestRow}
 use Rattle.structure.specs.Structured.{Leads}
-use Rattle.structure.specs.declared.Bounds.{Bounds}
+use Rattle.row_fields.specs.declared.Bounds.{Bounds}
 
 -- ---- one pass for the causes 3, 4 and 6
 

@@ -10,9 +10,9 @@ use Rattle.words.specs.declared.Form.{Form}
 use Rattle.words.specs.declared.Verdict.{Verdict}
 use Rattle.words.specs.declared.Verdict.the-variants.{Accepted, Refused}
 use Rattle.words.specs.Search.{lowestRow, someField}
-use Rattle.structure.specs.Fields.{foreign, mislinked, boundsOf, outside}
+use Rattle.row_fields.specs.Fields.{foreign, mislinked, boundsOf, outside}
 use Rattle.structure.specs.Links.{linkCount, notOnce}
-use Rattle.structure.specs.declared.Bounds.{Bounds}
+use Rattle.row_fields.specs.declared.Bounds.{Bounds}
 use Rattle.words.specs.declared.Found.{Found}
 use Rattle.words.specs.declared.Found.the-variants.{At, Nothing}
 

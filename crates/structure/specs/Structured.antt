@@ -10,9 +10,9 @@ use Rattle.words.specs.Layout.{countFits, depthLimit}
 use Rattle.words.specs.declared.Form.{Form}
 use Rattle.words.specs.Kinds.{unused, sortAt, inLanguage, isRequired}
 use Rattle.words.specs.Links.{link, fits}
-use Rattle.structure.specs.Fields.{numberFits}
+use Rattle.row_fields.specs.Fields.{numberFits}
 use Rattle.structure.specs.Links.{linkCount}
-use Rattle.structure.specs.declared.Bounds.{Bounds}
+use Rattle.row_fields.specs.declared.Bounds.{Bounds}
 
 -- A field links a later row of the table.
 pub record Leads (rows : List ℤ) (row field : ℕ) : Type 0 where

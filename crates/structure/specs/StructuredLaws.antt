@@ -20,14 +20,14 @@ use Rattle.words.specs.KindLaws.{required-link}
 use Rattle.words.specs.Links.{link, fits}
 use Rattle.words.specs.Search.{lowestRow, someField}
 use Rattle.words.specs.SearchLaws.{lowestRow-all, all-lowestRow, someField-all, all-someField}
-use Rattle.structure.specs.Fields.{foreign, leadsRight, mislinked, boundsOf, numberFits, outside}
+use Rattle.row_fields.specs.Fields.{foreign, leadsRight, mislinked, boundsOf, numberFits, outside}
 use Rattle.structure.specs.Links.{linkCount, loneBlock, notOnce}
 use Rattle.grammar.specs.GrammarLaws.{kind-no-link, kind-no-number, kind-links-none}
 use Rattle.structure.specs.NoteLaws.{above-zero}
 use Rattle.structure.specs.Refusal.{at, unless, _next_, rowCauses, structuralRefusal}
 use Rattle.structure.specs.RefusalLaws.{next-accepts, accepts-next, at-accepts, accepts-at, unless-accepts, accepts-unless}
 use Rattle.structure.specs.Structured.{Leads, Structured, Tree}
-use Rattle.structure.specs.declared.Bounds.{Bounds}
+use Rattle.row_fields.specs.declared.Bounds.{Bounds}
 use Rattle.words.specs.declared.Found.the-variants.{Nothing}
 
 -- ---- each field of each row

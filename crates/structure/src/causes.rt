@@ -1,13 +1,13 @@
 // The lowest row that breaks a cause, and the causes 1 to 6 in order.
-use super::Bounds;
-use super::fields::bounds_of;
-use super::fields::is_foreign;
-use super::fields::is_mislinked;
-use super::fields::is_outside;
 use super::links::is_not_once;
 use super::links::mark_links;
 use grammar::KindTable;
 use grammar::kinds::kind_table;
+use row_fields::Bounds;
+use row_fields::fields::bounds_of;
+use row_fields::fields::is_foreign;
+use row_fields::fields::is_mislinked;
+use row_fields::fields::is_outside;
 use words::Form;
 use words::Found;
 use words::Refusal;

@@ -1,7 +1,7 @@
 // The words of the store at the start of a run, from a line of text.
-use text_form::line::Count;
-use text_form::line::count_numbers;
-use text_form::line::store_numbers;
+use text_lines::line::Count;
+use text_lines::line::count_numbers;
+use text_lines::line::store_numbers;
 ghost use Prim.Native.Nat.{_≤_};
 ghost use lib.ListN.{length};
 

@@ -1,5 +1,5 @@
 // Where the parts of a case stand in the input.
-use text_form::line::piece_end;
+use text_lines::line::piece_end;
 ghost use Prim.Native.Nat.{_≤_, _<_};
 ghost use lib.ListN.{length};
 

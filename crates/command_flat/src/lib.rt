@@ -9,7 +9,7 @@ ghost use mathlib.Core.Path.{_≡_};
 ghost use Prim.Native.Nat.{_≤_};
 ghost use lib.ListN.{length};
 ghost use Rattle.words.specs.declared.Form.the-variants.{Kernel};
-ghost use Rattle.text_form.specs.Writer.{Put};
+ghost use Rattle.text_numbers.specs.Writer.{Put};
 ghost use Rattle.report.specs.Lines.{lineRoom};
 ghost use Rattle.command_text.specs.Texts.{Roomy, outputRoom};
 ghost use Rattle.command_text.specs.Read.{ReadFor};

@@ -14,7 +14,7 @@ ghost use Prim.Native.Nat.{_≤_};
 ghost use lib.ListN.{length};
 ghost use Rattle.words.specs.Layout.{headerFits};
 ghost use Rattle.words.specs.declared.Form.the-variants.{Source};
-ghost use Rattle.text_form.specs.Writer.{Put};
+ghost use Rattle.text_numbers.specs.Writer.{Put};
 ghost use Rattle.report.specs.Lines.{refusedLine};
 ghost use Rattle.program_runs.specs.Runs.{refusalOf};
 ghost use Rattle.command_text.specs.Texts.{outputRoom};

@@ -5,8 +5,8 @@ use Prim.Native.Nat.{ℕ}
 use lib.IntN.{ℤ}
 use Rattle.words.specs.Answers.{endingName}
 use Rattle.words.specs.declared.Ending.{Ending}
-use Rattle.text_form.specs.Number.{digits, numberBytes}
-use Rattle.text_form.specs.Line.{newline}
+use Rattle.text_numbers.specs.Number.{digits, numberBytes}
+use Rattle.text_lines.specs.Line.{newline}
 use Rattle.report.specs.Lines.{blank, spaced, lineOf}
 use Rattle.report.proofs.Spacing.{spacedWords}
 use Rattle.command_lines.specs.Lines.{endedLine, malformedName, malformedLine}

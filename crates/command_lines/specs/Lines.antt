@@ -8,7 +8,7 @@ use Rattle.words.specs.declared.Verdict.{Verdict}
 use Rattle.words.specs.declared.Verdict.the-variants.{Accepted, Refused}
 use Rattle.words.specs.declared.RunVerdict.{RunVerdict}
 use Rattle.words.specs.declared.RunVerdict.the-variants as run-cases
-use Rattle.text_form.specs.Number.{digits, numberBytes}
+use Rattle.text_numbers.specs.Number.{digits, numberBytes}
 use Rattle.report.specs.Lines.{lineOf, refusedLine, kernelLine}
 use Rattle.dispatcher_runs.specs.declared.DispatcherVerdict.{DispatcherVerdict}
 use Rattle.dispatcher_runs.specs.declared.DispatcherVerdict.the-variants as dispatcher-cases

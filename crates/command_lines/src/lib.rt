@@ -12,9 +12,9 @@ use words::Verdict;
 ghost use mathlib.Core.List.{[], _∷_, _++_, map};
 ghost use Prim.Native.Nat.{_+_, _*_, _≤_};
 ghost use lib.ListN.{length};
-ghost use Rattle.text_form.specs.Number.{digits, numberBytes};
-ghost use Rattle.text_form.specs.Line.{newline};
-ghost use Rattle.text_form.specs.Writer.{Put};
+ghost use Rattle.text_numbers.specs.Number.{digits, numberBytes};
+ghost use Rattle.text_lines.specs.Line.{newline};
+ghost use Rattle.text_numbers.specs.Writer.{Put};
 ghost use Rattle.report.specs.Lines.{spaced, lineRoom};
 ghost use Rattle.command_lines.specs.Lines.{verdictLine, endedLine, runLine, dispatcherLine, usageLine, wrongBudgetLine, longTextLine, longStoreLine, unreadableTextLine, unreadableStoreLine, malformedLine};
 

@@ -6,7 +6,7 @@ use Prim.Native.Nat.{ℕ}
 use lib.IntN.{ℤ, pos}
 use lib.ListN.{length}
 use lib.Signed.{ltZ}
-use Rattle.text_form.specs.Writer.{Put}
+use Rattle.text_numbers.specs.Writer.{Put}
 use Rattle.command_request.specs.Requests.{readsText, readsStore}
 use Rattle.command_request.specs.declared.request.Request.{Request}
 use Rattle.command_answer.specs.declared.Input.{Input}

@@ -12,11 +12,11 @@ use lib.ListN.{length, take, drop, getD, length-drop, drop-of-length-le}
 use lib.Seq.{drop-cons, drop-drop, length-take-le}
 use borrow.Author.Tests.{eqb-true}
 use Rattle.words.specs.Laws.{by-cases}
-use Rattle.text_form.specs.Number.{numberBytes, numberOf}
-use Rattle.text_form.specs.Line.{parted, fieldsOf, together, numbersOf}
-use Rattle.text_form.specs.NumberLaws.{not-some, number-free, number-reads, number-shows}
-use Rattle.text_form.specs.LineLaws.{fields-last, fields-parted, numbers-reads, Words, AreNumbers}
-use Rattle.text_form.proofs.Rows.{Sized}
+use Rattle.text_numbers.specs.Number.{numberBytes, numberOf}
+use Rattle.text_lines.specs.Line.{parted, fieldsOf, together, numbersOf}
+use Rattle.text_numbers.specs.NumberLaws.{not-some, number-free, number-reads, number-shows}
+use Rattle.text_lines.specs.LineLaws.{fields-last, fields-parted, numbers-reads, Words, AreNumbers}
+use Rattle.text_lines.specs.CountLaws.{Sized}
 use Rattle.command_request.specs.StoreFile.{isParting, piecesOf, filled, isOf, countAtStart, isNumber}
 
 -- ---- bytes of one sort

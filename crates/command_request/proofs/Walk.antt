@@ -9,12 +9,12 @@ use lib.Dec.{ltb}
 use lib.IntN.{ℤ}
 use lib.ListN.{length, take, drop, length-append, length-drop, drop-of-length-le}
 use borrow.Author.Tests.{ltb-true, ltb-false}
-use Rattle.text_form.specs.Number.{numberOf}
-use Rattle.text_form.specs.Line.{fieldsOf, numbersOf}
+use Rattle.text_numbers.specs.Number.{numberOf}
+use Rattle.text_lines.specs.Line.{fieldsOf, numbersOf}
 use Rattle.text_form.specs.Text.{Parsed, parsed, malformed}
 use Rattle.words.specs.Over.{over}
 use Rattle.words.specs.Laws.{by-cases}
-use Rattle.text_form.specs.Reader.{numbersIn, Holds}
+use Rattle.text_lines.specs.Reader.{numbersIn, Holds}
 use Rattle.words.specs.OverLaws.{part, back-in, part-is, length-over, over-none, over-next}
 use Rattle.text_form.proofs.Rows.{behind, behind-nil}
 use Rattle.command_request.specs.StoreFile.{piecesOf, filled, withWord, wordsFrom, storeIn, countAtStart, Stored}

@@ -7,8 +7,8 @@ use lib.Dec.{leb, eqb}
 use Rattle.words.specs.Word.{pick}
 use Rattle.words.specs.declared.Form.{Form}
 use Rattle.words.specs.declared.Form.the-variants.{Source, Kernel}
-use Rattle.text_form.specs.Number.{natural}
-use Rattle.text_form.specs.Reader.{atMost}
+use Rattle.text_numbers.specs.Number.{natural}
+use Rattle.text_numbers.specs.Reader.{atMost}
 use Rattle.command_request.specs.Ascii.{ascii}
 use Rattle.command_request.specs.declared.request.Task.{Task}
 use Rattle.command_request.specs.declared.request.Task.the-variants.{Run, Preview, DispatcherRun, FlatRun}

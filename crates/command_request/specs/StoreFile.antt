@@ -8,8 +8,8 @@ use lib.Dec.{eqb}
 use lib.IntN.{ℤ}
 use lib.ListN.{length}
 use Rattle.words.specs.Word.{pick}
-use Rattle.text_form.specs.Number.{numberOf}
-use Rattle.text_form.specs.Line.{newline, longerField}
+use Rattle.text_numbers.specs.Number.{numberOf}
+use Rattle.text_lines.specs.Line.{newline, longerField}
 use Rattle.text_form.specs.Text.{Parsed, parsed, malformed}
 use Rattle.words.specs.Over.{over}
 use Rattle.report.specs.Lines.{blank}

@@ -1,11 +1,11 @@
 // What the arguments ask for.
-use text_form::number::Digits;
-use text_form::number::natural;
+use text_numbers::number::Digits;
+use text_numbers::number::natural;
 use words::Form;
 ghost use mathlib.Core.Path.{_≡_};
 ghost use lib.Dec.{eqb};
 ghost use Rattle.words.specs.Word.{pick};
-ghost use Rattle.text_form.specs.Reader.{digitsValue};
+ghost use Rattle.text_numbers.specs.Reader.{digitsValue};
 ghost use Rattle.command_request.specs.declared.request.Verb.the-variants.{Start as StartVerb};
 ghost use Rattle.command_request.specs.declared.request.Request.the-variants.{WrongArguments};
 ghost use Rattle.command_request.specs.Requests.{sameBytes, flatVerbOf, kernelVerbOf, verbOf, startRequest, requestBy, requestOf, readsText, readsStore, fileArgument};

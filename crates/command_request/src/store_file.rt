@@ -1,11 +1,11 @@
 // The words of a store file.
-use text_form::line::Count;
-use text_form::line::count_numbers;
-use text_form::line::store_numbers;
+use text_lines::line::Count;
+use text_lines::line::count_numbers;
+use text_lines::line::store_numbers;
 ghost use mathlib.Core.Path.{_≡_};
 ghost use Prim.Native.Nat.{_+_, _*_, _≤_};
 ghost use lib.ListN.{length, drop};
-ghost use Rattle.text_form.specs.Number.{numberOf};
+ghost use Rattle.text_numbers.specs.Number.{numberOf};
 ghost use Rattle.command_request.specs.StoreFile.{isParting, isOf, countAtStart, isNumber, storeIn, ReadsStore};
 
 // How many words a file has, or the number of its first malformed word.

@@ -9,7 +9,7 @@ use words::Verdict;
 ghost use mathlib.Core.Path.{_≡_};
 ghost use Prim.Native.Nat.{_≤_};
 ghost use lib.ListN.{length};
-ghost use Rattle.text_form.specs.Writer.{Put};
+ghost use Rattle.text_numbers.specs.Writer.{Put};
 ghost use Rattle.program_runs.specs.Runs.{refusalOf};
 ghost use Rattle.command_text.specs.Texts.{Roomy, outputRoom};
 ghost use Rattle.command_runs.specs.Checks.{checkOutput};

@@ -9,7 +9,7 @@ ghost use Prim.Native.Nat.{_≤_};
 ghost use lib.ListN.{length};
 ghost use Rattle.words.specs.Layout.{headerFits, storeWords, zeros};
 ghost use Rattle.words.specs.declared.Form.the-variants.{Source};
-ghost use Rattle.text_form.specs.Writer.{Put};
+ghost use Rattle.text_numbers.specs.Writer.{Put};
 ghost use Rattle.program_previews.specs.Previews.{previewResult};
 ghost use Rattle.command_text.specs.Texts.{outputRoom};
 ghost use Rattle.command_runs.specs.Tasks.{resultLines};

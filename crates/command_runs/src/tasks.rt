@@ -23,7 +23,7 @@ ghost use mathlib.Core.Bool.{true};
 ghost use Prim.Native.Nat.{_≤_};
 ghost use lib.ListN.{length};
 ghost use Rattle.words.specs.Layout.{headerFits};
-ghost use Rattle.text_form.specs.Writer.{Put};
+ghost use Rattle.text_numbers.specs.Writer.{Put};
 ghost use Rattle.report.specs.Lines.{lineRoom};
 ghost use Rattle.dispatcher_runs.specs.DispatcherRuns.{dispatcherResult};
 ghost use Rattle.program_runs.specs.Runs.{runResult, answerAndStore};

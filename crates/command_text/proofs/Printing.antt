@@ -13,7 +13,9 @@ use Rattle.words.specs.Over.{over}
 use Rattle.words.specs.declared.Form.{Form}
 use Rattle.words.specs.declared.Form.the-variants.{Kernel, Source}
 use Rattle.text_form.specs.AnswerLaws.{passes-cause}
-use Rattle.text_form.specs.Writer.{Measured, Put, Fills}
+use Rattle.text_numbers.specs.Writer.{Put}
+use Rattle.text_lines.specs.Writer.{Measured}
+use Rattle.text_form.specs.Writer.{Fills}
 use Rattle.text_form.proofs.Sizing.{sized-fills}
 use Rattle.command_text.specs.Texts.{Roomy, outputRoom, Printable}
 use Rattle.words.specs.Layout.{zeros}

@@ -1,13 +1,13 @@
 // What the command prints for a text: the text is read into lent tables, and a program is written as a text.
 use text_form::ReadAnswer;
 use text_form::writer::put_text;
-use text_form::writer::size_of;
+use text_lines::writer::size_of;
 use words::Form;
 ghost use mathlib.Core.Path.{_≡_};
 ghost use Prim.Native.Nat.{_≤_};
 ghost use lib.ListN.{length};
 ghost use Rattle.text_form.specs.Text.{textBytes};
-ghost use Rattle.text_form.specs.Writer.{Put};
+ghost use Rattle.text_numbers.specs.Writer.{Put};
 ghost use Rattle.command_text.specs.Texts.{Roomy, outputRoom, Printable, textOutput};
 ghost use Rattle.command_text.specs.Read.{ReadFor};
 

@@ -19,7 +19,7 @@ use Rattle.words.specs.declared.Verdict.{Verdict}
 use Rattle.words.specs.declared.Verdict.the-variants.{Accepted, Refused as Turned}
 use Rattle.text_form.specs.Answers.{finished, refused, unless, WriteResult, writeBytes, Writes}
 use Rattle.text_form.specs.AnswerLaws.{refused-finished}
-use Rattle.text_form.specs.Writer.{Put}
+use Rattle.text_numbers.specs.Writer.{Put}
 use Rattle.text_form.specs.declared.WriteAnswer.the-variants.{Written, Refused}
 use Rattle.report.specs.Lines.{refusedLine}
 use Rattle.page.specs.Tables.{tablePage}

@@ -8,8 +8,8 @@ use lib.IntN.{ℤ}
 use Rattle.words.specs.Word.{pick}
 use Rattle.words.specs.declared.Refusal.{Refusal}
 use Rattle.words.specs.declared.Verdict.{Verdict}
-use Rattle.text_form.specs.Number.{digits}
-use Rattle.text_form.specs.Line.{newline}
+use Rattle.text_numbers.specs.Number.{digits}
+use Rattle.text_lines.specs.Line.{newline}
 use Rattle.report.specs.Lines.{blank, refusedLine}
 use Rattle.write_sets.specs.Sets.{variableBits, arrayBits, member, memberArray}
 use Rattle.program_writes.specs.ProgramWrites.{programWrites, programWritesArray}

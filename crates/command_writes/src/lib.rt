@@ -9,7 +9,7 @@ use written_lines::both_lines;
 ghost use Prim.Native.Nat.{_≤_};
 ghost use lib.ListN.{length};
 ghost use Rattle.words.specs.declared.Form.the-variants.{Source};
-ghost use Rattle.text_form.specs.Writer.{Put};
+ghost use Rattle.text_numbers.specs.Writer.{Put};
 ghost use Rattle.write_sets.specs.Sets.{member, memberArray};
 ghost use Rattle.written_lines.specs.Lines.{bothLines, writesRoom};
 ghost use Rattle.command_text.specs.Texts.{Roomy, outputRoom};

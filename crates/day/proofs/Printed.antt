@@ -7,7 +7,7 @@ use lib.ListN.{length, take, drop}
 use Rattle.words.specs.Layout.{layoutOf}
 use Rattle.words.specs.OverLaws.{first-of, rest-of}
 use Rattle.words.specs.declared.Form.the-variants.{Source}
-use Rattle.text_form.specs.Line.{linesOf}
+use Rattle.text_lines.specs.Line.{linesOf}
 use Rattle.report.specs.Lines.{refusedLine}
 use Rattle.rule_text.specs.Rules.{refused, ruleOf, IsAccepted, Holds}
 use Rattle.day_form.specs.Input.{ruleSize, ruleText}

@@ -12,7 +12,7 @@ ghost use Prim.Native.Nat.{_≤_};
 ghost use lib.ListN.{length};
 ghost use Rattle.words.specs.Layout.{layoutOf};
 ghost use Rattle.words.specs.declared.Form.the-variants.{Source};
-ghost use Rattle.text_form.specs.Writer.{Put};
+ghost use Rattle.text_numbers.specs.Writer.{Put};
 ghost use Rattle.rule_text.specs.Rules.{IsAccepted};
 ghost use Rattle.day_form.specs.Input.{ruleSize};
 ghost use Rattle.day_form.specs.Plans.{planOf};

@@ -10,10 +10,10 @@ use lib.ListN.{length, take, drop, getD, drop-of-length-le}
 use lib.Seq.{drop-cons, take-all}
 use borrow.Author.Tests.{ltb-true, ltb-false}
 use Rattle.words.specs.Laws.{by-cases}
-use Rattle.text_form.specs.Line.{newline, Line, ended, unended, longerLine, linesOf}
-use Rattle.text_form.specs.LineLaws.{lines-none}
-use Rattle.text_form.proofs.Pieces.{Piece}
-use Rattle.text_form.proofs.Rows.{lines-step, lines-last}
+use Rattle.text_lines.specs.Line.{newline, Line, ended, unended, longerLine, linesOf}
+use Rattle.text_lines.specs.LineLaws.{lines-none}
+use Rattle.text_lines.proofs.Pieces.{Piece}
+use Rattle.text_lines.proofs.Pieces.{lines-step, lines-last}
 use Rattle.day_form.specs.Input.{bytesBefore, ruleSize, Behind}
 
 -- ---- the rule's bytes

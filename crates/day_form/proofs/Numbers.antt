@@ -9,12 +9,13 @@ use lib.ListN.{length, take, drop}
 use borrow.Author.Tests.{le-leb, lt-leb}
 use Rattle.words.specs.Over.{over}
 use Rattle.words.specs.OverLaws.{over-none}
-use Rattle.text_form.specs.Line.{Line, ended, unended, linesOf, fieldsOf, numbersOf, lineNumbers}
+use Rattle.text_lines.specs.Line.{Line, ended, unended, linesOf, fieldsOf, numbersOf, lineNumbers}
 use Rattle.text_form.specs.Text.{keep}
 use Rattle.text_form.specs.TextLaws.{keep-is, keep-not, keep-none}
-use Rattle.text_form.specs.Reader.{numbersIn}
-use Rattle.text_form.proofs.Pieces.{Piece}
-use Rattle.text_form.proofs.Rows.{Sized, lines-step}
+use Rattle.text_lines.specs.Reader.{numbersIn}
+use Rattle.text_lines.proofs.Pieces.{Piece}
+use Rattle.text_lines.specs.CountLaws.{Sized}
+use Rattle.text_lines.proofs.Pieces.{lines-step}
 use Rattle.day_form.specs.Lines.{isFew, lineWords, WordsRead, NextRead}
 use Rattle.day_form.specs.declared.lines.NextLine.{NextLine}
 use Rattle.day_form.proofs.Bounds.{line-unended}

@@ -18,7 +18,7 @@ use Rattle.words.specs.declared.Found.the-variants.{At, Nothing}
 use Rattle.words.specs.declared.Refusal.{Refusal}
 use Rattle.words.specs.declared.Verdict.{Verdict}
 use Rattle.words.specs.declared.Verdict.the-variants.{Accepted, Refused}
-use Rattle.text_form.specs.Line.{Line, linesOf}
+use Rattle.text_lines.specs.Line.{Line, linesOf}
 use Rattle.day_form.specs.Input.{ruleSize, firstNumber, linesBehind, Behind}
 use Rattle.day_form.specs.Lines.{mostDays, lineWords, turnsAway, firstLine, NextRead}
 use Rattle.day_form.specs.Settings.{settingOf}

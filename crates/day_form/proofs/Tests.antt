@@ -13,8 +13,8 @@ use borrow.Author.Tests.{lt-ltb, le-ltb}
 use Rattle.words.specs.Word.{natural}
 use Rattle.words.specs.OverLaws.{written-part}
 use Rattle.words.specs.declared.Found.the-variants.{At, Nothing}
-use Rattle.text_form.specs.Line.{Line, linesOf}
-use Rattle.text_form.specs.LineLaws.{lines-none}
+use Rattle.text_lines.specs.Line.{Line, linesOf}
+use Rattle.text_lines.specs.LineLaws.{lines-none}
 use Rattle.day_form.specs.Lines.{lineWords, arePairs, allNamed, turnsAway, firstLine, WordsRead, NextRead}
 use Rattle.day_form.specs.declared.lines.LineTest.{LineTest}
 use Rattle.day_form.specs.declared.lines.LineTest.the-variants.{Pairs, Names}

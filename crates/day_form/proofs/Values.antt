@@ -11,10 +11,10 @@ use lib.Signed.{mag}
 use borrow.Author.Tests.{ltb-true, ltb-false, eqb-true}
 use Rattle.words.specs.Word.{natural}
 use Rattle.words.specs.Laws.{by-cases}
-use Rattle.text_form.specs.Line.{Line, lineNumbers}
-use Rattle.text_form.specs.LineLaws.{Words, line-reads}
-use Rattle.text_form.specs.NumberLaws.{not-some}
-use Rattle.text_form.specs.Reader.{numbersIn}
+use Rattle.text_lines.specs.Line.{Line, lineNumbers}
+use Rattle.text_lines.specs.LineLaws.{Words, line-reads}
+use Rattle.text_numbers.specs.NumberLaws.{not-some}
+use Rattle.text_lines.specs.Reader.{numbersIn}
 use Rattle.text_form.specs.Text.{keep}
 use Rattle.text_form.specs.TextLaws.{keep-reads}
 use Rattle.day_form.specs.Lines.{isFew, lineWords}

@@ -6,7 +6,7 @@ use Prim.Native.Nat.{ℕ, suc, _+_, _≤_}
 use lib.Dec.{eqb}
 use lib.ListN.{length, take, drop}
 use Rattle.words.specs.Word.{pick}
-use Rattle.text_form.specs.Line.{newline, Line, linesOf}
+use Rattle.text_lines.specs.Line.{newline, Line, linesOf}
 
 -- How many bytes stand before the first empty line; all, where there is none. `starts` says whether a line begins here.
 unfoldable pub bytesBefore : Bool → List ℕ → ℕ

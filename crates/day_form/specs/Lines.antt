@@ -10,9 +10,9 @@ use Rattle.words.specs.Word.{natural, pick}
 use Rattle.words.specs.Over.{over}
 use Rattle.words.specs.declared.Found.{Found}
 use Rattle.words.specs.declared.Found.the-variants.{At, Nothing}
-use Rattle.text_form.specs.Line.{Line, linesOf, lineNumbers}
+use Rattle.text_lines.specs.Line.{Line, linesOf, lineNumbers}
 use Rattle.text_form.specs.Text.{keep}
-use Rattle.text_form.specs.Reader.{numbersIn}
+use Rattle.text_lines.specs.Reader.{numbersIn}
 use Rattle.day_form.specs.declared.lines.LineTest.{LineTest}
 use Rattle.day_form.specs.declared.lines.LineTest.the-variants.{Pairs, Names}
 use Rattle.day_form.specs.declared.lines.NextLine.{NextLine}

@@ -12,7 +12,7 @@ use Rattle.words.specs.declared.Found.{Found}
 use Rattle.words.specs.declared.Found.the-variants.{At, Nothing}
 use Rattle.words.specs.declared.Verdict.{Verdict}
 use Rattle.words.specs.declared.Verdict.the-variants as verdicts
-use Rattle.text_form.specs.Line.{Line, linesOf}
+use Rattle.text_lines.specs.Line.{Line, linesOf}
 use Rattle.day_form.specs.Input.{firstNumber, linesBehind}
 use Rattle.day_form.specs.Lines.{mostDays, lineWords, firstLine}
 use Rattle.day_form.specs.Settings.{mostValues, settingOf}

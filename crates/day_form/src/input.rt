@@ -1,11 +1,11 @@
 // The parts of the input: where the rule ends, where the lines behind it begin, and how many lines there are.
-use text_form::line::piece_end;
+use text_lines::line::piece_end;
 ghost use mathlib.Core.Path.{_≡_};
 ghost use mathlib.Core.Bool.{_&&_};
 ghost use Prim.Native.Nat.{_≤_};
 ghost use lib.Dec.{eqb};
 ghost use lib.ListN.{length};
-ghost use Rattle.text_form.specs.Line.{newline, linesOf};
+ghost use Rattle.text_lines.specs.Line.{newline, linesOf};
 ghost use Rattle.day_form.specs.Input.{ruleSize, Behind};
 
 fn is_empty_line(starts: bool, byte: u8) -> bool

@@ -1,14 +1,14 @@
 // The numbers of a line, and the first line that a test turns away.
-use text_form::line::Count;
-use text_form::line::count_numbers;
-use text_form::line::piece_end;
-use text_form::line::store_numbers;
+use text_lines::line::Count;
+use text_lines::line::count_numbers;
+use text_lines::line::piece_end;
+use text_lines::line::store_numbers;
 use words::Found;
 use words::table::natural;
 ghost use mathlib.Core.Path.{_≡_};
 ghost use Prim.Native.Nat.{_+_, _<_, _≤_};
 ghost use lib.ListN.{length};
-ghost use Rattle.text_form.specs.Line.{ended, linesOf};
+ghost use Rattle.text_lines.specs.Line.{ended, linesOf};
 ghost use Rattle.day_form.specs.Lines.{mostNumbers, allNamed, turnsAway, firstLine, WordsRead, NextRead};
 
 // What a line is tested for: that it has pairs and its number is not past the last that a day line may have; or that its variable

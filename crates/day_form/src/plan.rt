@@ -13,7 +13,7 @@ use words::Verdict;
 ghost use mathlib.Core.Path.{_≡_};
 ghost use Prim.Native.Nat.{_+_, _<_};
 ghost use lib.ListN.{length};
-ghost use Rattle.text_form.specs.Line.{linesOf};
+ghost use Rattle.text_lines.specs.Line.{linesOf};
 ghost use Rattle.day_form.specs.Input.{ruleSize};
 ghost use Rattle.day_form.specs.Plans.{outsideLine, daysVerdict, linesPlan, planOf, PlanRead};
 

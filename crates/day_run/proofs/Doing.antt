@@ -12,8 +12,8 @@ use Rattle.words.specs.declared.FaultSort.{FaultSort}
 use Rattle.words.specs.declared.RunAnswer.{RunAnswer}
 use Rattle.language.specs.Program.{runProgram}
 use Rattle.machine.specs.Whole.{finishedOf}
-use Rattle.text_form.specs.Line.{Line, linesOf}
-use Rattle.text_form.specs.LineLaws.{lines-none}
+use Rattle.text_lines.specs.Line.{Line, linesOf}
+use Rattle.text_lines.specs.LineLaws.{lines-none}
 use Rattle.rule_text.specs.Rules.{budget}
 use Rattle.day_form.specs.Lines.{lineWords, NextRead}
 use Rattle.day_form.specs.declared.lines.NextLine.{NextLine}

@@ -8,7 +8,7 @@ ghost use lib.ListN.{length};
 ghost use Rattle.words.specs.Layout.{storeWords};
 ghost use Rattle.words.specs.declared.Form.the-variants.{Source};
 ghost use Rattle.words.specs.declared.Verdict.the-variants.{Accepted};
-ghost use Rattle.text_form.specs.Line.{linesOf};
+ghost use Rattle.text_lines.specs.Line.{linesOf};
 ghost use Rattle.program_runs.specs.Runs.{refusalOf};
 ghost use Rattle.rule_text.specs.Rules.{mostWords};
 ghost use Rattle.day_run.specs.Days.{doLines, pairsOf, newDay};

@@ -15,9 +15,9 @@ use Rattle.words.specs.Word.{natural}
 use Rattle.words.specs.Layout.{layoutOf, storeSize, storeWords, zeros}
 use Rattle.words.specs.Laws.{back, headerFits-facts}
 use Rattle.words.specs.declared.Form.the-variants.{Source}
-use Rattle.text_form.specs.Line.{Line, lineBytes}
-use Rattle.text_form.specs.Writer.{Measured}
-use Rattle.text_form.proofs.Sizing.{bytes-line}
+use Rattle.text_lines.specs.Line.{Line, lineBytes}
+use Rattle.text_lines.specs.Writer.{Measured}
+use Rattle.text_lines.proofs.Sizing.{bytes-line}
 use Rattle.rule_text.specs.Rules.{mostWords, IsAccepted}
 use Rattle.day_form.specs.Lines.{lineWords}
 use Rattle.day_run.specs.Days.{Day, newDay, doLines, pairsOf}

@@ -11,8 +11,8 @@ use mir.Val.{toZ, ofZ}
 use mir.Facts.{toZ-pos}
 use Rattle.words.specs.Laws.{back}
 use Rattle.words.specs.OverLaws.{part, back-in}
-use Rattle.text_form.specs.Writer.{Put}
-use Rattle.text_form.specs.PutLaws.{put-none, put-next, put-as, put-length, put-inside, put-space}
+use Rattle.text_numbers.specs.Writer.{Put}
+use Rattle.text_numbers.specs.PutLaws.{put-none, put-next, put-as, put-length, put-inside, put-space}
 use Rattle.day_form.specs.Settings.{mostValues}
 use Rattle.day_form.specs.Plans.{Sets}
 use Rattle.day_form.specs.declared.setting.Setting.{Setting}

@@ -3,7 +3,7 @@ use mathlib.Core.List.{List}
 use Prim.Native.Nat.{ℕ, _*_, _≤_}
 use lib.IntN.{ℤ}
 use lib.ListN.{length}
-use Rattle.text_form.specs.Line.{linesOf}
+use Rattle.text_lines.specs.Line.{linesOf}
 use Rattle.rule_text.specs.Rules.{IsAccepted}
 use Rattle.day_form.specs.Lines.{mostDays}
 use Rattle.day_form.specs.Settings.{mostValues}

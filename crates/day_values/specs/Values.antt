@@ -5,7 +5,7 @@ use lib.IntN.{ℤ, pos, _+ℤ_}
 use lib.ListN.{take, set}
 use Rattle.words.specs.Layout.{layoutOf, storeWords, zeros}
 use Rattle.words.specs.declared.Form.the-variants.{Source}
-use Rattle.text_form.specs.Line.{lineBytes}
+use Rattle.text_lines.specs.Line.{lineBytes}
 use Rattle.day_form.specs.declared.setting.Setting.{Setting}
 use Rattle.day_run.specs.Days.{Day, newDay, doLines}
 

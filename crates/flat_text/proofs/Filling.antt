@@ -8,15 +8,16 @@ use lib.Dec.{ltb}
 use lib.IntN.{ℤ}
 use lib.ListN.{length, take, drop, length-drop, length-append}
 use borrow.Author.Tests.{ltb-true, ltb-false}
-use Rattle.text_form.specs.Line.{ended, linesOf, fieldsOf, numbersOf}
+use Rattle.text_lines.specs.Line.{ended, linesOf, fieldsOf, numbersOf}
 use Rattle.text_form.specs.Text.{Parsed, parsed, malformed}
 use Rattle.flat_text.specs.Text.{fiveLine, linesFrom}
 use Rattle.words.specs.Over.{over}
 use Rattle.words.specs.Laws.{by-cases}
 use Rattle.text_form.specs.TextLaws.{not-parsed}
-use Rattle.text_form.specs.Reader.{isFound, numbersIn, Holds, wordsIn, HoldsRows}
+use Rattle.text_lines.specs.Reader.{numbersIn, Holds}
+use Rattle.text_form.specs.Reader.{isFound, wordsIn, HoldsRows}
 use Rattle.words.specs.OverLaws.{part, back-in, part-is, length-over, over-none, over-next}
-use Rattle.text_form.proofs.Pieces.{Piece}
+use Rattle.text_lines.proofs.Pieces.{Piece}
 use Rattle.text_form.proofs.Rows.{found-row, found-none, behind}
 use Rattle.flat_text.proofs.Lines.{FiveNumbers, five-numbers, Walked, walked-start, start-before, walked-end, walked-unended, walked-bad, walked-next, next-before}
 

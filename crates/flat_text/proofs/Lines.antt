@@ -11,13 +11,15 @@ use lib.ListN.{length, take, drop, length-drop, length-append, drop-of-length-le
 use lib.Seq.{length-take-le}
 use borrow.Author.Tests.{eqb-true}
 use Rattle.words.specs.Word.{pick}
-use Rattle.text_form.specs.Line.{Line, ended, unended, linesOf, fieldsOf, numbersOf, lineNumbers}
+use Rattle.text_lines.specs.Line.{Line, ended, unended, linesOf, fieldsOf, numbersOf, lineNumbers}
 use Rattle.text_form.specs.Text.{keep, Parsed, parsed, malformed, withRow}
-use Rattle.text_form.specs.LineLaws.{line-few}
+use Rattle.text_lines.specs.LineLaws.{line-few}
 use Rattle.text_form.specs.TextLaws.{keep-none, keep-reads, with-none}
 use Rattle.text_form.specs.Reader.{isFound, wordsOf}
-use Rattle.text_form.proofs.Pieces.{Piece}
-use Rattle.text_form.proofs.Rows.{Sized, lines-step, lines-last, behind, behind-nil}
+use Rattle.text_lines.proofs.Pieces.{Piece}
+use Rattle.text_lines.specs.CountLaws.{Sized}
+use Rattle.text_lines.proofs.Pieces.{lines-step, lines-last}
+use Rattle.text_form.proofs.Rows.{behind, behind-nil}
 use Rattle.flat_text.specs.Text.{fiveSized, fiveLine, linesFrom}
 
 lines-next : (number : ℕ) (line : Line) (lines : List Line) → linesFrom number (line ∷ lines) ≡ withRow number (fiveLine line) (linesFrom (number + 1) lines)

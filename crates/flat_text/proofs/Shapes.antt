@@ -15,14 +15,15 @@ use Rattle.words.specs.Over.{over}
 use Rattle.words.specs.OverLaws.{first-of, rest-of}
 use Rattle.words.specs.declared.Form.the-variants.{Kernel}
 use Rattle.text_form.specs.declared.ReadAnswer.the-variants.{Read, Refused}
-use Rattle.text_form.specs.Line.{Line, ended, unended, linesOf, fieldsOf, numbersOf, lineNumbers}
+use Rattle.text_lines.specs.Line.{Line, ended, unended, linesOf, fieldsOf, numbersOf, lineNumbers}
 use Rattle.text_form.specs.Text.{keep, headerSized, headerLine, Parsed, parsed, malformed, withHeader}
 use Rattle.text_form.specs.Answers.{unless, readRefused, readProgram, tablesHold, Reads}
-use Rattle.text_form.specs.LineLaws.{lines-none}
+use Rattle.text_lines.specs.LineLaws.{lines-none}
 use Rattle.text_form.specs.TextLaws.{Kept, keep-reads}
 use Rattle.text_form.specs.Reader.{wordsOf}
-use Rattle.text_form.proofs.Pieces.{Piece}
-use Rattle.text_form.proofs.Rows.{Sized, lines-step, lines-last}
+use Rattle.text_lines.proofs.Pieces.{Piece}
+use Rattle.text_lines.specs.CountLaws.{Sized}
+use Rattle.text_lines.proofs.Pieces.{lines-step, lines-last}
 use Rattle.text_form.proofs.Shapes.{SizedRows}
 use Rattle.flat_text.specs.Text.{linesFrom, listOf, parseFlat}
 use Rattle.flat_text.specs.Answers.{flatCause, flatParsed, flatReadResult}

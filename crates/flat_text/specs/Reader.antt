@@ -4,7 +4,7 @@ use mathlib.Core.List.{List}
 use mathlib.Core.Option.{some}
 use Prim.Native.Nat.{ℕ, _+_, _≤_, _<_}
 use lib.ListN.{length, take, drop}
-use Rattle.text_form.specs.Line.{fieldsOf, linesOf, numbersOf}
+use Rattle.text_lines.specs.Line.{fieldsOf, linesOf, numbersOf}
 use Rattle.text_form.specs.Text.{parsed, malformed, Program}
 use Rattle.text_form.specs.declared.reader.Shape.{Shape}
 use Rattle.text_form.specs.declared.reader.Shape.the-variants as shape-cases

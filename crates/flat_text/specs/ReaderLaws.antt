@@ -11,9 +11,10 @@ use Rattle.words.specs.Layout.{headerFits}
 use Rattle.words.specs.Over.{over}
 use Rattle.words.specs.OverLaws.{first-of, rest-of}
 use Rattle.words.specs.declared.Form.the-variants.{Kernel}
-use Rattle.text_form.specs.Line.{linesOf, fieldsOf, numbersOf}
+use Rattle.text_lines.specs.Line.{linesOf, fieldsOf, numbersOf}
 use Rattle.text_form.specs.Text.{parsed}
-use Rattle.text_form.specs.Reader.{numbersIn, Holds, HoldsExactly, wordsIn, HoldsRows}
+use Rattle.text_lines.specs.Reader.{numbersIn, Holds}
+use Rattle.text_form.specs.Reader.{HoldsExactly, wordsIn, HoldsRows}
 use Rattle.flat_text.specs.Text.{linesFrom}
 use Rattle.flat_text.specs.Reader.{HasLines}
 

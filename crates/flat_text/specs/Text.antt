@@ -8,7 +8,7 @@ use lib.IntN.{ℤ}
 use lib.ListN.{length, take, drop}
 use Rattle.words.specs.declared.Form.the-variants.{Kernel}
 use Rattle.flat.specs.Words.{lineCount}
-use Rattle.text_form.specs.Line.{lineBytes, Line, linesOf, lineNumbers}
+use Rattle.text_lines.specs.Line.{lineBytes, Line, linesOf, lineNumbers}
 use Rattle.text_form.specs.Text.{keep, headerLine, Parsed, parsed, malformed, withRow, Program, withHeader}
 
 -- ---- writing

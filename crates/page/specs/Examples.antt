@@ -7,8 +7,8 @@ use lib.IntN.{pos, negsuc}
 use Rattle.words.specs.Word.{isWord}
 use Rattle.words.specs.Layout.{Layout}
 use Rattle.words.specs.declared.Operator.the-variants.{Add, Subtract, LessOrEqual}
-use Rattle.text_form.specs.Number.{digits, digitsWithin, numberBytes, isDigit, decimal, natural, word, positive, negative, numberOf}
-use Rattle.text_form.specs.Line.{together, linesOf}
+use Rattle.text_numbers.specs.Number.{digits, digitsWithin, numberBytes, isDigit, decimal, natural, word, positive, negative, numberOf}
+use Rattle.text_lines.specs.Line.{together, linesOf}
 use Rattle.language.specs.Trees.{Expression, constant, read, minus, binary, assign, compound, postfix, Place, variable, element, label, Statement, empty, express, block, ifElse, while, goto, abort, Items, none as noItem, _then_, _here_}
 use Rattle.translation.specs.Translate.{translate}
 use Rattle.translation.specs.WorkedExamples.{worked-translation}

@@ -7,8 +7,8 @@ use lib.ListN.{length}
 use Rattle.words.specs.Word.{pick}
 use Rattle.words.specs.declared.Operator.{Operator}
 use Rattle.words.specs.declared.Operator.the-variants.{Add, Subtract, Multiply, Divide, Remainder, Less, Greater, LessOrEqual, GreaterOrEqual, Equal, NotEqual}
-use Rattle.text_form.specs.Number.{digits, numberBytes}
-use Rattle.text_form.specs.Line.{newline}
+use Rattle.text_numbers.specs.Number.{digits, numberBytes}
+use Rattle.text_lines.specs.Line.{newline}
 use Rattle.language.specs.Trees.{Expression, constant, read, minus, not, binary, and, or, comma, conditional, assign, compound, prefix, postfix, Place, variable, element, Mark, case, default, label, Statement, empty, express, block, ifThen, ifElse, while, doWhile, for, switch, break, continue, goto, guardedIf, guardedDo, abort, Items}
 use Rattle.page.specs.Lines.{Line, single, mark, opens, opensWhile, opensIf, turns, closes, Indented, indented, itemsLines}
 

@@ -10,10 +10,10 @@ use lib.ListN.{length}
 use lib.Dec.{eqb}
 use borrow.Author.Tests.{eq-eqb, eqb-true}
 use Rattle.words.specs.Laws.{by-cases}
-use Rattle.text_form.specs.Number.{digits, numberBytes}
-use Rattle.text_form.specs.NumberLaws.{Free, free-append, not-some, natural-shows, number-shows}
-use Rattle.text_form.specs.Line.{newline, together, linesOf}
-use Rattle.text_form.specs.LineLaws.{lines-ended}
+use Rattle.text_numbers.specs.Number.{digits, numberBytes}
+use Rattle.text_numbers.specs.NumberLaws.{Free, free-append, not-some, natural-shows, number-shows}
+use Rattle.text_lines.specs.Line.{newline, together, linesOf}
+use Rattle.text_lines.specs.LineLaws.{lines-ended}
 use Rattle.language.specs.Trees.{Expression, constant, read, minus, binary, assign, Place, variable, element, label, empty, express, goto, abort, Items, none as noItem}
 use Rattle.translation.specs.KernelForm.{KernelItems}
 use Rattle.page.specs.Lines.{Line, single, mark, opens, opensWhile, opensIf, turns, closes, Indented, indented, itemsLines, plain, readLines}

@@ -8,8 +8,8 @@ use lib.Dec.{eqb}
 use Rattle.words.specs.Word.{pick}
 use Rattle.words.specs.declared.Operator.{Operator}
 use Rattle.words.specs.declared.Operator.the-variants.{Add, Subtract, Multiply, Divide, Remainder, Less, Greater, LessOrEqual, GreaterOrEqual, Equal, NotEqual}
-use Rattle.text_form.specs.Number.{natural, numberOf}
-use Rattle.text_form.specs.Line.{together, linesOf, Line as TextLine, ended, unended}
+use Rattle.text_numbers.specs.Number.{natural, numberOf}
+use Rattle.text_lines.specs.Line.{together, linesOf, Line as TextLine, ended, unended}
 use Rattle.language.specs.Trees.{Expression, constant, read, minus, binary, assign, Place, variable, element, label, empty, express, goto, abort, Items}
 use Rattle.page.specs.Lines.{Line, single, mark, opens, opensWhile, opensIf, turns, closes, readLines}
 use Rattle.page.specs.Page.{blank, semicolon, colon, openingBracket, closingBracket, openingParenthesis, closingParenthesis, variableLetter, arrayLetter, temporaryLetter, labelLetter, emptyWord, openingWord, closingWord, equalsWord, minusWord, ifWord, whileWord, gotoWord, abortWord, operatorWord, pageBytes}

@@ -3,7 +3,7 @@ use mathlib.Core.List.{List, [] as noByte, _∷_ as _before_, _++_}
 use Prim.Native.Nat.{ℕ}
 use Prim.Native.Char.{code}
 use Prim.Native.String.{String, [], _∷_}
-use Rattle.text_form.specs.Line.{newline}
+use Rattle.text_lines.specs.Line.{newline}
 
 unfoldable pub bytesOf : String → List ℕ
 bytesOf [] = noByte

@@ -10,9 +10,9 @@ use Rattle.words.specs.Laws.{by-cases}
 use borrow.Author.Tests.{ltb-true}
 use Rattle.words.specs.declared.Operator.{Operator}
 use Rattle.words.specs.declared.Operator.the-variants.{Add, Subtract, Multiply, Divide, Remainder, Less, Greater, LessOrEqual, GreaterOrEqual, Equal, NotEqual}
-use Rattle.text_form.specs.Number.{digits, numberBytes}
-use Rattle.text_form.specs.Line.{newline}
-use Rattle.text_form.specs.PutLaws.{digits-within, number-eleven}
+use Rattle.text_numbers.specs.Number.{digits, numberBytes}
+use Rattle.text_lines.specs.Line.{newline}
+use Rattle.text_numbers.specs.PutLaws.{digits-within, number-eleven}
 use Rattle.language.specs.Trees.{Expression, constant, read, minus, binary, assign, variable, element, label, empty, express, goto, abort}
 use Rattle.page.specs.Lines.{Line, single, mark, opens, opensWhile, opensIf, turns, closes, Indented, indented}
 use Rattle.page.specs.Page.{blank, equalsWord, openingWord, operatorWord, endedBy, ended, labelWord, name, atomWord, placeWord, valueWords, lineWords, blanks, parted, rightSet, padded, indent, lineBytes, linesBytes}

@@ -14,8 +14,8 @@ use Rattle.words.specs.Word.{pick}
 use Rattle.words.specs.Laws.{by-cases}
 use Rattle.words.specs.declared.Operator.{Operator}
 use Rattle.words.specs.declared.Operator.the-variants.{Add, Subtract, Multiply, Divide, Remainder, Less, Greater, LessOrEqual, GreaterOrEqual, Equal, NotEqual}
-use Rattle.text_form.specs.Number.{digits, digitsWithin, numberBytes}
-use Rattle.text_form.specs.NumberLaws.{Free, free-append, natural-shows, length-some}
+use Rattle.text_numbers.specs.Number.{digits, digitsWithin, numberBytes}
+use Rattle.text_numbers.specs.NumberLaws.{Free, free-append, natural-shows, length-some}
 use Rattle.language.specs.Trees.{variable}
 use Rattle.page.specs.Page.{blank, operatorWord, endedBy, labelWord, name, blanks, parted}
 use Rattle.page.specs.Reading.{same, pieces, filled, wordsOf, without, readName, readPlace, readOperator}

@@ -8,7 +8,7 @@ use Prim.Native.Nat.{ℕ, suc, _+_, _-_}
 use native.Mathlib.Omega.{arith}
 use native.Mathlib.Numerals.{add-one}
 use lib.ListN.{length}
-use Rattle.text_form.specs.NumberLaws.{not-some}
+use Rattle.text_numbers.specs.NumberLaws.{not-some}
 use Rattle.language.specs.Trees.{Items, none as noItem, _then_, _here_, block, while, ifElse}
 use Rattle.page.specs.Lines.{Indented, indented, turns, closes, statementLines, itemsLines, Waiting, outermost, closed, Reading, reading, malformed, readLine, readBefore, whole, readLines}
 use Rattle.page.specs.Lines.{turned as elseWaiting}

@@ -5,7 +5,7 @@ use mathlib.Core.List.{List, [], _∷_}
 use mathlib.Core.Option.{some, none}
 use Prim.Native.Nat.{ℕ, _+_}
 use native.Mathlib.Omega.{arith}
-use Rattle.text_form.specs.NumberLaws.{not-some}
+use Rattle.text_numbers.specs.NumberLaws.{not-some}
 use Rattle.language.specs.Trees.{Items, none as noItem, _then_, _here_, block}
 use Rattle.language.specs.Sizes.{expressionRows, placeRows, statementRows, itemsRows}
 use Rattle.page.specs.Lines.{Waiting, outermost, closed, Reading, reading, malformed, readLine, readBefore, whole, readLines}

@@ -7,9 +7,9 @@ use native.Mathlib.Omega.{arith}
 use lib.ListN.{length, getD, take, drop, length-append}
 use lib.Seq.{take-at, drop-at, getD-at, drop-drop}
 use borrow.Author.Tests.{eq-eqb, le-ltb}
-use Rattle.text_form.specs.Number.{digits}
-use Rattle.text_form.specs.NumberLaws.{length-some}
-use Rattle.text_form.specs.PutLaws.{digits-within}
+use Rattle.text_numbers.specs.Number.{digits}
+use Rattle.text_numbers.specs.NumberLaws.{length-some}
+use Rattle.text_numbers.specs.PutLaws.{digits-within}
 use Rattle.page.specs.Page.{blanks, rightSet, indent}
 use Rattle.page.specs.WordLaws.{Between, digits-between}
 use Rattle.page.specs.Widths.{length-blanks, length-set}

@@ -10,9 +10,9 @@ use lib.ListN.{length, getD, take, drop, length-append, length-take, length-drop
 use lib.Seq.{take-at, drop-at, getD-at, drop-cons, drop-drop}
 use borrow.Author.Tests.{eqb-true, eq-eqb, ltb-false, le-ltb}
 use Rattle.words.specs.Laws.{by-cases}
-use Rattle.text_form.specs.Number.{digits}
-use Rattle.text_form.specs.NumberLaws.{length-some}
-use Rattle.text_form.specs.PutLaws.{digits-within}
+use Rattle.text_numbers.specs.Number.{digits}
+use Rattle.text_numbers.specs.NumberLaws.{length-some}
+use Rattle.text_numbers.specs.PutLaws.{digits-within}
 use Rattle.page.specs.Lines.{indented}
 use Rattle.page.specs.Page.{blanks, rightSet, padded, parted, lineWords, indent, name, lineBytes}
 use Rattle.page.specs.WordLaws.{Between, digits-between}

@@ -9,7 +9,7 @@ use borrow.Author.Tests.{lt-ltb, le-ltb}
 use lib.IntN.{ℤ}
 use Rattle.words.specs.declared.Operator.{Operator}
 use Rattle.words.specs.declared.Operator.the-variants.{Add, Subtract, Multiply, Divide, Remainder, Less, Greater, LessOrEqual, GreaterOrEqual, Equal, NotEqual}
-use Rattle.text_form.specs.Number.{digits}
+use Rattle.text_numbers.specs.Number.{digits}
 use Rattle.language.specs.Trees.{Expression, Place, minus, binary, assign, element, label, goto}
 use Rattle.shapes.specs.Shapes.{operationTree, choiceTree}
 use Rattle.shapes.specs.declared.OperationShape.{OperationShape}

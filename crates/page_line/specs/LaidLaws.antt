@@ -8,7 +8,7 @@ use lib.Seq.{length-take-le, take-at, drop-at, drop-drop}
 use borrow.Rule.Slice.PartMut.{same-len-mid}
 use Rattle.words.specs.Over.{over}
 use Rattle.words.specs.OverLaws.{part, back-in, part-is, length-over, over-set, over-next}
-use Rattle.text_form.specs.Writer.{Put}
+use Rattle.text_numbers.specs.Writer.{Put}
 use Rattle.page_line.specs.Laid.{Laid}
 
 -- the first `at` bytes, and those laid behind them

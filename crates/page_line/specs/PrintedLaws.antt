@@ -5,8 +5,8 @@ use Prim.Native.Nat.{ℕ, zero, suc, _+_, _*_, _-_, _≤_, _<_}
 use native.Mathlib.Omega.{arith}
 use native.Mathlib.Numerals.{add-one}
 use lib.ListN.{length, length-append}
-use Rattle.text_form.specs.Number.{digits}
-use Rattle.text_form.specs.PutLaws.{digits-within}
+use Rattle.text_numbers.specs.Number.{digits}
+use Rattle.text_numbers.specs.PutLaws.{digits-within}
 use Rattle.page.specs.Lines.{Line as PageLine, Indented, indented}
 use Rattle.page.specs.Page.{blank, blanks, parted, rightSet, padded, indent, lineWords, lineBytes, linesBytes}
 use Rattle.page.specs.Widths.{length-blanks, length-set}

@@ -1,12 +1,12 @@
 // Bytes, blanks, numbers and names. Each function lays its bytes into `text` from `at` on, and answers the place behind them.
 use report::field::put_bytes;
-use text_form::digits::put_digits;
-use text_form::digits::put_number;
+use text_numbers::digits::put_digits;
+use text_numbers::digits::put_number;
 ghost use mathlib.Core.Path.{_≡_};
 ghost use mathlib.Core.List.{[], _∷_};
 ghost use Prim.Native.Nat.{_+_, _≤_, _<_};
 ghost use lib.ListN.{length};
-ghost use Rattle.text_form.specs.Number.{digits, numberBytes};
+ghost use Rattle.text_numbers.specs.Number.{digits, numberBytes};
 ghost use Rattle.page.specs.Page.{blanks, name, rightSet};
 ghost use Rattle.page_line.specs.Laid.{Laid};
 

@@ -15,7 +15,7 @@ ghost use mathlib.Core.List.{_∷_, []};
 ghost use Prim.Native.Nat.{_+_, _≤_, _<_};
 ghost use lib.ListN.{length};
 ghost use Rattle.words.specs.Table.{rowCount};
-ghost use Rattle.text_form.specs.Number.{numberBytes};
+ghost use Rattle.text_numbers.specs.Number.{numberBytes};
 ghost use Rattle.language.specs.Trees.{minus, binary, assign, element};
 ghost use Rattle.language.specs.Decode.{expressionAt, placeOf};
 ghost use Rattle.shapes.specs.Shapes.{placeTree, operationTree};

@@ -8,9 +8,9 @@ use lib.Dec.{leb, ltb}
 use lib.ListN.{length, getD, drop}
 use borrow.Author.Tests.{eq-eqb, ne-eqb, lt-ltb, le-ltb, leb-false}
 use Rattle.words.specs.Laws.{by-cases}
-use Rattle.text_form.specs.Number.{numberOf}
-use Rattle.text_form.specs.NumberLaws.{not-some}
-use Rattle.text_form.specs.Reader.{atMost}
+use Rattle.text_numbers.specs.Number.{numberOf}
+use Rattle.text_numbers.specs.NumberLaws.{not-some}
+use Rattle.text_numbers.specs.Reader.{atMost}
 use Rattle.page_words.specs.Reads.{belowOf, numberRead, variableOf, temporaryOf, constantOf, atomRead, operatorOfOne, operatorOfTwo, operatorRead}
 use Rattle.page_words.specs.declared.Names.{Names}
 use Rattle.page_words.specs.declared.NumberRead.the-variants.{Number, Malformed}

@@ -9,7 +9,7 @@ use lib.ListN.{length, take, drop}
 use borrow.Author.Tests.{eq-eqb, ne-eqb, lt-ltb, le-ltb}
 use Rattle.words.specs.Laws.{by-cases}
 use Rattle.words.specs.OverLaws.{rest-of}
-use Rattle.text_form.specs.Reader.{pieceEnd}
+use Rattle.text_lines.specs.Reader.{pieceEnd}
 use Rattle.page_words.specs.Compare.{isPrefix, isWord, isFramed, middle}
 use Rattle.page_words.specs.Reads.{numberRead, atomRead, nameOf, elementOf, elementIn, elementRead, operatorRead, singleOf, binaryOf, binaryRead, severalRead, valueRead, assignedOf, assignmentRead}
 use Rattle.page_words.specs.declared.Names.{Names}

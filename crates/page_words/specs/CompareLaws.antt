@@ -12,8 +12,8 @@ use lib.Seq.{take-at, drop-at, drop-drop}
 use borrow.Author.Tests.{eqb-true, eq-eqb, ne-eqb, ltb-false, le-ltb}
 use Rattle.words.specs.Word.{pick}
 use Rattle.words.specs.Laws.{by-cases}
-use Rattle.text_form.specs.NumberLaws.{Free}
-use Rattle.text_form.specs.Reader.{pieceEnd}
+use Rattle.text_numbers.specs.NumberLaws.{Free}
+use Rattle.text_lines.specs.Reader.{pieceEnd}
 use Rattle.page_words.specs.Compare.{isPrefix, isWord, isFramed, middle}
 
 pub never : {G : Type 0} → false ≡ true → G

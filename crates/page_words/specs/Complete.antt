@@ -13,9 +13,9 @@ use borrow.Author.Tests.{eq-eqb, ne-eqb, lt-ltb}
 use Rattle.words.specs.Laws.{by-cases}
 use Rattle.words.specs.declared.Operator.{Operator}
 use Rattle.words.specs.declared.Operator.the-variants.{Add, Subtract, Multiply, Divide, Remainder, Less, Greater, LessOrEqual, GreaterOrEqual, Equal, NotEqual}
-use Rattle.text_form.specs.Number.{digits, numberBytes, numberOf}
-use Rattle.text_form.specs.NumberLaws.{Free, free-append, natural-shows, number-shows, length-some}
-use Rattle.text_form.specs.Reader.{pieceEnd}
+use Rattle.text_numbers.specs.Number.{digits, numberBytes, numberOf}
+use Rattle.text_numbers.specs.NumberLaws.{Free, free-append, natural-shows, number-shows, length-some}
+use Rattle.text_lines.specs.Reader.{pieceEnd}
 use Rattle.page.specs.Page.{operatorWord}
 use Rattle.page.specs.WordLaws.{Between, between-free, wider, digits-between, number-between, IsWord, number-word, operator-word}
 use Rattle.page_words.specs.Compare.{isPrefix, isWord, isFramed, middle}

@@ -8,8 +8,8 @@ use lib.IntN.{ℤ}
 use lib.ListN.{length, take, drop}
 use Rattle.words.specs.Word.{pick}
 use Rattle.words.specs.declared.Operator.the-variants.{Add, Subtract, Multiply, Divide, Remainder, Less, Greater, LessOrEqual, GreaterOrEqual, Equal, NotEqual}
-use Rattle.text_form.specs.Number.{natural, numberOf}
-use Rattle.text_form.specs.Reader.{pieceEnd}
+use Rattle.text_numbers.specs.Number.{natural, numberOf}
+use Rattle.text_lines.specs.Reader.{pieceEnd}
 use Rattle.page_words.specs.Compare.{isWord, isFramed, middle}
 use Rattle.page_words.specs.declared.Names.{Names}
 use Rattle.page_words.specs.declared.Atom.{Atom}

@@ -13,9 +13,9 @@ use borrow.Author.Tests.{eqb-true, eqb-false, ltb-true}
 use Rattle.words.specs.Laws.{by-cases}
 use Rattle.words.specs.declared.Operator.{Operator}
 use Rattle.words.specs.declared.Operator.the-variants.{Add, Subtract, Multiply, Divide, Remainder, Less, Greater, LessOrEqual, GreaterOrEqual, Equal, NotEqual}
-use Rattle.text_form.specs.Number.{digits, numberBytes, natural, decimal, isDigit, positive, numberOf}
-use Rattle.text_form.specs.NumberLaws.{not-some, word-is, IsNumber, number-reads}
-use Rattle.text_form.specs.Reader.{pieceEnd}
+use Rattle.text_numbers.specs.Number.{digits, numberBytes, natural, decimal, isDigit, positive, numberOf}
+use Rattle.text_numbers.specs.NumberLaws.{not-some, word-is, IsNumber, number-reads}
+use Rattle.text_lines.specs.Reader.{pieceEnd}
 use Rattle.page.specs.Page.{operatorWord}
 use Rattle.page_words.specs.Compare.{isWord, isFramed, middle}
 use Rattle.page_words.specs.CompareLaws.{never, word-sound, framed-sound, piece-splits, piece-halves}

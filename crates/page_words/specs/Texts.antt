@@ -4,7 +4,7 @@ use mathlib.Core.List.{List, [], _∷_, _++_}
 use Prim.Native.Nat.{ℕ, _^_, _<_}
 use lib.IntN.{ℤ}
 use lib.Signed.{mag}
-use Rattle.text_form.specs.Number.{digits, numberBytes}
+use Rattle.text_numbers.specs.Number.{digits, numberBytes}
 use Rattle.page.specs.Page.{operatorWord, endedBy}
 use Rattle.page_words.specs.declared.Names.{Names}
 use Rattle.page_words.specs.declared.Atom.{Atom}

@@ -7,7 +7,7 @@ use Prim.Native.Nat.{ℕ, _+_, _-_, _≤_, _<_}
 use native.Mathlib.Omega.{arith}
 use lib.Dec.{ltb}
 use borrow.Author.Tests.{lt-ltb, le-ltb}
-use Rattle.text_form.specs.Number.{digits}
+use Rattle.text_numbers.specs.Number.{digits}
 use Rattle.language.specs.Trees.{Expression, constant, read, minus, binary, assign, Place, variable, element, label, empty, express, goto, abort}
 use Rattle.page.specs.Lines.{Line as PageLine, single, mark, opens, opensWhile, opensIf, turns, closes}
 use Rattle.page.specs.Page.{operatorWord, name, atomWord, placeWord, valueWords, ended, parted, lineWords}

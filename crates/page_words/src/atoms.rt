@@ -5,13 +5,13 @@ use super::ElementRead;
 use super::Names;
 use super::NumberRead;
 use super::compare::is_framed;
-use text_form::line::piece_end;
-use text_form::number::Digits;
-use text_form::number::Field;
-use text_form::number::natural;
-use text_form::number::number;
+use text_lines::line::piece_end;
+use text_numbers::number::Digits;
+use text_numbers::number::Field;
+use text_numbers::number::natural;
+use text_numbers::number::number;
 ghost use mathlib.Core.Path.{_≡_};
-ghost use Rattle.text_form.specs.Reader.{fieldNumber};
+ghost use Rattle.text_numbers.specs.Reader.{fieldNumber};
 ghost use Rattle.page_words.specs.Reads.{numberRead, variableOf, temporaryOf, constantOf, atomRead, nameOf, elementOf, elementIn, elementRead};
 
 // A number below a bound.

@@ -17,7 +17,7 @@ use super::compare::is_word;
 use super::values::value;
 ghost use mathlib.Core.Path.{_≡_};
 ghost use Rattle.page_words.specs.Reads.{gotoOf, labelOf, ifOf, whileOf, storeOf, putOf, assignedOf, assignmentOf, assignmentRead, jumpRead, testRead, lineRead};
-use text_form::line::piece_end;
+use text_lines::line::piece_end;
 
 fn goto_of(number: NumberRead) -> LineRead
     ensures { λ r. ⌜ r ≡ gotoOf number ⌝ }

@@ -8,7 +8,7 @@ use super::ValueRead;
 use super::atoms::atom;
 use super::atoms::element;
 use super::compare::is_word;
-use text_form::line::piece_end;
+use text_lines::line::piece_end;
 use words::Operator;
 ghost use mathlib.Core.Path.{_≡_};
 ghost use Rattle.page_words.specs.Reads.{operatorOfOne, operatorOfTwo, operatorRead, singleOf, minusOf, binaryOf, binaryRead, severalRead, valueRead};

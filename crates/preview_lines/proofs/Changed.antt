@@ -13,8 +13,8 @@ use mir.Val.{toZ, ofZ}
 use Rattle.words.specs.Word.{sameWord, pick}
 use Rattle.words.specs.Laws.{back}
 use Rattle.words.specs.OverLaws.{part, back-in}
-use Rattle.text_form.specs.Writer.{Put}
-use Rattle.text_form.specs.PutLaws.{put-none, put-as, put-length, put-next, put-space, put-inside}
+use Rattle.text_numbers.specs.Writer.{Put}
+use Rattle.text_numbers.specs.PutLaws.{put-none, put-as, put-length, put-next, put-space, put-inside}
 use Rattle.preview_lines.specs.Changes.{changeLine, changeAt, changeLines}
 
 pub unchanged : (place : ℕ) (v w : ℤ) → sameWord v w ≡ true → [] ≡ changeAt place v w

@@ -6,7 +6,7 @@ use lib.ListN.{length, getD}
 use Rattle.words.specs.Word.{sameWord, pick}
 use Rattle.words.specs.Answers.{endingName}
 use Rattle.words.specs.declared.Ending.{Ending}
-use Rattle.text_form.specs.Number.{digits, numberBytes}
+use Rattle.text_numbers.specs.Number.{digits, numberBytes}
 use Rattle.report.specs.Lines.{lineOf, refusedLine}
 use Rattle.program_previews.specs.declared.PreviewVerdict.{PreviewVerdict}
 use Rattle.program_previews.specs.declared.PreviewVerdict.the-variants.{Previewed, Refused}

@@ -5,11 +5,11 @@ use report::field::put_count;
 use report::field::put_ending_name;
 use report::field::put_word;
 use report::line::refused_line;
-use text_form::digits::put_digits;
+use text_numbers::digits::put_digits;
 use words::Ending;
 ghost use Prim.Native.Nat.{_≤_, _*_};
 ghost use lib.ListN.{length};
-ghost use Rattle.text_form.specs.Writer.{Put};
+ghost use Rattle.text_numbers.specs.Writer.{Put};
 ghost use Rattle.program_previews.specs.declared.PreviewVerdict.the-variants.{Previewed};
 ghost use Rattle.preview_lines.specs.Changes.{toldLine, changeLine, changeAt, changeLines, previewLines, Showable};
 

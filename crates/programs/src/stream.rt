@@ -1,8 +1,8 @@
 // Where the cases stand in the input. A case is a line of numbers parted by tabs (budget, length of the text, start words), and then
 // that many bytes of text.
-use text_form::line::piece_end;
-use text_form::number::Digits;
-use text_form::number::natural;
+use text_lines::line::piece_end;
+use text_numbers::number::Digits;
+use text_numbers::number::natural;
 ghost use Prim.Native.Nat.{_≤_, _<_};
 ghost use lib.ListN.{length};
 ghost use Rattle.programs.specs.Cases.{Inside};

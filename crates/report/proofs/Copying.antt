@@ -6,8 +6,8 @@ use native.Mathlib.Omega.{arith}
 use native.Mathlib.Numerals.{add-one}
 use lib.ListN.{length, take, getD, set}
 use lib.Seq.{take-suc, take-length, length-take-le}
-use Rattle.text_form.specs.Writer.{Put}
-use Rattle.text_form.specs.PutLaws.{put-none, put-as, put-length, put-byte}
+use Rattle.text_numbers.specs.Writer.{Put}
+use Rattle.text_numbers.specs.PutLaws.{put-none, put-as, put-length, put-byte}
 
 -- so many of the bytes were copied to the start of a buffer
 pub record Copied (bytes : List ℕ) (i : ℕ) (buffer left : List ℕ) : Type 0 where

@@ -14,11 +14,11 @@ use Rattle.words.specs.Laws.{back}
 use Rattle.words.specs.Answers.{endingName}
 use Rattle.words.specs.AnswerLaws.{names-short}
 use Rattle.words.specs.declared.Ending.{Ending}
-use Rattle.text_form.specs.Number.{digits, numberBytes}
-use Rattle.text_form.specs.Line.{newline}
-use Rattle.text_form.specs.Writer.{Put}
+use Rattle.text_numbers.specs.Number.{digits, numberBytes}
+use Rattle.text_lines.specs.Line.{newline}
+use Rattle.text_numbers.specs.Writer.{Put}
 use Rattle.words.specs.OverLaws.{part, back-in, part-is}
-use Rattle.text_form.specs.PutLaws.{put-none, put-as, put-length, put-fits, put-next, put-space, put-inside, digits-within, number-eleven}
+use Rattle.text_numbers.specs.PutLaws.{put-none, put-as, put-length, put-fits, put-next, put-space, put-inside, digits-within, number-eleven}
 use Rattle.report.specs.Lines.{blank, spaced, lineOf, sourceName, kernelName, refusedName, refusedLine, sourceLine, kernelLine}
 
 pub spaced-append : (xs ys : List (List ℕ)) → spaced (xs ++ ys) ≡ spaced xs ++ spaced ys

@@ -4,8 +4,8 @@ use Prim.Native.Nat.{ℕ, _+_, _*_}
 use lib.IntN.{ℤ}
 use Rattle.words.specs.Answers.{endingName}
 use Rattle.words.specs.declared.Ending.{Ending}
-use Rattle.text_form.specs.Number.{digits, numberBytes}
-use Rattle.text_form.specs.Line.{newline}
+use Rattle.text_numbers.specs.Number.{digits, numberBytes}
+use Rattle.text_lines.specs.Line.{newline}
 
 abbrev pub blank : ℕ
 blank = 32

@@ -1,14 +1,14 @@
 // The fields of a line, each with the blank before it. A writer puts its bytes at the start of `text`, and answers how many they are.
-use text_form::digits::put_digits;
-use text_form::digits::put_number;
+use text_numbers::digits::put_digits;
+use text_numbers::digits::put_number;
 use words::Ending;
 use words::endings::ending_name;
 ghost use mathlib.Core.List.{_∷_, map};
 ghost use Prim.Native.Nat.{_*_, _≤_};
 ghost use lib.ListN.{length};
 ghost use Rattle.words.specs.Answers.{endingName};
-ghost use Rattle.text_form.specs.Number.{digits, numberBytes};
-ghost use Rattle.text_form.specs.Writer.{Put};
+ghost use Rattle.text_numbers.specs.Number.{digits, numberBytes};
+ghost use Rattle.text_numbers.specs.Writer.{Put};
 ghost use Rattle.report.specs.Lines.{blank, spaced};
 
 // Writes bytes as they stand.

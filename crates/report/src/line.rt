@@ -8,9 +8,9 @@ use words::Refusal;
 ghost use mathlib.Core.List.{[], _∷_, _++_, map};
 ghost use Prim.Native.Nat.{_+_, _*_, _≤_};
 ghost use lib.ListN.{length};
-ghost use Rattle.text_form.specs.Number.{digits, numberBytes};
-ghost use Rattle.text_form.specs.Line.{newline};
-ghost use Rattle.text_form.specs.Writer.{Put};
+ghost use Rattle.text_numbers.specs.Number.{digits, numberBytes};
+ghost use Rattle.text_lines.specs.Line.{newline};
+ghost use Rattle.text_numbers.specs.Writer.{Put};
 ghost use Rattle.report.specs.Lines.{blank, spaced, lineRoom, refusedLine, sourceLine, kernelLine};
 
 // "refused, number, place".

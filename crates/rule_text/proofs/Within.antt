@@ -16,15 +16,16 @@ use Rattle.words.specs.declared.Refusal.{Refusal}
 use Rattle.words.specs.declared.Verdict.{Verdict}
 use Rattle.words.specs.declared.Verdict.the-variants as verdicts
 use Rattle.source_check.specs.Refusal.{refusal}
-use Rattle.text_form.specs.Line.{fieldsOf, numbersOf}
+use Rattle.text_lines.specs.Line.{fieldsOf, numbersOf}
 use Rattle.text_form.specs.Text.{malformed, parse}
 use Rattle.words.specs.Over.{over}
 use Rattle.words.specs.OverLaws.{written-part}
 use Rattle.text_form.specs.Answers.{finished, unless, readResult, Reads}
 use Rattle.text_form.specs.declared.ReadAnswer.the-variants.{Read, Refused}
-use Rattle.text_form.specs.NumberLaws.{not-some}
+use Rattle.text_numbers.specs.NumberLaws.{not-some}
 use Rattle.text_form.specs.AnswerLaws.{Passes, read-passing, refused-finished}
-use Rattle.text_form.specs.Reader.{numbersIn, HasLines}
+use Rattle.text_lines.specs.Reader.{numbersIn}
+use Rattle.text_form.specs.Reader.{HasLines}
 use Rattle.text_form.specs.ReaderLaws.{line-exactly, lent-line, scratch-part}
 use Rattle.rule_text.specs.Rules.{mostBytes, mostRows, mostWords, refused, accepted, checkedRule, trialCause, limitedRule, parsedRule, ruleOf, WithinLimits, IsAccepted, Holds}
 

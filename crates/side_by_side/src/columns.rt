@@ -1,6 +1,6 @@
 // Two texts beside each other, line by line, with blanks for tabs.
 use libc::STDOUT_FILENO;
-use text_form::line::piece_end;
+use text_lines::line::piece_end;
 ghost use Prim.Native.Nat.{_≤_, _<_};
 ghost use lib.ListN.{length};
 

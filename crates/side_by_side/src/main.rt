@@ -9,7 +9,7 @@ mod forms; // forms.rt: a rule's kernel form, and both runs
 use self::forms::show_text;
 use libc::STDIN_FILENO;
 use libc::STDOUT_FILENO;
-use text_form::line::piece_end;
+use text_lines::line::piece_end;
 
 // A rule without both lines before its text is none.
 fn print_no_rule() {

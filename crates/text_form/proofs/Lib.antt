@@ -1,19 +1,11 @@
 -- The proofs of the reader and the writer: laws that several functions use, then a folder for each function.
--- Signs: a word from its size, and its size.
-pub mod Signs
--- Decimal: the walk over digits, up to a limit, and which fields are words.
-pub mod Decimal
--- Pieces: the walk over the fields of a line.
-pub mod Pieces
--- Storing: the same walk, which stores the numbers.
-pub mod Storing
 -- Rows: the walk over the lines of the rows.
 pub mod Rows
 -- Filling: the same walk, which stores the words.
 pub mod Filling
 -- Shapes: the ways that reading a whole text can go.
 pub mod Shapes
--- Writing: lines, rows and whole texts put into a buffer.
+-- Writing: rows and whole texts put into a buffer.
 pub mod Writing
 -- Sizing: how many bytes a text takes, and what a writer leaves.
 pub mod Sizing

@@ -13,28 +13,16 @@ use borrow.Author.Tests.{eqb-true, lt-leb, le-leb}
 use Rattle.words.specs.Word.{pick}
 use Rattle.words.specs.Layout.{leading}
 use Rattle.words.specs.declared.Form.{Form}
-use Rattle.text_form.specs.Line.{Line, ended, unended, linesOf, fieldsOf, numbersOf, lineNumbers}
+use Rattle.text_lines.specs.Line.{Line, ended, unended, linesOf, fieldsOf, numbersOf, lineNumbers}
 use Rattle.text_form.specs.Text.{keep, headerSized, headerLine, rowSized, rowLine, Parsed, parsed, malformed, withRow, rowsFrom}
-use Rattle.text_form.specs.NumberLaws.{not-some}
-use Rattle.text_form.specs.LineLaws.{lines-ended, lines-unended, line-few}
+use Rattle.text_lines.specs.LineLaws.{line-few}
 use Rattle.text_form.specs.TextLaws.{keep-is, keep-not, keep-none, keep-reads, with-none, rows-next}
-use Rattle.text_form.specs.Reader.{sizeOf, isFound, wordsOf}
-use Rattle.text_form.proofs.Pieces.{Piece}
+use Rattle.text_lines.specs.Reader.{sizeOf}
+use Rattle.text_form.specs.Reader.{isFound, wordsOf}
+use Rattle.text_lines.specs.CountLaws.{Sized}
+use Rattle.text_lines.proofs.Pieces.{Piece, lines-step, lines-last}
 
 -- ---- how many numbers a line has
-
-pub record Sized (read : Option (List ℤ)) (count : ℕ) : Type 0 where
-  pub numbers : List ℤ
-  pub is : read ≡ some numbers
-  pub size : length numbers ≡ count
-
-pub size-none : (read : Option (List ℤ)) → none ≡ sizeOf read → read ≡ none
-size-none none e = refl
-size-none (some numbers) e = not-some e
-
-pub size-some : (read : Option (List ℤ)) (count : ℕ) → some count ≡ sizeOf read → Sized read count
-size-some none count e = not-some (sym e)
-size-some (some numbers) count e = record { numbers = numbers; is = refl; size = cc }
 
 module _ (form : Form) (line : List ℕ) where
   pub header-none : numbersOf (fieldsOf line) ≡ none → none ≡ sizeOf (headerLine form (ended line))
@@ -109,14 +97,6 @@ six-numbers line row e =
     record { read = k .same; six = six; long = omega (arith, line-few line row (k .same)) }
 
 -- ---- the lines that are left
-
-pub lines-step : {text : List ℕ} {at end : ℕ} → Piece 10 text at end → end < length text → linesOf (drop at text) ≡ ended (take (end - at) (drop at text)) ∷ linesOf (drop (end + 1) text)
-lines-step {text = text} {at = at} {end = end} p h =
-    ap linesOf (p .splits h) ∙ lines-ended (take (end - at) (drop at text)) (drop (end + 1) text) (p .free)
-
-pub lines-last : {text : List ℕ} {at end : ℕ} → Piece 10 text at end → at < length text → length text ≤ end → linesOf (drop at text) ≡ unended (take (end - at) (drop at text)) ∷ []
-lines-last {text = text} {at = at} {end = end} p l h =
-    ap linesOf (p .last h) ∙ lines-unended (take (end - at) (drop at text)) (rw (← p .last h) (rw length-drop (omega arith))) (p .free)
 
 unended-none : (line : List ℕ) → rowLine (unended line) ≡ none
 unfolding rowLine lineNumbers keep

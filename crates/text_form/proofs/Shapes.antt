@@ -13,17 +13,17 @@ use Rattle.words.specs.Layout.{leading, headerFits, countFits}
 use Rattle.words.specs.Laws.{by-cases, leading-limits}
 use Rattle.words.specs.declared.Form.{Form}
 use Rattle.text_form.specs.declared.ReadAnswer.the-variants.{Read, Refused}
-use Rattle.text_form.specs.Line.{ended, unended, linesOf, fieldsOf, numbersOf, lineNumbers}
+use Rattle.text_lines.specs.Line.{ended, unended, linesOf, fieldsOf, numbersOf, lineNumbers}
 use Rattle.text_form.specs.Text.{keep, headerSized, headerLine, Parsed, parsed, malformed, rowsFrom, withHeader, programOf, parse}
 use Rattle.words.specs.Over.{over}
 use Rattle.text_form.specs.Answers.{unless, causeOf, readRefused, readProgram, tablesHold, readParsed, readResult, Reads}
-use Rattle.text_form.specs.NumberLaws.{not-some}
-use Rattle.text_form.specs.LineLaws.{lines-none}
+use Rattle.text_numbers.specs.NumberLaws.{not-some}
+use Rattle.text_lines.specs.LineLaws.{lines-none}
 use Rattle.text_form.specs.TextLaws.{not-parsed, Kept, keep-reads, program-first}
 use Rattle.text_form.specs.Reader.{wordsOf, HasLines}
 use Rattle.words.specs.OverLaws.{first-of, rest-of}
-use Rattle.text_form.proofs.Pieces.{Piece}
-use Rattle.text_form.proofs.Rows.{Sized, lines-step, lines-last}
+use Rattle.text_lines.proofs.Pieces.{Piece, lines-step, lines-last}
+use Rattle.text_lines.specs.CountLaws.{Sized}
 
 -- ---- the rows' answers
 

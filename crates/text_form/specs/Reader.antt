@@ -1,68 +1,23 @@
--- Reader: what its inner functions answer, in terms of the definitions of numbers, lines and texts.
+-- Reader: what its inner functions answer, in terms of the definition of texts.
 use mathlib.Core.Path.{_≡_}
 use mathlib.Core.Bool.{Bool, true, false}
-use mathlib.Core.List.{List, [], _∷_}
+use mathlib.Core.List.{List, []}
 use mathlib.Core.Option.{Option, none, some}
-use Prim.Native.Nat.{ℕ, suc, _+_, _≤_, _<_}
-use lib.Dec.{leb, eqb}
+use Prim.Native.Nat.{ℕ, _+_, _≤_, _<_}
 use lib.IntN.{ℤ}
 use lib.ListN.{length, take, drop}
-use Rattle.words.specs.Word.{pick}
 use Rattle.words.specs.declared.Form.{Form}
-use Rattle.text_form.specs.declared.number.Digits.{Digits}
-use Rattle.text_form.specs.declared.number.Digits.the-variants as digit-cases
-use Rattle.text_form.specs.declared.number.Field.{Field}
-use Rattle.text_form.specs.declared.number.Field.the-variants as field-cases
-use Rattle.text_form.specs.declared.line.Count.{Count}
-use Rattle.text_form.specs.declared.line.Count.the-variants as count-cases
 use Rattle.text_form.specs.declared.limits.Cause.{Cause}
 use Rattle.text_form.specs.declared.limits.Cause.the-variants as cause-cases
 use Rattle.text_form.specs.declared.reader.Rows.{Rows}
 use Rattle.text_form.specs.declared.reader.Rows.the-variants as row-cases
 use Rattle.text_form.specs.declared.reader.Shape.{Shape}
 use Rattle.text_form.specs.declared.reader.Shape.the-variants as shape-cases
-use Rattle.text_form.specs.Line.{fieldsOf, linesOf, numbersOf}
+use Rattle.text_lines.specs.Line.{fieldsOf, linesOf, numbersOf}
+use Rattle.text_lines.specs.Reader.{numbersIn}
 use Rattle.text_form.specs.Text.{Parsed, parsed, malformed, rowsFrom, Program, parse}
 
--- ---- numbers
-
-abbrev pub digitsValue : Digits → Option ℕ
-digitsValue (digit-cases.Value value) = some value
-digitsValue digit-cases.Malformed = none
-
-abbrev pub fieldNumber : Field → Option ℤ
-fieldNumber (field-cases.Number number) = some number
-fieldNumber field-cases.Malformed = none
-
--- A number up to a limit.
-unfoldable pub atMost : ℕ → Option ℕ → Option ℕ
-atMost limit none = none
-atMost limit (some n) = pick (leb n limit) (some n) none
-
 -- ---- lines
-
--- How many bytes stand before the first separator; all, where there is none.
-unfoldable pub pieceEnd : ℕ → List ℕ → ℕ
-pieceEnd separator [] = 0
-pieceEnd separator (byte ∷ bytes) = pick (eqb byte separator) 0 (suc (pieceEnd separator bytes))
-
-abbrev pub countSays : Count → Option ℕ
-countSays (count-cases.Numbers count) = some count
-countSays count-cases.Malformed = none
-
--- How many numbers were read.
-abbrev pub sizeOf : Option (List ℤ) → Option ℕ
-sizeOf none = none
-sizeOf (some numbers) = some (length numbers)
-
-abbrev pub numbersIn : Option (List ℤ) → List ℤ
-numbersIn none = []
-numbersIn (some numbers) = numbers
-
--- Numbers were read, and a table has room for them.
-pub record Holds (read : Option (List ℤ)) (table : List ℤ) : Type 0 where
-  pub well-formed : read ≡ some (numbersIn read)
-  pub room : length (numbersIn read) ≤ length table
 
 -- So many numbers were read, at most 34.
 pub record HoldsExactly (read : Option (List ℤ)) (count : ℕ) : Type 0 where

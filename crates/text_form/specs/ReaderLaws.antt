@@ -8,11 +8,12 @@ use native.Mathlib.Omega.{arith}
 use lib.IntN.{ℤ}
 use lib.ListN.{length, take, drop}
 use Rattle.words.specs.declared.Form.{Form}
-use Rattle.text_form.specs.Line.{linesOf, fieldsOf, numbersOf}
+use Rattle.text_lines.specs.Line.{linesOf, fieldsOf, numbersOf}
 use Rattle.text_form.specs.Text.{parsed, rowsFrom}
 use Rattle.words.specs.Over.{over}
 use Rattle.text_form.specs.Answers.{causeOf}
-use Rattle.text_form.specs.Reader.{numbersIn, Holds, HoldsExactly, wordsIn, HoldsRows, HasLines}
+use Rattle.text_lines.specs.Reader.{numbersIn, Holds}
+use Rattle.text_form.specs.Reader.{HoldsExactly, wordsIn, HoldsRows, HasLines}
 use Rattle.words.specs.OverLaws.{first-of, rest-of, written-part}
 
 -- ---- numbers stored in a scratch array

@@ -14,7 +14,7 @@ use Rattle.words.specs.declared.Form.{Form}
 use Rattle.text_form.specs.Text.{textBytes, headerSized}
 use Rattle.words.specs.Over.{over}
 use Rattle.text_form.specs.Answers.{finished, readResult, writeBytes, writeResult}
-use Rattle.text_form.specs.LineLaws.{Words}
+use Rattle.text_lines.specs.LineLaws.{Words}
 use Rattle.text_form.specs.TextLaws.{text-shows}
 use Rattle.text_form.specs.AnswerLaws.{Passes, passes-cause, read-passing, accepted, written}
 

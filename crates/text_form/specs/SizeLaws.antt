@@ -1,9 +1,7 @@
 -- SizeLaws: what reader and writer answer fits the tables and the buffer that they were lent.
-use mathlib.Core.Path.{_≡_, refl, sym, ap, _∙_}
+use mathlib.Core.Path.{_≡_, sym, ap, _∙_}
 use mathlib.Core.List.{List}
-use mathlib.Core.Option.{Option, none, some}
 use Prim.Native.Nat.{ℕ, _≤_}
-use native.Mathlib.Omega.{arith}
 use lib.IntN.{ℤ}
 use lib.ListN.{length}
 use Rattle.words.specs.declared.Form.{Form}
@@ -11,11 +9,8 @@ use Rattle.text_form.specs.declared.ReadAnswer.{ReadAnswer}
 use Rattle.text_form.specs.declared.ReadAnswer.the-variants.{Read}
 use Rattle.text_form.specs.declared.WriteAnswer.{WriteAnswer}
 use Rattle.text_form.specs.declared.WriteAnswer.the-variants.{Written}
-use Rattle.text_form.specs.declared.line.Count.{Count}
-use Rattle.text_form.specs.declared.line.Count.the-variants.{Numbers}
 use Rattle.text_form.specs.Answers.{readOutcome, writeOutcome, readResult, Reads, writeResult, Writes}
 use Rattle.text_form.specs.AnswerLaws.{accepted, written}
-use Rattle.text_form.specs.Reader.{Holds, countSays, sizeOf}
 
 -- A text that was read fits both tables.
 pub read-fits : (form : Form) (text : List ℕ) (header rows headerLeft rowsLeft : List ℤ) (answer : ReadAnswer) (headerWords rowWords : ℕ)
@@ -28,12 +23,3 @@ read-fits form text header rows headerLeft rowsLeft answer headerWords rowWords 
 pub write-fits : (form : Form) (header rows : List ℤ) (buffer left : List ℕ) (answer : WriteAnswer) (bytes : ℕ)
     → Writes (writeResult form header rows buffer) answer left → answer ≡ Written bytes → bytes ≤ length buffer
 write-fits form header rows buffer left answer bytes writes e = written form header rows buffer bytes (sym (writes .outcome) ∙ ap writeOutcome e) .room
-
--- The numbers of a line, counted, fit a table of as many words.
-pub counted-fits : (read : Option (List ℤ)) (table : List ℤ) (answer : Count) (count : ℕ) → countSays answer ≡ sizeOf read → answer ≡ Numbers count → count ≤ length table → Holds read table
-counted-fits none table answer count says e h =
-    absurd (let none-some : sizeOf none ≡ some count = sym says ∙ ap countSays e in let z : _≡_ {A = ℕ} 0 1 = cc in omega arith)
-counted-fits (some numbers) table answer count says e h =
-    let same : some (length numbers) ≡ some count = sym says ∙ ap countSays e in
-    let size : length numbers ≡ count = cc in
-    record { well-formed = refl; room = omega arith }

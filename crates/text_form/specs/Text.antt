@@ -10,7 +10,7 @@ use Rattle.words.specs.Word.{pick}
 use Rattle.words.specs.Layout.{leading}
 use Rattle.words.specs.Table.{rowCount}
 use Rattle.words.specs.declared.Form.{Form}
-use Rattle.text_form.specs.Line.{lineBytes, Line, linesOf, lineNumbers}
+use Rattle.text_lines.specs.Line.{lineBytes, Line, linesOf, lineNumbers}
 
 -- ---- writing
 

@@ -14,11 +14,11 @@ use Rattle.words.specs.Layout.{leading}
 use Rattle.words.specs.Laws.{by-cases, leading-limits}
 use Rattle.words.specs.Table.{rowCount}
 use Rattle.words.specs.declared.Form.{Form}
-use Rattle.text_form.specs.Number.{numberBytes}
-use Rattle.text_form.specs.Line.{parted, lineBytes, Line, ended, linesOf, lineNumbers}
+use Rattle.text_numbers.specs.Number.{numberBytes}
+use Rattle.text_lines.specs.Line.{parted, lineBytes, Line, ended, linesOf, lineNumbers}
 use Rattle.text_form.specs.Text.{rowsBytes, textBytes, keep, headerSized, headerLine, rowSized, rowLine, Parsed, parsed, malformed, withRow, rowsFrom, Program, withHeader, programOf, parse}
-use Rattle.text_form.specs.NumberLaws.{not-some}
-use Rattle.text_form.specs.LineLaws.{joined, none-joined, lines-joined, Words, line-reads, line-shows, lines-shows}
+use Rattle.text_numbers.specs.NumberLaws.{not-some}
+use Rattle.text_lines.specs.LineLaws.{joined, none-joined, lines-joined, Words, line-reads, line-shows, lines-shows}
 
 pub not-parsed : {A G : Type 0} {a : A} {line : ℕ} → malformed line ≡ parsed a → G
 not-parsed {a = a} {line = line} e = absurd (let z : _≡_ {A = ℕ} 0 1 = cc in omega arith)

@@ -1,10 +1,7 @@
 // The text form: reader and writer for source and kernel texts.
-pub mod digits; // digits.rt: how many bytes a number is written with, and those bytes
 pub mod limits; // limits.rt: the causes that reader and writer test alike
-pub mod line; // line.rt: where a field or a line ends, and the numbers of a line
-pub mod number; // number.rt: the number that bytes are
 pub mod reader; // reader.rt: the shape of a text, and its words
-pub mod writer; // writer.rt: how many bytes a text takes, and those bytes
+pub mod writer; // writer.rt: the bytes of a text
 
 use self::limits::Cause;
 use self::limits::first_cause;
@@ -12,7 +9,7 @@ use self::reader::Shape;
 use self::reader::read_lines;
 use self::reader::shape_of;
 use self::writer::put_text;
-use self::writer::size_of;
+use text_lines::writer::size_of;
 use words::Form;
 use words::Refusal;
 ghost use Rattle.text_form.specs.Answers.{readResult, Reads, writeResult, Writes};

@@ -2,21 +2,22 @@
 use super::ReadAnswer;
 use super::limits::Cause;
 use super::limits::first_cause;
-use super::line::Count;
-use super::line::count_numbers;
-use super::line::piece_end;
-use super::line::store_numbers;
+use text_lines::line::Count;
+use text_lines::line::count_numbers;
+use text_lines::line::piece_end;
+use text_lines::line::store_numbers;
 use words::Form;
 use words::Refusal;
 use words::layout::leading;
 ghost use mathlib.Core.Path.{_≡_};
 ghost use mathlib.Core.Bool.{true};
 ghost use Prim.Native.Nat.{_+_};
-ghost use Rattle.text_form.specs.Line.{ended, linesOf, fieldsOf, numbersOf};
+ghost use Rattle.text_lines.specs.Line.{ended, linesOf, fieldsOf, numbersOf};
 ghost use Rattle.text_form.specs.Text.{headerLine, rowLine, rowsFrom};
 ghost use Rattle.words.specs.Over.{over};
 ghost use Rattle.text_form.specs.Answers.{causeOf, readResult, Reads};
-ghost use Rattle.text_form.specs.Reader.{isFound, sizeOf, countSays, causeSays, numbersIn, HoldsExactly, rowsSay, wordsOf, wordsIn, HoldsRows, HasLines, Shaped};
+ghost use Rattle.text_lines.specs.Reader.{sizeOf, countSays, numbersIn};
+ghost use Rattle.text_form.specs.Reader.{isFound, causeSays, HoldsExactly, rowsSay, wordsOf, wordsIn, HoldsRows, HasLines, Shaped};
 
 // How many words the rows of a text have, or its first malformed line.
 pub enum Rows {

@@ -10,7 +10,7 @@ use Rattle.words.specs.declared.Form.{Form}
 use Rattle.words.specs.declared.Form.the-variants.{Source, Kernel}
 use Rattle.words.specs.declared.RunAnswer.{RunAnswer}
 use Rattle.language.specs.Program.{Finished, runProgram}
-use Rattle.text_form.specs.Writer.{Put}
+use Rattle.text_numbers.specs.Writer.{Put}
 use Rattle.words.specs.OverLaws.{part, first-of}
 use Rattle.report.specs.Lines.{lineRoom, sourceLine, kernelLine}
 use Rattle.report.proofs.Spacing.{SoFar, far-space}

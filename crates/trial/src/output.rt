@@ -5,7 +5,7 @@ use rule_text::RuleAnswer;
 use rule_text::rule::read_rule;
 ghost use Prim.Native.Nat.{_≤_};
 ghost use lib.ListN.{length};
-ghost use Rattle.text_form.specs.Writer.{Put};
+ghost use Rattle.text_numbers.specs.Writer.{Put};
 ghost use Rattle.trial.specs.Output.{trialOutput};
 ghost use Rattle.trial.specs.Conditions.{outputRoom};
 

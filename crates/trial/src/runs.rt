@@ -14,7 +14,7 @@ ghost use lib.ListN.{length};
 ghost use Rattle.words.specs.Layout.{layoutOf, storeSize};
 ghost use Rattle.words.specs.declared.Form.the-variants.{Source};
 ghost use Rattle.words.specs.declared.Verdict.the-variants.{Accepted};
-ghost use Rattle.text_form.specs.Writer.{Put};
+ghost use Rattle.text_numbers.specs.Writer.{Put};
 ghost use Rattle.fate.specs.KernelForms.{kernelHeaderOf, kernelRowsOf};
 ghost use Rattle.program_runs.specs.Runs.{refusalOf};
 ghost use Rattle.trial.specs.Output.{kernelOutput, runsOutput};

@@ -8,9 +8,9 @@ use native.Mathlib.Numerals.{add-one}
 use lib.ListN.{length}
 use Rattle.words.specs.Word.{pick}
 use Rattle.words.specs.OverLaws.{part, back-in}
-use Rattle.text_form.specs.Number.{digits}
-use Rattle.text_form.specs.Writer.{Put}
-use Rattle.text_form.specs.PutLaws.{put-none, put-as, put-length, put-next, put-space, put-inside}
+use Rattle.text_numbers.specs.Number.{digits}
+use Rattle.text_numbers.specs.Writer.{Put}
+use Rattle.text_numbers.specs.PutLaws.{put-none, put-as, put-length, put-next, put-space, put-inside}
 use Rattle.report.specs.Lines.{blank}
 use Rattle.written_lines.specs.Lines.{numbers}
 

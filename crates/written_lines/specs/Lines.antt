@@ -3,8 +3,8 @@ use mathlib.Core.Bool.{Bool}
 use mathlib.Core.List.{List, [], _∷_, _++_}
 use Prim.Native.Nat.{ℕ, zero, suc}
 use Rattle.words.specs.Word.{pick}
-use Rattle.text_form.specs.Number.{digits}
-use Rattle.text_form.specs.Line.{newline}
+use Rattle.text_numbers.specs.Number.{digits}
+use Rattle.text_lines.specs.Line.{newline}
 use Rattle.report.specs.Lines.{blank}
 use Rattle.write_sets.specs.Sets.{variableBits, arrayBits}
 use Rattle.command_request.specs.Ascii.{ascii}

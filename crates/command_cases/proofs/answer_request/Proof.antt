@@ -1,7 +1,7 @@
 -- `answer_request`: everything that is put at the start of `out` is in it.
 use mathlib.Core.Path.{sym}
 use lib.Seq.{length-take-le}
-use Rattle.text_form.specs.PutLaws.{put-fits, put-inside}
+use Rattle.text_numbers.specs.PutLaws.{put-fits, put-inside}
 use borrow.Author.Needs.{needs}
 use Rattle.command_cases.proofs.answer_request.Statement.{statement}
 use Rattle.command_cases.proofs.answer_request.Tie as tie

@@ -1,6 +1,6 @@
 -- `list_check_answer`: the refusal of the reader, or the check of what it read.
 use mathlib.Core.Path.{ap, _∙_}
-use Rattle.text_form.specs.PutLaws.{put-as}
+use Rattle.text_numbers.specs.PutLaws.{put-as}
 use Rattle.command_lines.specs.Lines.{verdictLine}
 use Rattle.command_flat.specs.Lists.{listCheckLine, listCheckOutput}
 use borrow.Author.Needs.{needs}

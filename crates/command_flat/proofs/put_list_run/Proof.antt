@@ -1,6 +1,6 @@
 -- `put_list_run`: the run, and its line.
 use mathlib.Core.Path.{ap}
-use Rattle.text_form.specs.PutLaws.{put-as}
+use Rattle.text_numbers.specs.PutLaws.{put-as}
 use Rattle.command_flat.specs.Lists.{flatLine}
 use borrow.Author.Needs.{needs}
 use Rattle.command_flat.proofs.put_list_run.Statement.{statement}

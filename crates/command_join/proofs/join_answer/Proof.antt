@@ -1,6 +1,6 @@
 -- `join_answer`: the refusal of the reader, or the join of what it read.
 use Rattle.words.specs.declared.Form.the-variants.{Source}
-use Rattle.text_form.specs.PutLaws.{put-as}
+use Rattle.text_numbers.specs.PutLaws.{put-as}
 use Rattle.command_join.specs.Joins.{secondOutput, joinOutput}
 use Rattle.command_text.proofs.Readings.{refused-text, read-text}
 use Rattle.command_text.proofs.Printing.{source-roomy}

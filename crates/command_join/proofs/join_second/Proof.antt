@@ -1,7 +1,7 @@
 -- `join_second`: the refusal of the second text, behind the first program's own, or the join with what was read.
 use mathlib.Core.Path.{ap, _∙_}
 use Rattle.words.specs.declared.Form.the-variants.{Source}
-use Rattle.text_form.specs.PutLaws.{put-as}
+use Rattle.text_numbers.specs.PutLaws.{put-as}
 use Rattle.program_runs.specs.Runs.{refusalOf}
 use Rattle.command_join.specs.Joins.{afterCheck, joinText, secondOutput}
 use Rattle.command_text.proofs.Readings.{refused-text, read-text}

@@ -1,5 +1,5 @@
 -- `put_join`: the refusal of the join, or the text of what it wrote.
-use Rattle.text_form.specs.PutLaws.{put-as}
+use Rattle.text_numbers.specs.PutLaws.{put-as}
 use Rattle.command_join.proofs.JoinedTexts.{refused-join, joined-made}
 use borrow.Author.Needs.{needs}
 use Rattle.command_join.proofs.put_join.Statement.{statement}

@@ -1,7 +1,7 @@
 -- `ended_line`: the ending, and the rest behind it.
 use native.Mathlib.Omega.{arith}
 use Rattle.words.specs.Answers.{endingName}
-use Rattle.text_form.specs.PutLaws.{put-as, put-next, put-back}
+use Rattle.text_numbers.specs.PutLaws.{put-as, put-next, put-back}
 use Rattle.report.proofs.Spacing.{SoFar, far-inside, far-space, far-total, ending-few}
 use Rattle.command_lines.proofs.Joined.{ended-is}
 use borrow.Author.Needs.{needs}

@@ -5,8 +5,8 @@ use Prim.Native.Nat.{ℕ, _≤_}
 use native.Mathlib.Omega.{arith}
 use lib.ListN.{length}
 use lib.Seq.{length-take-le}
-use Rattle.text_form.specs.Writer.{Put}
-use Rattle.text_form.specs.PutLaws.{put-fits}
+use Rattle.text_numbers.specs.Writer.{Put}
+use Rattle.text_numbers.specs.PutLaws.{put-fits}
 use borrow.Author.Needs.{needs}
 use Rattle.command_program.proofs.respond.Statement.{statement}
 use Rattle.command_program.proofs.respond.Tie as tie

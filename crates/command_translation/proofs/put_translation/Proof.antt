@@ -1,6 +1,6 @@
 -- `put_translation`: the refusal of the translator, or the text of what it wrote.
 use native.Mathlib.Omega.{arith}
-use Rattle.text_form.specs.PutLaws.{put-as}
+use Rattle.text_numbers.specs.PutLaws.{put-as}
 use Rattle.command_translation.proofs.Kernels.{refused-translation, translated}
 use borrow.Author.Needs.{needs}
 use Rattle.command_translation.proofs.put_translation.Statement.{statement}

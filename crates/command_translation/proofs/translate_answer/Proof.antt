@@ -1,7 +1,7 @@
 -- `translate_answer`: the refusal of the reader, or the translation of what it read.
 use native.Mathlib.Omega.{arith}
 use Rattle.words.specs.declared.Form.the-variants.{Source}
-use Rattle.text_form.specs.PutLaws.{put-as}
+use Rattle.text_numbers.specs.PutLaws.{put-as}
 use Rattle.command_translation.specs.Translations.{kernelText, translateOutput}
 use Rattle.command_text.proofs.Readings.{refused-text, read-text}
 use Rattle.command_text.proofs.Printing.{source-roomy}

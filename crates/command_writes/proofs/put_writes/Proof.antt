@@ -1,7 +1,7 @@
 -- `put_writes`: the lines of the sets, or the refusal.
 use native.Mathlib.Omega.{arith}
 use mathlib.Core.Path.{subst}
-use Rattle.text_form.specs.PutLaws.{put-as}
+use Rattle.text_numbers.specs.PutLaws.{put-as}
 use Rattle.writes.specs.Told.{Told}
 use Rattle.writes.specs.declared.WritesVerdict.{WritesVerdict}
 use Rattle.command_writes.proofs.ToldLines.{told-lines, told-refused}

@@ -1,7 +1,7 @@
 -- `writes_answer`: the refusal of the reader, or the lines of what it read.
 use native.Mathlib.Omega.{arith}
 use Rattle.words.specs.declared.Form.the-variants.{Source}
-use Rattle.text_form.specs.PutLaws.{put-as}
+use Rattle.text_numbers.specs.PutLaws.{put-as}
 use Rattle.command_writes.specs.Writes.{writesLines, writesOutput}
 use Rattle.command_text.proofs.Readings.{refused-text, read-text}
 use borrow.Author.Needs.{needs}

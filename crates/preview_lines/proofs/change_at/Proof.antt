@@ -3,7 +3,7 @@ use mathlib.Core.Path.{sym, ap₂, _∙_}
 use native.Mathlib.Omega.{arith}
 use borrow.Author.Tests.{eq-eqb, ne-eqb}
 use Rattle.words.specs.Laws.{sameWord-bits, back}
-use Rattle.text_form.specs.PutLaws.{put-none, put-as}
+use Rattle.text_numbers.specs.PutLaws.{put-none, put-as}
 use Rattle.preview_lines.specs.Changes.{changeLine}
 use Rattle.preview_lines.proofs.Changed.{unchanged, changed}
 use borrow.Author.Needs.{needs}

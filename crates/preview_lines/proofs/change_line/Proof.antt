@@ -10,10 +10,10 @@ use mir.Syntax.{w32}
 use mir.Val.{toZ, ofZ}
 use Rattle.words.specs.Laws.{back}
 use Rattle.words.specs.OverLaws.{back-in}
-use Rattle.text_form.specs.Number.{digits, numberBytes}
-use Rattle.text_form.specs.Line.{newline}
-use Rattle.text_form.specs.Writer.{Put}
-use Rattle.text_form.specs.PutLaws.{put-as, put-byte, number-eleven}
+use Rattle.text_numbers.specs.Number.{digits, numberBytes}
+use Rattle.text_lines.specs.Line.{newline}
+use Rattle.text_numbers.specs.Writer.{Put}
+use Rattle.text_numbers.specs.PutLaws.{put-as, put-byte, number-eleven}
 use Rattle.report.specs.Lines.{blank, spaced, lineOf}
 use Rattle.report.proofs.Spacing.{SoFar, far-below, far-length, far-inside, far-space, far-next, place-few}
 use Rattle.preview_lines.specs.Changes.{colon, changeLine}

@@ -7,9 +7,9 @@ use lib.ListN.{length, length-set}
 use Rattle.words.specs.OverLaws.{back-in}
 use Rattle.words.specs.Answers.{endingName}
 use Rattle.words.specs.declared.Ending.{Ending}
-use Rattle.text_form.specs.Number.{digits}
-use Rattle.text_form.specs.Line.{newline}
-use Rattle.text_form.specs.PutLaws.{put-as, put-byte}
+use Rattle.text_numbers.specs.Number.{digits}
+use Rattle.text_lines.specs.Line.{newline}
+use Rattle.text_numbers.specs.PutLaws.{put-as, put-byte}
 use Rattle.report.specs.Lines.{blank, spaced, lineOf}
 use Rattle.report.proofs.Spacing.{SoFar, far-below, far-length, far-inside, far-space, far-next, ending-few, count-few, place-few}
 use Rattle.preview_lines.specs.Changes.{toldLine}

@@ -1,6 +1,6 @@
 -- `told_lines`: the first line, and the others behind it.
 use native.Mathlib.Omega.{arith}
-use Rattle.text_form.specs.PutLaws.{put-next, put-back}
+use Rattle.text_numbers.specs.PutLaws.{put-next, put-back}
 use Rattle.report.proofs.Spacing.{SoFar, far-inside, far-space, far-total}
 use Rattle.preview_lines.specs.Changes.{toldLine, previewLines}
 use borrow.Author.Needs.{needs}

@@ -4,8 +4,8 @@ use mathlib.Core.List.{List}
 use Prim.Native.Nat.{ℕ, _+_, _-_, _≤_, _<_}
 use native.Mathlib.Omega.{arith}
 use lib.ListN.{length, drop}
-use Rattle.text_form.specs.Reader.{pieceEnd}
-use Rattle.text_form.proofs.Pieces.{piece-of}
+use Rattle.text_lines.specs.Reader.{pieceEnd}
+use Rattle.text_lines.proofs.Pieces.{piece-of}
 use borrow.Author.Needs.{needs}
 use Rattle.side_by_side.proofs.show_rules.Statement.{statement}
 use Rattle.side_by_side.proofs.show_rules.Tie as tie

@@ -1,6 +1,6 @@
 -- `both_lines`: the second line in the part behind the first.
 use native.Mathlib.Omega.{arith}
-use Rattle.text_form.specs.PutLaws.{put-next, put-back}
+use Rattle.text_numbers.specs.PutLaws.{put-next, put-back}
 use Rattle.report.proofs.Spacing.{SoFar, far-inside, far-space, far-total}
 use Rattle.write_sets.specs.Sets.{member}
 use Rattle.written_lines.specs.Lines.{variablesLine}

@@ -1,8 +1,8 @@
 -- `put_if`: the number, or nothing.
 use native.Mathlib.Omega.{arith}
 use mathlib.Core.List.{[], _∷_}
-use Rattle.text_form.specs.Number.{digits}
-use Rattle.text_form.specs.PutLaws.{digits-within}
+use Rattle.text_numbers.specs.Number.{digits}
+use Rattle.text_numbers.specs.PutLaws.{digits-within}
 use Rattle.report.specs.Lines.{blank}
 use Rattle.written_lines.proofs.NumberLaws.{put-unwanted, put-wanted}
 use borrow.Author.Needs.{needs}

@@ -4,7 +4,7 @@ use mathlib.Core.List.{_++_}
 use Prim.Native.Nat.{_+_, _*_}
 use lib.ListN.{length-set}
 use Rattle.words.specs.OverLaws.{back-in}
-use Rattle.text_form.specs.PutLaws.{put-byte}
+use Rattle.text_numbers.specs.PutLaws.{put-byte}
 use Rattle.report.proofs.Spacing.{SoFar, far-below, far-length, far-inside, far-space, far-next}
 use Rattle.write_sets.specs.Sets.{variableBits, member}
 use Rattle.command_request.specs.Ascii.{ascii}

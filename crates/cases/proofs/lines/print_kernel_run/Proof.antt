@@ -2,7 +2,7 @@
 use mathlib.Core.Path.{sym}
 use native.Mathlib.Omega.{arith}
 use lib.Seq.{length-take-le}
-use Rattle.text_form.specs.PutLaws.{put-fits}
+use Rattle.text_numbers.specs.PutLaws.{put-fits}
 use borrow.Author.Needs.{needs}
 use Rattle.cases.proofs.lines.print_kernel_run.Statement.{statement}
 use Rattle.cases.proofs.lines.print_kernel_run.Tie as tie

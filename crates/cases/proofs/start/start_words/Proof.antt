@@ -1,6 +1,6 @@
 -- `start_words`: the numbers counted fit the store.
 use native.Mathlib.Omega.{arith}
-use Rattle.text_form.specs.SizeLaws.{counted-fits}
+use Rattle.text_lines.specs.CountLaws.{counted-fits}
 use borrow.Author.Needs.{needs}
 use Rattle.cases.proofs.start.start_words.Statement.{statement}
 use Rattle.cases.proofs.start.start_words.Tie as tie

@@ -5,7 +5,7 @@ use Prim.Native.Nat.{ℕ, _≤_}
 use native.Mathlib.Omega.{arith}
 use lib.ListN.{length, take}
 use lib.Seq.{length-take-le}
-use Rattle.text_form.specs.PutLaws.{put-as}
+use Rattle.text_numbers.specs.PutLaws.{put-as}
 use Rattle.command_answer.specs.Output.{commandOutput}
 use Rattle.command_answer.specs.Inputs.{bytesRead, inputsOutput}
 use Rattle.command_answer.specs.declared.Input.{Input}

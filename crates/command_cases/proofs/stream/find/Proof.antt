@@ -1,5 +1,5 @@
 -- `find`: a piece ends behind its start, within the bytes.
-use Rattle.text_form.proofs.Pieces.{piece-of}
+use Rattle.text_lines.proofs.Pieces.{piece-of}
 use borrow.Author.Needs.{needs}
 use Rattle.command_cases.proofs.stream.find.Statement.{statement}
 use Rattle.command_cases.proofs.stream.find.Tie as tie

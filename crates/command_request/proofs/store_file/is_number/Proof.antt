@@ -1,7 +1,7 @@
 -- `is_number`: one number, by the reader of lines.
 use mathlib.Core.Path.{sym, ap, _∙_}
-use Rattle.text_form.specs.Reader.{countSays}
-use Rattle.text_form.proofs.Rows.{size-none, size-some}
+use Rattle.text_lines.specs.Reader.{countSays}
+use Rattle.text_lines.specs.CountLaws.{size-none, size-some}
 use Rattle.command_request.proofs.Pieces.{number-none, number-sized}
 use borrow.Author.Needs.{needs}
 use Rattle.command_request.proofs.store_file.is_number.Statement.{statement}

@@ -1,7 +1,7 @@
 -- `check_answer`: the refusal of the reader, or the verdict on what it read.
 use native.Mathlib.Omega.{arith}
 use mathlib.Core.Path.{ap, _∙_}
-use Rattle.text_form.specs.PutLaws.{put-as}
+use Rattle.text_numbers.specs.PutLaws.{put-as}
 use Rattle.command_lines.specs.Lines.{verdictLine}
 use Rattle.command_runs.specs.Checks.{checkLine, checkOutput}
 use Rattle.command_text.proofs.Readings.{refused-text, read-text}

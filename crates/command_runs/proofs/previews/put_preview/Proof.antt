@@ -7,7 +7,7 @@ use lib.IntN.{ℤ, pos}
 use lib.ListN.{length, length-replicate}
 use Rattle.words.specs.Layout.{zeros}
 use Rattle.words.specs.Laws.{zeros-part}
-use Rattle.text_form.specs.PutLaws.{put-as}
+use Rattle.text_numbers.specs.PutLaws.{put-as}
 use Rattle.program_previews.specs.Previews.{previewResult}
 use Rattle.command_runs.specs.Tasks.{resultLines}
 use Rattle.command_runs.proofs.Starts.{source-words-most}

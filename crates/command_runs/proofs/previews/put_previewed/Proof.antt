@@ -1,7 +1,7 @@
 -- `put_previewed`: the preview, and its lines, which have room.
 use mathlib.Core.Path.{ap}
 use native.Mathlib.Omega.{arith}
-use Rattle.text_form.specs.PutLaws.{put-as}
+use Rattle.text_numbers.specs.PutLaws.{put-as}
 use Rattle.command_runs.specs.Tasks.{resultLines}
 use Rattle.command_runs.proofs.Shown.{showable}
 use borrow.Author.Needs.{needs}

@@ -1,6 +1,6 @@
 -- `put_dispatcher_run`: the dispatcher's run, and its line.
 use mathlib.Core.Path.{ap}
-use Rattle.text_form.specs.PutLaws.{put-as}
+use Rattle.text_numbers.specs.PutLaws.{put-as}
 use Rattle.command_runs.specs.Tasks.{shownLine}
 use borrow.Author.Needs.{needs}
 use Rattle.command_runs.proofs.tasks.put_dispatcher_run.Statement.{statement}

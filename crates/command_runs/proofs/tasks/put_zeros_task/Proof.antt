@@ -7,7 +7,7 @@ use lib.IntN.{ℤ, pos}
 use lib.ListN.{length-replicate}
 use Rattle.words.specs.Layout.{zeros}
 use Rattle.words.specs.Laws.{zeros-part}
-use Rattle.text_form.specs.PutLaws.{put-as}
+use Rattle.text_numbers.specs.PutLaws.{put-as}
 use Rattle.command_runs.specs.Tasks.{taskLines}
 use Rattle.command_runs.proofs.Starts.{start-most, part-room}
 use borrow.Author.Needs.{needs}

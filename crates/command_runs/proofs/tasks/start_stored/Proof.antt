@@ -3,7 +3,7 @@ use native.Mathlib.Omega.{arith}
 use mathlib.Core.Path.{sym, ap, _∙_}
 use lib.IntN.{pos}
 use lib.ListN.{length-replicate}
-use Rattle.text_form.specs.PutLaws.{put-as}
+use Rattle.text_numbers.specs.PutLaws.{put-as}
 use Rattle.command_runs.specs.Tasks.{taskOutput, storedOutput}
 use Rattle.command_runs.proofs.Starts.{part-room, stored-inside, stored-words}
 use borrow.Author.Needs.{needs}

@@ -1,6 +1,6 @@
 -- `start_text`: the refusal of the reader, or the run or preview of what it read.
 use native.Mathlib.Omega.{arith}
-use Rattle.text_form.specs.PutLaws.{put-as}
+use Rattle.text_numbers.specs.PutLaws.{put-as}
 use Rattle.command_runs.specs.Tasks.{taskLines, taskOutput}
 use borrow.Author.Needs.{needs}
 use Rattle.command_runs.proofs.tasks.start_text.Statement.{statement}

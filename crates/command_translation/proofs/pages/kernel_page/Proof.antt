@@ -1,5 +1,5 @@
 -- `kernel_page`: the refusal of the reader, or the page of what it read.
-use Rattle.text_form.specs.PutLaws.{put-as}
+use Rattle.text_numbers.specs.PutLaws.{put-as}
 use Rattle.command_translation.specs.Pages.{kernelPage, pageOutput}
 use borrow.Author.Needs.{needs}
 use Rattle.command_translation.proofs.pages.kernel_page.Statement.{statement}

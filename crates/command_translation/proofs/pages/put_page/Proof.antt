@@ -1,6 +1,6 @@
 -- `put_page`: what the printer wrote or refused.
 use native.Mathlib.Omega.{arith}
-use Rattle.text_form.specs.PutLaws.{put-as}
+use Rattle.text_numbers.specs.PutLaws.{put-as}
 use Rattle.command_text.proofs.Printing.{put-first}
 use Rattle.command_translation.proofs.Printed.{printed, refused-page, refused-leaves, page-size, put-after}
 use borrow.Author.Needs.{needs}

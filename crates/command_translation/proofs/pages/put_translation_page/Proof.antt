@@ -1,7 +1,7 @@
 -- `put_translation_page`: the refusal of the translator, or the page of what it wrote.
 use mathlib.Core.Path.{sym, ap}
 use Rattle.words.specs.declared.Verdict.{Verdict}
-use Rattle.text_form.specs.PutLaws.{put-as}
+use Rattle.text_numbers.specs.PutLaws.{put-as}
 use Rattle.command_translation.specs.Pages.{translatedPage}
 use Rattle.command_translation.proofs.Kernels.{refused-source, translated}
 use Rattle.command_translation.proofs.Printed.{translation-printed}

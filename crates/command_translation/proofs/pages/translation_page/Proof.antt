@@ -1,5 +1,5 @@
 -- `translation_page`: the refusal of the reader, or the page of the translation of what it read.
-use Rattle.text_form.specs.PutLaws.{put-as}
+use Rattle.text_numbers.specs.PutLaws.{put-as}
 use Rattle.command_text.proofs.Printing.{source-roomy}
 use Rattle.command_translation.specs.Pages.{translationPage, pageOutput}
 use borrow.Author.Needs.{needs}

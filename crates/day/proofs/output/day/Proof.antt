@@ -1,6 +1,6 @@
 -- `day`: the rule is read and checked; what stands behind it is printed, or the rule's refusal.
 use native.Mathlib.Omega.{arith}
-use Rattle.text_form.specs.PutLaws.{put-as}
+use Rattle.text_numbers.specs.PutLaws.{put-as}
 use Rattle.day_form.proofs.Bounds.{rule-inside}
 use Rattle.day.proofs.Printed.{rule-refused, rule-printed, rule-accepted}
 use borrow.Author.Needs.{needs}

@@ -3,7 +3,7 @@ use native.Mathlib.Omega.{arith}
 use Rattle.words.specs.Laws.{headerFits-facts}
 use Rattle.words.specs.declared.Form.the-variants.{Source}
 use Rattle.words.proofs.Signed.{natural-again}
-use Rattle.text_form.specs.PutLaws.{put-as}
+use Rattle.text_numbers.specs.PutLaws.{put-as}
 use Rattle.day_values.proofs.Printing.{variables-are}
 use Rattle.day.proofs.Printed.{plan-refused, plan-printed, plan-fits}
 use borrow.Author.Needs.{needs}

@@ -2,7 +2,7 @@
 use native.Mathlib.Omega.{arith}
 use Prim.Native.Nat.{_-_}
 use lib.ListN.{length}
-use Rattle.text_form.proofs.Pieces.{piece-of}
+use Rattle.text_lines.proofs.Pieces.{piece-of}
 use Rattle.day_form.proofs.Bounds.{Counted, counted-start, counted-end, counted-next}
 use Rattle.day_form.proofs.input.count_lines.Statement.{statement}
 use Rattle.day_form.proofs.input.count_lines.Tie as tie

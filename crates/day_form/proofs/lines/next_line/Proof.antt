@@ -1,7 +1,7 @@
 -- `next_line`: the piece up to the next newline is the first line.
 use mathlib.Core.Path.{refl}
 use native.Mathlib.Omega.{arith}
-use Rattle.text_form.proofs.Pieces.{piece-of}
+use Rattle.text_lines.proofs.Pieces.{piece-of}
 use Rattle.day_form.proofs.Numbers.{unended-next, ended-next}
 use borrow.Author.Needs.{needs}
 use Rattle.day_form.proofs.lines.next_line.Statement.{statement}

@@ -1,9 +1,9 @@
 -- `read_numbers`: the numbers are counted, and stored where they are few.
 use mathlib.Core.Path.{sym, ap, _∙_}
 use native.Mathlib.Omega.{arith}
-use Rattle.text_form.specs.Reader.{countSays}
-use Rattle.text_form.specs.SizeLaws.{counted-fits}
-use Rattle.text_form.proofs.Rows.{size-none, size-some}
+use Rattle.text_lines.specs.Reader.{countSays}
+use Rattle.text_lines.specs.CountLaws.{counted-fits}
+use Rattle.text_lines.specs.CountLaws.{size-none, size-some}
 use Rattle.day_form.proofs.Numbers.{malformed-read, many-read, few-read}
 use borrow.Author.Needs.{needs}
 use Rattle.day_form.proofs.lines.read_numbers.Statement.{statement}

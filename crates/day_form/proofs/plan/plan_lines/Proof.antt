@@ -1,6 +1,6 @@
 -- `plan_lines`: the first line is the setting's, the others are the day's.
 use mathlib.Core.Path.{sym, ap, _∙_}
-use Rattle.text_form.specs.LineLaws.{lines-none}
+use Rattle.text_lines.specs.LineLaws.{lines-none}
 use Rattle.day_form.specs.Settings.{settingSays}
 use Rattle.day_form.proofs.Tests.{lent-numbers}
 use Rattle.day_form.proofs.Plans.{setting-missing, setting-malformed, days-planned, days-refused}

@@ -8,8 +8,8 @@ use Rattle.words.specs.Layout.{storeWords}
 use Rattle.words.specs.Laws.{back, headerFits-facts}
 use Rattle.words.proofs.Signed.{natural-again}
 use Rattle.words.specs.declared.Form.the-variants.{Source}
-use Rattle.text_form.specs.Line.{linesOf}
-use Rattle.text_form.specs.PutLaws.{put-as}
+use Rattle.text_lines.specs.Line.{linesOf}
+use Rattle.text_numbers.specs.PutLaws.{put-as}
 use Rattle.day_values.proofs.Printing.{variables-inside, variables-are, zeros-length, value-stored, rule-words, day-counted, day-line}
 use borrow.Author.Needs.{needs}
 use Rattle.day_values.proofs.day.put_day_on.Statement.{statement}

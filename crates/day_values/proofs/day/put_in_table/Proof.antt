@@ -1,7 +1,7 @@
 -- `put_in_table`: three numbers and the variables, one behind the other.
 use mathlib.Core.Path.{_∙_, refl, ap}
-use Rattle.text_form.specs.Line.{lineBytes}
-use Rattle.text_form.specs.PutLaws.{put-as}
+use Rattle.text_lines.specs.Line.{lineBytes}
+use Rattle.text_numbers.specs.PutLaws.{put-as}
 use Rattle.day_values.proofs.Printing.{as-words, table-line}
 use borrow.Author.Needs.{needs}
 use Rattle.day_values.proofs.day.put_in_table.Statement.{statement}

@@ -3,8 +3,8 @@ use Prim.Native.Nat.{_-_}
 use native.Mathlib.Omega.{arith}
 use mir.Syntax.{w32}
 use mir.Val.{toZ}
-use Rattle.text_form.specs.PutLaws.{put-as}
-use Rattle.text_form.specs.Line.{linesOf}
+use Rattle.text_numbers.specs.PutLaws.{put-as}
+use Rattle.text_lines.specs.Line.{linesOf}
 use Rattle.day_values.proofs.Walk.{made-space, made-inside, made-length, value-word, value-is, setting-lines, Made, made-start, made-end, made-next}
 use Rattle.day_run.specs.Days.{pairsOf}
 use Rattle.day_values.specs.Values.{dayLine}

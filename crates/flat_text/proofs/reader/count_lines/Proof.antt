@@ -6,7 +6,7 @@ use borrow.Author.Needs.{needs}
 use borrow.Author.Tests.{not-true, not-false}
 use lib.ListN.{length}
 use Rattle.text_form.specs.Reader.{wordsOf}
-use Rattle.text_form.proofs.Pieces.{Piece, piece-of}
+use Rattle.text_lines.proofs.Pieces.{Piece, piece-of}
 use Rattle.text_form.proofs.Rows.{found-row, found-none}
 use Rattle.flat_text.proofs.Lines.{Walked, walked-start, walked-says, walked-unended, walked-bad, walked-next}
 use Rattle.flat_text.proofs.reader.count_lines.Statement.{statement}

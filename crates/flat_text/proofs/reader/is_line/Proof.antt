@@ -1,7 +1,7 @@
 -- `is_line`: five numbers.
 use mathlib.Core.Path.{sym, ap, _∙_}
-use Rattle.text_form.specs.Reader.{countSays}
-use Rattle.text_form.proofs.Rows.{size-none, size-some}
+use Rattle.text_lines.specs.Reader.{countSays}
+use Rattle.text_lines.specs.CountLaws.{size-none, size-some}
 use Rattle.flat_text.proofs.Lines.{row-none, row-sized}
 use borrow.Author.Needs.{needs}
 use Rattle.flat_text.proofs.reader.is_line.Statement.{statement}

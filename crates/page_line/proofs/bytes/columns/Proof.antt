@@ -1,7 +1,7 @@
 -- `columns`: a number below ten to the k has k digits.
 use native.Mathlib.Omega.{arith}
 use Prim.Native.Nat.{_/_}
-use Rattle.text_form.specs.NumberLaws.{length-one, length-more}
+use Rattle.text_numbers.specs.NumberLaws.{length-one, length-more}
 use Rattle.page_line.proofs.bytes.columns.Statement.{statement}
 use Rattle.page_line.proofs.bytes.columns.Tie as tie
 

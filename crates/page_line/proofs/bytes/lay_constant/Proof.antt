@@ -6,7 +6,7 @@ use lib.IntN.{ℤ}
 use mir.Syntax.{w32}
 use mir.Val.{toZ, ofZ}
 use Rattle.words.specs.Laws.{back}
-use Rattle.text_form.specs.Number.{numberBytes}
+use Rattle.text_numbers.specs.Number.{numberBytes}
 use Rattle.page_line.specs.LaidLaws.{laid-put, laid-of, part-room}
 use borrow.Author.Needs.{needs}
 use Rattle.page_line.proofs.bytes.lay_constant.Statement.{statement}

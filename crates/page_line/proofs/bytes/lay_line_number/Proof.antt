@@ -3,7 +3,7 @@ use mathlib.Core.Path.{sym}
 use Prim.Native.Nat.{ℕ, _-_}
 use native.Mathlib.Omega.{arith}
 use borrow.Author.Needs.{needs}
-use Rattle.text_form.specs.PutLaws.{digits-within}
+use Rattle.text_numbers.specs.PutLaws.{digits-within}
 use Rattle.page.specs.Page.{blanks, rightSet}
 use Rattle.page.specs.Widths.{length-blanks}
 use Rattle.page_line.specs.LaidLaws.{laid-of, laid-next}

@@ -2,7 +2,7 @@
 use native.Mathlib.Omega.{arith}
 use mathlib.Core.List.{_∷_, []}
 use lib.ListN.{length-append}
-use Rattle.text_form.specs.Number.{digits}
+use Rattle.text_numbers.specs.Number.{digits}
 use Rattle.page_line.specs.LaidLaws.{laid-next}
 use borrow.Author.Needs.{needs}
 use Rattle.page_line.proofs.contents.lay_goto.Statement.{statement}

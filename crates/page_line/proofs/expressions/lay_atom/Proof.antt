@@ -5,7 +5,7 @@ use mir.Syntax.{w32}
 use mir.Val.{toZ, ofZ}
 use Rattle.words.specs.Laws.{back}
 use mathlib.Core.Path.{_∙_}
-use Rattle.text_form.specs.Number.{numberBytes}
+use Rattle.text_numbers.specs.Number.{numberBytes}
 use Rattle.page.specs.Page.{atomWord}
 use Rattle.shapes.specs.declared.ExpressionShape.the-variants.{Read}
 use Rattle.page_line.specs.LaidLaws.{laid-of, laid-nothing}

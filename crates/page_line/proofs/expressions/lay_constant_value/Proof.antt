@@ -7,7 +7,7 @@ use Rattle.words.specs.Laws.{back}
 use native.Mathlib.Omega.{arith}
 use mathlib.Core.List.{_∷_, []}
 use lib.ListN.{length, length-append}
-use Rattle.text_form.specs.Number.{numberBytes}
+use Rattle.text_numbers.specs.Number.{numberBytes}
 use Rattle.page_line.specs.LaidLaws.{laid-of, laid-next}
 use borrow.Author.Needs.{needs}
 use Rattle.page_line.proofs.expressions.lay_constant_value.Statement.{statement}

@@ -4,7 +4,7 @@ use mathlib.Core.Path.{_≡_}
 use mathlib.Core.List.{_∷_, [], _++_}
 use Prim.Native.Nat.{_+_}
 use lib.ListN.{length, length-append}
-use Rattle.text_form.specs.Number.{digits}
+use Rattle.text_numbers.specs.Number.{digits}
 use Rattle.language.specs.Trees.{element}
 use Rattle.language.specs.Decode.{expressionAt}
 use Rattle.page.specs.Page.{atomWord, placeWord}

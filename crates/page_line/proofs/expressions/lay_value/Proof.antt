@@ -7,7 +7,7 @@ use Rattle.words.specs.Laws.{back}
 use mathlib.Core.Path.{_∙_}
 use mathlib.Core.List.{List, _∷_}
 use Prim.Native.Nat.{ℕ}
-use Rattle.text_form.specs.Number.{numberBytes}
+use Rattle.text_numbers.specs.Number.{numberBytes}
 use Rattle.language.specs.Trees.{Expression}
 use Rattle.page.specs.Page.{blank, semicolon, endedBy, ended, valueWords, parted}
 use Rattle.page_line.specs.Contents.{led}

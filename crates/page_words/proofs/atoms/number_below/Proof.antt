@@ -1,6 +1,6 @@
 -- `number_below`: a number up to the bound, and then below it.
 use mathlib.Core.Path.{sym, ap, _∙_}
-use Rattle.text_form.specs.Reader.{digitsValue}
+use Rattle.text_numbers.specs.Reader.{digitsValue}
 use Rattle.page_words.specs.Reads.{numberRead}
 use Rattle.page_words.proofs.FirstBytes.{below-none, below-inside, below-outside}
 use borrow.Author.Needs.{needs}

@@ -6,8 +6,8 @@ use native.Mathlib.Nat.{le-of-lt}
 use native.Mathlib.Omega.{arith}
 use lib.ListN.{length, take, drop}
 use lib.Seq.{length-take-le}
-use Rattle.text_form.specs.Reader.{pieceEnd}
-use Rattle.text_form.proofs.Pieces.{piece-of}
+use Rattle.text_lines.specs.Reader.{pieceEnd}
+use Rattle.text_lines.proofs.Pieces.{piece-of}
 use borrow.Author.Needs.{needs}
 use Rattle.programs.proofs.stream.find_case.Statement.{statement}
 use Rattle.programs.proofs.stream.find_case.Tie as tie

@@ -3,8 +3,8 @@ use native.Mathlib.Omega.{arith}
 use Prim.Native.Nat.{_≤_}
 use lib.ListN.{length, length-set}
 use Rattle.report.specs.Lines.{blank}
-use Rattle.text_form.specs.Number.{digits}
-use Rattle.text_form.specs.PutLaws.{digits-within, LedRoom, led-room, led-back, led-put}
+use Rattle.text_numbers.specs.Number.{digits}
+use Rattle.text_numbers.specs.PutLaws.{digits-within, LedRoom, led-room, led-back, led-put}
 use borrow.Author.Needs.{needs}
 use Rattle.report.proofs.field.put_count.Statement.{statement}
 use Rattle.report.proofs.field.put_count.Tie as tie

@@ -6,7 +6,7 @@ use lib.ListN.{length, set, length-set, length-drop}
 use Rattle.report.specs.Lines.{blank}
 use Rattle.words.specs.Answers.{endingName}
 use Rattle.words.specs.OverLaws.{part, part-is}
-use Rattle.text_form.specs.PutLaws.{LedRoom, led-back, led-put}
+use Rattle.text_numbers.specs.PutLaws.{LedRoom, led-back, led-put}
 use Rattle.report.proofs.Spacing.{ending-few}
 use borrow.Author.Needs.{needs}
 use Rattle.report.proofs.field.put_ending.Statement.{statement}

@@ -7,7 +7,7 @@ use lib.ListN.{length, take, length-take}
 use Rattle.words.specs.Answers.{Names, endingName}
 use Rattle.words.specs.AnswerLaws.{names-short}
 use Rattle.words.specs.declared.Name.{Name}
-use Rattle.text_form.specs.PutLaws.{put-as}
+use Rattle.text_numbers.specs.PutLaws.{put-as}
 use borrow.Author.Needs.{needs}
 use Rattle.report.proofs.field.put_ending_name.Statement.{statement}
 use Rattle.report.proofs.field.put_ending_name.Tie as tie

@@ -3,8 +3,8 @@ use native.Mathlib.Omega.{arith}
 use Prim.Native.Nat.{_≤_}
 use lib.ListN.{length, length-set}
 use Rattle.report.specs.Lines.{blank}
-use Rattle.text_form.specs.Number.{numberBytes}
-use Rattle.text_form.specs.PutLaws.{number-eleven, put-as, LedRoom, led-room, led-back, led-put}
+use Rattle.text_numbers.specs.Number.{numberBytes}
+use Rattle.text_numbers.specs.PutLaws.{number-eleven, put-as, LedRoom, led-room, led-back, led-put}
 use mathlib.Core.Path.{_≡_, ap}
 use mathlib.Core.List.{_∷_}
 use lib.IntN.{ℤ}

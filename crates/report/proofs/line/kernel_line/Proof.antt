@@ -4,7 +4,7 @@ use mathlib.Core.List.{_∷_, _++_}
 use Prim.Native.Nat.{_+_}
 use Rattle.words.specs.Answers.{endingName}
 use Rattle.words.specs.OverLaws.{back-in}
-use Rattle.text_form.specs.PutLaws.{put-as, put-next, put-back}
+use Rattle.text_numbers.specs.PutLaws.{put-as, put-next, put-back}
 use Rattle.report.specs.Lines.{blank, kernelName}
 use Rattle.report.proofs.Spacing.{SoFar, far-below, far-inside, far-space, far-next, far-total, ending-few, kernel-is}
 use borrow.Author.Needs.{needs}

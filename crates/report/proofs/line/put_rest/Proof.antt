@@ -1,7 +1,7 @@
 -- `put_rest`: the words, and a newline behind them.
 use native.Mathlib.Omega.{arith}
 use lib.ListN.{length-set}
-use Rattle.text_form.specs.PutLaws.{put-byte}
+use Rattle.text_numbers.specs.PutLaws.{put-byte}
 use Rattle.report.proofs.line.put_rest.Statement.{statement}
 use Rattle.report.proofs.line.put_rest.Tie as tie
 

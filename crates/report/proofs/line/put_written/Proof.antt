@@ -4,8 +4,8 @@ use mathlib.Core.List.{_∷_, _++_}
 use Prim.Native.Nat.{_+_, _*_}
 use lib.ListN.{length, length-set}
 use Rattle.words.specs.OverLaws.{back-in}
-use Rattle.text_form.specs.Number.{digits}
-use Rattle.text_form.specs.PutLaws.{put-byte}
+use Rattle.text_numbers.specs.Number.{digits}
+use Rattle.text_numbers.specs.PutLaws.{put-byte}
 use Rattle.report.specs.Lines.{blank}
 use Rattle.report.proofs.Spacing.{SoFar, spacedWords, far-below, far-length, far-inside, far-space, far-next, count-few}
 use borrow.Author.Needs.{needs}

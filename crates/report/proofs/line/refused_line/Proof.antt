@@ -2,10 +2,10 @@
 use native.Mathlib.Omega.{arith}
 use mathlib.Core.List.{_∷_, _++_}
 use Prim.Native.Nat.{_+_}
-use Rattle.text_form.specs.Number.{digits}
+use Rattle.text_numbers.specs.Number.{digits}
 use Rattle.words.specs.OverLaws.{back-in}
 use lib.ListN.{length-set}
-use Rattle.text_form.specs.PutLaws.{put-as, put-byte}
+use Rattle.text_numbers.specs.PutLaws.{put-as, put-byte}
 use Rattle.report.specs.Lines.{blank, refusedName}
 use Rattle.report.proofs.Spacing.{SoFar, far-below, far-length, far-inside, far-space, far-next, count-few, place-few, refused-is}
 use borrow.Author.Needs.{needs}

@@ -3,9 +3,9 @@ use native.Mathlib.Omega.{arith}
 use mathlib.Core.List.{_∷_, _++_}
 use Prim.Native.Nat.{_+_}
 use Rattle.words.specs.Answers.{endingName}
-use Rattle.text_form.specs.Number.{digits}
+use Rattle.text_numbers.specs.Number.{digits}
 use Rattle.words.specs.OverLaws.{back-in}
-use Rattle.text_form.specs.PutLaws.{put-as, put-next, put-back}
+use Rattle.text_numbers.specs.PutLaws.{put-as, put-next, put-back}
 use Rattle.report.specs.Lines.{blank, sourceName}
 use Rattle.report.proofs.Spacing.{SoFar, far-below, far-inside, far-space, far-next, far-total, ending-few, count-few, source-is}
 use borrow.Author.Needs.{needs}

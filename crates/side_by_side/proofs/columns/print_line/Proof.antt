@@ -1,6 +1,6 @@
 -- `print_line`: the line ends within the text.
 use native.Mathlib.Omega.{arith}
-use Rattle.text_form.proofs.Pieces.{piece-of}
+use Rattle.text_lines.proofs.Pieces.{piece-of}
 use borrow.Author.Needs.{needs}
 use Rattle.side_by_side.proofs.columns.print_line.Statement.{statement}
 use Rattle.side_by_side.proofs.columns.print_line.Tie as tie

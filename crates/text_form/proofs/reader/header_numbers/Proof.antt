@@ -2,9 +2,10 @@
 use mathlib.Core.Path.{sym, ap, _∙_}
 use native.Mathlib.Omega.{arith}
 use Rattle.words.specs.Laws.{leading-limits}
-use Rattle.text_form.specs.Line.{fieldsOf, numbersOf}
-use Rattle.text_form.specs.Reader.{countSays}
-use Rattle.text_form.proofs.Rows.{Sized, size-none, size-some, header-none, header-few, header-many, header-sized}
+use Rattle.text_lines.specs.Line.{fieldsOf, numbersOf}
+use Rattle.text_lines.specs.Reader.{countSays}
+use Rattle.text_lines.specs.CountLaws.{Sized, size-none, size-some}
+use Rattle.text_form.proofs.Rows.{header-none, header-few, header-many, header-sized}
 use borrow.Author.Needs.{needs}
 use Rattle.text_form.proofs.reader.header_numbers.Statement.{statement}
 use Rattle.text_form.proofs.reader.header_numbers.Tie as tie

@@ -1,7 +1,8 @@
 -- `is_row`: six numbers.
 use mathlib.Core.Path.{sym, ap, _∙_}
-use Rattle.text_form.specs.Reader.{countSays}
-use Rattle.text_form.proofs.Rows.{size-none, size-some, row-none, row-sized}
+use Rattle.text_lines.specs.Reader.{countSays}
+use Rattle.text_lines.specs.CountLaws.{size-none, size-some}
+use Rattle.text_form.proofs.Rows.{row-none, row-sized}
 use borrow.Author.Needs.{needs}
 use Rattle.text_form.proofs.reader.is_row.Statement.{statement}
 use Rattle.text_form.proofs.reader.is_row.Tie as tie

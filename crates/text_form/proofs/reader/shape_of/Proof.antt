@@ -1,13 +1,14 @@
 -- `shape_of`: the first line, then the rows.
 use mathlib.Core.Path.{sym, ap, _∙_}
 use native.Mathlib.Omega.{arith}
-use Rattle.text_form.specs.Line.{ended}
+use Rattle.text_lines.specs.Line.{ended}
 use Rattle.text_form.specs.Text.{headerLine}
-use Rattle.text_form.specs.Reader.{countSays, rowsSay}
+use Rattle.text_lines.specs.Reader.{countSays}
+use Rattle.text_form.specs.Reader.{rowsSay}
 use lib.ListN.{length, take}
 use Prim.Native.Nat.{_+_, _-_, _<_}
-use Rattle.text_form.proofs.Pieces.{Piece, piece-of}
-use Rattle.text_form.proofs.Rows.{Sized, size-none, size-some}
+use Rattle.text_lines.proofs.Pieces.{Piece, piece-of}
+use Rattle.text_lines.specs.CountLaws.{Sized, size-none, size-some}
 use Rattle.text_form.proofs.Shapes.{words-malformed, words-parsed, shape-unended, shape-bad, shape-rows, shape-lines, rows-behind}
 use borrow.Author.Needs.{needs}
 use Rattle.text_form.proofs.reader.shape_of.Statement.{statement}

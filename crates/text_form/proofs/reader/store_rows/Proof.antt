@@ -3,7 +3,7 @@ use Prim.Native.Nat.{_-_}
 use native.Mathlib.Omega.{arith}
 use borrow.Author.Needs.{needs}
 use lib.ListN.{length}
-use Rattle.text_form.proofs.Pieces.{Piece, piece-of}
+use Rattle.text_lines.proofs.Pieces.{Piece, piece-of}
 use Rattle.text_form.proofs.Filling.{Filled, filled-start, filled-length, filled-end, NextRow, filled-row, next-few, row-holds, filled-next}
 use Rattle.text_form.proofs.reader.store_rows.Statement.{statement}
 use Rattle.text_form.proofs.reader.store_rows.Tie as tie

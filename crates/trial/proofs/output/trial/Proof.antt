@@ -1,7 +1,7 @@
 -- `trial`: the rule is read and checked; both forms are run, or its refusal is printed.
 use native.Mathlib.Omega.{arith}
 use borrow.Author.Needs.{needs}
-use Rattle.text_form.specs.PutLaws.{put-as}
+use Rattle.text_numbers.specs.PutLaws.{put-as}
 use Rattle.trial.proofs.Rules.{refused-output, rule-output, rule-accepted, rule-fits}
 use Rattle.trial.proofs.output.trial.Statement.{statement}
 use Rattle.trial.proofs.output.trial.Tie as tie

@@ -1,7 +1,7 @@
 -- `run_kernel_on`: the program is accepted and the store has its words, so the run is made; then its line.
 use native.Mathlib.Omega.{arith}
 use Rattle.words.specs.declared.Form.the-variants.{Kernel}
-use Rattle.text_form.specs.PutLaws.{put-as}
+use Rattle.text_numbers.specs.PutLaws.{put-as}
 use Rattle.trial.proofs.Started.{started-length, run-made, second-line}
 use borrow.Author.Needs.{needs}
 use Rattle.trial.proofs.runs.run_kernel_on.Statement.{statement}

@@ -2,7 +2,7 @@
 use mathlib.Core.Path.{refl}
 use native.Mathlib.Omega.{arith}
 use Rattle.words.specs.declared.Form.the-variants.{Source}
-use Rattle.text_form.specs.PutLaws.{put-as, put-next}
+use Rattle.text_numbers.specs.PutLaws.{put-as, put-next}
 use Rattle.report.proofs.Spacing.{far-inside, far-total}
 use Rattle.translator.specs.AcceptedLaws.{accepted-source}
 use Rattle.trial.proofs.Started.{started-length, run-made, both-lines, first-room, first-put, first-translates}

@@ -2,7 +2,7 @@
 use mathlib.Core.Path.{refl}
 use native.Mathlib.Omega.{arith}
 use Rattle.words.specs.declared.Form.the-variants.{Source}
-use Rattle.text_form.specs.PutLaws.{put-as}
+use Rattle.text_numbers.specs.PutLaws.{put-as}
 use Rattle.program_runs.specs.AcceptedLaws.{accepted-header}
 use Rattle.translator.specs.TranslationLaws.{translation-made}
 use Rattle.trial.proofs.Translated.{read-fits, read-output, translated-accepted}

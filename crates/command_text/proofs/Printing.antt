@@ -15,6 +15,7 @@ use Rattle.words.specs.declared.Form.the-variants.{Kernel, Source}
 use Rattle.text_form.specs.AnswerLaws.{passes-cause}
 use Rattle.text_numbers.specs.Writer.{Put}
 use Rattle.text_lines.specs.Writer.{Measured}
+use Rattle.words.specs.Table.{rowCount}
 use Rattle.text_form.specs.Writer.{Fills}
 use Rattle.text_form.proofs.Sizing.{sized-fills}
 use Rattle.command_text.specs.Texts.{Roomy, outputRoom, Printable}
@@ -54,7 +55,7 @@ module _ (header rows : List ℤ) (p : Printable header rows) where
     few-bytes = omega (arith, h .most, r .most, rows-few, header-few)
 
     -- the bytes that both sizes add up to hold the text
-    pub sizes-fill : (out : List ℕ) → outputRoom ≤ length out → Fills header rows (midOf 0 (first + others - 0) out)
+    pub sizes-fill : (out : List ℕ) → outputRoom ≤ length out → Fills 6 (rowCount rows) header rows (midOf 0 (first + others - 0) out)
     sizes-fill out o =
         sized-fills (record { passes = passes-cause (p .form) header (length rows) true (p .passes) refl; header-size = h; rows-size = r }) (midOf 0 (first + others - 0) out)
         (omega (arith, mid-len 0 (first + others) out (omega (arith, few-bytes))))

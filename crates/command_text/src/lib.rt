@@ -34,5 +34,5 @@ pub fn put_program(header: &[i32], rows: &[i32], out: &mut [u8]) -> usize
     ensures { λ r. ⌜ Put (textBytes (now (header .entry)) (now (rows .entry))) (now (out .entry)) r (now (out .exit)) ⌝ }
 {
     let size = size_of(header) + size_of(rows);
-    put_text(header, rows, &mut out[0..size])
+    put_text(6, rows.len() / 6, header, rows, &mut out[0..size])
 }

@@ -1,44 +1,50 @@
--- ReaderLaws: the lines of a well-formed text, as the functions that store their numbers are lent them.
-use mathlib.Core.Path.{_≡_, sym}
-use mathlib.Core.Bool.{Bool}
+-- ReaderLaws: what a reader of flat lists gives, by whether the first line is within its limits.
+use mathlib.Core.Path.{_≡_, refl, sym, ap, _∙_}
+use mathlib.Core.Bool.{Bool, true, false}
 use mathlib.Core.List.{List}
-use mathlib.Core.Option.{some}
-use Prim.Native.Nat.{ℕ, _+_, _-_, _≤_}
-use native.Mathlib.Omega.{arith}
+use mathlib.Core.Option.{Option, none, some}
+use Prim.Native.Nat.{ℕ, _-_}
 use lib.IntN.{ℤ}
-use lib.ListN.{length, take, drop}
+use lib.ListN.{take}
 use Rattle.words.specs.Layout.{headerFits}
-use Rattle.words.specs.Over.{over}
-use Rattle.words.specs.OverLaws.{first-of, rest-of}
+use Rattle.words.specs.Laws.{by-cases}
 use Rattle.words.specs.declared.Form.the-variants.{Kernel}
-use Rattle.text_lines.specs.Line.{linesOf, fieldsOf, numbersOf}
-use Rattle.text_form.specs.Text.{parsed}
-use Rattle.text_lines.specs.Reader.{numbersIn, Holds}
-use Rattle.text_form.specs.Reader.{HoldsExactly, wordsIn, HoldsRows}
-use Rattle.flat_text.specs.Text.{linesFrom}
-use Rattle.flat_text.specs.Reader.{HasLines}
+use Rattle.text_lines.specs.Line.{fieldsOf, numbersOf}
+use Rattle.text_lines.specs.Reader.{numbersIn}
+use Rattle.text_form.specs.Text.{malformed}
+use Rattle.text_form.specs.Answers.{unless, readRefused, readProgram, tablesHold, Reads}
+use Rattle.text_form.specs.Reader.{HasLines, orShort, readBy}
+use Rattle.text_form.specs.ReaderLaws.{lent-line}
+use Rattle.text_form.specs.declared.ReadAnswer.the-variants.{Refused}
+use Rattle.flat_text.specs.Text.{parseFlat}
+use Rattle.flat_text.specs.Answers.{flatCause, flatParsed, flatReadResult}
 
-module _ {text : List ℕ} {end numbers words : ℕ} (l : HasLines text end numbers words) where
-  pub lent-line : numbersOf (fieldsOf (take (end - 0) text)) ≡ some (l .program .header)
-  lent-line = rw (first-of text end) (l .first-line)
+pub cause-fits : (header : List ℤ) → headerFits Kernel header ≡ true → flatCause header true ≡ none
+unfolding flatCause unless
+cause-fits header e = rw e
 
-  lent-rows : linesFrom 2 (linesOf (take (length text - (end + 1)) (drop (end + 1) text))) ≡ parsed (l .program .rows)
-  lent-rows = rw (rest-of text (end + 1)) (l .other-lines)
+pub cause-unfit : (header : List ℤ) → headerFits Kernel header ≡ false → flatCause header true ≡ some 1
+unfolding flatCause unless
+cause-unfit header e = rw e
 
-  pub line-exactly : HoldsExactly (numbersOf (fieldsOf (take (end - 0) text))) numbers
-  line-exactly = record { well-formed = rw lent-line; size = rw lent-line (l .header-size); few = l .few }
+-- 10 comes after 1
+cause-by : (header : List ℤ) (room : Bool) → flatCause header room ≡ orShort (flatCause header true) room
+unfolding flatCause unless orShort
+cause-by header room = by-cases (headerFits Kernel header) (λ t. rw t) (λ t. rw t)
 
-  pub line-fits : (said : Bool) → said ≡ headerFits Kernel (numbersIn (numbersOf (fieldsOf (take (end - 0) text)))) → headerFits Kernel (l .program .header) ≡ said
-  line-fits said e = sym (rw lent-line at e)
+pub reads-malformed : (text : List ℕ) (header list : List ℤ) (line : ℕ) → parseFlat text ≡ malformed line
+    → Reads (flatReadResult text header list) (Refused (record { number = 14; place = line })) header list
+unfolding flatReadResult flatParsed readRefused
+reads-malformed text header list line e = rw e (record { outcome = refl; header-left = refl; rows-left = refl })
 
-  pub line-holds : (header : List ℤ) → numbers ≤ length header → Holds (numbersOf (fieldsOf (take (end - 0) text))) header
-  line-holds header h = record { well-formed = rw lent-line; room = rw lent-line (omega (arith, l .header-size)) }
+module _ {text : List ℕ} {end numbers words : ℕ} (l : HasLines 5 Kernel text end numbers words) where
+  -- the cause of the first line is that of the header
+  pub line-cause : (said : Option ℕ) → said ≡ flatCause (numbersIn (numbersOf (fieldsOf (take (end - 0) text)))) true → flatCause (l .program .header) true ≡ said
+  line-cause said e = sym (rw (lent-line l) at e)
 
-  pub line-written : (header written : List ℤ) → written ≡ over (numbersIn (numbersOf (fieldsOf (take (end - 0) text)))) header → written ≡ over (l .program .header) header
-  line-written header written e = rw lent-line at e
-
-  pub rows-hold : (rows : List ℤ) → words ≤ length rows → HoldsRows (linesFrom 2 (linesOf (take (length text - (end + 1)) (drop (end + 1) text)))) rows
-  rows-hold rows h = record { well-formed = rw lent-rows; room = rw lent-rows (omega (arith, l .list-size)) }
-
-  pub rows-written : (rows written : List ℤ) → written ≡ over (wordsIn (linesFrom 2 (linesOf (take (length text - (end + 1)) (drop (end + 1) text))))) rows → written ≡ over (l .program .rows) rows
-  rows-written rows written e = rw lent-rows at e
+  pub reads-by : (header list : List ℤ) (before : Option ℕ) → flatCause (l .program .header) true ≡ before → flatReadResult text header list ≡ readBy before (parseFlat text) header list
+  unfolding flatReadResult flatParsed readBy
+  reads-by header list before e =
+      rw (l .parses)
+      (ap (λ (cause : Option ℕ). readProgram cause (l .program) header list)
+      (cause-by (l .program .header) (tablesHold (l .program) header list) ∙ ap (λ (cause : Option ℕ). orShort cause (tablesHold (l .program) header list)) e))

@@ -66,7 +66,7 @@ no-cause-small header rowWords e =
 
 -- ---- a well-formed text, by its first line and the number of its row words
 
-module _ {text : List ℕ} {end numbers rowWords : ℕ} (l : HasLines Source text end numbers rowWords) where
+module _ {text : List ℕ} {end numbers rowWords : ℕ} (l : HasLines 6 Source text end numbers rowWords) where
   pub lines-cause : (table written : List ℤ) (said : Option ℕ) → written ≡ over (numbersIn (numbersOf (fieldsOf (take (end - 0) text)))) table
       → said ≡ trialCause (take (numbers - 0) written) rowWords → trialCause (l .program .header) (length (l .program .rows)) ≡ said
   lines-cause table written said w e =

@@ -46,7 +46,7 @@ fn lines_rule(
     header: &mut [i32],
     rows: &mut [i32],
 ) -> RuleAnswer
-    requires { ⌜ HasLines Source (now text) end numbers «row_words» ⌝ }
+    requires { ⌜ HasLines 6 Source (now text) end numbers «row_words» ⌝ }
     requires { ⌜ length (now header) ≡ 34 ⌝ }
     requires { ⌜ length (now rows) ≡ 768 ⌝ }
     ensures { λ r. ⌜ RuleRead (parsedRule (parse Source (now (text .entry)))) r (now (header .exit)) (now (rows .exit)) ⌝ }
@@ -75,7 +75,7 @@ pub fn read_rule(text: &[u8], header: &mut [i32], rows: &mut [i32]) -> RuleAnswe
             place: 0,
         });
     }
-    let shape = shape_of(Form::Source, text);
+    let shape = shape_of(6, Form::Source, text);
     match shape {
         Shape::Malformed(line) => RuleAnswer::Refused(Refusal {
             number: 14,

@@ -4,6 +4,7 @@ use mathlib.Core.Bool.{Bool, true, false}
 use mathlib.Core.List.{List, [], _∷_, _++_, append-assoc, append-nil}
 use mathlib.Core.Option.{Option, none, some}
 use Prim.Native.Nat.{ℕ, _+_, _*_, _-_, _≤_, _<_}
+use native.Mathlib.Nat.{mul-zero}
 use native.Mathlib.Omega.{arith}
 use lib.Dec.{eqb}
 use lib.IntN.{ℤ}
@@ -16,7 +17,7 @@ use Rattle.words.specs.declared.Form.{Form}
 use Rattle.text_lines.specs.Line.{Line, ended, unended, linesOf, fieldsOf, numbersOf, lineNumbers}
 use Rattle.text_form.specs.Text.{keep, headerSized, headerLine, rowSized, rowLine, Parsed, parsed, malformed, withRow, rowsFrom}
 use Rattle.text_lines.specs.LineLaws.{line-few}
-use Rattle.text_form.specs.TextLaws.{keep-is, keep-not, keep-none, keep-reads, with-none, rows-next}
+use Rattle.text_form.specs.TextLaws.{keep-is, keep-not, keep-none, keep-reads, with-none, rows-next, row-more}
 use Rattle.text_lines.specs.Reader.{sizeOf}
 use Rattle.text_form.specs.Reader.{isFound, wordsOf}
 use Rattle.text_lines.specs.CountLaws.{Sized}
@@ -59,17 +60,17 @@ module _ (form : Form) (line : List ℕ) where
         most : count ≤ leading form + 32 → length (s .numbers) ≤ leading form + 32
         most h = omega (arith, s .size)
 
-pub row-none : (line : List ℕ) → numbersOf (fieldsOf line) ≡ none → false ≡ isFound (rowLine (ended line))
+pub row-none : (width : ℕ) (line : List ℕ) → numbersOf (fieldsOf line) ≡ none → false ≡ isFound (rowLine width (ended line))
 unfolding rowLine lineNumbers
-row-none line e = rw (e, keep-none rowSized)
+row-none width line e = rw (e, keep-none (rowSized width))
 
 found-kept : (test : Bool) (numbers : List ℤ) → test ≡ isFound (pick test (some numbers) none)
 found-kept true numbers = refl
 found-kept false numbers = refl
 
-pub row-sized : (line : List ℕ) {count : ℕ} → Sized (numbersOf (fieldsOf line)) count → eqb count 6 ≡ isFound (rowLine (ended line))
+pub row-sized : (width : ℕ) (line : List ℕ) {count : ℕ} → Sized (numbersOf (fieldsOf line)) count → eqb count width ≡ isFound (rowLine width (ended line))
 unfolding rowLine lineNumbers keep
-row-sized line s = rw (s .is, ← s .size) (found-kept (eqb (length (s .numbers)) 6) (s .numbers))
+row-sized width line s = rw (s .is, ← s .size) (found-kept (eqb (length (s .numbers)) width) (s .numbers))
 
 pub record Found (read : Option (List ℤ)) : Type 0 where
   pub row : List ℤ
@@ -83,30 +84,30 @@ pub found-none : (read : Option (List ℤ)) → isFound read ≡ false → read 
 found-none none e = refl
 found-none (some row) e = absurd (let z : _≡_ {A = ℕ} 0 1 = cc in omega arith)
 
--- a row's line has six numbers, and at least as many bytes, its newline counted
-pub record SixNumbers (line : List ℕ) (row : List ℤ) : Type 0 where
+-- a row's line has as many numbers as the row has words, and at least as many bytes, its newline counted
+pub record RowNumbers (width : ℕ) (line : List ℕ) (row : List ℤ) : Type 0 where
   pub read : numbersOf (fieldsOf line) ≡ some row
-  pub six : length row ≡ 6
-  pub long : 6 ≤ length line + 1
+  pub size : length row ≡ width
+  pub long : width ≤ length line + 1
 
-pub six-numbers : (line : List ℕ) (row : List ℤ) → rowLine (ended line) ≡ some row → SixNumbers line row
+pub row-numbers : (width : ℕ) (line : List ℕ) (row : List ℤ) → rowLine width (ended line) ≡ some row → RowNumbers width line row
 unfolding rowLine lineNumbers
-six-numbers line row e =
-    let k = keep-reads rowSized (numbersOf (fieldsOf line)) row e in
-    let six : length row ≡ 6 = eqb-true (length row) 6 (k .passes) in
-    record { read = k .same; six = six; long = omega (arith, line-few line row (k .same)) }
+row-numbers width line row e =
+    let k = keep-reads (rowSized width) (numbersOf (fieldsOf line)) row e in
+    let size : length row ≡ width = eqb-true (length row) width (k .passes) in
+    record { read = k .same; size = size; long = omega (arith, line-few line row (k .same)) }
 
 -- ---- the lines that are left
 
-unended-none : (line : List ℕ) → rowLine (unended line) ≡ none
+unended-none : (width : ℕ) (line : List ℕ) → rowLine width (unended line) ≡ none
 unfolding rowLine lineNumbers keep
-unended-none line = refl
+unended-none width line = refl
 
-rows-unended : (number : ℕ) (line : List ℕ) → rowsFrom number (unended line ∷ []) ≡ malformed number
-rows-unended number line = rows-next number (unended line) [] ∙ rw (unended-none line) (with-none number _)
+rows-unended : (width number : ℕ) (line : List ℕ) → rowsFrom width number (unended line ∷ []) ≡ malformed number
+rows-unended width number line = rows-next width number (unended line) [] ∙ rw (unended-none width line) (with-none number _)
 
-rows-bad : (number : ℕ) (line : List ℕ) (lines : List Line) → rowLine (ended line) ≡ none → rowsFrom number (ended line ∷ lines) ≡ malformed number
-rows-bad number line lines e = rows-next number (ended line) lines ∙ rw e (with-none number _)
+rows-bad : (width number : ℕ) (line : List ℕ) (lines : List Line) → rowLine width (ended line) ≡ none → rowsFrom width number (ended line ∷ lines) ≡ malformed number
+rows-bad width number line lines e = rows-next width number (ended line) lines ∙ rw e (with-none number _)
 
 -- ---- the words that were read
 
@@ -130,66 +131,69 @@ behind-more before row number (parsed words) = ap parsed (sym (append-assoc befo
 behind-more before row number (malformed line) = refl
 
 -- the lines before byte `at` gave `count` rows
-pub record Walked (text : List ℕ) (at count : ℕ) : Type 0 where
+pub record Walked (width : ℕ) (text : List ℕ) (at count : ℕ) : Type 0 where
   pub inside : at ≤ length text
-  pub fewer : 6 * count ≤ at
+  pub fewer : width * count ≤ at
+  pub many : count ≤ at
   pub before : List ℤ
-  pub size : length before ≡ 6 * count
-  pub same : rowsFrom 2 (linesOf text) ≡ behind before (rowsFrom (count + 2) (linesOf (drop at text)))
+  pub size : length before ≡ width * count
+  pub same : rowsFrom width 2 (linesOf text) ≡ behind before (rowsFrom width (count + 2) (linesOf (drop at text)))
 
-pub walked-start : (text : List ℕ) → Walked text 0 0
-walked-start text = record {
+pub walked-start : (width : ℕ) (text : List ℕ) → Walked width text 0 0
+walked-start width text = record {
   inside = omega arith;
-  fewer = omega arith;
+  fewer = omega (arith, mul-zero width);
+  many = omega arith;
   before = [];
-  size = refl;
-  same = behind-nil (rowsFrom 2 (linesOf text));
+  size = sym (mul-zero width);
+  same = behind-nil (rowsFrom width 2 (linesOf text));
 }
 
-pub start-before : (text : List ℕ) → walked-start text .before ≡ []
+pub start-before : (width : ℕ) (text : List ℕ) → walked-start width text .before ≡ []
 unfolding walked-start
-start-before text = refl
+start-before width text = refl
 
-rows-end : (number : ℕ) (text : List ℕ) (at : ℕ) → length text ≤ at → rowsFrom number (linesOf (drop at text)) ≡ parsed []
+rows-end : (width number : ℕ) (text : List ℕ) (at : ℕ) → length text ≤ at → rowsFrom width number (linesOf (drop at text)) ≡ parsed []
 unfolding rowsFrom linesOf
-rows-end number text at h = rw (drop-of-length-le text {i = at} h)
+rows-end width number text at h = rw (drop-of-length-le text {i = at} h)
 
-module _ {text : List ℕ} {at count : ℕ} (w : Walked text at count) where
-  pub walked-end : length text ≤ at → rowsFrom 2 (linesOf text) ≡ parsed (w .before)
+module _ {width : ℕ} {text : List ℕ} {at count : ℕ} (w : Walked width text at count) where
+  pub walked-end : length text ≤ at → rowsFrom width 2 (linesOf text) ≡ parsed (w .before)
   unfolding behind
-  walked-end h = w .same ∙ rw (rows-end (count + 2) text at h) (ap parsed (append-nil (w .before)))
+  walked-end h = w .same ∙ rw (rows-end width (count + 2) text at h) (ap parsed (append-nil (w .before)))
 
-  pub walked-says : length text ≤ at → parsed (6 * count) ≡ wordsOf (rowsFrom 2 (linesOf text))
+  pub walked-says : length text ≤ at → parsed (width * count) ≡ wordsOf (rowsFrom width 2 (linesOf text))
   walked-says h = rw (walked-end h) (ap parsed (sym (w .size)))
 
-  malformed-at : rowsFrom (count + 2) (linesOf (drop at text)) ≡ malformed (count + 2) → rowsFrom 2 (linesOf text) ≡ malformed (count + 2)
+  malformed-at : rowsFrom width (count + 2) (linesOf (drop at text)) ≡ malformed (count + 2) → rowsFrom width 2 (linesOf text) ≡ malformed (count + 2)
   malformed-at e = w .same ∙ ap (behind (w .before)) e ∙ behind-malformed (w .before) (count + 2)
 
   module _ {end : ℕ} (p : Piece 10 text at end) (more : at < length text) where
-    pub walked-unended : length text ≤ end → rowsFrom 2 (linesOf text) ≡ malformed (count + 2)
-    walked-unended h = malformed-at (ap (rowsFrom (count + 2)) (lines-last p more h) ∙ rows-unended (count + 2) _)
+    pub walked-unended : length text ≤ end → rowsFrom width 2 (linesOf text) ≡ malformed (count + 2)
+    walked-unended h = malformed-at (ap (rowsFrom width (count + 2)) (lines-last p more h) ∙ rows-unended width (count + 2) _)
 
     module _ (h : end < length text) where
-      pub walked-bad : rowLine (ended (take (end - at) (drop at text))) ≡ none → rowsFrom 2 (linesOf text) ≡ malformed (count + 2)
-      walked-bad e = malformed-at (ap (rowsFrom (count + 2)) (lines-step p h) ∙ rows-bad (count + 2) _ _ e)
+      pub walked-bad : rowLine width (ended (take (end - at) (drop at text))) ≡ none → rowsFrom width 2 (linesOf text) ≡ malformed (count + 2)
+      walked-bad e = malformed-at (ap (rowsFrom width (count + 2)) (lines-step p h) ∙ rows-bad width (count + 2) _ _ e)
 
-      module _ (row : List ℤ) (e : rowLine (ended (take (end - at) (drop at text))) ≡ some row) where
-        next-same : rowsFrom 2 (linesOf text) ≡ behind (w .before ++ row) (rowsFrom (count + 1 + 2) (linesOf (drop (end + 1) text)))
+      module _ (row : List ℤ) (e : rowLine width (ended (take (end - at) (drop at text))) ≡ some row) where
+        next-same : rowsFrom width 2 (linesOf text) ≡ behind (w .before ++ row) (rowsFrom width (count + 1 + 2) (linesOf (drop (end + 1) text)))
         next-same =
             let n : count + 2 + 1 ≡ count + 1 + 2 = omega arith in
-            w .same ∙ ap (λ (lines : List Line). behind (w .before) (rowsFrom (count + 2) lines)) (lines-step p h)
-            ∙ ap (behind (w .before)) (rows-next (count + 2) _ _) ∙ rw e (behind-more (w .before) row (count + 2) _)
-            ∙ ap (λ (number : ℕ). behind (w .before ++ row) (rowsFrom number (linesOf (drop (end + 1) text)))) n
+            w .same ∙ ap (λ (lines : List Line). behind (w .before) (rowsFrom width (count + 2) lines)) (lines-step p h)
+            ∙ ap (behind (w .before)) (rows-next width (count + 2) _ _) ∙ rw e (behind-more (w .before) row (count + 2) _)
+            ∙ ap (λ (number : ℕ). behind (w .before ++ row) (rowsFrom width number (linesOf (drop (end + 1) text)))) n
 
-        pub walked-next : Walked text (end + 1) (count + 1)
+        pub walked-next : Walked width text (end + 1) (count + 1)
         walked-next =
-            let s = six-numbers _ row e in
+            let s = row-numbers width _ row e in
             let long : length (take (end - at) (drop at text)) ≡ end - at = length-take-le (end - at) (drop at text) (rw length-drop (omega arith)) in
             record {
               inside = omega arith;
-              fewer = omega (arith, w .fewer, s .long, p .from);
+              fewer = omega (arith, w .fewer, s .long, p .from, row-more width count);
+              many = omega (arith, w .many, p .from);
               before = w .before ++ row;
-              size = length-append (w .before) row ∙ omega (arith, w .size, s .six);
+              size = length-append (w .before) row ∙ omega (arith, w .size, s .size, row-more width count);
               same = next-same;
             }
 

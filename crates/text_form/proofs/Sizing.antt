@@ -4,6 +4,7 @@ use mathlib.Core.Bool.{true}
 use mathlib.Core.List.{List, [], _∷_}
 use mathlib.Core.Option.{none, some}
 use Prim.Native.Nat.{ℕ, zero, suc, _+_, _*_, _≤_, _<_}
+use native.Mathlib.Nat.{mul-zero, mul-suc}
 use native.Mathlib.Omega.{arith}
 use lib.Dec.{leb}
 use lib.IntN.{ℤ}
@@ -15,7 +16,7 @@ use Rattle.words.specs.Table.{rowCount}
 use Rattle.words.specs.declared.Form.{Form}
 use Rattle.text_form.specs.declared.WriteAnswer.the-variants.{Written, Refused}
 use Rattle.text_lines.specs.Line.{lineBytes}
-use Rattle.text_form.specs.Text.{rowsBytes, textBytes}
+use Rattle.text_form.specs.Text.{rowsBytes, tableBytes, textBytes}
 use Rattle.text_form.specs.Answers.{finished, causeOf, writeBytes, writeResult, Writes}
 use Rattle.text_form.specs.AnswerLaws.{cause-none}
 use Rattle.text_numbers.specs.Writer.{Put}
@@ -27,18 +28,18 @@ use Rattle.text_form.proofs.Writing.{text-size}
 
 -- ---- the bytes of a text
 
-bytes-rows : (count : ℕ) (rows : List ℤ) → length rows ≡ 6 * count → length (rowsBytes count rows) ≡ bytesOf rows
+bytes-rows : (width count : ℕ) (rows : List ℤ) → 0 < width → length rows ≡ width * count → length (rowsBytes width count rows) ≡ bytesOf rows
 unfolding rowsBytes bytesOf
-bytes-rows zero [] h = refl
-bytes-rows zero (z ∷ rows) h = absurd (omega arith)
-bytes-rows (suc count) rows h =
-    let six : length (take 6 rows) ≡ 6 = length-take-le 6 rows (omega arith) in
-    let others : length (drop 6 rows) ≡ 6 * count = rw length-drop (omega arith) in
-    length-append (lineBytes (take 6 rows)) (rowsBytes count (drop 6 rows))
-    ∙ omega (arith, bytes-line (take 6 rows) (omega arith), bytes-rows count (drop 6 rows) others, bytes-append (take 6 rows) (drop 6 rows), ap bytesOf (take-append-drop 6 rows))
+bytes-rows width zero [] p h = refl
+bytes-rows width zero (z ∷ rows) p h = absurd (omega (arith, mul-zero width))
+bytes-rows width (suc count) rows p h =
+    let one : length (take width rows) ≡ width = length-take-le width rows (omega (arith, mul-suc width count)) in
+    let others : length (drop width rows) ≡ width * count = rw length-drop (omega (arith, mul-suc width count)) in
+    length-append (lineBytes (take width rows)) (rowsBytes width count (drop width rows))
+    ∙ omega (arith, bytes-line (take width rows) (omega arith), bytes-rows width count (drop width rows) p others, bytes-append (take width rows) (drop width rows), ap bytesOf (take-append-drop width rows))
 
-bytes-text : (header rows : List ℤ) → 0 < length header → length rows ≡ 6 * rowCount rows → length (textBytes header rows) ≡ bytesOf header + bytesOf rows
-bytes-text header rows h e = text-size header rows ∙ omega (arith, bytes-line header h, bytes-rows (rowCount rows) rows e)
+pub bytes-text : (width count : ℕ) (header rows : List ℤ) → 0 < width → 0 < length header → length rows ≡ width * count → length (tableBytes width count header rows) ≡ bytesOf header + bytesOf rows
+bytes-text width count header rows p h e = text-size width count header rows ∙ omega (arith, bytes-line header h, bytes-rows width count rows p e)
 
 -- ---- what a writer leaves
 
@@ -72,10 +73,10 @@ module _ {form : Form} {header rows : List ℤ} {first others : ℕ} (s : Sized 
   limits = limited form header rows (s .passes)
 
   total : length (textBytes header rows) ≡ first + others
-  total = bytes-text header rows (limits .filled) (limits .whole) ∙ omega (arith, s .header-size .sum, s .rows-size .sum)
+  total = bytes-text 6 (rowCount rows) header rows (omega arith) (limits .filled) (limits .whole) ∙ omega (arith, s .header-size .sum, s .rows-size .sum)
 
-  pub sized-fills : (text : List ℕ) → first + others ≤ length text → Fills header rows text
-  sized-fills text h = record { filled = limits .filled; whole = limits .whole; room = omega (arith, total) }
+  pub sized-fills : (text : List ℕ) → first + others ≤ length text → Fills 6 (rowCount rows) header rows text
+  sized-fills text h = record { filled = limits .filled; wide = omega arith; whole = limits .whole; room = omega (arith, total) }
 
   pub writes-short : (text : List ℕ) → length text < first + others → Writes (writeResult form header rows text) (Refused (record { number = 10; place = 0 })) text
   unfolding writeResult writeBytes

@@ -6,24 +6,24 @@ use Rattle.words.specs.Word.{isWord}
 use Rattle.words.specs.declared.Form.the-variants.{Source, Kernel}
 use Rattle.text_numbers.specs.Number.{isDigit, decimal, natural, word, positive, numberOf}
 use Rattle.text_lines.specs.Line.{fieldsOf, linesOf, together, numbersOf, lineNumbers}
-use Rattle.text_form.specs.Text.{keep, headerLine, rowLine, parsed, malformed, withRow, rowsFrom, withHeader, programOf, parse}
+use Rattle.text_form.specs.Text.{keep, headerLine, rowLine, parsed, malformed, withRow, rowsFrom, withHeader, programOf, parseTable, parse}
 
 -- "1 for an empty text"
 empty-text : parse Source [] ≡ malformed 1
-unfolding parse programOf linesOf
+unfolding parseTable programOf linesOf
 empty-text = refl
 
 -- a first line and nothing else is well formed: V = 0
 header-alone : parse Source (48 ∷ 10 ∷ []) ≡ parsed (record { header = pos 0 ∷ []; rows = [] })
-unfolding parse programOf linesOf withHeader headerLine keep lineNumbers fieldsOf numbersOf together numberOf natural decimal isDigit positive word isWord rowsFrom
+unfolding parseTable programOf linesOf withHeader headerLine keep lineNumbers fieldsOf numbersOf together numberOf natural decimal isDigit positive word isWord rowsFrom
 header-alone = refl
 
 -- in a kernel text T is missing
 header-too-short : parse Kernel (48 ∷ 10 ∷ []) ≡ malformed 1
-unfolding parse programOf linesOf withHeader headerLine keep lineNumbers fieldsOf numbersOf together numberOf natural decimal isDigit positive word isWord
+unfolding parseTable programOf linesOf withHeader headerLine keep lineNumbers fieldsOf numbersOf together numberOf natural decimal isDigit positive word isWord
 header-too-short = refl
 
 -- the last line lacks its newline
 newline-missing : parse Source (48 ∷ 10 ∷ 48 ∷ []) ≡ malformed 2
-unfolding parse programOf linesOf withHeader headerLine keep lineNumbers fieldsOf numbersOf together numberOf natural decimal isDigit positive word isWord rowsFrom rowLine withRow
+unfolding parseTable programOf linesOf withHeader headerLine keep lineNumbers fieldsOf numbersOf together numberOf natural decimal isDigit positive word isWord rowsFrom rowLine withRow
 newline-missing = refl

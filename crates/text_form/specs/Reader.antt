@@ -15,7 +15,8 @@ use Rattle.text_form.specs.declared.reader.Shape.{Shape}
 use Rattle.text_form.specs.declared.reader.Shape.the-variants as shape-cases
 use Rattle.text_lines.specs.Line.{fieldsOf, linesOf, numbersOf}
 use Rattle.text_lines.specs.Reader.{numbersIn}
-use Rattle.text_form.specs.Text.{Parsed, parsed, malformed, rowsFrom, Program, parse}
+use Rattle.text_form.specs.Answers.{unless, ReadResult, readRefused, readProgram, tablesHold}
+use Rattle.text_form.specs.Text.{Parsed, parsed, malformed, rowsFrom, Program, parseTable}
 
 -- ---- lines
 
@@ -53,17 +54,27 @@ pub record HoldsRows (read : Parsed (List ℤ)) (table : List ℤ) : Type 0 wher
   pub well-formed : read ≡ parsed (wordsIn read)
   pub room : length (wordsIn read) ≤ length table
 
--- A text is well formed: its first line, of so many bytes, gives so many header words, and the others so many row words.
-pub record HasLines (form : Form) (text : List ℕ) (end headerWords rowWords : ℕ) : Type 0 where
+-- A text of rows of `width` words is well formed: its first line, of so many bytes, gives so many header words, and the others so many row words.
+pub record HasLines (width : ℕ) (form : Form) (text : List ℕ) (end headerWords rowWords : ℕ) : Type 0 where
   pub program : Program
   pub inside : end < length text
   pub first-line : numbersOf (fieldsOf (take end text)) ≡ some (program .header)
-  pub other-lines : rowsFrom 2 (linesOf (drop (end + 1) text)) ≡ parsed (program .rows)
+  pub other-lines : rowsFrom width 2 (linesOf (drop (end + 1) text)) ≡ parsed (program .rows)
   pub header-size : length (program .header) ≡ headerWords
   pub rows-size : length (program .rows) ≡ rowWords
   pub few : headerWords ≤ 34
-  pub parses : parse form text ≡ parsed program
+  pub parses : parseTable width form text ≡ parsed program
 
-abbrev pub Shaped : Form → List ℕ → Shape → Type 0
-Shaped form text (shape-cases.Lines end headerWords rowWords) = HasLines form text end headerWords rowWords
-Shaped form text (shape-cases.Malformed line) = parse form text ≡ malformed line
+abbrev pub Shaped : ℕ → Form → List ℕ → Shape → Type 0
+Shaped width form text (shape-cases.Lines end headerWords rowWords) = HasLines width form text end headerWords rowWords
+Shaped width form text (shape-cases.Malformed line) = parseTable width form text ≡ malformed line
+
+-- The first cause, where `before` is the first of those before 10.
+unfoldable pub orShort : Option ℕ → Bool → Option ℕ
+orShort (some number) room = some number
+orShort none room = unless room 10 none
+
+-- What a reader gives of a text by its first cause between 14 and 10.
+unfoldable pub readBy : Option ℕ → Parsed Program → List ℤ → List ℤ → ReadResult
+readBy before (malformed line) header rows = readRefused 14 line header rows
+readBy before (parsed program) header rows = readProgram (orShort before (tablesHold program header rows)) program header rows

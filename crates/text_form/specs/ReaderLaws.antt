@@ -27,11 +27,11 @@ module _ {read : Option (List ℤ)} {numbers : ℕ} (h : HoldsExactly read numbe
 
 -- ---- the lines of a well-formed text, as their readers are lent them
 
-module _ {form : Form} {text : List ℕ} {end numbers words : ℕ} (l : HasLines form text end numbers words) where
+module _ {width : ℕ} {form : Form} {text : List ℕ} {end numbers words : ℕ} (l : HasLines width form text end numbers words) where
   pub lent-line : numbersOf (fieldsOf (take (end - 0) text)) ≡ some (l .program .header)
   lent-line = rw (first-of text end) (l .first-line)
 
-  lent-rows : rowsFrom 2 (linesOf (take (length text - (end + 1)) (drop (end + 1) text))) ≡ parsed (l .program .rows)
+  lent-rows : rowsFrom width 2 (linesOf (take (length text - (end + 1)) (drop (end + 1) text))) ≡ parsed (l .program .rows)
   lent-rows = rw (rest-of text (end + 1)) (l .other-lines)
 
   pub line-exactly : HoldsExactly (numbersOf (fieldsOf (take (end - 0) text))) numbers
@@ -46,8 +46,8 @@ module _ {form : Form} {text : List ℕ} {end numbers words : ℕ} (l : HasLines
   pub line-written : (header written : List ℤ) → written ≡ over (numbersIn (numbersOf (fieldsOf (take (end - 0) text)))) header → written ≡ over (l .program .header) header
   line-written header written e = rw lent-line at e
 
-  pub rows-hold : (rows : List ℤ) → words ≤ length rows → HoldsRows (rowsFrom 2 (linesOf (take (length text - (end + 1)) (drop (end + 1) text)))) rows
+  pub rows-hold : (rows : List ℤ) → words ≤ length rows → HoldsRows (rowsFrom width 2 (linesOf (take (length text - (end + 1)) (drop (end + 1) text)))) rows
   rows-hold rows h = record { well-formed = rw lent-rows; room = rw lent-rows (omega (arith, l .rows-size)) }
 
-  pub rows-written : (rows written : List ℤ) → written ≡ over (wordsIn (rowsFrom 2 (linesOf (take (length text - (end + 1)) (drop (end + 1) text))))) rows → written ≡ over (l .program .rows) rows
+  pub rows-written : (rows written : List ℤ) → written ≡ over (wordsIn (rowsFrom width 2 (linesOf (take (length text - (end + 1)) (drop (end + 1) text))))) rows → written ≡ over (l .program .rows) rows
   rows-written rows written e = rw lent-rows at e

@@ -14,14 +14,18 @@ use Rattle.text_lines.specs.Line.{lineBytes, Line, linesOf, lineNumbers}
 
 -- ---- writing
 
--- The bytes of so many rows.
-unfoldable pub rowsBytes : ℕ → List ℤ → List ℕ
-rowsBytes zero rows = []
-rowsBytes (suc count) rows = lineBytes (take 6 rows) ++ rowsBytes count (drop 6 rows)
+-- The bytes of so many rows, each of `width` words.
+unfoldable pub rowsBytes : ℕ → ℕ → List ℤ → List ℕ
+rowsBytes width zero rows = []
+rowsBytes width (suc count) rows = lineBytes (take width rows) ++ rowsBytes width count (drop width rows)
 
--- The text of a header and rows.
-unfoldable pub textBytes : List ℤ → List ℤ → List ℕ
-textBytes header rows = lineBytes header ++ rowsBytes (rowCount rows) rows
+-- The text of a header and so many rows of `width` words.
+unfoldable pub tableBytes : ℕ → ℕ → List ℤ → List ℤ → List ℕ
+tableBytes width count header rows = lineBytes header ++ rowsBytes width count rows
+
+-- The text of a header and rows: "a row's six fields".
+abbrev pub textBytes : List ℤ → List ℤ → List ℕ
+textBytes header rows = tableBytes 6 (rowCount rows) header rows
 
 -- ---- reading
 
@@ -37,11 +41,11 @@ headerSized form numbers = leb (leading form) (length numbers) && leb (length nu
 unfoldable pub headerLine : Form → Line → Option (List ℤ)
 headerLine form line = keep (headerSized form) (lineNumbers line)
 
-abbrev pub rowSized : List ℤ → Bool
-rowSized numbers = eqb (length numbers) 6
+abbrev pub rowSized : ℕ → List ℤ → Bool
+rowSized width numbers = eqb (length numbers) width
 
-unfoldable pub rowLine : Line → Option (List ℤ)
-rowLine line = keep rowSized (lineNumbers line)
+unfoldable pub rowLine : ℕ → Line → Option (List ℤ)
+rowLine width line = keep (rowSized width) (lineNumbers line)
 
 -- What a text gives, or its first malformed line.
 pub data Parsed (A : Type 0) : Type 0 where
@@ -54,10 +58,10 @@ withRow number none others = malformed number
 withRow number (some row) (parsed rows) = parsed (row ++ rows)
 withRow number (some row) (malformed later) = malformed later
 
--- The words of the rows whose lines have this number and those that follow.
-unfoldable pub rowsFrom : ℕ → List Line → Parsed (List ℤ)
-rowsFrom number [] = parsed []
-rowsFrom number (line ∷ lines) = withRow number (rowLine line) (rowsFrom (number + 1) lines)
+-- The words of the rows, of `width` words each, whose lines have this number and those that follow.
+unfoldable pub rowsFrom : ℕ → ℕ → List Line → Parsed (List ℤ)
+rowsFrom width number [] = parsed []
+rowsFrom width number (line ∷ lines) = withRow number (rowLine width line) (rowsFrom width (number + 1) lines)
 
 pub record Program : Type 0 where
   pub header : List ℤ
@@ -69,10 +73,14 @@ withHeader (some header) (parsed rows) = parsed (record { header = header; rows 
 withHeader (some header) (malformed later) = malformed later
 
 -- "The first such line is named, 1 for an empty text."
-unfoldable pub programOf : Form → List Line → Parsed Program
-programOf form [] = malformed 1
-programOf form (first ∷ others) = withHeader (headerLine form first) (rowsFrom 2 others)
+unfoldable pub programOf : ℕ → Form → List Line → Parsed Program
+programOf width form [] = malformed 1
+programOf width form (first ∷ others) = withHeader (headerLine form first) (rowsFrom width 2 others)
+
+-- The header and the rows of `width` words that a text gives.
+unfoldable pub parseTable : ℕ → Form → List ℕ → Parsed Program
+parseTable width form text = programOf width form (linesOf text)
 
 -- The header and the rows that a text gives.
-unfoldable pub parse : Form → List ℕ → Parsed Program
-parse form text = programOf form (linesOf text)
+abbrev pub parse : Form → List ℕ → Parsed Program
+parse form text = parseTable 6 form text

@@ -4,6 +4,8 @@ use mathlib.Core.Bool.{Bool, true, false}
 use mathlib.Core.List.{List, [], _∷_, _++_, map}
 use mathlib.Core.Option.{Option, none, some}
 use Prim.Native.Nat.{ℕ, zero, suc, _+_, _*_, _<_}
+use native.Mathlib.Nat.{mul-zero, mul-suc}
+use native.Mathlib.Numerals.{add-one}
 use native.Mathlib.Omega.{arith}
 use lib.Dec.{leb}
 use lib.IntN.{ℤ}
@@ -16,7 +18,7 @@ use Rattle.words.specs.Table.{rowCount}
 use Rattle.words.specs.declared.Form.{Form}
 use Rattle.text_numbers.specs.Number.{numberBytes}
 use Rattle.text_lines.specs.Line.{parted, lineBytes, Line, ended, linesOf, lineNumbers}
-use Rattle.text_form.specs.Text.{rowsBytes, textBytes, keep, headerSized, headerLine, rowSized, rowLine, Parsed, parsed, malformed, withRow, rowsFrom, Program, withHeader, programOf, parse}
+use Rattle.text_form.specs.Text.{rowsBytes, tableBytes, textBytes, keep, headerSized, headerLine, rowSized, rowLine, Parsed, parsed, malformed, withRow, rowsFrom, Program, withHeader, programOf, parseTable, parse}
 use Rattle.text_numbers.specs.NumberLaws.{not-some}
 use Rattle.text_lines.specs.LineLaws.{joined, none-joined, lines-joined, Words, line-reads, line-shows, lines-shows}
 
@@ -72,11 +74,17 @@ keep-reads test (some kept) numbers d =
     record { same = e; passes = rw (← same) t })
     (λ t. not-some (rw t at d))
 
+-- ---- the words of rows
+
+-- a row more has `width` words more
+pub row-more : (width count : ℕ) → width * (count + 1) ≡ width * count + width
+row-more width count = ap (λ (n : ℕ). width * n) (add-one count) ∙ mul-suc width count
+
 -- ---- rows that were written are read back
 
-row-shows : (row : List ℤ) → length row ≡ 6 → Words row → rowLine (ended (parted (map numberBytes row))) ≡ some row
+row-shows : (width : ℕ) (row : List ℤ) → 0 < width → length row ≡ width → Words row → rowLine width (ended (parted (map numberBytes row))) ≡ some row
 unfolding rowLine
-row-shows row h w = rw (line-shows row (omega arith) w) (keep-is rowSized row (eq-eqb (length row) 6 h))
+row-shows width row p h w = rw (line-shows row (omega arith) w) (keep-is (rowSized width) row (eq-eqb (length row) width h))
 
 pub with-none : (number : ℕ) (others : Parsed (List ℤ)) → withRow number none others ≡ malformed number
 unfolding withRow
@@ -86,72 +94,81 @@ with-parsed : (number : ℕ) (row rows : List ℤ) → withRow number (some row)
 unfolding withRow
 with-parsed number row rows = refl
 
-pub rows-next : (number : ℕ) (line : Line) (lines : List Line) → rowsFrom number (line ∷ lines) ≡ withRow number (rowLine line) (rowsFrom (number + 1) lines)
+pub rows-next : (width number : ℕ) (line : Line) (lines : List Line) → rowsFrom width number (line ∷ lines) ≡ withRow number (rowLine width line) (rowsFrom width (number + 1) lines)
 unfolding rowsFrom
-rows-next number line lines = refl
+rows-next width number line lines = refl
 
-rows-nil : (number : ℕ) → rowsFrom number (linesOf []) ≡ parsed []
+rows-nil : (width number : ℕ) → rowsFrom width number (linesOf []) ≡ parsed []
 unfolding rowsFrom linesOf
-rows-nil number = refl
+rows-nil width number = refl
 
-pub rows-shows : (count number : ℕ) (rows : List ℤ) → length rows ≡ 6 * count → Words rows → rowsFrom number (linesOf (rowsBytes count rows)) ≡ parsed rows
+pub rows-shows : (width count number : ℕ) (rows : List ℤ) → 0 < width → length rows ≡ width * count → Words rows → rowsFrom width number (linesOf (rowsBytes width count rows)) ≡ parsed rows
 unfolding rowsBytes
-rows-shows zero number [] h w = rows-nil number
-rows-shows zero number (z ∷ rows) h w = absurd (omega arith)
-rows-shows (suc count) number rows h w =
-    let six : length (take 6 rows) ≡ 6 = length-take-le 6 rows (omega arith) in
-    let others : length (drop 6 rows) ≡ 6 * count = rw length-drop (omega arith) in
-    ap (rowsFrom number) (lines-shows (take 6 rows) (rowsBytes count (drop 6 rows)))
-    ∙ rows-next number _ _
-    ∙ rw (row-shows (take 6 rows) six (words-take 6 rows w), rows-shows count (number + 1) (drop 6 rows) others (words-drop 6 rows w))
-    (with-parsed number (take 6 rows) (drop 6 rows) ∙ ap parsed (take-append-drop 6 rows))
+rows-shows width zero number [] p h w = rows-nil width number
+rows-shows width zero number (z ∷ rows) p h w = absurd (omega arith)
+rows-shows width (suc count) number rows p h w =
+    let one : length (take width rows) ≡ width = length-take-le width rows (omega (arith, mul-suc width count)) in
+    let others : length (drop width rows) ≡ width * count = rw length-drop (omega (arith, mul-suc width count)) in
+    ap (rowsFrom width number) (lines-shows (take width rows) (rowsBytes width count (drop width rows)))
+    ∙ rows-next width number _ _
+    ∙ rw (row-shows width (take width rows) p one (words-take width rows w), rows-shows width count (number + 1) (drop width rows) p others (words-drop width rows w))
+    (with-parsed number (take width rows) (drop width rows) ∙ ap parsed (take-append-drop width rows))
 
 -- ---- rows that were read are written alike
 
 -- what the lines of rows are
-pub record AreRows (lines : List Line) (rows : List ℤ) : Type 0 where
+pub record AreRows (width : ℕ) (lines : List Line) (rows : List ℤ) : Type 0 where
   pub count : ℕ
-  pub size : length rows ≡ 6 * count
-  pub written : joined lines ≡ rowsBytes count rows
+  pub size : length rows ≡ width * count
+  pub written : joined lines ≡ rowsBytes width count rows
   pub fits : Words rows
 
-rows-none : AreRows [] []
+rows-none : (width : ℕ) → AreRows width [] []
 unfolding rowsBytes Words
-rows-none = record { count = 0; size = refl; written = none-joined; fits = tt }
+rows-none width = record { count = 0; size = sym (mul-zero width); written = none-joined; fits = tt }
 
-bytes-more : (count : ℕ) (row rows : List ℤ) → length row ≡ 6 → rowsBytes (suc count) (row ++ rows) ≡ lineBytes row ++ rowsBytes count rows
+bytes-more : (width count : ℕ) (row rows : List ℤ) → length row ≡ width → rowsBytes width (suc count) (row ++ rows) ≡ lineBytes row ++ rowsBytes width count rows
 unfolding rowsBytes
-bytes-more count row rows h = rw (take-at row rows 6 h, drop-at row rows 6 h)
+bytes-more width count row rows h = rw (take-at row rows width h, drop-at row rows width h)
 
-rows-more : (line : Line) (lines : List Line) (row rows : List ℤ) → rowLine line ≡ some row → AreRows lines rows → AreRows (line ∷ lines) (row ++ rows)
+rows-more : (width : ℕ) (line : Line) (lines : List Line) (row rows : List ℤ) → rowLine width line ≡ some row → AreRows width lines rows → AreRows width (line ∷ lines) (row ++ rows)
 unfolding rowLine
-rows-more line lines row rows d a =
-    let k = keep-reads rowSized (lineNumbers line) row d in
+rows-more width line lines row rows d a =
+    let k = keep-reads (rowSized width) (lineNumbers line) row d in
     let i = line-reads line row (k .same) in
-    let six : length row ≡ 6 = eqb-true (length row) 6 (k .passes) in
+    let one : length row ≡ width = eqb-true (length row) width (k .passes) in
     record {
       count = suc (a .count);
-      size = length-append row rows ∙ omega (arith, a .size);
-      written = i .written lines ∙ rw (a .written) (sym (bytes-more (a .count) row rows six));
+      size = length-append row rows ∙ omega (arith, a .size, mul-suc width (a .count));
+      written = i .written lines ∙ rw (a .written) (sym (bytes-more width (a .count) row rows one));
       fits = words-append row rows (i .fits) (a .fits);
     }
 
-with-reads : (number : ℕ) (line : Line) (lines : List Line) (read : Option (List ℤ)) (others : Parsed (List ℤ)) (rows : List ℤ) → rowLine line ≡ read
-    → ((more : List ℤ) → others ≡ parsed more → AreRows lines more) → withRow number read others ≡ parsed rows → AreRows (line ∷ lines) rows
+with-reads : (width number : ℕ) (line : Line) (lines : List Line) (read : Option (List ℤ)) (others : Parsed (List ℤ)) (rows : List ℤ) → rowLine width line ≡ read
+    → ((more : List ℤ) → others ≡ parsed more → AreRows width lines more) → withRow number read others ≡ parsed rows → AreRows width (line ∷ lines) rows
 unfolding withRow
-with-reads number line lines none others rows e ih d = not-parsed (sym (with-none number others) ∙ d)
-with-reads number line lines (some row) (malformed later) rows e ih d = not-parsed d
-with-reads number line lines (some row) (parsed more) rows e ih d =
+with-reads width number line lines none others rows e ih d = not-parsed (sym (with-none number others) ∙ d)
+with-reads width number line lines (some row) (malformed later) rows e ih d = not-parsed d
+with-reads width number line lines (some row) (parsed more) rows e ih d =
     let same : row ++ more ≡ rows = cc in
-    rw (← same) (rows-more line lines row more e (ih more refl))
+    rw (← same) (rows-more width line lines row more e (ih more refl))
 
-pub rows-reads : (number : ℕ) (lines : List Line) (rows : List ℤ) → rowsFrom number lines ≡ parsed rows → AreRows lines rows
+pub rows-reads : (width number : ℕ) (lines : List Line) (rows : List ℤ) → rowsFrom width number lines ≡ parsed rows → AreRows width lines rows
 unfolding rowsFrom
-rows-reads number [] rows d = let same : [] ≡ rows = cc in rw (← same) rows-none
-rows-reads number (line ∷ lines) rows d =
-    with-reads number line lines (rowLine line) (rowsFrom (number + 1) lines) rows refl (rows-reads (number + 1) lines) d
+rows-reads width number [] rows d = let same : [] ≡ rows = cc in rw (← same) (rows-none width)
+rows-reads width number (line ∷ lines) rows d =
+    with-reads width number line lines (rowLine width line) (rowsFrom width (number + 1) lines) rows refl (rows-reads width (number + 1) lines) d
 
 -- ---- whole texts
+
+-- what a text of rows of `width` words that was read is
+pub record IsTable (width : ℕ) (form : Form) (text : List ℕ) (program : Program) : Type 0 where
+  pub count : ℕ
+  pub size : length (program .rows) ≡ width * count
+  pub written : tableBytes width count (program .header) (program .rows) ≡ text
+  pub sized : headerSized form (program .header) ≡ true
+  pub header-fits : Words (program .header)
+  pub rows-fit : Words (program .rows)
 
 -- what a text that was read is
 pub record IsText (form : Form) (text : List ℕ) (program : Program) : Type 0 where
@@ -175,51 +192,67 @@ with-header : (header rows : List ℤ) → withHeader (some header) (parsed rows
 unfolding withHeader
 with-header header rows = refl
 
-pub program-first : (form : Form) (line : Line) (lines : List Line) → programOf form (line ∷ lines) ≡ withHeader (headerLine form line) (rowsFrom 2 lines)
+pub program-first : (width : ℕ) (form : Form) (line : Line) (lines : List Line) → programOf width form (line ∷ lines) ≡ withHeader (headerLine form line) (rowsFrom width 2 lines)
 unfolding programOf
-program-first form line lines = refl
+program-first width form line lines = refl
 
 -- a text that was written is read back
+pub table-shows : (width count : ℕ) (form : Form) (header rows : List ℤ) → 0 < width → headerSized form header ≡ true → length rows ≡ width * count → Words header → Words rows
+    → parseTable width form (tableBytes width count header rows) ≡ parsed (record { header = header; rows = rows })
+unfolding parseTable tableBytes
+table-shows width count form header rows p t e w v =
+    ap (programOf width form) (lines-shows header (rowsBytes width count rows))
+    ∙ program-first width form _ _
+    ∙ rw (header-shows form header t w, rows-shows width count 2 rows p e v) (with-header header rows)
+
 pub text-shows : (form : Form) (header rows : List ℤ) → headerSized form header ≡ true → 6 * rowCount rows ≡ length rows → Words header → Words rows
     → parse form (textBytes header rows) ≡ parsed (record { header = header; rows = rows })
-unfolding parse textBytes
-text-shows form header rows t e w v =
-    ap (programOf form) (lines-shows header (rowsBytes (rowCount rows) rows))
-    ∙ program-first form _ _
-    ∙ rw (header-shows form header t w, rows-shows (rowCount rows) 2 rows (sym e) v) (with-header header rows)
+text-shows form header rows t e w v = table-shows 6 (rowCount rows) form header rows (omega arith) t (sym e) w v
 
-text-of : (form : Form) (text : List ℕ) (line : Line) (lines : List Line) (header rows : List ℤ) → linesOf text ≡ line ∷ lines → headerLine form line ≡ some header → rowsFrom 2 lines ≡ parsed rows
-    → IsText form text (record { header = header; rows = rows })
-unfolding headerLine textBytes
-text-of form text line lines header rows e h r =
+table-of : (width : ℕ) (form : Form) (text : List ℕ) (line : Line) (lines : List Line) (header rows : List ℤ) → linesOf text ≡ line ∷ lines → headerLine form line ≡ some header
+    → rowsFrom width 2 lines ≡ parsed rows → IsTable width form text (record { header = header; rows = rows })
+unfolding headerLine tableBytes
+table-of width form text line lines header rows e h r =
     let k = keep-reads (headerSized form) (lineNumbers line) header h in
     let i = line-reads line header (k .same) in
-    let a = rows-reads 2 lines rows r in
-    let n : rowCount rows ≡ a .count = omega (arith, a .size) in
+    let a = rows-reads width 2 lines rows r in
     record {
-      written = rw n (sym (sym (lines-joined text) ∙ ap joined e ∙ i .written lines ∙ rw (a .written)));
+      count = a .count;
+      size = a .size;
+      written = sym (sym (lines-joined text) ∙ ap joined e ∙ i .written lines ∙ rw (a .written));
       sized = k .passes;
-      whole = omega (arith, a .size);
       header-fits = i .fits;
       rows-fit = a .fits;
     }
 
-header-reads : (form : Form) (text : List ℕ) (line : Line) (lines : List Line) (read : Option (List ℤ)) (others : Parsed (List ℤ)) (program : Program)
-    → linesOf text ≡ line ∷ lines → headerLine form line ≡ read → rowsFrom 2 lines ≡ others → withHeader read others ≡ parsed program → IsText form text program
+header-reads : (width : ℕ) (form : Form) (text : List ℕ) (line : Line) (lines : List Line) (read : Option (List ℤ)) (others : Parsed (List ℤ)) (program : Program)
+    → linesOf text ≡ line ∷ lines → headerLine form line ≡ read → rowsFrom width 2 lines ≡ others → withHeader read others ≡ parsed program → IsTable width form text program
 unfolding withHeader
-header-reads form text line lines none others program e h r d = not-parsed d
-header-reads form text line lines (some header) (malformed later) program e h r d = not-parsed d
-header-reads form text line lines (some header) (parsed rows) program e h r d =
+header-reads width form text line lines none others program e h r d = not-parsed d
+header-reads width form text line lines (some header) (malformed later) program e h r d = not-parsed d
+header-reads width form text line lines (some header) (parsed rows) program e h r d =
     let same : _≡_ {A = Program} (record { header = header; rows = rows }) program = cc in
-    rw (← same) (text-of form text line lines header rows e h r)
+    rw (← same) (table-of width form text line lines header rows e h r)
 
-program-reads : (form : Form) (text : List ℕ) (lines : List Line) (program : Program) → linesOf text ≡ lines → programOf form lines ≡ parsed program → IsText form text program
+program-reads : (width : ℕ) (form : Form) (text : List ℕ) (lines : List Line) (program : Program) → linesOf text ≡ lines → programOf width form lines ≡ parsed program → IsTable width form text program
 unfolding programOf
-program-reads form text [] program e d = not-parsed d
-program-reads form text (line ∷ lines) program e d =
-    header-reads form text line lines (headerLine form line) (rowsFrom 2 lines) program e refl refl d
+program-reads width form text [] program e d = not-parsed d
+program-reads width form text (line ∷ lines) program e d =
+    header-reads width form text line lines (headerLine form line) (rowsFrom width 2 lines) program e refl refl d
 
 -- a text that was read is written alike
+pub table-reads : (width : ℕ) (form : Form) (text : List ℕ) (program : Program) → parseTable width form text ≡ parsed program → IsTable width form text program
+unfolding parseTable
+table-reads width form text program d = program-reads width form text (linesOf text) program refl d
+
 pub text-reads : (form : Form) (text : List ℕ) (program : Program) → parse form text ≡ parsed program → IsText form text program
-unfolding parse
-text-reads form text program d = program-reads form text (linesOf text) program refl d
+text-reads form text program d =
+    let a = table-reads 6 form text program d in
+    let n : rowCount (program .rows) ≡ a .count = omega (arith, a .size) in
+    record {
+      written = rw n (a .written);
+      sized = a .sized;
+      whole = omega (arith, a .size);
+      header-fits = a .header-fits;
+      rows-fit = a .rows-fit;
+    }

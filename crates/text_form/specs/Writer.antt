@@ -4,11 +4,11 @@ use mathlib.Core.List.{List}
 use Prim.Native.Nat.{ℕ, _*_, _≤_, _<_}
 use lib.IntN.{ℤ}
 use lib.ListN.{length}
-use Rattle.words.specs.Table.{rowCount}
-use Rattle.text_form.specs.Text.{textBytes}
+use Rattle.text_form.specs.Text.{tableBytes}
 
--- A buffer has room for the text of a header and whole rows.
-pub record Fills (header rows : List ℤ) (buffer : List ℕ) : Type 0 where
+-- A buffer has room for the text of a header and so many whole rows.
+pub record Fills (width count : ℕ) (header rows : List ℤ) (buffer : List ℕ) : Type 0 where
   pub filled : 0 < length header
-  pub whole : length rows ≡ 6 * rowCount rows
-  pub room : length (textBytes header rows) ≤ length buffer
+  pub wide : 0 < width
+  pub whole : length rows ≡ width * count
+  pub room : length (tableBytes width count header rows) ≤ length buffer

@@ -30,7 +30,7 @@ pub enum WriteAnswer {
 pub fn read(form: Form, text: &[u8], header: &mut [i32], rows: &mut [i32]) -> ReadAnswer
     ensures { λ r. ⌜ Reads (readResult form (now (text .entry)) (now (header .entry)) (now (rows .entry))) r (now (header .exit)) (now (rows .exit)) ⌝ }
 {
-    let shape = shape_of(form, text);
+    let shape = shape_of(6, form, text);
     match shape {
         Shape::Malformed(line) => ReadAnswer::Refused(Refusal {
             number: 14,
@@ -65,5 +65,5 @@ pub fn write(form: Form, header: &[i32], rows: &[i32], text: &mut [u8]) -> Write
             place: 0,
         });
     }
-    WriteAnswer::Written(put_text(header, rows, text))
+    WriteAnswer::Written(put_text(6, rows.len() / 6, header, rows, text))
 }

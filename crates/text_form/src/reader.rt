@@ -13,11 +13,11 @@ ghost use mathlib.Core.Path.{_≡_};
 ghost use mathlib.Core.Bool.{true};
 ghost use Prim.Native.Nat.{_+_};
 ghost use Rattle.text_lines.specs.Line.{ended, linesOf, fieldsOf, numbersOf};
-ghost use Rattle.text_form.specs.Text.{headerLine, rowLine, rowsFrom};
+ghost use Rattle.text_form.specs.Text.{headerLine, rowLine, rowsFrom, parseTable};
 ghost use Rattle.words.specs.Over.{over};
 ghost use Rattle.text_form.specs.Answers.{causeOf, readResult, Reads};
 ghost use Rattle.text_lines.specs.Reader.{sizeOf, countSays, numbersIn};
-ghost use Rattle.text_form.specs.Reader.{isFound, causeSays, HoldsExactly, rowsSay, wordsOf, wordsIn, HoldsRows, HasLines, Shaped};
+ghost use Rattle.text_form.specs.Reader.{isFound, causeSays, HoldsExactly, rowsSay, wordsOf, wordsIn, HoldsRows, HasLines, Shaped, readBy};
 
 // How many words the rows of a text have, or its first malformed line.
 pub enum Rows {
@@ -49,19 +49,19 @@ pub fn header_numbers(form: Form, line: &[u8]) -> Count
     Count::Numbers(count)
 }
 
-fn is_row(line: &[u8]) -> bool
-    ensures { λ r. ⌜ r ≡ isFound (rowLine (ended (now (line .entry)))) ⌝ }
+fn is_row(width: usize, line: &[u8]) -> bool
+    ensures { λ r. ⌜ r ≡ isFound (rowLine width (ended (now (line .entry)))) ⌝ }
 {
     let counted = count_numbers(line);
     let Count::Numbers(count) = counted else {
         return false;
     };
-    count == 6
+    count == width
 }
 
-// Counts the words of the rows behind the first line, or finds the first malformed line.
-fn count_rows(text: &[u8]) -> Rows
-    ensures { λ r. ⌜ rowsSay r ≡ wordsOf (rowsFrom 2 (linesOf (now (text .entry)))) ⌝ }
+// Counts the words of the rows, `width` each, behind the first line, or finds the first malformed line.
+fn count_rows(width: usize, text: &[u8]) -> Rows
+    ensures { λ r. ⌜ rowsSay r ≡ wordsOf (rowsFrom width 2 (linesOf (now (text .entry)))) ⌝ }
 {
     let mut at: usize = 0;
     let mut count: usize = 0;
@@ -70,34 +70,34 @@ fn count_rows(text: &[u8]) -> Rows
         if end == text.len() {
             return Rows::Malformed(count + 2);
         }
-        if !is_row(&text[at..end]) {
+        if !is_row(width, &text[at..end]) {
             return Rows::Malformed(count + 2);
         }
         count += 1;
         at = end + 1;
     }
-    Rows::Words(6 * count)
+    Rows::Words(width * count)
 }
 
-// Writes the words of the rows behind the first line at the start of `table`.
-fn store_rows(text: &[u8], table: &mut [i32])
-    requires { ⌜ HoldsRows (rowsFrom 2 (linesOf (now text))) (now table) ⌝ }
-    ensures { λ _. ⌜ now (table .exit) ≡ over (wordsIn (rowsFrom 2 (linesOf (now (text .entry))))) (now (table .entry)) ⌝ }
+// Writes the words of the rows, `width` each, behind the first line at the start of `table`.
+fn store_rows(width: usize, text: &[u8], table: &mut [i32])
+    requires { ⌜ HoldsRows (rowsFrom width 2 (linesOf (now text))) (now table) ⌝ }
+    ensures { λ _. ⌜ now (table .exit) ≡ over (wordsIn (rowsFrom width 2 (linesOf (now (text .entry))))) (now (table .entry)) ⌝ }
 {
     let mut at: usize = 0;
     let mut count: usize = 0;
     while at < text.len() {
         let end = piece_end(text, at, b'\n');
-        let start = 6 * count;
+        let start = width * count;
         store_numbers(&text[at..end], &mut table[start..]);
         count += 1;
         at = end + 1;
     }
 }
 
-// The shape of a text.
-pub fn shape_of(form: Form, text: &[u8]) -> Shape
-    ensures { λ r. ⌜ Shaped form (now (text .entry)) r ⌝ }
+// The shape of a text whose rows have `width` words.
+pub fn shape_of(width: usize, form: Form, text: &[u8]) -> Shape
+    ensures { λ r. ⌜ Shaped width form (now (text .entry)) r ⌝ }
 {
     let end = piece_end(text, 0, b'\n');
     if end == text.len() {
@@ -108,7 +108,7 @@ pub fn shape_of(form: Form, text: &[u8]) -> Shape
         return Shape::Malformed(1);
     };
     let next = end + 1;
-    let rows = count_rows(&text[next..]);
+    let rows = count_rows(width, &text[next..]);
     match rows {
         Rows::Malformed(line) => Shape::Malformed(line),
         Rows::Words(words) => Shape::Lines(end, numbers, words),
@@ -125,20 +125,21 @@ fn text_cause(form: Form, line: &[u8], numbers: usize, words: usize) -> Cause
     first_cause(form, &header[0..numbers], words)
 }
 
-// Reads a well-formed text. A refusal leaves both tables as they were.
-pub fn read_lines(
+// Stores the words of a well-formed text, unless there is a cause before 10, or a table is short. A refusal leaves both tables as they were.
+pub fn store_text(
+    width: usize,
     form: Form,
     text: &[u8],
     end: usize,
     numbers: usize,
     words: usize,
+    cause: Cause,
     header: &mut [i32],
     rows: &mut [i32],
 ) -> ReadAnswer
-    requires { ⌜ HasLines form (now text) end numbers words ⌝ }
-    ensures { λ r. ⌜ Reads (readResult form (now (text .entry)) (now (header .entry)) (now (rows .entry))) r (now (header .exit)) (now (rows .exit)) ⌝ }
+    requires { ⌜ HasLines width form (now text) end numbers words ⌝ }
+    ensures { λ r. ⌜ Reads (readBy (causeSays cause) (parseTable width form (now (text .entry))) (now (header .entry)) (now (rows .entry))) r (now (header .exit)) (now (rows .exit)) ⌝ }
 {
-    let cause = text_cause(form, &text[0..end], numbers, words);
     if let Cause::Number(number) = cause {
         return ReadAnswer::Refused(Refusal {
             number: number,
@@ -159,6 +160,23 @@ pub fn read_lines(
     }
     store_numbers(&text[0..end], header);
     let next = end + 1;
-    store_rows(&text[next..], rows);
+    store_rows(width, &text[next..], rows);
     ReadAnswer::Read(numbers, words)
+}
+
+// Reads a well-formed text.
+pub fn read_lines(
+    form: Form,
+    text: &[u8],
+    end: usize,
+    numbers: usize,
+    words: usize,
+    header: &mut [i32],
+    rows: &mut [i32],
+) -> ReadAnswer
+    requires { ⌜ HasLines 6 form (now text) end numbers words ⌝ }
+    ensures { λ r. ⌜ Reads (readResult form (now (text .entry)) (now (header .entry)) (now (rows .entry))) r (now (header .exit)) (now (rows .exit)) ⌝ }
+{
+    let cause = text_cause(form, &text[0..end], numbers, words);
+    store_text(6, form, text, end, numbers, words, cause, header, rows)
 }

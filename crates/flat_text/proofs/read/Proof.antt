@@ -1,5 +1,5 @@
 -- `read`: cause 14 by the shape, the rest by `read_lines`.
-use Rattle.flat_text.proofs.Shapes.{reads-malformed}
+use Rattle.flat_text.specs.ReaderLaws.{reads-malformed}
 use borrow.Author.Needs.{needs}
 use Rattle.flat_text.proofs.read.Statement.{statement}
 use Rattle.flat_text.proofs.read.Tie as tie

@@ -12,13 +12,13 @@ use Rattle.text_form.proofs.reader.count_rows.Statement.{statement}
 use Rattle.text_form.proofs.reader.count_rows.Tie as tie
 
 abbrev Inv-loop : tie.InvT-loop
-Inv-loop text at₀ count₀ at count = Walked text at count
+Inv-loop width text at₀ count₀ at count = Walked width text at count
 
 abbrev μ-loop : tie.MeasureT-loop
-μ-loop text at₀ count₀ at count = length text - at
+μ-loop width text at₀ count₀ at count = length text - at
 
 loop-holds : tie.Need-loop-holds Inv-loop μ-loop
-loop-holds c = walked-start _
+loop-holds c = walked-start _ _
 
 piece-end-requires : tie.Need-piece-end-requires Inv-loop μ-loop
 piece-end-requires c κs = omega (arith, c .loop-test .taken)
@@ -27,8 +27,8 @@ piece-end-requires c κs = omega (arith, c .loop-test .taken)
 line-ends : (c : tie.After-piece-end Inv-loop μ-loop) → Piece 10 (c .before .before .before .before .args .text .now) (c .before .before .loop .at) (c .piece-end .result)
 line-ends c = piece-of 10 _ _ _ (omega (arith, c .before .loop-test .taken)) (c .piece-end .ensures)
 
-add-t7 : tie.Need-add-t7 Inv-loop μ-loop
-add-t7 c = omega (arith, c .before .before .before .loop .inv .fewer, c .before .before .loop-test .taken)
+add-t8 : tie.Need-add-t8 Inv-loop μ-loop
+add-t8 c = omega (arith, c .before .before .before .loop .inv .many, c .before .before .loop-test .taken)
 
 returns : tie.Need-returns Inv-loop μ-loop
 returns c = sym (ap wordsOf (walked-unended (c .before .before .before .loop .inv) (line-ends (c .before)) (c .before .before .loop-test .taken) (omega (arith, c .if1 .taken))))
@@ -45,14 +45,14 @@ part-is-row-end c = omega (arith, line-ends (c .before) .inside)
 is-row-requires : tie.Need-is-row-requires Inv-loop μ-loop
 is-row-requires c κs = search needs
 
-add-t12 : tie.Need-add-t12 Inv-loop μ-loop
-add-t12 c = omega (arith, c .before .before .before .before .before .before .loop .inv .fewer, c .before .before .before .before .before .loop-test .taken)
+add-t13 : tie.Need-add-t13 Inv-loop μ-loop
+add-t13 c = omega (arith, c .before .before .before .before .before .before .loop .inv .many, c .before .before .before .before .before .loop-test .taken)
 
 returns-2 : tie.Need-returns-2 Inv-loop μ-loop
 returns-2 c = sym (ap wordsOf (walked-bad (c .before .before .before .before .before .before .loop .inv) (line-ends (c .before .before .before .before)) (c .before .before .before .before .before .loop-test .taken) (let other = c .before .before .before .if1 .left in omega (arith, line-ends (c .before .before .before .before) .inside)) (found-none _ (sym (c .before .is-row .ensures) ∙ not-true _ (c .if2 .taken)))))
 
 add-count : tie.Need-add-count Inv-loop μ-loop
-add-count c = omega (arith, c .before .before .before .before .before .before .loop .inv .fewer, c .before .before .before .before .before .loop-test .taken)
+add-count c = omega (arith, c .before .before .before .before .before .before .loop .inv .many, c .before .before .before .before .before .loop-test .taken)
 
 add-at : tie.Need-add-at Inv-loop μ-loop
 add-at c = let other = c .before .before .before .if1 .left in omega (arith, line-ends (c .before .before .before .before) .inside)
@@ -63,8 +63,8 @@ loop-less c = omega (arith, c .before .before .before .before .before .loop-test
 loop-again : tie.Need-loop-again Inv-loop μ-loop
 loop-again c = let r = found-row _ (sym (c .before .is-row .ensures) ∙ not-false _ (c .if2 .left)) in walked-next (c .before .before .before .before .before .before .loop .inv) (line-ends (c .before .before .before .before)) (c .before .before .before .before .before .loop-test .taken) (let other = c .before .before .before .if1 .left in omega (arith, line-ends (c .before .before .before .before) .inside)) (r .row) (r .is)
 
-mul-t13 : tie.Need-mul-t13 Inv-loop μ-loop
-mul-t13 c = omega (arith, c .before .loop .inv .fewer, c .before .loop .inv .inside, c .before .before .before .good)
+mul-t14 : tie.Need-mul-t14 Inv-loop μ-loop
+mul-t14 c = omega (arith, c .before .loop .inv .fewer, c .before .loop .inv .inside, c .before .before .before .good)
 
 returns-3 : tie.Need-returns-3 Inv-loop μ-loop
 returns-3 c = walked-says (c .before .loop .inv) (c .loop-test .left)
@@ -77,17 +77,17 @@ count-rows-spec =
     μ-loop
     loop-holds
     piece-end-requires
-    add-t7
+    add-t8
     returns
     sub-is-row
     part-is-row-start
     part-is-row-end
     is-row-requires
-    add-t12
+    add-t13
     returns-2
     add-count
     add-at
     loop-less
     loop-again
-    mul-t13
+    mul-t14
     returns-3)

@@ -1,4 +1,4 @@
--- `is_row`: six numbers.
+-- `is_row`: as many numbers as a row has words.
 use mathlib.Core.Path.{sym, ap, _∙_}
 use Rattle.text_lines.specs.Reader.{countSays}
 use Rattle.text_lines.specs.CountLaws.{size-none, size-some}
@@ -17,10 +17,10 @@ enum-told : tie.Need-enum-told
 enum-told c = search needs
 
 returns : tie.Need-returns
-returns c = row-none _ (size-none _ (ap countSays (sym (c .enum-told .given .1)) ∙ c .before .before .count-numbers .ensures))
+returns c = row-none _ _ (size-none _ (ap countSays (sym (c .enum-told .given .1)) ∙ c .before .before .count-numbers .ensures))
 
 returns-2 : tie.Need-returns-2
-returns-2 c = row-sized _ (size-some _ _ (ap countSays (sym (c .before .counted .given .1)) ∙ c .before .before .before .count-numbers .ensures))
+returns-2 c = row-sized _ _ (size-some _ _ (ap countSays (sym (c .before .counted .given .1)) ∙ c .before .before .before .count-numbers .ensures))
 
 pub is-row-spec : {M : Type 1} → statement M
 is-row-spec =

@@ -29,7 +29,7 @@ piece-end-requires : tie.Need-piece-end-requires
 piece-end-requires c κs = search needs
 
 returns : tie.Need-returns
-returns c = shape-unended _ (line-ends (c .before)) (omega (arith, c .if1 .taken))
+returns c = shape-unended _ _ (line-ends (c .before)) (omega (arith, c .if1 .taken))
 
 sub-header-numbers : tie.Need-sub-header-numbers
 sub-header-numbers c = search needs
@@ -50,7 +50,7 @@ enum-told : tie.Need-enum-told
 enum-told c = search needs
 
 returns-2 : tie.Need-returns-2
-returns-2 c = shape-bad _ (line-ends (c .before .before .before .before .before)) (has-newline (c .before .before .before .before)) (size-none _ (ap countSays (sym (c .enum-told .given .1)) ∙ c .before .before .header-numbers .ensures))
+returns-2 c = shape-bad _ _ (line-ends (c .before .before .before .before .before)) (has-newline (c .before .before .before .before)) (size-none _ (ap countSays (sym (c .enum-told .given .1)) ∙ c .before .before .header-numbers .ensures))
 
 add-next : tie.Need-add-next
 add-next c = omega (arith, has-newline (c .before .before .before .before .before))
@@ -74,10 +74,10 @@ enum-known-rows-2 : tie.Need-enum-known-rows-2
 enum-known-rows-2 c = search needs
 
 returns-3 : tie.Need-returns-3
-returns-3 c = shape-rows _ (line-ends (c .before .before .before .before .before .before .before .before .before .before .before)) (has-newline (c .before .before .before .before .before .before .before .before .before .before)) (header (c .before .before .before .before .before)) _ (words-malformed _ _ (ap rowsSay (sym (c .before .rows .given .1)) ∙ rows-behind (c .before .before .before .before .before .before .before .before .before .before .before .before .before .args .text .now) (c .before .before .before .before .before .before .before .before .before .before .before .piece-end .result + 1) _ (c .before .before .before .count-rows .ensures)))
+returns-3 c = shape-rows _ _ (line-ends (c .before .before .before .before .before .before .before .before .before .before .before)) (has-newline (c .before .before .before .before .before .before .before .before .before .before)) (header (c .before .before .before .before .before)) _ (words-malformed _ _ (ap rowsSay (sym (c .before .rows .given .1)) ∙ rows-behind _ (c .before .before .before .before .before .before .before .before .before .before .before .before .before .args .text .now) (c .before .before .before .before .before .before .before .before .before .before .before .piece-end .result + 1) _ (c .before .before .before .count-rows .ensures)))
 
 returns-4 : tie.Need-returns-4
-returns-4 c = shape-lines _ (line-ends (c .before .before .before .before .before .before .before .before .before .before .before)) (has-newline (c .before .before .before .before .before .before .before .before .before .before)) (header (c .before .before .before .before .before)) (words-parsed _ _ (ap rowsSay (sym (c .before .rows2 .given .1)) ∙ rows-behind (c .before .before .before .before .before .before .before .before .before .before .before .before .before .args .text .now) (c .before .before .before .before .before .before .before .before .before .before .before .piece-end .result + 1) _ (c .before .before .before .count-rows .ensures)))
+returns-4 c = shape-lines _ _ (line-ends (c .before .before .before .before .before .before .before .before .before .before .before)) (has-newline (c .before .before .before .before .before .before .before .before .before .before)) (header (c .before .before .before .before .before)) (words-parsed _ _ (ap rowsSay (sym (c .before .rows2 .given .1)) ∙ rows-behind _ (c .before .before .before .before .before .before .before .before .before .before .before .before .before .args .text .now) (c .before .before .before .before .before .before .before .before .before .before .before .piece-end .result + 1) _ (c .before .before .before .count-rows .ensures)))
 
 pub shape-of-spec : {M : Type 1} → statement M
 shape-of-spec =

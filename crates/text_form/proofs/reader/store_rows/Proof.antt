@@ -4,18 +4,18 @@ use native.Mathlib.Omega.{arith}
 use borrow.Author.Needs.{needs}
 use lib.ListN.{length}
 use Rattle.text_lines.proofs.Pieces.{Piece, piece-of}
-use Rattle.text_form.proofs.Filling.{Filled, filled-start, filled-length, filled-end, NextRow, filled-row, next-few, row-holds, filled-next}
+use Rattle.text_form.proofs.Filling.{Filled, filled-start, filled-length, filled-end, NextRow, filled-row, row-holds, filled-next}
 use Rattle.text_form.proofs.reader.store_rows.Statement.{statement}
 use Rattle.text_form.proofs.reader.store_rows.Tie as tie
 
 abbrev Inv-loop : tie.InvT-loop
-Inv-loop text table₀ at₀ count₀ table at count = Filled text at count table₀ table
+Inv-loop width text table₀ at₀ count₀ table at count = Filled width text at count table₀ table
 
 abbrev μ-loop : tie.MeasureT-loop
-μ-loop text table₀ at₀ count₀ table at count = length text - at
+μ-loop width text table₀ at₀ count₀ table at count = length text - at
 
 loop-holds : tie.Need-loop-holds Inv-loop μ-loop
-loop-holds c = filled-start _ _ (c .before .pre)
+loop-holds c = filled-start _ _ _ (c .before .pre)
 
 piece-end-requires : tie.Need-piece-end-requires Inv-loop μ-loop
 piece-end-requires c κs = omega (arith, c .loop-test .taken)
@@ -24,7 +24,7 @@ piece-end-requires c κs = omega (arith, c .loop-test .taken)
 line-ends : (c : tie.After-piece-end Inv-loop μ-loop) → Piece 10 (c .before .before .before .before .args .text .now) (c .before .before .loop .at) (c .piece-end .result)
 line-ends c = piece-of 10 _ _ _ (omega (arith, c .before .loop-test .taken)) (c .piece-end .ensures)
 
-is-row : (c : tie.After-piece-end Inv-loop μ-loop) → NextRow (c .before .before .before .before .args .text .now) (c .before .before .loop .at) (c .piece-end .result)
+is-row : (c : tie.After-piece-end Inv-loop μ-loop) → NextRow (c .before .before .before .before .args .width) (c .before .before .before .before .args .text .now) (c .before .before .loop .at) (c .piece-end .result)
 is-row c = filled-row (c .before .before .loop .inv) (line-ends c) (c .before .loop-test .taken)
 
 mul-start : tie.Need-mul-start Inv-loop μ-loop
@@ -55,7 +55,7 @@ store-numbers-requires : tie.Need-store-numbers-requires Inv-loop μ-loop
 store-numbers-requires c κs = row-holds (c .before .before .before .before .loop .inv) (line-ends (c .before .before)) (c .before .before .before .loop-test .taken) (is-row (c .before .before))
 
 add-count : tie.Need-add-count Inv-loop μ-loop
-add-count c = omega (arith, next-few (c .before .before .before .before .before .before .loop .inv) (line-ends (c .before .before .before .before)) (c .before .before .before .before .before .loop-test .taken) (is-row (c .before .before .before .before)), c .before .before .before .before .before .before .before .before .good)
+add-count c = omega (arith, c .before .before .before .before .before .before .loop .inv .walked .many, c .before .before .before .before .before .loop-test .taken, c .before .before .before .before .before .before .before .before .good)
 
 add-at : tie.Need-add-at Inv-loop μ-loop
 add-at c = omega (arith, is-row (c .before .before .before .before) .inside)

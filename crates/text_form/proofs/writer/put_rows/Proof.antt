@@ -2,27 +2,27 @@
 use Prim.Native.Nat.{_-_}
 use native.Mathlib.Omega.{arith}
 use borrow.Author.Needs.{needs}
-use Rattle.text_form.proofs.Writing.{Rowed, rowed-start, rowed-length, rowed-inside, rowed-end, row-filled, row-room, rowed-next}
+use Rattle.text_form.proofs.Writing.{Rowed, rowed-start, rowed-length, rowed-inside, rowed-end, row-inside, row-filled, row-room, rowed-next}
 use Rattle.text_form.proofs.writer.put_rows.Statement.{statement}
 use Rattle.text_form.proofs.writer.put_rows.Tie as tie
 
 abbrev Inv-loop : tie.InvT-loop
-Inv-loop rows count text₀ at₀ row₀ text at row = Rowed rows count row at text₀ text
+Inv-loop width count rows text₀ at₀ row₀ text at row = Rowed width rows count row at text₀ text
 
 abbrev μ-loop : tie.MeasureT-loop
-μ-loop rows count text₀ at₀ row₀ text at row = count - row
+μ-loop width count rows text₀ at₀ row₀ text at row = count - row
 
 loop-holds : tie.Need-loop-holds Inv-loop μ-loop
-loop-holds c = rowed-start _ _ _ (c .before .pre .0) (c .before .pre .1)
+loop-holds c = rowed-start _ _ _ _ (c .before .pre .0) (c .before .pre .1 .0) (c .before .pre .1 .1)
 
 mul-start : tie.Need-mul-start Inv-loop μ-loop
-mul-start c = omega (arith, c .before .loop .inv .whole, c .loop-test .taken, c .before .before .before .good)
+mul-start c = omega (arith, row-inside (c .before .loop .inv) (c .loop-test .taken), c .before .before .before .good)
 
 add-end : tie.Need-add-end Inv-loop μ-loop
-add-end c = omega (arith, c .before .loop .inv .whole, c .loop-test .taken, c .before .before .before .good)
+add-end c = omega (arith, row-inside (c .before .loop .inv) (c .loop-test .taken), c .before .before .before .good)
 
 mul-put-line : tie.Need-mul-put-line Inv-loop μ-loop
-mul-put-line c = omega (arith, c .before .loop .inv .whole, c .loop-test .taken, c .before .before .before .good)
+mul-put-line c = omega (arith, row-inside (c .before .loop .inv) (c .loop-test .taken), c .before .before .before .good)
 
 sub-put-line : tie.Need-sub-put-line Inv-loop μ-loop
 sub-put-line c = omega arith
@@ -31,7 +31,7 @@ part-put-line-start : tie.Need-part-put-line-start Inv-loop μ-loop
 part-put-line-start c = omega arith
 
 part-put-line-end : tie.Need-part-put-line-end Inv-loop μ-loop
-part-put-line-end c = omega (arith, c .before .loop .inv .whole, c .loop-test .taken)
+part-put-line-end c = omega (arith, row-inside (c .before .loop .inv) (c .loop-test .taken))
 
 sub-put-line-2 : tie.Need-sub-put-line-2 Inv-loop μ-loop
 sub-put-line-2 c = rowed-inside (c .before .before .loop .inv)

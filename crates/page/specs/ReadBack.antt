@@ -192,10 +192,13 @@ module _ {Names : ℕ → Type 0} {arrays : ℕ} (S : ℕ) where
       ∙ ap (pageLines S) (lines-ended (body S number level line) (linesBytes S (number + 1) lines) (body-free number level line f))
       ∙ ap₂ together (body-shows number level line f) (lines-shown (number + 1) lines h)
 
+  -- The bytes of lines that fit are read as the program whose page they are.
+  pub lines-read-page : (lines : List Indented) (contents : Items) → AllFit Names arrays lines → readLines (plain lines) ≡ some contents → pageBytes S contents ≡ linesBytes S 1 lines
+      → readPage S (linesBytes S 1 lines) ≡ some contents
+  unfolding readPage
+  lines-read-page lines contents h r p = rw (lines-shown 1 lines h, r, p, same-all (linesBytes S 1 lines))
+
   -- "Read with the header by docs/, the lines give back" the program, of which the names and constants are within any bounds.
   pub page-read-back : {contents : Items} → KernelItems noItem contents → AllFit Names arrays (itemsLines 0 contents) → readPage S (pageBytes S contents) ≡ some contents
-  unfolding readPage
-  page-read-back {contents} k h = rw (shown, lines-read-back k 0, same-all (pageBytes S contents))
-    where
-      shown : pageLines S (linesOf (pageBytes S contents)) ≡ some (plain (itemsLines 0 contents))
-      shown = unfold pageBytes in lines-shown 1 (itemsLines 0 contents) h
+  unfolding pageBytes
+  page-read-back {contents} k h = lines-read-page (itemsLines 0 contents) contents h (lines-read-back k 0) refl

@@ -12,7 +12,7 @@ use Rattle.page_words.specs.declared.NumberRead.{NumberRead}
 use Rattle.page_words.specs.declared.LineRead.{LineRead}
 use Rattle.page_words.specs.declared.LineRead.the-variants.{Read, Malformed}
 use Rattle.page_words.specs.declared.Line.{Line}
-use Rattle.page_frame.specs.Frames.{leadingBlanks, filledSize, levelOf, isNumber, isNumbered, levelled, bodyRead}
+use Rattle.page_frame.specs.Frames.{leadingBlanks, filledSize, levelOf, isNumber, isNumbered, levelled, statementRead}
 
 pub numbered-by : (number : ℕ) (columns : List ℕ) (start : ℕ) (r : NumberRead) → start ≡ leadingBlanks columns → r ≡ numberRead 100000 (take (length columns - start) (drop start columns))
     → isNumber number r ≡ isNumbered number columns
@@ -32,11 +32,11 @@ module _ (depth start : ℕ) (r : LineRead) where
   unfolding levelled
   level-not line e h = rw (e, ne-eqb start (indent (levelOf depth line)) h)
 
-module _ (names : Names) (depth : ℕ) (body : List ℕ) (start end : ℕ) (s : start ≡ leadingBlanks body) (e : end ≡ filledSize body) where
-  pub body-short : end < start → Malformed ≡ bodyRead names depth body
-  unfolding bodyRead
-  body-short h = rw (← e, ← s, lt-ltb end start h)
+module _ (names : Names) (body : List ℕ) (start end : ℕ) (s : start ≡ leadingBlanks body) (e : end ≡ filledSize body) where
+  pub statement-short : end < start → Malformed ≡ statementRead names body
+  unfolding statementRead
+  statement-short h = rw (← e, ← s, lt-ltb end start h)
 
-  pub body-long : start ≤ end → levelled depth start (lineRead names (take (end - start) (drop start body))) ≡ bodyRead names depth body
-  unfolding bodyRead
-  body-long h = rw (← e, ← s, le-ltb end start h)
+  pub statement-long : start ≤ end → lineRead names (take (end - start) (drop start body)) ≡ statementRead names body
+  unfolding statementRead
+  statement-long h = rw (← e, ← s, le-ltb end start h)

@@ -21,7 +21,7 @@ use Rattle.page_words.specs.declared.LineRead.the-variants as line-cases
 use Rattle.page_words.specs.declared.Atom.the-variants.{Constant, Variable, Temporary}
 use Rattle.page_words.specs.declared.Line.{Line}
 use Rattle.page_words.specs.declared.Line.the-variants.{Empty, Abort, Goto, Label, Store, Put, Opens, While, If, Turns, Closes}
-use Rattle.page_frame.specs.Frames.{leadingBlanks, filledSize, levelOf, isNumber, isNumbered, levelled, bodyRead, lineIn}
+use Rattle.page_frame.specs.Frames.{leadingBlanks, filledSize, levelOf, isNumber, isNumbered, levelled, statementRead, bodyRead, lineIn}
 use Rattle.page_frame.specs.BlankLaws.{Begins, leading-is, Ends, filled-is}
 use Rattle.page_frame.specs.FrameLaws.{framed, printed, printed-is, width}
 
@@ -86,7 +86,7 @@ numbered-complete number h =
 
 module _ (names : Names) (few-variables : names .variables ≤ 256) (few-temporaries : names .temporaries ≤ 8192) (few-arrays : names .arrays ≤ 32) where
   body-complete : (depth : ℕ) (line : Line) (tail : ℕ) → LineFits names line → bodyRead names depth (blanks (indent (levelOf depth line)) ++ (lineText line ++ blanks tail)) ≡ line-cases.Read line
-  unfolding bodyRead levelled
+  unfolding bodyRead statementRead levelled
   body-complete depth line tail h =
       let n = indent (levelOf depth line) in
       let text = lineText line in

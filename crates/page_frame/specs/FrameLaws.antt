@@ -31,7 +31,7 @@ use Rattle.page_words.specs.declared.LineRead.the-variants as line-cases
 use Rattle.page_words.specs.declared.Atom.the-variants.{Constant, Variable, Temporary}
 use Rattle.page_words.specs.declared.Line.{Line}
 use Rattle.page_words.specs.declared.Line.the-variants.{Empty, Abort, Goto, Label, Store, Put, Opens, While, If, Turns, Closes}
-use Rattle.page_frame.specs.Frames.{leadingBlanks, filledSize, levelOf, isNumber, isNumbered, levelled, bodyRead, lineIn}
+use Rattle.page_frame.specs.Frames.{leadingBlanks, filledSize, levelOf, isNumber, isNumbered, levelled, statementRead, bodyRead, lineIn, statementIn}
 use Rattle.page_frame.specs.BlankLaws.{leading-splits, leading-within, Begins, leading-is, filled-within, filled-splits, Ends, filled-is}
 
 -- The columns, a blank, the body and a newline.
@@ -71,6 +71,34 @@ level-sound depth start (line-cases.Read found) line e =
     (same, eqb-true start (indent (levelOf depth found)) t ∙ ap (λ l. indent (levelOf depth l)) equal))
     (λ t. absurd (let none : line-cases.Malformed ≡ line-cases.Read line = rw t at e in let z : _≡_ {A = ℕ} 0 1 = cc in omega arith))
 
+-- Bytes that are read as a line: the line's number, a blank, its body, and a newline.
+record InFrame (names : Names) (number depth : ℕ) (bytes : List ℕ) (line : Line) : Type 0 where
+  numbered : isNumbered number (take 5 bytes) ≡ true
+  parted : getD bytes 5 0 ≡ 32
+  ended : getD bytes 80 0 ≡ 10
+  body : bodyRead names depth (take 74 (drop 6 bytes)) ≡ line-cases.Read line
+
+in-frame : (names : Names) (number depth : ℕ) (bytes : List ℕ) (line : Line) → lineIn names number depth bytes ≡ line-cases.Read line → InFrame names number depth bytes line
+unfolding lineIn
+in-frame names number depth bytes line e =
+    by-cases (isNumbered number (take 5 bytes))
+    (λ t. by-cases (eqb (getD bytes 5 0) 32)
+    (λ u. by-cases (eqb (getD bytes 80 0) 10)
+    (λ v. record { numbered = t; parted = eqb-true _ _ u; ended = eqb-true _ _ v; body = rw (t, u, v) at e })
+    (λ v. no (rw (t, u, v) at e)))
+    (λ u. no (rw (t, u) at e)))
+    (λ t. no (rw t at e))
+  where
+    no : {G : Type 0} → line-cases.Malformed ≡ line-cases.Read line → G
+    no q = absurd (let z : _≡_ {A = ℕ} 0 1 = cc in omega arith)
+
+-- The statement of a line is read without its number and its level.
+pub statement-in : (names : Names) (number depth : ℕ) (bytes : List ℕ) (line : Line) → lineIn names number depth bytes ≡ line-cases.Read line → statementIn names bytes ≡ line-cases.Read line
+unfolding statementIn bodyRead
+statement-in names number depth bytes line e =
+    let body = take 74 (drop 6 bytes) in
+    level-sound depth (leadingBlanks body) (statementRead names body) line (in-frame names number depth bytes line e .body) .0
+
 module _ (names : Names) (few-variables : names .variables ≤ 256) (few-temporaries : names .temporaries ≤ 8192) (few-arrays : names .arrays ≤ 32) where
   -- what a body that is read as a line is: indent, statement, blanks
   pub record IsBody (depth : ℕ) (body : List ℕ) (line : Line) : Type 0 where
@@ -79,17 +107,17 @@ module _ (names : Names) (few-variables : names .variables ≤ 256) (few-tempora
     pub written : body ≡ blanks (indent (levelOf depth line)) ++ (lineText line ++ blanks tail)
 
   body-sound : (depth : ℕ) (body : List ℕ) (line : Line) → bodyRead names depth body ≡ line-cases.Read line → IsBody depth body line
-  unfolding bodyRead
+  unfolding bodyRead statementRead
   body-sound depth body line e =
-      by-cases (ltb (filledSize body) (leadingBlanks body))
-      (λ t. absurd (let none : line-cases.Malformed ≡ line-cases.Read line = rw t at e in let z : _≡_ {A = ℕ} 0 1 = cc in omega arith))
-      (λ t.
       let lead = leadingBlanks body in
+      let l = level-sound depth lead (statementRead names body) line e in
+      by-cases (ltb (filledSize body) lead)
+      (λ t. absurd (let none : line-cases.Malformed ≡ line-cases.Read line = rw t at (l .0) in let z : _≡_ {A = ℕ} 0 1 = cc in omega arith))
+      (λ t.
       let full = filledSize body in
       let order : lead ≤ full = ltb-false full lead t in
       let text = take (full - lead) (drop lead body) in
-      let l = level-sound depth lead (lineRead names text) line (rw t at e) in
-      let s = line-sound names few-variables few-temporaries few-arrays text line (l .0) in
+      let s = line-sound names few-variables few-temporaries few-arrays text line (rw t at (l .0)) in
       let behind : drop (full - lead) (drop lead body) ≡ blanks (length body - full) =
       drop-drop (full - lead) lead body ∙ ap (λ (n : ℕ). drop n body) (sum lead full order) ∙ filled-splits body in
       record {
@@ -141,19 +169,10 @@ module _ (names : Names) (few-variables : names .variables ≤ 256) (few-tempora
     -- What is read as a line are its bytes.
     pub line-in-sound : (number depth : ℕ) (bytes : List ℕ) (line : Line) → number < 100000 → length bytes ≡ 81 → lineIn names number depth bytes ≡ line-cases.Read line
         → (bytes ≡ printed number (levelOf depth line) line) × LineFits names line
-    unfolding lineIn
     line-in-sound number depth bytes line few long e =
-        by-cases (isNumbered number (take 5 bytes))
-        (λ t. by-cases (eqb (getD bytes 5 0) 32)
-        (λ u. by-cases (eqb (getD bytes 80 0) 10)
-        (λ v. whole t (eqb-true _ _ u) (eqb-true _ _ v) (body-sound depth (take 74 (drop 6 bytes)) line (rw (t, u, v) at e)))
-        (λ v. no (rw (t, u, v) at e)))
-        (λ u. no (rw (t, u) at e)))
-        (λ t. no (rw t at e))
+        let f = in-frame names number depth bytes line e in
+        whole (f .numbered) (f .parted) (f .ended) (body-sound depth (take 74 (drop 6 bytes)) line (f .body))
       where
-        no : {G : Type 0} → line-cases.Malformed ≡ line-cases.Read line → G
-        no q = absurd (let z : _≡_ {A = ℕ} 0 1 = cc in omega arith)
-
         body-long : length (take 74 (drop 6 bytes)) ≡ 74
         body-long = length-take 74 (drop 6 bytes) ∙ omega (arith, length-drop 6 bytes)
 

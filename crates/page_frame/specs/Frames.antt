@@ -51,13 +51,20 @@ unfoldable pub levelled : (depth start : ℕ) → LineRead → LineRead
 levelled depth start line-cases.Malformed = line-cases.Malformed
 levelled depth start (line-cases.Read line) = pick (eqb start (indent (levelOf depth line))) (line-cases.Read line) line-cases.Malformed
 
+-- The statement between the blanks of a line's columns, wherever it begins.
+unfoldable pub statementRead : Names → List ℕ → LineRead
+statementRead names body =
+    pick (ltb (filledSize body) (leadingBlanks body)) line-cases.Malformed (lineRead names (take (filledSize body - leadingBlanks body) (drop (leadingBlanks body) body)))
+
 -- What stands between a line's number and its newline.
 unfoldable pub bodyRead : Names → ℕ → List ℕ → LineRead
-bodyRead names depth body =
-    pick (ltb (filledSize body) (leadingBlanks body)) line-cases.Malformed
-    (levelled depth (leadingBlanks body) (lineRead names (take (filledSize body - leadingBlanks body) (drop (leadingBlanks body) body))))
+bodyRead names depth body = levelled depth (leadingBlanks body) (statementRead names body)
 
 unfoldable pub lineIn : Names → (number depth : ℕ) → List ℕ → LineRead
 lineIn names number depth line =
     pick (isNumbered number (take 5 line))
     (pick (eqb (getD line 5 0) 32) (pick (eqb (getD line 80 0) 10) (bodyRead names depth (take 74 (drop 6 line))) line-cases.Malformed) line-cases.Malformed) line-cases.Malformed
+
+-- The statement of these 81 bytes, whatever their number and their indent.
+unfoldable pub statementIn : Names → List ℕ → LineRead
+statementIn names line = statementRead names (take 74 (drop 6 line))

@@ -9,7 +9,7 @@ ghost use mathlib.Core.Path.{_≡_};
 ghost use Prim.Native.Nat.{_-_};
 ghost use lib.ListN.{length};
 ghost use Rattle.page.specs.Page.{indent};
-ghost use Rattle.page_frame.specs.Frames.{leadingBlanks, filledSize, levelOf, isNumbered, levelled, bodyRead, lineIn};
+ghost use Rattle.page_frame.specs.Frames.{leadingBlanks, filledSize, levelOf, isNumbered, levelled, statementRead, bodyRead, lineIn, statementIn};
 
 // How many blanks stand first.
 fn leading_blanks(text: &[u8]) -> usize
@@ -101,16 +101,23 @@ fn at_level(depth: usize, start: usize, read: LineRead) -> LineRead
     LineRead::Malformed
 }
 
-// What stands between a line's number and its newline.
-fn body(names: Names, depth: usize, text: &[u8]) -> LineRead
-    ensures { λ r. ⌜ r ≡ bodyRead names depth (now (text .entry)) ⌝ }
+// The statement between blanks, wherever it begins.
+fn statement(names: Names, text: &[u8]) -> LineRead
+    ensures { λ r. ⌜ r ≡ statementRead names (now (text .entry)) ⌝ }
 {
     let start = leading_blanks(text);
     let end = filled_size(text);
     if end < start {
         return LineRead::Malformed;
     }
-    at_level(depth, start, line(names, &text[start..end]))
+    line(names, &text[start..end])
+}
+
+// What stands between a line's number and its newline.
+fn body(names: Names, depth: usize, text: &[u8]) -> LineRead
+    ensures { λ r. ⌜ r ≡ bodyRead names depth (now (text .entry)) ⌝ }
+{
+    at_level(depth, leading_blanks(text), statement(names, text))
 }
 
 // The line that these 81 bytes are, with this number, among so many blocks.
@@ -128,4 +135,12 @@ pub fn line_in(names: Names, number: u32, depth: usize, text: &[u8]) -> LineRead
         return LineRead::Malformed;
     }
     body(names, depth, &text[6..80])
+}
+
+// The statement of these 81 bytes, whatever their number and their indent.
+pub fn statement_in(names: Names, text: &[u8]) -> LineRead
+    requires { ⌜ length (now text) ≡ 81 ⌝ }
+    ensures { λ r. ⌜ r ≡ statementIn names (now (text .entry)) ⌝ }
+{
+    statement(names, &text[6..80])
 }

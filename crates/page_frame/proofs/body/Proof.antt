@@ -1,9 +1,6 @@
--- `body`: the statement stands between the blanks before it and those behind it.
-use mathlib.Core.Path.{ap, _∙_}
-use native.Mathlib.Omega.{arith}
-use Rattle.page_frame.specs.Frames.{levelled}
-use Rattle.page_frame.specs.BlankLaws.{filled-within}
-use Rattle.page_frame.proofs.Steps.{body-short, body-long}
+-- `body`: the statement, and how far in it stands.
+use mathlib.Core.Path.{ap₂, _∙_}
+use Rattle.page_frame.specs.Frames.{levelled, bodyRead}
 use borrow.Author.Needs.{needs}
 use Rattle.page_frame.proofs.body.Statement.{statement}
 use Rattle.page_frame.proofs.body.Tie as tie
@@ -11,39 +8,17 @@ use Rattle.page_frame.proofs.body.Tie as tie
 leading-blanks-requires : tie.Need-leading-blanks-requires
 leading-blanks-requires c κs = search needs
 
-filled-size-requires : tie.Need-filled-size-requires
-filled-size-requires c κs = search needs
-
-returns : tie.Need-returns
-returns c =
-    body-short (c .before .before .before .before .args .names) (c .before .before .before .before .args .depth) (c .before .before .before .before .args .text .now) (c .before .before .leading-blanks .result) (c .before .filled-size .result) (c .before .before .leading-blanks .ensures) (c .before .filled-size .ensures) (c .if1 .taken)
-
-part-line-start : tie.Need-part-line-start
-part-line-start c = search needs
-
-part-line-end : tie.Need-part-line-end
-part-line-end c =
-    omega (arith, c .before .filled-size .ensures, filled-within (c .before .before .before .before .args .text .now))
-
-line-requires : tie.Need-line-requires
-line-requires c κs = search needs
+statement-requires : tie.Need-statement-requires
+statement-requires c κs = search needs
 
 at-level-requires : tie.Need-at-level-requires
 at-level-requires c κs = search needs
 
-returns-2 : tie.Need-returns-2
-returns-2 c =
-    c .at-level .ensures ∙ ap (levelled (c .before .before .before .before .before .before .before .args .depth) (c .before .before .before .before .before .leading-blanks .result)) (c .before .line .ensures) ∙ body-long (c .before .before .before .before .before .before .before .args .names) (c .before .before .before .before .before .before .before .args .depth) (c .before .before .before .before .before .before .before .args .text .now) (c .before .before .before .before .before .leading-blanks .result) (c .before .before .before .before .filled-size .result) (c .before .before .before .before .before .leading-blanks .ensures) (c .before .before .before .before .filled-size .ensures) (c .before .before .before .if1 .left)
+returns : tie.Need-returns
+unfolding bodyRead
+returns c =
+    c .at-level .ensures ∙ ap₂ (levelled (c .before .before .before .before .args .depth)) (c .before .before .leading-blanks .ensures) (c .before .statement .ensures)
 
 pub body-spec : {M : Type 1} → statement M
 body-spec =
-    tie.close
-    (tie.spec
-    leading-blanks-requires
-    filled-size-requires
-    returns
-    part-line-start
-    part-line-end
-    line-requires
-    at-level-requires
-    returns-2)
+    tie.close (tie.spec leading-blanks-requires statement-requires at-level-requires returns)

@@ -10,6 +10,8 @@ pub mod Scans
 pub mod BlockLaws
 -- Laws of scans: a page without a wrong line is the page of its program.
 pub mod ScanLaws
+-- Laws of pages: a page without a wrong line is read by page/Reading as the program of its lines.
+pub mod PageLaws
 -- Complete: the page of balanced lines that fit is scanned to its end.
 pub mod ScanComplete
 -- Laws of rows: the rows counted are those of the program.

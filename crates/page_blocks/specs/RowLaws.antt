@@ -22,13 +22,13 @@ use Rattle.page_blocks.specs.Scans.{valueRows, lineRows}
 use Rattle.page_blocks.specs.ScanLaws.{linesRows}
 
 module _ (S : ℕ) where
-  atom-rows : (a : Atom) → expressionRows (atomTree S a) ≡ 1
+  pub atom-rows : (a : Atom) → expressionRows (atomTree S a) ≡ 1
   unfolding expressionRows
   atom-rows (Constant v) = refl
   atom-rows (Variable n) = refl
   atom-rows (Temporary n) = refl
 
-  value-rows : (v : Value) → expressionRows (valueTree S v) ≡ valueRows v
+  pub value-rows : (v : Value) → expressionRows (valueTree S v) ≡ valueRows v
   unfolding expressionRows
   value-rows (Single a) = atom-rows a
   value-rows (Element array index) = omega (arith, atom-rows index)

@@ -20,11 +20,11 @@ use Rattle.page_words.specs.declared.Names.{Names}
 use Rattle.page_words.specs.declared.Line.{Line}
 use Rattle.page_words.specs.declared.LineRead.{LineRead}
 use Rattle.page_words.specs.declared.LineRead.the-variants as line-cases
-use Rattle.page_frame.specs.Frames.{lineIn}
-use Rattle.page_frame.specs.FrameLaws.{line-in-sound}
+use Rattle.page_frame.specs.Frames.{lineIn, statementIn}
+use Rattle.page_frame.specs.FrameLaws.{statement-in, line-in-sound}
 use Rattle.page_blocks.specs.Blocks.{Open, behind, onward, balanced, trees, levels}
 use Rattle.page_blocks.specs.BlockLaws.{IsProgram, balanced-program}
-use Rattle.page_blocks.specs.Scans.{lineRows, ended, stepped, scanFrom, scan}
+use Rattle.page_blocks.specs.Scans.{lineRows, ended, stepped, scanFrom, scan, withLine, linesFrom, linesIn}
 use Rattle.page_blocks.specs.declared.Scan.{Scan}
 use Rattle.page_blocks.specs.declared.Scan.the-variants.{Whole, Wrong}
 
@@ -37,8 +37,9 @@ AllFit names [] = Unit
 AllFit names (line ∷ lines) = LineFits names line × AllFit names lines
 
 -- The rest of a page: its lines, whose blocks close, whose bytes it is, and whose rows are counted.
-pub record IsRest (names : Names) (S : ℕ) (rest : List ℕ) (number : ℕ) (around : Open) (rows total : ℕ) : Type 0 where
+pub record IsRest (names : Names) (S : ℕ) (rest : List ℕ) (number : ℕ) (around : Open) (rows total : ℕ) (statements : List Line) : Type 0 where
   pub lines : List Line
+  pub read : lines ≡ statements
   pub fit : AllFit names lines
   pub balances : balanced lines around ≡ true
   pub bytes : rest ≡ linesBytes S number (levels S lines around)
@@ -48,7 +49,7 @@ module _ (names : Names) (few-variables : names .variables ≤ 256) (few-tempora
   wrong : {G : Type 0} (n total : ℕ) → Wrong n ≡ Whole total → G
   wrong n total e = absurd (let z : _≡_ {A = ℕ} 0 1 = cc in omega arith)
 
-  end-sound : (done : ℕ) (around : Open) (rows total : ℕ) → ended (eqb (81 * done) (length page)) around rows (done + 1) ≡ Whole total → IsRest names S (drop (81 * done) page) (done + 1) around rows total
+  end-sound : (done : ℕ) (around : Open) (rows total : ℕ) → ended (eqb (81 * done) (length page)) around rows (done + 1) ≡ Whole total → IsRest names S (drop (81 * done) page) (done + 1) around rows total []
   unfolding balanced levels linesBytes AllFit
   end-sound done [] rows total e =
       by-cases (eqb (81 * done) (length page))
@@ -56,21 +57,25 @@ module _ (names : Names) (few-variables : names .variables ≤ 256) (few-tempora
       let long : 81 * done ≡ length page = eqb-true (81 * done) (length page) t in
       let found : Whole rows ≡ Whole total = rw t at e in
       let same : rows ≡ total = cc in
-      record { lines = []; fit = tt; balances = refl; bytes = drop-of-length-le page {i = 81 * done} (omega arith); counted = omega arith })
+      record { lines = []; read = refl; fit = tt; balances = refl; bytes = drop-of-length-le page {i = 81 * done} (omega arith); counted = omega arith })
       (λ t. wrong (done + 1) total (rw t at e))
   end-sound done (flag ∷ around) rows total e = by-cases (eqb (81 * done) (length page)) (λ t. wrong (done + 1) total (rw t at e)) (λ t. wrong (done + 1) total (rw t at e))
 
   -- One line before the rest.
-  line-sound : (done : ℕ) (around a : Open) (rows total : ℕ) (line : Line) → done < 99999 → 81 * (done + 1) ≤ length page
+  line-sound : (done : ℕ) (around a : Open) (rows total : ℕ) (line : Line) (statements : List Line) → done < 99999 → 81 * (done + 1) ≤ length page
       → lineIn names (done + 1) (length around) (take 81 (drop (81 * done) page)) ≡ line-cases.Read line → behind line around ≡ some a
-      → IsRest names S (drop (81 * (done + 1)) page) (done + 1 + 1) a (rows + lineRows line) total → IsRest names S (drop (81 * done) page) (done + 1) around rows total
+      → IsRest names S (drop (81 * (done + 1)) page) (done + 1 + 1) a (rows + lineRows line) total statements
+      → IsRest names S (drop (81 * done) page) (done + 1) around rows total (withLine (statementIn names (take 81 (drop (81 * done) page))) statements)
   unfolding balanced levels linesBytes AllFit
-  line-sound done around a rows total line few long e q r =
+  line-sound done around a rows total line statements few long e q r =
       let size : length (take 81 (drop (81 * done) page)) ≡ 81 = length-take 81 (drop (81 * done) page) ∙ omega (arith, length-drop (81 * done) page) in
       let s = line-in-sound names few-variables few-temporaries few-arrays S within (done + 1) (length around) (take 81 (drop (81 * done) page)) line (omega arith) size e in
       let next : 81 * done + 81 ≡ 81 * (done + 1) = omega arith in
       record {
         lines = line ∷ r .lines;
+        read =
+            ap (λ (lines : List Line). line ∷ lines) (r .read)
+            ∙ sym (ap (λ (l : LineRead). withLine l statements) (statement-in names (done + 1) (length around) (take 81 (drop (81 * done) page)) line e));
         fit = (s .1, r .fit);
         balances = rw q (r .balances);
         bytes = sym (take-append-drop 81 (drop (81 * done) page)) ∙ rw q (ap₂ (λ (l m : List ℕ). l ++ m) (s .0) (drop-drop 81 (81 * done) page ∙ ap (λ (n : ℕ). drop n page) next ∙ r .bytes));
@@ -78,37 +83,51 @@ module _ (names : Names) (few-variables : names .variables ≤ 256) (few-tempora
       }
 
   rest-sound : (left done : ℕ) (around : Open) (rows total : ℕ) → done + left < 99999 → 81 * (done + left) ≤ length page → scanFrom names page left done around rows ≡ Whole total
-      → IsRest names S (drop (81 * done) page) (done + 1) around rows total
-  unfolding scanFrom
+      → IsRest names S (drop (81 * done) page) (done + 1) around rows total (linesFrom names page left done)
+  unfolding scanFrom linesFrom
   rest-sound zero done around rows total few long e = end-sound done around rows total e
   rest-sound (suc left) done around rows total few long e =
       from (λ a r. rest-sound left (done + 1) a r total (omega arith) (omega arith)) (lineIn names (done + 1) (length around) (take 81 (drop (81 * done) page))) refl e
     where
-      after : ((a : Open) (r : ℕ) → scanFrom names page left (done + 1) a r ≡ Whole total → IsRest names S (drop (81 * (done + 1)) page) (done + 1 + 1) a r total) → (line : Line)
+      after : ((a : Open) (r : ℕ) → scanFrom names page left (done + 1) a r ≡ Whole total → IsRest names S (drop (81 * (done + 1)) page) (done + 1 + 1) a r total (linesFrom names page left (done + 1))) → (line : Line)
           → lineIn names (done + 1) (length around) (take 81 (drop (81 * done) page)) ≡ line-cases.Read line → (b : Option Open) → behind line around ≡ b
-          → onward (Wrong (done + 1)) (λ a. scanFrom names page left (done + 1) a (rows + lineRows line)) b ≡ Whole total → IsRest names S (drop (81 * done) page) (done + 1) around rows total
+          → onward (Wrong (done + 1)) (λ a. scanFrom names page left (done + 1) a (rows + lineRows line)) b ≡ Whole total
+          → IsRest names S (drop (81 * done) page) (done + 1) around rows total (linesFrom names page (suc left) done)
       after ih line p none q t = wrong (done + 1) total t
-      after ih line p (some a) q t = line-sound done around a rows total line (omega arith) (omega arith) p q (ih a (rows + lineRows line) t)
+      after ih line p (some a) q t = line-sound done around a rows total line (linesFrom names page left (done + 1)) (omega arith) (omega arith) p q (ih a (rows + lineRows line) t)
 
-      from : ((a : Open) (r : ℕ) → scanFrom names page left (done + 1) a r ≡ Whole total → IsRest names S (drop (81 * (done + 1)) page) (done + 1 + 1) a r total) → (r : LineRead)
+      from : ((a : Open) (r : ℕ) → scanFrom names page left (done + 1) a r ≡ Whole total → IsRest names S (drop (81 * (done + 1)) page) (done + 1 + 1) a r total (linesFrom names page left (done + 1))) → (r : LineRead)
           → lineIn names (done + 1) (length around) (take 81 (drop (81 * done) page)) ≡ r → stepped r (done + 1) around (λ line a. scanFrom names page left (done + 1) a (rows + lineRows line)) ≡ Whole total
-          → IsRest names S (drop (81 * done) page) (done + 1) around rows total
+          → IsRest names S (drop (81 * done) page) (done + 1) around rows total (linesFrom names page (suc left) done)
       from ih line-cases.Malformed p t = wrong (done + 1) total t
       from ih (line-cases.Read line) p t = after ih line p (behind line around) refl t
 
   -- A page without a wrong line: its lines are those of a program, read by page/Lines, whose page it is.
   pub record IsPage (total : ℕ) : Type 0 where
     pub lines : List Line
+    pub statements : lines ≡ linesIn names page
     pub fit : AllFit names lines
+    pub balances : balanced lines [] ≡ true
+    pub bytes : page ≡ linesBytes S 1 (levels S lines [])
     pub items : Items
     pub read : readLines (trees S lines) ≡ some items
     pub printed : pageBytes S items ≡ page
     pub counted : total ≡ 1 + linesRows lines
 
   pub scan-sound : (total : ℕ) → scan names page ≡ Whole total → IsPage total
-  unfolding scan pageBytes
+  unfolding scan pageBytes linesIn
   scan-sound total e =
       let left = min (length page / 81) 81958 in
       let r = rest-sound left 0 [] 1 total (omega arith) (omega arith) e in
       let p = balanced-program S (r .lines) (r .balances) in
-      record { lines = r .lines; fit = r .fit; items = p .items; read = p .read; printed = sym (r .bytes ∙ ap (linesBytes S 1) (p .printed)); counted = r .counted }
+      record {
+        lines = r .lines;
+        statements = r .read;
+        fit = r .fit;
+        balances = r .balances;
+        bytes = r .bytes;
+        items = p .items;
+        read = p .read;
+        printed = sym (r .bytes ∙ ap (linesBytes S 1) (p .printed));
+        counted = r .counted;
+      }

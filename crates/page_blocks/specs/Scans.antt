@@ -5,7 +5,11 @@ use mathlib.Core.Bool.{Bool, true, false}
 use mathlib.Core.List.{List, [], _∷_}
 use Prim.Native.Nat.{ℕ, zero, suc, _+_, _*_, _/_, min}
 use lib.Dec.{eqb}
+use lib.IntN.{ℤ}
 use lib.ListN.{length, take, drop}
+use Rattle.words.specs.Layout.{temporariesOf}
+use Rattle.words.specs.declared.Form.the-variants.{Kernel}
+use Rattle.row_fields.specs.Fields.{boundsOf}
 use Rattle.page_words.specs.declared.Names.{Names}
 use Rattle.page_words.specs.declared.Value.{Value}
 use Rattle.page_words.specs.declared.Value.the-variants.{Single, Element, Minus, Binary}
@@ -13,7 +17,7 @@ use Rattle.page_words.specs.declared.Line.{Line}
 use Rattle.page_words.specs.declared.Line.the-variants.{Empty, Abort, Goto, Label, Store, Put, Opens, While, If, Turns, Closes}
 use Rattle.page_words.specs.declared.LineRead.{LineRead}
 use Rattle.page_words.specs.declared.LineRead.the-variants as line-cases
-use Rattle.page_frame.specs.Frames.{lineIn}
+use Rattle.page_frame.specs.Frames.{lineIn, statementIn}
 use Rattle.page_blocks.specs.Blocks.{Open, behind, onward}
 use Rattle.page_blocks.specs.declared.Scan.{Scan}
 use Rattle.page_blocks.specs.declared.Scan.the-variants.{Whole, Wrong}
@@ -58,3 +62,24 @@ module _ (names : Names) (page : List ℕ) where
   -- Row 0 has no line.
   unfoldable pub scan : Scan
   scan = scanFrom (min (length page / 81) 81958) 0 [] 1
+
+-- ---- the lines
+
+abbrev pub withLine : LineRead → List Line → List Line
+withLine line-cases.Malformed lines = lines
+withLine (line-cases.Read line) lines = line ∷ lines
+
+module _ (names : Names) (page : List ℕ) where
+  -- What the statements of so many lines say, behind those lines that are done.
+  unfoldable pub linesFrom : (left done : ℕ) → List Line
+  linesFrom zero done = []
+  linesFrom (suc left) done = withLine (statementIn names (take 81 (drop (81 * done) page))) (linesFrom left (done + 1))
+
+  unfoldable pub linesIn : List Line
+  linesIn = linesFrom (min (length page / 81) 81958) 0
+
+-- ---- with a header
+
+-- The names that a kernel header gives.
+unfoldable pub namesOf : List ℤ → Names
+namesOf header = record { variables = boundsOf Kernel header .variables; temporaries = temporariesOf Kernel header; arrays = boundsOf Kernel header .arrays }

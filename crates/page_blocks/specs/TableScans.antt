@@ -37,7 +37,7 @@ use Rattle.page_words.specs.declared.Line.{Line}
 use Rattle.page_words.specs.declared.Line.the-variants.{Empty, Abort, Goto, Label, Store, Put, Opens, While, If, Turns, Closes}
 use Rattle.page_blocks.specs.Blocks.{trees, levels, balanced}
 use Rattle.page_blocks.specs.BlockLaws.{IsProgram, balanced-program, read-balanced}
-use Rattle.page_blocks.specs.Scans.{scan}
+use Rattle.page_blocks.specs.Scans.{scan, namesOf}
 use Rattle.page_blocks.specs.ScanLaws.{linesRows, AllFit}
 use Rattle.page_blocks.specs.ScanComplete.{scan-complete}
 use Rattle.page_blocks.specs.RowLaws.{program-rows}
@@ -128,10 +128,6 @@ module _ (names : Names) (S : ℕ) where
       record { found = l .found ∷ r .found; tree = ap₂ (λ x xs. x ∷ xs) (l .tree) (r .tree); fits = (l .fits, r .fits); many = ap suc (r .many) }
 
 -- ---- legal tables
-
--- The names that a kernel header gives.
-unfoldable pub namesOf : List ℤ → Names
-namesOf header = record { variables = boundsOf Kernel header .variables; temporaries = temporariesOf Kernel header; arrays = boundsOf Kernel header .arrays }
 
 module _ (header rows : List ℤ) (legal : Legal header rows) (words : (i : ℕ) → mag (getD rows i (pos 0)) < 2 ^ 31) where
   -- No page of a legal kernel table has a wrong line.

@@ -16,7 +16,7 @@ use Rattle.page_blocks.specs.Blocks.{Open, behind, onward}
 use Rattle.page_blocks.specs.Scans.{lineRows, ended, stepped, scanFrom, scan}
 use Rattle.page_blocks.specs.declared.Scan.{Scan}
 use Rattle.page_blocks.specs.declared.Scan.the-variants.{Wrong}
-use Rattle.page_scan.specs.Stacks.{blocksOf, endOf}
+use Rattle.page_scan.specs.Stacks.{stackOf, blocksOf, endOf}
 use Rattle.page_scan.specs.StackLaws.{length-blocks, end-is}
 
 pub record Scanning (names : Names) (page : List ℕ) (count : ℕ) (flags : List ℕ) (depth rows k : ℕ) : Type 0 where
@@ -31,7 +31,7 @@ pub slice-long : (page : List ℕ) (k : ℕ) → 81 * k + 81 ≤ length page →
 slice-long page k h = length-take (81 * k + 81 - 81 * k) (drop (81 * k) page) ∙ omega (arith, length-drop (81 * k) page)
 
 pub scanning-start : (names : Names) (page : List ℕ) (count : ℕ) (flags : List ℕ) → count ≡ min (length page / 81) 81958 → Scanning names page count flags 0 1 0
-unfolding scan blocksOf
+unfolding scan blocksOf stackOf
 scanning-start names page count flags e =
     let all : min (length page / 81) 81958 ≡ count - 0 = omega arith in
     record { inside = omega arith; whole = omega arith; few = omega arith; deep = omega arith; low = omega arith; same = ap (λ (n : ℕ). scanFrom names page n 0 [] 1) all }

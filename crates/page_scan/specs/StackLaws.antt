@@ -1,44 +1,75 @@
--- Laws of stacks: blocks opened, turned and closed.
+-- Laws of stacks: numbers put on and taken off; blocks opened, turned and closed.
 use mathlib.Core.Path.{_≡_, refl, sym, ap, ap₂, _∙_}
 use mathlib.Core.Bool.{Bool, true, false}
-use mathlib.Core.List.{List, [], _∷_}
+use mathlib.Core.List.{List, [], _∷_, map}
 use mathlib.Core.Option.{Option, none, some}
 use Prim.Native.Nat.{ℕ, zero, suc, _+_, _-_, _≤_, _<_}
 use native.Mathlib.Omega.{arith}
 use native.Mathlib.Numerals.{add-one}
 use lib.Dec.{eqb}
-use lib.ListN.{length, getD, set}
+use lib.ListN.{length, getD, set, drop}
 use lib.Seq.{getD-set-same, getD-set-other}
 use borrow.Author.Tests.{eq-eqb, ne-eqb}
 use Rattle.page_blocks.specs.Blocks.{Open, turned, shut}
 use Rattle.page_blocks.specs.Scans.{ended}
-use Rattle.page_scan.specs.Stacks.{blocksOf, endOf}
+use Rattle.page_scan.specs.Stacks.{stackOf, isFirst, blocksOf, endOf}
+
+-- ---- numbers
+
+-- A number further in changes nothing.
+above : (depth i v : ℕ) (numbers : List ℕ) → depth ≤ i → stackOf depth (set numbers i v) ≡ stackOf depth numbers
+unfolding stackOf
+above zero i v numbers h = refl
+above (suc depth) i v numbers h = ap₂ (λ (n : ℕ) (rest : List ℕ). n ∷ rest) (getD-set-other numbers i depth v 0 (λ e. omega arith)) (above depth i v numbers (omega arith))
+
+pub pushed : (depth v : ℕ) (numbers : List ℕ) → depth < length numbers → stackOf (depth + 1) (set numbers depth v) ≡ v ∷ stackOf depth numbers
+unfolding stackOf
+pushed depth v numbers h =
+    rw (add-one depth, getD-set-same numbers depth v 0 h) (ap (λ (rest : List ℕ). v ∷ rest) (above depth depth v numbers (omega arith)))
+
+-- Some of the innermost taken away.
+pub popped : (n depth : ℕ) (numbers : List ℕ) → drop n (stackOf depth numbers) ≡ stackOf (depth - n) numbers
+unfolding stackOf
+popped zero depth numbers = let all : depth - 0 ≡ depth = omega arith in rw all
+popped (suc n) zero numbers = let none-left : 0 - suc n ≡ 0 = omega arith in rw none-left
+popped (suc n) (suc depth) numbers = let less : suc depth - suc n ≡ depth - n = omega arith in rw less (popped n depth numbers)
+
+-- The i-th from the innermost; 0 where there is none.
+pub inside : (i depth : ℕ) (numbers : List ℕ) → i < depth → getD (stackOf depth numbers) i 0 ≡ getD numbers (depth - 1 - i) 0
+unfolding stackOf
+inside i zero numbers h = absurd (omega arith)
+inside zero (suc depth) numbers h = let last : suc depth - 1 - 0 ≡ depth = omega arith in rw last
+inside (suc i) (suc depth) numbers h = let less : suc depth - 1 - suc i ≡ depth - 1 - i = omega arith in rw less (inside i depth numbers (omega arith))
+
+pub outside : (i depth : ℕ) (numbers : List ℕ) → depth ≤ i → getD (stackOf depth numbers) i 0 ≡ 0
+unfolding stackOf
+outside i zero numbers h = refl
+outside zero (suc depth) numbers h = absurd (omega arith)
+outside (suc i) (suc depth) numbers h = outside i depth numbers (omega arith)
+
+-- ---- blocks
 
 pub length-blocks : (depth : ℕ) (flags : List ℕ) → length (blocksOf depth flags) ≡ depth
-unfolding blocksOf
+unfolding blocksOf stackOf
 length-blocks zero flags = refl
 length-blocks (suc depth) flags = ap suc (length-blocks depth flags)
 
--- A byte further in changes nothing.
-above : (depth i v : ℕ) (flags : List ℕ) → depth ≤ i → blocksOf depth (set flags i v) ≡ blocksOf depth flags
+pub block-pushed : (depth v : ℕ) (flags : List ℕ) → depth < length flags → blocksOf (depth + 1) (set flags depth v) ≡ eqb v 1 ∷ blocksOf depth flags
 unfolding blocksOf
-above zero i v flags h = refl
-above (suc depth) i v flags h =
-    ap₂ (λ (flag : Bool) (around : Open). flag ∷ around) (ap (λ (n : ℕ). eqb n 1) (getD-set-other flags i depth v 0 (λ e. omega arith))) (above depth i v flags (omega arith))
+block-pushed depth v flags h = ap (map isFirst) (pushed depth v flags h)
 
-pub pushed : (depth v : ℕ) (flags : List ℕ) → depth < length flags → blocksOf (depth + 1) (set flags depth v) ≡ eqb v 1 ∷ blocksOf depth flags
+block-above : (depth i v : ℕ) (flags : List ℕ) → depth ≤ i → blocksOf depth (set flags i v) ≡ blocksOf depth flags
 unfolding blocksOf
-pushed depth v flags h =
-    rw (add-one depth, getD-set-same flags depth v 0 h) (ap (λ (around : Open). eqb v 1 ∷ around) (above depth depth v flags (omega arith)))
+block-above depth i v flags h = ap (map isFirst) (above depth i v flags h)
 
 -- The innermost block.
 top : (depth : ℕ) (flags : List ℕ) → 0 < depth → blocksOf depth flags ≡ eqb (getD flags (depth - 1) 0) 1 ∷ blocksOf (depth - 1) flags
-unfolding blocksOf
+unfolding blocksOf stackOf
 top zero flags h = absurd (omega arith)
 top (suc depth) flags h = let less : suc depth - 1 ≡ depth = omega arith in rw less
 
 none-open : (depth : ℕ) (flags : List ℕ) → depth ≡ 0 → blocksOf depth flags ≡ []
-unfolding blocksOf
+unfolding blocksOf stackOf
 none-open depth flags e = ap (λ (n : ℕ). blocksOf n flags) e
 
 module _ (depth : ℕ) (flags : List ℕ) where
@@ -62,7 +93,7 @@ module _ (depth : ℕ) (flags : List ℕ) where
     pub turn-right : depth ≤ length flags → getD flags (depth - 1) 0 ≡ 1 → some (blocksOf depth (set flags (depth - 1) 0)) ≡ turned (blocksOf depth flags)
     turn-right h e =
         let inside : 0 < depth = more in
-        rw (top depth flags more, top depth (set flags (depth - 1) 0) more, eq-eqb (getD flags (depth - 1) 0) 1 e, getD-set-same flags (depth - 1) 0 0 (omega arith), above (depth - 1) (depth - 1) 0 flags (omega arith))
+        rw (top depth flags more, top depth (set flags (depth - 1) 0) more, eq-eqb (getD flags (depth - 1) 0) 1 e, getD-set-same flags (depth - 1) 0 0 (omega arith), block-above (depth - 1) (depth - 1) 0 flags (omega arith))
 
     pub shut-wrong : getD flags (depth - 1) 0 ≡ 1 → none ≡ shut (blocksOf depth flags)
     shut-wrong e = rw (top depth flags more, eq-eqb (getD flags (depth - 1) 0) 1 e)
@@ -71,7 +102,7 @@ module _ (depth : ℕ) (flags : List ℕ) where
     shut-right f = rw (top depth flags more, ne-eqb (getD flags (depth - 1) 0) 1 f)
 
 pub end-is : (whole : Bool) (depth rows next : ℕ) (flags : List ℕ) → endOf whole depth rows next ≡ ended whole (blocksOf depth flags) rows next
-unfolding endOf blocksOf
+unfolding endOf blocksOf stackOf
 end-is true zero rows next flags = refl
 end-is true (suc depth) rows next flags = rw (ne-eqb (suc depth) 0 (λ e. omega arith))
 end-is false zero rows next flags = refl

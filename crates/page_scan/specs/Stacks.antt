@@ -1,6 +1,6 @@
--- Stacks: the open blocks that the first bytes of an array are, the innermost last.
+-- Stacks: the numbers that an array holds from its start on, the innermost last; and the open blocks that they are.
 use mathlib.Core.Bool.{Bool}
-use mathlib.Core.List.{List, [], _∷_}
+use mathlib.Core.List.{List, [], _∷_, map}
 use mathlib.Core.Option.{Option, none, some}
 use Prim.Native.Nat.{ℕ, zero, suc}
 use lib.Dec.{eqb}
@@ -12,9 +12,16 @@ use Rattle.page_blocks.specs.declared.Scan.the-variants as scan-cases
 use Rattle.page_scan.specs.declared.blocks.Moved.{Moved}
 use Rattle.page_scan.specs.declared.blocks.Moved.the-variants.{Depth, Wrong}
 
+-- So many numbers, the innermost first.
+unfoldable pub stackOf : ℕ → List ℕ → List ℕ
+stackOf zero numbers = []
+stackOf (suc depth) numbers = getD numbers depth 0 ∷ stackOf depth numbers
+
+abbrev pub isFirst : ℕ → Bool
+isFirst flag = eqb flag 1
+
 unfoldable pub blocksOf : ℕ → List ℕ → Open
-blocksOf zero flags = []
-blocksOf (suc depth) flags = eqb (getD flags depth 0) 1 ∷ blocksOf depth flags
+blocksOf depth flags = map isFirst (stackOf depth flags)
 
 abbrev pub movedSays : Moved → List ℕ → Option Open
 movedSays (Depth depth) flags = some (blocksOf depth flags)

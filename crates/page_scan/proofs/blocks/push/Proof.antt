@@ -3,7 +3,7 @@ use mathlib.Core.Path.{ap}
 use mathlib.Core.Option.{some}
 use native.Mathlib.Omega.{arith}
 use lib.ListN.{length-set}
-use Rattle.page_scan.specs.StackLaws.{pushed}
+use Rattle.page_scan.specs.StackLaws.{block-pushed}
 use borrow.Author.Needs.{needs}
 use Rattle.page_scan.proofs.blocks.push.Statement.{statement}
 use Rattle.page_scan.proofs.blocks.push.Tie as tie
@@ -16,7 +16,7 @@ add-t6 c = search needs
 
 returns : tie.Need-returns
 returns c =
-    (ap some (pushed (c .args .depth) (c .args .flag) (c .args .around .now) (omega (arith, c .pre .0, c .pre .1))), (omega arith, simp length-set (c .pre .1)))
+    (ap some (block-pushed (c .args .depth) (c .args .flag) (c .args .around .now) (omega (arith, c .pre .0, c .pre .1))), (omega arith, simp length-set (c .pre .1)))
 
 pub push-spec : {M : Type 1} → statement M
 push-spec = tie.close (tie.spec element-write-around add-t6 returns)

@@ -1,0 +1,97 @@
+-- What each part of a line comes to: atoms and names of a page as the kernel's, and rows put one behind the other.
+use mathlib.Core.Path.{_≡_, refl, sym, ap, _∙_}
+use mathlib.Core.Bool.{Bool, true, false}
+use mathlib.Core.List.{List, [], _∷_, _++_}
+use Prim.Native.Nat.{ℕ, _+_, _≤_, _<_}
+use native.Mathlib.Omega.{arith}
+use lib.IntN.{ℤ, pos}
+use lib.ListN.{length}
+use Rattle.words.specs.Word.{pick}
+use Rattle.words.specs.Over.{over}
+use Rattle.language.specs.Trees.{read, variable}
+use Rattle.emission.specs.Emission.{rowOf, emitExpression}
+use Rattle.leaves.specs.Atoms.{atomTree as kernelTree, atomRow}
+use Rattle.leaves.specs.Room.{Room}
+use Rattle.leaves.specs.Chain.{Put}
+use Rattle.leaves.specs.declared.Atom.{Atom as KernelAtom}
+use Rattle.leaves.specs.declared.Atom.the-variants as kernel-cases
+use Rattle.page_words.specs.Texts.{AtomFits, NameFits, ElementFits, ValueFits, LineFits}
+use Rattle.page_words.specs.Trees.{placeTree, atomTree}
+use Rattle.page_words.specs.declared.Atom.{Atom}
+use Rattle.page_words.specs.declared.Atom.the-variants.{Variable, Temporary}
+use Rattle.page_words.specs.declared.Value.{Value}
+use Rattle.page_words.specs.declared.Line.{Line}
+use Rattle.page_words.specs.declared.Line.the-variants.{While, If}
+use Rattle.page_blocks.specs.Scans.{valueRows, lineRows}
+use Rattle.page_rows.specs.Rows.{blockRow, lineTable}
+use Rattle.page_rows.specs.Fits.{mostNames}
+
+pub pick-most : (b : Bool) (n : ℕ) → pick b n 0 ≤ n
+pick-most true n = omega arith
+pick-most false n = omega arith
+
+-- ---- numbers
+
+module _ (store : ℕ) (few : store ≤ 8192) (a : Atom) (n : ℕ) where
+  pub variable-atom : a ≡ Variable n → AtomFits mostNames a → (read (variable n) ≡ atomTree store a) × (n < 65536)
+  variable-atom e h = let small : n < 256 = rw e at h in (ap (atomTree store) (sym e), omega arith)
+
+  pub temporary-atom : a ≡ Temporary n → AtomFits mostNames a → (read (variable (store + n)) ≡ atomTree store a) × (store + n < 65536)
+  temporary-atom e h = let small : n < 8192 = rw e at h in (ap (atomTree store) (sym e), omega arith)
+
+  pub variable-name : a ≡ Variable n → NameFits mostNames a → (placeTree store a ≡ variable n) × (n < 65536)
+  variable-name e h = let small : n < 256 = rw e at h in (ap (placeTree store) e, omega arith)
+
+  pub temporary-name : a ≡ Temporary n → NameFits mostNames a → (placeTree store a ≡ variable (store + n)) × (store + n < 65536)
+  temporary-name e h = let small : n < 8192 = rw e at h in (ap (placeTree store) e, omega arith)
+
+-- ---- what is known of a value and of a line, by its sort
+
+module _ (v w : Value) (e : v ≡ w) where
+  pub value-room : (base words : ℕ) → Room (3 + valueRows v) base words → Room (3 + valueRows w) base words
+  value-room base words r = rw e at r
+
+  pub value-fit : ValueFits mostNames v → ValueFits mostNames w
+  value-fit h = rw e at h
+
+module _ (line l : Line) (e : line ≡ l) where
+  pub line-room : (base words : ℕ) → Room (lineRows line) base words → Room (lineRows l) base words
+  line-room base words r = rw e at r
+
+  pub line-fit : LineFits mostNames line → LineFits mostNames l
+  line-fit h = rw e at h
+
+-- ---- rows
+
+module _ (l m : List ℤ) where
+  pub block-written : (base first next : ℕ) (follows : Bool) → m ≡ over (rowOf 42 (pos first) 0 0 0 next) l → first ≡ pick follows (base + 1) 0 → m ≡ over (blockRow base follows next) l
+  block-written base first next follows h e = rw e at h
+
+  -- one row
+  pub row-written : (u : List ℤ) → m ≡ over u l → length u ≡ 6 → Put u 1 l m
+  row-written u e h = record { table = e; size = h }
+
+  pub atom-written : (x : KernelAtom) (base : ℕ) → m ≡ over (atomRow x) l → Put (emitExpression (kernelTree x) base) 1 l m
+  unfolding emitExpression
+  atom-written (kernel-cases.Constant v) base e = record { table = e; size = refl }
+  atom-written (kernel-cases.Variable n) base e = record { table = e; size = refl }
+
+  pub if-written : (x : KernelAtom) (base second next : ℕ) → m ≡ over (rowOf 43 (pos (base + 1)) (base + 2) second 0 next ++ emitExpression (kernelTree x) (base + 1)) l
+      → Put (rowOf 43 (pos (base + 1)) (base + 2) second 0 next ++ emitExpression (kernelTree x) (base + 1)) 2 l m
+  unfolding emitExpression
+  if-written (kernel-cases.Constant v) base second next e = record { table = e; size = refl }
+  if-written (kernel-cases.Variable n) base second next e = record { table = e; size = refl }
+
+  -- A line that opens a block, by the kernel's atom of its test.
+  module _ (store base : ℕ) (follows : Bool) (first second : ℕ) (line : Line) (a : Atom) (x : KernelAtom) (t : kernelTree x ≡ atomTree store a) where
+    pub while-line : line ≡ While a → m ≡ over ((rowOf 44 (pos (base + 1)) (base + 2) 0 0 first ++ emitExpression (kernelTree x) (base + 1)) ++ blockRow (base + 2) follows 0) l
+        → m ≡ over (lineTable store line base (record { follows = follows; waiting = first ∷ second ∷ [] })) l
+    while-line e h =
+        h ∙ ap (λ z. over ((rowOf 44 (pos (base + 1)) (base + 2) 0 0 first ++ emitExpression z (base + 1)) ++ blockRow (base + 2) follows 0) l) t
+        ∙ ap (λ n. over (lineTable store n base (record { follows = follows; waiting = first ∷ second ∷ [] })) l) (sym e)
+
+    pub if-line : line ≡ If a → m ≡ over ((rowOf 43 (pos (base + 1)) (base + 2) first 0 second ++ emitExpression (kernelTree x) (base + 1)) ++ blockRow (base + 2) follows 0) l
+        → m ≡ over (lineTable store line base (record { follows = follows; waiting = first ∷ second ∷ [] })) l
+    if-line e h =
+        h ∙ ap (λ z. over ((rowOf 43 (pos (base + 1)) (base + 2) first 0 second ++ emitExpression z (base + 1)) ++ blockRow (base + 2) follows 0) l) t
+        ∙ ap (λ n. over (lineTable store n base (record { follows = follows; waiting = first ∷ second ∷ [] })) l) (sym e)

@@ -1,0 +1,45 @@
+-- Fits: the most names that any header gives. A line that fits a header fits these, so its numbers are small.
+use Prim.Native.Nat.{ℕ, _≤_, _<_}
+use native.Mathlib.Omega.{arith}
+use Rattle.page_words.specs.Texts.{AtomFits, NameFits, ValueFits, LineFits}
+use Rattle.page_words.specs.declared.Names.{Names}
+use Rattle.page_words.specs.declared.Atom.{Atom}
+use Rattle.page_words.specs.declared.Atom.the-variants.{Constant, Variable, Temporary}
+use Rattle.page_words.specs.declared.Value.{Value}
+use Rattle.page_words.specs.declared.Value.the-variants.{Single, Element, Minus, Binary}
+use Rattle.page_words.specs.declared.Line.{Line}
+use Rattle.page_words.specs.declared.Line.the-variants.{Empty, Abort, Goto, Label, Store, Put, Opens, While, If, Turns, Closes}
+
+-- "V variables (0 to 256) and up to 32 array lengths"; "T temporaries (0 to 8,192)".
+abbrev pub mostNames : Names
+mostNames = record { variables = 256; temporaries = 8192; arrays = 32 }
+
+module _ (names : Names) (few-variables : names .variables ≤ 256) (few-temporaries : names .temporaries ≤ 8192) (few-arrays : names .arrays ≤ 32) where
+  atom-fits-most : (a : Atom) → AtomFits names a → AtomFits mostNames a
+  atom-fits-most (Constant v) h = h
+  atom-fits-most (Variable n) h = omega arith
+  atom-fits-most (Temporary n) h = omega arith
+
+  name-fits-most : (a : Atom) → NameFits names a → NameFits mostNames a
+  name-fits-most (Constant v) h = h
+  name-fits-most (Variable n) h = omega arith
+  name-fits-most (Temporary n) h = omega arith
+
+  value-fits-most : (v : Value) → ValueFits names v → ValueFits mostNames v
+  value-fits-most (Single a) h = atom-fits-most a h
+  value-fits-most (Element array index) h = (omega (arith, h .0), atom-fits-most index (h .1))
+  value-fits-most (Minus a) h = atom-fits-most a h
+  value-fits-most (Binary o a b) h = (atom-fits-most a (h .0), atom-fits-most b (h .1))
+
+  pub line-fits-most : (line : Line) → LineFits names line → LineFits mostNames line
+  line-fits-most Empty h = tt
+  line-fits-most Abort h = tt
+  line-fits-most (Goto l) h = h
+  line-fits-most (Label l) h = h
+  line-fits-most (Store a v) h = (name-fits-most a (h .0), value-fits-most v (h .1))
+  line-fits-most (Put array index a) h = ((omega (arith, h .0 .0), atom-fits-most index (h .0 .1)), atom-fits-most a (h .1))
+  line-fits-most Opens h = tt
+  line-fits-most (While a) h = atom-fits-most a h
+  line-fits-most (If a) h = atom-fits-most a h
+  line-fits-most Turns h = tt
+  line-fits-most Closes h = tt

@@ -1,0 +1,87 @@
+-- Rows: the rows that a line has of its own, by what the lines behind it leave. Lines are read from the last to the first, as page/Lines reads
+-- them, and the row `base` is the first of the line: in it, and in no other row of a line, stands what only the lines behind it tell.
+use mathlib.Core.Bool.{Bool, true, false}
+use mathlib.Core.List.{List, [], _∷_, _++_}
+use Prim.Native.Nat.{ℕ, _+_}
+use lib.IntN.{ℤ, pos}
+use lib.ListN.{getD, drop}
+use Rattle.words.specs.Word.{pick}
+use Rattle.language.specs.Trees.{assign, element, label, empty, express, goto, abort, Items, none, _then_, _here_}
+use Rattle.emission.specs.Emission.{rowOf, emitExpression, emitItems}
+use Rattle.page_words.specs.Trees.{placeTree, atomTree, valueTree}
+use Rattle.page_words.specs.declared.Line.{Line}
+use Rattle.page_words.specs.declared.Line.the-variants.{Empty, Abort, Goto, Label, Store, Put, Opens, While, If, Turns, Closes}
+use Rattle.page_blocks.specs.Scans.{lineRows}
+
+-- What lines leave to the line before them.
+pub record Left : Type 0 where
+  -- an item follows in the list of that line
+  pub follows : Bool
+  -- rows that wait for the lines that open their blocks, the innermost first: of a block that closes the row behind it in its list, or 0; of a
+  -- branch that turns the row of the other branch's block
+  pub waiting : List ℕ
+
+abbrev pub nothing : Left
+nothing = record { follows = false; waiting = [] }
+
+-- What a line and those behind it leave.
+abbrev pub leftBefore : Line → ℕ → Left → Left
+leftBefore Empty base left = record { follows = true; waiting = left .waiting }
+leftBefore Abort base left = record { follows = true; waiting = left .waiting }
+leftBefore (Goto l) base left = record { follows = true; waiting = left .waiting }
+leftBefore (Label l) base left = record { follows = true; waiting = left .waiting }
+leftBefore (Store a v) base left = record { follows = true; waiting = left .waiting }
+leftBefore (Put array index a) base left = record { follows = true; waiting = left .waiting }
+leftBefore Opens base left = record { follows = true; waiting = drop 1 (left .waiting) }
+leftBefore (While a) base left = record { follows = true; waiting = drop 1 (left .waiting) }
+leftBefore (If a) base left = record { follows = true; waiting = drop 2 (left .waiting) }
+leftBefore Turns base left = record { follows = false; waiting = base ∷ left .waiting }
+leftBefore Closes base left = record { follows = false; waiting = pick (left .follows) base 0 ∷ left .waiting }
+
+-- The item that a line is by itself; a line that opens, turns or closes is none.
+abbrev pub lineItem : ℕ → Line → Items
+lineItem S Empty = empty then none
+lineItem S Abort = abort then none
+lineItem S (Goto l) = goto l then none
+lineItem S (Label l) = label l here none
+lineItem S (Store a v) = express (assign (placeTree S a) (valueTree S v)) then none
+lineItem S (Put array index a) = express (assign (element array (atomTree S index)) (atomTree S a)) then none
+lineItem S Opens = none
+lineItem S (While a) = none
+lineItem S (If a) = none
+lineItem S Turns = none
+lineItem S Closes = none
+
+-- The row of a block whose items begin at the row behind it, if it has any.
+abbrev pub blockRow : ℕ → (follows : Bool) → (next : ℕ) → List ℤ
+blockRow base follows next = rowOf 42 (pos (pick follows (base + 1) 0)) 0 0 0 next
+
+-- The rows of a line, from `base` on. Those of a while and of an if: the statement, its atom, and the block that it opens.
+abbrev pub lineTable : ℕ → Line → ℕ → Left → List ℤ
+lineTable S Empty base left = emitItems (left .follows) (lineItem S Empty) base
+lineTable S Abort base left = emitItems (left .follows) (lineItem S Abort) base
+lineTable S (Goto l) base left = emitItems (left .follows) (lineItem S (Goto l)) base
+lineTable S (Label l) base left = emitItems (left .follows) (lineItem S (Label l)) base
+lineTable S (Store a v) base left = emitItems (left .follows) (lineItem S (Store a v)) base
+lineTable S (Put array index a) base left = emitItems (left .follows) (lineItem S (Put array index a)) base
+lineTable S Opens base left = blockRow base (left .follows) (getD (left .waiting) 0 0)
+lineTable S (While a) base left =
+    (rowOf 44 (pos (base + 1)) (base + 2) 0 0 (getD (left .waiting) 0 0) ++ emitExpression (atomTree S a) (base + 1)) ++ blockRow (base + 2) (left .follows) 0
+lineTable S (If a) base left =
+    (rowOf 43 (pos (base + 1)) (base + 2) (getD (left .waiting) 0 0) 0 (getD (left .waiting) 1 0) ++ emitExpression (atomTree S a) (base + 1)) ++ blockRow (base + 2) (left .follows) 0
+lineTable S Turns base left = blockRow base (left .follows) 0
+lineTable S Closes base left = []
+
+-- ---- all lines
+
+unfoldable pub leftBy : List Line → ℕ → Left
+leftBy [] base = nothing
+leftBy (line ∷ lines) base = leftBefore line base (leftBy lines (base + lineRows line))
+
+unfoldable pub linesTable : ℕ → List Line → ℕ → List ℤ
+linesTable S [] base = []
+linesTable S (line ∷ lines) base = lineTable S line base (leftBy lines (base + lineRows line)) ++ linesTable S lines (base + lineRows line)
+
+-- Row 0, then the rows of the lines.
+unfoldable pub pageTable : ℕ → List Line → List ℤ
+pageTable S lines = blockRow 0 (leftBy lines 1 .follows) 0 ++ linesTable S lines 1

@@ -1,0 +1,71 @@
+-- Laws of sizes: a line has as many rows as are counted for it, six words each; only the two innermost rows that wait stand in them.
+use mathlib.Core.Path.{_≡_, refl, _∙_}
+use mathlib.Core.Bool.{Bool}
+use mathlib.Core.List.{List, [], _∷_, _++_}
+use Prim.Native.Nat.{ℕ, _+_, _*_}
+use native.Mathlib.Omega.{arith}
+use lib.IntN.{ℤ, pos}
+use lib.ListN.{length, getD, length-append}
+use Rattle.language.specs.Sizes.{expressionRows, itemsRows}
+use Rattle.emission.specs.Emission.{rowOf, emitExpression}
+use Rattle.emission.specs.EmissionLaws.{length-items}
+use Rattle.page_words.specs.Trees.{atomTree}
+use Rattle.page_words.specs.declared.Atom.{Atom}
+use Rattle.page_words.specs.declared.Atom.the-variants.{Constant, Variable, Temporary}
+use Rattle.page_words.specs.declared.Line.{Line}
+use Rattle.page_words.specs.declared.Line.the-variants.{Empty, Abort, Goto, Label, Store, Put, Opens, While, If, Turns, Closes}
+use Rattle.page_blocks.specs.Scans.{lineRows}
+use Rattle.page_blocks.specs.ScanLaws.{linesRows}
+use Rattle.page_blocks.specs.RowLaws.{atom-rows, value-rows}
+use Rattle.page_rows.specs.Rows.{Left, lineItem, blockRow, lineTable, leftBy, linesTable, pageTable}
+
+module _ (S : ℕ) where
+  -- The rows of a line by the two innermost rows that wait.
+  pub by-two : (line : Line) (base : ℕ) (follows : Bool) (waiting : List ℕ)
+      → lineTable S line base (record { follows = follows; waiting = getD waiting 0 0 ∷ getD waiting 1 0 ∷ [] }) ≡ lineTable S line base (record { follows = follows; waiting = waiting })
+  by-two Empty base follows waiting = refl
+  by-two Abort base follows waiting = refl
+  by-two (Goto l) base follows waiting = refl
+  by-two (Label l) base follows waiting = refl
+  by-two (Store a v) base follows waiting = refl
+  by-two (Put array index a) base follows waiting = refl
+  by-two Opens base follows waiting = refl
+  by-two (While a) base follows waiting = refl
+  by-two (If a) base follows waiting = refl
+  by-two Turns base follows waiting = refl
+  by-two Closes base follows waiting = refl
+
+  -- An atom between a row and a block's row.
+  opening-size : (kind c next : ℕ) (base : ℕ) (follows : Bool) (a : Atom)
+      → length ((rowOf kind (pos (base + 1)) (base + 2) c 0 next ++ emitExpression (atomTree S a) (base + 1)) ++ blockRow (base + 2) follows 0) ≡ 18
+  unfolding emitExpression
+  opening-size kind c next base follows (Constant v) = refl
+  opening-size kind c next base follows (Variable n) = refl
+  opening-size kind c next base follows (Temporary n) = refl
+
+  pub length-line : (line : Line) (base : ℕ) (left : Left) → length (lineTable S line base left) ≡ 6 * lineRows line
+  unfolding itemsRows expressionRows
+  length-line Empty base left = length-items (left .follows) (lineItem S Empty) base
+  length-line Abort base left = length-items (left .follows) (lineItem S Abort) base
+  length-line (Goto l) base left = length-items (left .follows) (lineItem S (Goto l)) base
+  length-line (Label l) base left = length-items (left .follows) (lineItem S (Label l)) base
+  length-line (Store (Constant c) v) base left = length-items (left .follows) (lineItem S (Store (Constant c) v)) base ∙ omega (arith, value-rows S v)
+  length-line (Store (Variable n) v) base left = length-items (left .follows) (lineItem S (Store (Variable n) v)) base ∙ omega (arith, value-rows S v)
+  length-line (Store (Temporary n) v) base left = length-items (left .follows) (lineItem S (Store (Temporary n) v)) base ∙ omega (arith, value-rows S v)
+  length-line (Put array index a) base left = length-items (left .follows) (lineItem S (Put array index a)) base ∙ omega (arith, atom-rows S index, atom-rows S a)
+  length-line Opens base left = refl
+  length-line (While a) base left = opening-size 44 0 (getD (left .waiting) 0 0) base (left .follows) a
+  length-line (If a) base left = opening-size 43 (getD (left .waiting) 0 0) (getD (left .waiting) 1 0) base (left .follows) a
+  length-line Turns base left = refl
+  length-line Closes base left = refl
+
+  length-lines : (lines : List Line) (base : ℕ) → length (linesTable S lines base) ≡ 6 * linesRows lines
+  unfolding linesTable
+  length-lines [] base = refl
+  length-lines (line ∷ lines) base =
+      length-append (lineTable S line base (leftBy lines (base + lineRows line))) (linesTable S lines (base + lineRows line))
+      ∙ omega (arith, length-line line base (leftBy lines (base + lineRows line)), length-lines lines (base + lineRows line))
+
+  pub length-page : (lines : List Line) → length (pageTable S lines) ≡ 6 * (1 + linesRows lines)
+  unfolding pageTable
+  length-page lines = omega (arith, length-lines lines 1)

@@ -1,0 +1,96 @@
+// The rows of lines that assign.
+use super::atoms::kernel_atom;
+use super::atoms::variable_number;
+use leaves::assignments::put_binary;
+use leaves::assignments::put_copy;
+use leaves::assignments::put_fetch;
+use leaves::assignments::put_minus;
+use leaves::assignments::put_store;
+use page_words::Atom;
+use page_words::Value;
+ghost use mathlib.Core.Path.{_≡_};
+ghost use Prim.Native.Nat.{_+_, _≤_, _<_};
+ghost use lib.ListN.{length};
+ghost use Rattle.words.specs.Over.{over};
+ghost use Rattle.language.specs.Trees.{assign, variable, express, none, _then_};
+ghost use Rattle.emission.specs.Emission.{emitItems};
+ghost use Rattle.leaves.specs.Room.{Room};
+ghost use Rattle.page_words.specs.Texts.{AtomFits, NameFits, ElementFits, ValueFits};
+ghost use Rattle.page_words.specs.Trees.{valueTree};
+ghost use Rattle.page_words.specs.declared.Line.the-variants.{Store, Put};
+ghost use Rattle.page_blocks.specs.Scans.{valueRows};
+ghost use Rattle.page_rows.specs.Rows.{lineItem};
+ghost use Rattle.page_rows.specs.Fits.{mostNames};
+
+// A value assigned to the variable of this number.
+fn put_value(store: usize, number: usize, value: Value, base: usize, follows: bool, out: &mut [i32])
+    requires { ⌜ Room (3 + valueRows value) base (length (now out)) × (store ≤ 8192) × (number < 65536) × ValueFits mostNames value ⌝ }
+    ensures { λ _. ⌜ now (out .exit) ≡ over (emitItems follows (express (assign (variable number) (valueTree store value)) then none) base) (now (out .entry)) ⌝ }
+{
+    match value {
+        Value::Single(atom) => put_copy(number, kernel_atom(store, atom), base, follows, out),
+        Value::Element(array, index) => put_fetch(
+            number,
+            array as usize,
+            kernel_atom(store, index),
+            base,
+            follows,
+            out,
+        ),
+        Value::Minus(atom) => put_minus(number, kernel_atom(store, atom), base, follows, out),
+        Value::Binary(operator, left, right) => put_binary(
+            number,
+            operator,
+            kernel_atom(store, left),
+            kernel_atom(store, right),
+            base,
+            follows,
+            out,
+        ),
+    }
+}
+
+// A value assigned to a name.
+pub fn put_named(
+    store: usize,
+    name: Atom,
+    value: Value,
+    base: usize,
+    follows: bool,
+    out: &mut [i32],
+)
+    requires { ⌜ Room (3 + valueRows value) base (length (now out)) × (store ≤ 8192) × NameFits mostNames name × ValueFits mostNames value ⌝ }
+    ensures { λ _. ⌜ now (out .exit) ≡ over (emitItems follows (lineItem store (Store name value)) base) (now (out .entry)) ⌝ }
+{
+    put_value(
+        store,
+        variable_number(store, name),
+        value,
+        base,
+        follows,
+        out,
+    );
+}
+
+// An atom assigned to an element.
+pub fn put_element(
+    store: usize,
+    array: u32,
+    index: Atom,
+    atom: Atom,
+    base: usize,
+    follows: bool,
+    out: &mut [i32],
+)
+    requires { ⌜ Room 5 base (length (now out)) × (store ≤ 8192) × ElementFits mostNames array index × AtomFits mostNames atom ⌝ }
+    ensures { λ _. ⌜ now (out .exit) ≡ over (emitItems follows (lineItem store (Put array index atom)) base) (now (out .entry)) ⌝ }
+{
+    put_store(
+        array as usize,
+        kernel_atom(store, index),
+        kernel_atom(store, atom),
+        base,
+        follows,
+        out,
+    );
+}

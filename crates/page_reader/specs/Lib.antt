@@ -8,3 +8,5 @@ pub mod Stacks
 -- ---- laws
 -- Laws of reads: a page without a wrong line is read by page/Tables as the rows of its lines.
 pub mod ReadLaws
+-- Printed pages: the page of every legal kernel table is read; nothing but a short table is refused.
+pub mod PrintedPages

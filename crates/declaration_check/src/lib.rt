@@ -1,0 +1,89 @@
+// The causes that declarations add to the check, in code: 18, 19 and 20 in order, and 7 for a declaration. No entry uses them yet.
+use breaks::lowest_breaking;
+use grammar::KindTable;
+use notes::write_notes;
+use resolver::counts::write_counts;
+use structure::causes::at;
+use words::Found;
+use words::Refusal;
+use words::Verdict;
+
+pub mod breaks; // breaks.rt: the lowest row that breaks a cause
+pub mod initial; // initial.rt: cause 18, a walk down an initial expression
+pub mod notes; // notes.rt: what a pass along the links notes of each row
+
+ghost use mathlib.Core.Path.{_≡_};
+ghost use Prim.Native.Nat.{_/_, _≤_};
+ghost use lib.ListN.{length};
+ghost use Rattle.words.specs.Search.{lowestRow};
+ghost use Rattle.grammar.specs.Grammar.{grammar};
+ghost use Rattle.structure.specs.Structured.{Tree};
+ghost use Rattle.structure.specs.Passes.{Notes};
+ghost use Rattle.names.specs.Names.{declarationsBefore};
+ghost use Rattle.declaration_causes.specs.Causes.{outsideBlock, declarationRefusal};
+ghost use Rattle.declaration_check.specs.Passes.{noteAt};
+ghost use Rattle.declaration_check.specs.declared.Note.the-variants.{EarlierDeclaration};
+
+// What a pass along the links notes of each row.
+pub enum Note {
+    // 1 for an item of a block's list
+    BlockItem,
+    // the nearest declaration before the row in its own list, or 0
+    EarlierDeclaration,
+}
+
+// What a declaration can break.
+pub enum Cause {
+    // 7
+    OutsideBlock,
+    // 18
+    NamesItself,
+    // 19
+    DeclaredBefore,
+    // 20
+    OneTooMany,
+}
+
+// Causes 18 to 20, in a tree of rows, with the notes and the counts of its rows.
+fn noted_refusal(kinds: &KindTable, rows: &[i32], earlier: &[u16], counts: &[u16]) -> Verdict
+    requires { ⌜ Tree (now rows) × Notes (now rows) (noteAt EarlierDeclaration (now rows)) (now earlier) × Notes (now rows) (declarationsBefore (now rows)) (now counts) × (now kinds ≡ grammar) ⌝ }
+    ensures { λ r. ⌜ r ≡ declarationRefusal (now (rows .entry)) ⌝ }
+{
+    let own = lowest_breaking(Cause::NamesItself, kinds, rows, counts);
+    if let Found::At(row) = own {
+        return Verdict::Refused(Refusal {
+            number: 18,
+            place: row,
+        });
+    }
+    let twice = lowest_breaking(Cause::DeclaredBefore, kinds, rows, earlier);
+    if let Found::At(row) = twice {
+        return Verdict::Refused(Refusal {
+            number: 19,
+            place: row,
+        });
+    }
+    at(20, lowest_breaking(Cause::OneTooMany, kinds, rows, counts))
+}
+
+// Causes 18 to 20, in a tree of rows.
+pub fn declaration_refusal(kinds: &KindTable, rows: &[i32]) -> Verdict
+    requires { ⌜ Tree (now rows) × (length (now rows) / 6 ≤ 2048) × (now kinds ≡ grammar) ⌝ }
+    ensures { λ r. ⌜ r ≡ declarationRefusal (now (rows .entry)) ⌝ }
+{
+    let mut earlier = [0u16; 2048];
+    let mut counts = [0u16; 2048];
+    write_notes(Note::EarlierDeclaration, kinds, rows, &mut earlier);
+    write_counts(rows, &mut counts);
+    noted_refusal(kinds, rows, &earlier, &counts)
+}
+
+// Cause 7 for declarations: the lowest that is no item of a block, in a tree of rows.
+pub fn lowest_outside_block(kinds: &KindTable, rows: &[i32]) -> Found
+    requires { ⌜ Tree (now rows) × (length (now rows) / 6 ≤ 2048) × (now kinds ≡ grammar) ⌝ }
+    ensures { λ r. ⌜ r ≡ lowestRow (now (rows .entry)) (outsideBlock (now (rows .entry))) ⌝ }
+{
+    let mut items = [0u16; 2048];
+    write_notes(Note::BlockItem, kinds, rows, &mut items);
+    lowest_breaking(Cause::OutsideBlock, kinds, rows, &items)
+}

@@ -5,6 +5,8 @@
 pub mod Causes
 -- Demands: what the request demands of declarations, as relations in its words.
 pub mod Demands
+-- Examples: what the causes answer to small tables, by computing.
+pub mod Examples
 -- ---- laws
 -- Laws of initial expressions: 18 is "an initial expression naming its own number".
 pub mod InitialLaws

@@ -1,0 +1,3 @@
+-- What the proofs of functions share.
+-- Rooms: the bytes that words leave of a room.
+pub mod Rooms

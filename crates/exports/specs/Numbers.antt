@@ -14,6 +14,8 @@ use Rattle.joiner.specs.Joining.{joinNumbers, WroteJoin}
 use Rattle.joiner.specs.declared.JoinAnswer.{JoinAnswer}
 use Rattle.flattener.specs.Flattening.{flattenNumbers, WroteList}
 use Rattle.flattener.specs.declared.FlattenAnswer.{FlattenAnswer}
+use Rattle.page_reader.specs.Reads.{pageNumbers}
+use Rattle.page_reader.specs.declared.PageAnswer.{PageAnswer}
 use Rattle.exports.specs.declared.Answer.{Answer}
 use Rattle.exports.specs.declared.PreviewAnswer.{PreviewAnswer}
 
@@ -58,3 +60,7 @@ flattenAnswer answer = answerOf (flattenNumbers answer)
 -- What stands in the output after a flattening whose answer has no cause: a legal list that shares the kernel program's fate.
 abbrev pub ListsIfDone : (header rows : List ℤ) → Answer → (left : List ℤ) → Type 0
 ListsIfDone header rows answer left = answer .cause ≡ 0 → WroteList header rows (answer .first) left
+
+-- A page that was read: the words of its rows.
+abbrev pub pageAnswer : PageAnswer → Answer
+pageAnswer answer = answerOf (pageNumbers answer)

@@ -4,6 +4,7 @@ use super::PreviewAnswer;
 use dispatcher_runs::DispatcherVerdict;
 use flattener::FlattenAnswer;
 use joiner::JoinAnswer;
+use page_reader::PageAnswer;
 use program_previews::PreviewVerdict;
 use text_form::ReadAnswer;
 use text_form::WriteAnswer;
@@ -22,7 +23,7 @@ ghost use Rattle.dispatcher_runs.specs.declared.DispatcherVerdict.the-variants.
 ghost use Rattle.program_previews.specs.declared.PreviewVerdict.the-variants.{Previewed};
 ghost use Rattle.dispatcher_runs.specs.DispatcherRuns.{dispatcherNumbers};
 ghost use Rattle.program_previews.specs.Previews.{toldRun, tallyOf};
-ghost use Rattle.exports.specs.Numbers.{answerOf, runAnswer, verdictAnswer, previewAnswer, outcomeAnswer, translateAnswer, joinAnswer, flattenAnswer};
+ghost use Rattle.exports.specs.Numbers.{answerOf, runAnswer, verdictAnswer, previewAnswer, outcomeAnswer, translateAnswer, joinAnswer, flattenAnswer, pageAnswer};
 
 pub fn refused(refusal: Refusal) -> Answer
     ensures { λ r. ⌜ r ≡ answerOf (refusedOf (refusal .number) (refusal .place)) ⌝ }
@@ -174,5 +175,18 @@ pub fn of_flattening(answer: FlattenAnswer) -> Answer
             second: 0,
         },
         FlattenAnswer::Refused(refusal) => refused(refusal),
+    }
+}
+
+pub fn of_page(answer: PageAnswer) -> Answer
+    ensures { λ r. ⌜ r ≡ pageAnswer answer ⌝ }
+{
+    match answer {
+        PageAnswer::Read(words) => Answer {
+            cause: 0,
+            first: words,
+            second: 0,
+        },
+        PageAnswer::Refused(refusal) => refused(refusal),
     }
 }

@@ -1,12 +1,14 @@
-// Reader and writer of both forms' texts, and the printer of pages.
+// Reader and writer of both forms' texts, and of pages.
 use super::Answer;
+use super::answers::of_page;
 use super::answers::of_read;
 use super::answers::of_write;
 ghost use mathlib.Core.Path.{_≡_};
 ghost use Rattle.words.specs.declared.Form.the-variants.{Source, Kernel};
 ghost use Rattle.text_form.specs.Answers.{readResult, writeResult};
 ghost use Rattle.clight.specs.Prints.{printResult};
-ghost use Rattle.exports.specs.Numbers.{outcomeAnswer};
+ghost use Rattle.page_reader.specs.Reads.{pageResult};
+ghost use Rattle.exports.specs.Numbers.{answerOf, outcomeAnswer};
 
 // Reads a source text into a header and rows.
 #[no_mangle]
@@ -53,4 +55,13 @@ pub extern "C" fn clight_print_kernel(header: &[i32], rows: &[i32], page: &mut [
     ensures { λ _. ⌜ now (page .exit) ≡ printResult (now (header .entry)) (now (rows .entry)) (now (page .entry)) .text ⌝ }
 {
     of_write(clight::pages::print_kernel(header, rows, page))
+}
+
+// Reads a page with a header.
+#[no_mangle]
+pub extern "C" fn clight_read_page(header: &[i32], page: &[u8], rows: &mut [i32]) -> Answer
+    ensures { λ r. ⌜ r ≡ answerOf (pageResult (now (header .entry)) (now (page .entry)) (now (rows .entry)) .numbers) ⌝ }
+    ensures { λ _. ⌜ now (rows .exit) ≡ pageResult (now (header .entry)) (now (page .entry)) (now (rows .entry)) .rows ⌝ }
+{
+    of_page(clight::pages::read_page(header, page, rows))
 }

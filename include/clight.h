@@ -53,7 +53,7 @@ enum clight_cause {
     CLIGHT_STORE = 11,            /* store not S (source, dispatcher) or S+T (kernel, flat list) words; place 0 */
     CLIGHT_KERNEL_FORM = 12,      /* statement not of kernel form; the statement's row */
     CLIGHT_LABEL = 13,            /* goto without its label ahead, or label repeated; the row of the goto or the later label */
-    CLIGHT_TEXT = 14,             /* text malformed; the line, from 1 */
+    CLIGHT_TEXT = 14,             /* text or page malformed; the line, from 1 */
     CLIGHT_SCRATCH = 15,          /* scratch shorter than S words; place 0 */
     CLIGHT_UNEQUAL_HEADERS = 16,  /* join of programs with unequal headers; place 0 */
     CLIGHT_JOINED_ROWS = 17       /* joined rows over 2,048; place 0 */
@@ -155,6 +155,12 @@ clight_answer clight_write_kernel(const int32_t *header, size_t header_words, co
    to numbering. */
 clight_answer clight_print_kernel(const int32_t *header, size_t header_words, const int32_t *rows, size_t row_words, uint8_t *page,
                                   size_t page_bytes);
+
+/* Reads a page with the header of its program. Done: first is the words of its rows, numbered in the order of the page, second 0; words of the
+   table beyond these keep their content. Causes 1, then 14 with the first wrong line, then 2, 10. The program that was read is not checked
+   further. */
+clight_answer clight_read_page(const int32_t *header, size_t header_words, const uint8_t *page, size_t page_bytes, int32_t *rows,
+                               size_t row_words);
 
 #ifdef __cplusplus
 }

@@ -184,6 +184,12 @@ fn call_print_kernel(_: &Entries, program: &Program) {
     clight::print_kernel(&program.header, &program.rows, &mut page).unwrap();
 }
 
+fn call_read_page(_: &Entries, program: &Program) {
+    let page = interpreter::page::print(&program.header, &program.rows);
+    let mut rows = program.rows.clone();
+    clight::read_page(&program.header, &page, &mut rows).unwrap();
+}
+
 fn call_flatten(_: &Entries, program: &Program) {
     let mut list = vec![0; 5 * program.row_count()];
     clight::flatten(&program.header, &program.rows, &mut list).unwrap();
@@ -220,7 +226,7 @@ pub fn print_all() {
     kernels.extend(sources.iter().map(crate::programs::translated));
     kernels.push(crate::programs::kernel_sized(40_980));
     sources.push(crate::programs::sized(2_048));
-    let calls: [(&str, Call, &'static Entries); 16] = [
+    let calls: [(&str, Call, &'static Entries); 17] = [
         ("nothing, for comparison", |_, _| {}, &SOURCE),
         ("check", call_check, &SOURCE),
         ("run", call_run, &SOURCE),
@@ -231,6 +237,7 @@ pub fn print_all() {
         ("kernel run", call_run, &KERNEL),
         ("dispatcher run", call_dispatcher_run, &KERNEL),
         ("print kernel", call_print_kernel, &KERNEL),
+        ("read page", call_read_page, &KERNEL),
         ("flatten", call_flatten, &KERNEL),
         ("flat run", call_flat_run, &KERNEL),
         ("read source", call_read, &SOURCE),

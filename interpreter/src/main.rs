@@ -35,7 +35,7 @@ Texts and case files are read from standard input.
   flat-run BUDGET [WORD ...]
   flatten                    the flat list of a kernel text, or refused NUMBER PLACE
   read-page V T [LENGTH ...] reads a page; the kernel text of its rows with this
-                             header, or `no page`
+                             header, or a refusal
   trial                      the trial program's line for the source form, or
                              its refusal. The kernel's line is not printed:
                              there is no translation here, and whether its run
@@ -292,12 +292,9 @@ fn flatten_text(bytes: &[u8]) -> Vec<u8> {
 
 fn read_page(header: &[&str]) -> Result<Vec<u8>, String> {
     let header: Vec<i32> = header.iter().map(|word| number(word)).collect::<Result<_, _>>()?;
-    if header.len() < Kernel.leading_words() {
-        return Err("a header has V and T; see --help".to_string());
-    }
     Ok(match page::read(&header, &input()?) {
-        Some(rows) => text::write(&header, &rows),
-        None => line("no page".to_string()),
+        Ok(rows) => text::write(&header, &rows),
+        Err(refusal) => line(refusal.to_string()),
     })
 }
 

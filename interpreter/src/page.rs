@@ -1,12 +1,15 @@
 //! The kernel on paper, from docs/PAGES.md alone: prints a legal kernel
 //! program as a page, and reads a page as rows.
 
+use crate::check::check_header;
 use crate::form::Form::Kernel;
 use crate::table::*;
 use crate::text::number;
 
 /// Columns of a line, without its newline.
 pub const COLUMNS: usize = 80;
+/// A block has one row and two lines, nothing has more; row 0 has none.
+pub const MAX_LINES: usize = 2 * MAX_KERNEL_ROWS - 2;
 const OPERATORS: [&str; 11] = ["+", "-", "*", "/", "%", "<", ">", "<=", ">=", "==", "!="];
 
 /// The page of a program that the kernel check accepts.
@@ -15,6 +18,13 @@ pub fn print(header: &[i32], words: &[i32]) -> Vec<u8> {
         Printer { size: Kernel.size(header), rows: rows_of(words), lines: 0, page: Vec::new() };
     printer.list(printer.rows[0][1], 0);
     printer.page
+}
+
+/// A line with its number, its indent, and blanks to its end.
+fn line_text(number: usize, level: usize, statement: &str) -> String {
+    let indent = " ".repeat((2 * level).min(36));
+    let line = format!("{number:>5} {indent}{statement}");
+    format!("{line:<width$}\n", width = COLUMNS)
 }
 
 struct Printer<'a> {
@@ -27,9 +37,7 @@ struct Printer<'a> {
 impl Printer<'_> {
     fn line(&mut self, level: usize, statement: &str) {
         self.lines += 1;
-        let indent = " ".repeat((2 * level).min(36));
-        let line = format!("{:>5} {indent}{statement}", self.lines);
-        self.page.extend(format!("{line:<width$}\n", width = COLUMNS).into_bytes());
+        self.page.extend(line_text(self.lines, level, statement).into_bytes());
     }
 
     fn list(&mut self, first: i32, level: usize) {
@@ -117,26 +125,29 @@ impl Printer<'_> {
 }
 
 /// The rows of the program whose page this is, numbered in the order of the
-/// page; none where it is no page.
-pub fn read(header: &[i32], page: &[u8]) -> Option<Vec<i32>> {
+/// page: 1, then 14 with the first wrong line, then 2.
+pub fn read(header: &[i32], page: &[u8]) -> Result<Vec<i32>, Refusal> {
+    check_header(Kernel, header)?;
     let mut reader = Reader {
-        size: Kernel.size(header),
+        variables: header[0],
+        temporaries: Kernel.temporaries(header),
+        arrays: Kernel.lengths(header).len() as i32,
+        size: Kernel.size(header) as i32,
         rows: vec![[BLOCK, 0, 0, 0, 0, 0]],
         around: vec![Around::new(0, Ends::Page)],
     };
-    let mut rest = page;
-    while !rest.is_empty() {
-        let end = rest.iter().position(|&byte| byte == b'\n')?;
-        let line = std::str::from_utf8(&rest[..end]).ok()?;
-        let words: Vec<&str> = line.split(' ').filter(|word| !word.is_empty()).collect();
-        reader.line(words.get(1..)?)?;
-        rest = &rest[end + 1..];
+    let mut number = 1;
+    for line in page.chunks(COLUMNS + 1) {
+        reader.numbered(number, line).ok_or(Refusal::new(14, number))?;
+        number += 1;
     }
     if reader.around.len() != 1 {
-        return None;
+        return Err(Refusal::new(14, number));
     }
-    let words: Vec<i32> = reader.rows.concat();
-    (print(header, &words) == page).then_some(words)
+    if reader.rows.len() > Kernel.max_rows() {
+        return Err(Refusal::new(2, 0));
+    }
+    Ok(reader.rows.concat())
 }
 
 /// What ends the list that is being read.
@@ -162,12 +173,29 @@ impl Around {
 }
 
 struct Reader {
-    size: i64,
+    variables: i32,
+    temporaries: i32,
+    arrays: i32,
+    size: i32,
     rows: Vec<Row>,
     around: Vec<Around>,
 }
 
 impl Reader {
+    /// These bytes as the line with this number, at its level.
+    fn numbered(&mut self, number: usize, bytes: &[u8]) -> Option<()> {
+        if number > MAX_LINES {
+            return None;
+        }
+        let text = std::str::from_utf8(bytes).ok()?;
+        let statement = text.get(6..COLUMNS)?.trim_matches(' ');
+        let words: Vec<&str> = statement.split(' ').collect();
+        let depth = self.around.len() - 1;
+        let level = if words[0] == "}" { depth.checked_sub(1)? } else { depth };
+        (text == line_text(number, level, statement)).then_some(())?;
+        self.line(&words)
+    }
+
     fn line(&mut self, words: &[&str]) -> Option<()> {
         match words {
             [";"] => self.item([EMPTY, 0, 0, 0, 0, 0]),
@@ -203,20 +231,30 @@ impl Reader {
                 0
             }
             ["goto", label] => {
-                let label = natural(label.strip_prefix('L')?.strip_suffix(';')?)?;
+                let label =
+                    below(MAX_KERNEL_ROWS as i32, label.strip_prefix('L')?.strip_suffix(';')?)?;
                 self.item([GOTO, label, 0, 0, 0, 0])
             }
             [label] => {
-                let label = natural(label.strip_prefix('L')?.strip_suffix(":;")?)?;
+                let label =
+                    below(MAX_KERNEL_ROWS as i32, label.strip_prefix('L')?.strip_suffix(":;")?)?;
                 self.item([LABEL, label, 0, 0, 0, 0])
             }
             [place, "=", value @ ..] => {
                 let at = self.rows.len() as i32;
                 self.item([EXPRESSION, at + 1, 0, 0, 0, 0]);
                 self.rows.push([ASSIGN, at + 2, 0, 0, 0, 0]);
-                self.place(place)?;
+                let named = self.name(place);
+                match named {
+                    Some(variable) => self.rows.push([VARIABLE, variable, 0, 0, 0, 0]),
+                    None => self.element(place)?,
+                }
                 self.rows[at as usize + 1][2] = self.rows.len() as i32;
-                self.value(value)?;
+                match value {
+                    [x] if named.is_none() => self.atom(x.strip_suffix(';')?)?,
+                    _ if named.is_none() => return None,
+                    _ => self.value(value)?,
+                }
                 0
             }
             _ => return None,
@@ -250,30 +288,41 @@ impl Reader {
         self.atom(word.strip_prefix('(')?.strip_suffix(')')?)
     }
 
+    /// The number of a variable that the header gives.
+    fn name(&self, word: &str) -> Option<i32> {
+        if let Some(digits) = word.strip_prefix('v') {
+            return below(self.variables, digits);
+        }
+        Some(self.size + below(self.temporaries, word.strip_prefix('t')?)?)
+    }
+
     fn atom(&mut self, word: &str) -> Option<()> {
-        let row = if let Some(digits) = word.strip_prefix('v') {
-            [VARIABLE, natural(digits)?, 0, 0, 0, 0]
-        } else if let Some(digits) = word.strip_prefix('t') {
-            [VARIABLE, i32::try_from(self.size + i64::from(natural(digits)?)).ok()?, 0, 0, 0, 0]
-        } else {
-            [CONSTANT, number(word.as_bytes())?, 0, 0, 0, 0]
+        let row = match self.name(word) {
+            Some(variable) => [VARIABLE, variable, 0, 0, 0, 0],
+            None => [CONSTANT, number(word.as_bytes())?, 0, 0, 0, 0],
         };
         self.rows.push(row);
         Some(())
     }
 
-    fn place(&mut self, word: &str) -> Option<()> {
-        let Some(element) = word.strip_prefix('a') else { return self.atom(word) };
-        let (array, index) = element.strip_suffix(']')?.split_once('[')?;
+    fn element(&mut self, word: &str) -> Option<()> {
+        let (array, index) = word.strip_prefix('a')?.strip_suffix(']')?.split_once('[')?;
         let at = self.rows.len() as i32;
-        self.rows.push([ELEMENT, natural(array)?, at + 1, 0, 0, 0]);
+        self.rows.push([ELEMENT, below(self.arrays, array)?, at + 1, 0, 0, 0]);
         self.atom(index)
     }
 
     fn value(&mut self, words: &[&str]) -> Option<()> {
         let at = self.rows.len();
         match words {
-            [x] => self.place(x.strip_suffix(';')?),
+            [x] => {
+                let word = x.strip_suffix(';')?;
+                if word.starts_with('a') {
+                    self.element(word)
+                } else {
+                    self.atom(word)
+                }
+            }
             ["-", x] => {
                 self.rows.push([MINUS, at as i32 + 1, 0, 0, 0, 0]);
                 self.atom(x.strip_suffix(';')?)
@@ -290,7 +339,7 @@ impl Reader {
     }
 }
 
-/// Decimal digits without a sign.
-fn natural(digits: &str) -> Option<i32> {
-    number(digits.as_bytes()).filter(|&value| value >= 0 && !digits.starts_with('-'))
+/// Decimal digits without a sign, of a number below the bound.
+fn below(bound: i32, digits: &str) -> Option<i32> {
+    number(digits.as_bytes()).filter(|value| (0..bound).contains(value))
 }

@@ -39,7 +39,7 @@ fn pages_are_read_back() {
         let page = print(&program.header, &rows);
         assert_eq!(page.len() % (COLUMNS + 1), 0);
         assert!(page.chunks(COLUMNS + 1).all(|line| line[COLUMNS] == b'\n'));
-        assert_eq!(read(&program.header, &page), Some(in_page_order(rows_of(&rows))));
+        assert_eq!(read(&program.header, &page), Ok(in_page_order(rows_of(&rows))));
     }
 }
 
@@ -61,10 +61,14 @@ fn damaged_pages() {
                 let mut damaged = page.clone();
                 damaged[at] = byte;
                 match read(&program.header, &damaged) {
-                    None => refused += 1,
-                    Some(read_rows) => {
+                    Err(refusal) => {
+                        refused += 1;
+                        assert_eq!(refusal.number, 14);
+                        assert!(refusal.place as usize > at / (COLUMNS + 1));
+                    }
+                    Ok(read_rows) => {
                         other += 1;
-                        assert_ne!(Some(&read_rows), whole.as_ref());
+                        assert_ne!(Ok(&read_rows), whole.as_ref());
                         assert_eq!(print(&program.header, &read_rows), damaged);
                     }
                 }
@@ -72,7 +76,7 @@ fn damaged_pages() {
         }
         for cut in [0, 1, COLUMNS, COLUMNS + 1].into_iter().filter(|&cut| cut < page.len()) {
             let read_rows = read(&program.header, &page[cut + 1..]);
-            assert!(read_rows.is_none() || page.len() == cut + 1);
+            assert!(read_rows.is_err() || page.len() == cut + 1);
         }
     }
     assert!(refused > 10_000 && other > 100, "{refused} refused, {other} others");

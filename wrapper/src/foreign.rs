@@ -175,4 +175,13 @@ extern "C" {
         page: *mut u8,
         page_bytes: usize,
     ) -> Answer;
+
+    pub fn clight_read_page(
+        header: *const i32,
+        header_words: usize,
+        page: *const u8,
+        page_bytes: usize,
+        rows: *mut i32,
+        row_words: usize,
+    ) -> Answer;
 }

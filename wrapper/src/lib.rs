@@ -325,6 +325,19 @@ pub fn print_kernel(header: &[i32], rows: &[i32], page: &mut [u8]) -> Result<usi
     write_by(foreign::clight_print_kernel, header, rows, page)
 }
 
+/// Reads a page with the header of its program, and gives the words of its rows,
+/// which are numbered in the order of the page; words beyond keep their content.
+/// A refusal with `Cause::Text` has the first wrong line as its place.
+pub fn read_page(header: &[i32], page: &[u8], rows: &mut [i32]) -> Result<usize, Refusal> {
+    let (header, header_words) = (header.as_ptr(), header.len());
+    let (page, page_bytes) = (page.as_ptr(), page.len());
+    let (rows, row_words) = (rows.as_mut_ptr(), rows.len());
+    let answer = unsafe {
+        foreign::clight_read_page(header, header_words, page, page_bytes, rows, row_words)
+    };
+    Ok(answer.values()?.0)
+}
+
 /// Writes the kernel form of a source program, a legal kernel program that
 /// shares its fate and makes its writes, in order, also where neither run ends;
 /// words of both tables beyond the result keep their content.

@@ -35,6 +35,7 @@ fn no_header() {
         assert_eq!(clight_kernel_run(null(), 0, rows, 6, null_mut(), 0, 9), refused(1, 0));
         assert_eq!(clight_dispatcher_run(null(), 0, rows, 6, null_mut(), 0, 9), refused(1, 0));
         assert_eq!(clight_flatten(null(), 0, rows, 6, null_mut(), 0), refused(1, 0));
+        assert_eq!(clight_read_page(null(), 0, null(), 0, null_mut(), 0), refused(1, 0));
         assert_eq!(clight_flat_run(null(), 0, null(), 0, null_mut(), 0, 9), refused(1, 0));
         let answer = clight_preview(null(), 0, rows, 6, null(), 0, 9, null_mut(), 0);
         assert_eq!(answer, previewed(refused(1, 0)));
@@ -101,5 +102,7 @@ fn nothing_lent() {
         assert_eq!(clight_read_source(text, n, null_mut(), 0, null_mut(), 0), refused(10, 0));
         let (text, n) = (KERNEL_TEXT.as_ptr(), KERNEL_TEXT.len());
         assert_eq!(clight_read_kernel(text, n, null_mut(), 0, null_mut(), 0), refused(10, 0));
+        // an empty page is that of a block without items
+        assert_eq!(clight_read_page(kernel, 2, null(), 0, null_mut(), 0), refused(10, 0));
     }
 }

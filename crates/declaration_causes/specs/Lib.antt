@@ -12,5 +12,5 @@ pub mod Examples
 pub mod InitialLaws
 -- Laws of 7, 19 and 20: "an item of a block", "a number declared twice in one block", "a 65th declaration".
 pub mod DeclarationLaws
--- The theorem: the three causes accept exactly the tables whose declarations are as the request demands.
+-- The theorem: the three causes accept exactly the tables whose declarations are as the request demands; so a table without declarations.
 pub mod AcceptsDeclared

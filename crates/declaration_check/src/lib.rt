@@ -2,6 +2,7 @@
 use breaks::lowest_breaking;
 use grammar::KindTable;
 use notes::write_notes;
+use resolver::counts::declaration_count;
 use resolver::counts::write_counts;
 use structure::causes::at;
 use words::Found;
@@ -66,8 +67,8 @@ fn noted_refusal(kinds: &KindTable, rows: &[i32], earlier: &[u16], counts: &[u16
     at(20, lowest_breaking(Cause::OneTooMany, kinds, rows, counts))
 }
 
-// Causes 18 to 20, in a tree of rows.
-pub fn declaration_refusal(kinds: &KindTable, rows: &[i32]) -> Verdict
+// The same, with room for the notes and the counts.
+fn declared_refusal(kinds: &KindTable, rows: &[i32]) -> Verdict
     requires { ⌜ Tree (now rows) × (length (now rows) / 6 ≤ 2048) × (now kinds ≡ grammar) ⌝ }
     ensures { λ r. ⌜ r ≡ declarationRefusal (now (rows .entry)) ⌝ }
 {
@@ -78,12 +79,34 @@ pub fn declaration_refusal(kinds: &KindTable, rows: &[i32]) -> Verdict
     noted_refusal(kinds, rows, &earlier, &counts)
 }
 
-// Cause 7 for declarations: the lowest that is no item of a block, in a tree of rows.
-pub fn lowest_outside_block(kinds: &KindTable, rows: &[i32]) -> Found
+// Causes 18 to 20, in a tree of rows. Most tables have no declaration; these are looked at once, and cost no pass along the links.
+pub fn declaration_refusal(kinds: &KindTable, rows: &[i32]) -> Verdict
+    requires { ⌜ Tree (now rows) × (length (now rows) / 6 ≤ 2048) × (now kinds ≡ grammar) ⌝ }
+    ensures { λ r. ⌜ r ≡ declarationRefusal (now (rows .entry)) ⌝ }
+{
+    if declaration_count(rows) == 0 {
+        return Verdict::Accepted;
+    }
+    declared_refusal(kinds, rows)
+}
+
+// Cause 7, with room for the notes.
+fn lowest_declared_outside(kinds: &KindTable, rows: &[i32]) -> Found
     requires { ⌜ Tree (now rows) × (length (now rows) / 6 ≤ 2048) × (now kinds ≡ grammar) ⌝ }
     ensures { λ r. ⌜ r ≡ lowestRow (now (rows .entry)) (outsideBlock (now (rows .entry))) ⌝ }
 {
     let mut items = [0u16; 2048];
     write_notes(Note::BlockItem, kinds, rows, &mut items);
     lowest_breaking(Cause::OutsideBlock, kinds, rows, &items)
+}
+
+// Cause 7 for declarations: the lowest that is no item of a block, in a tree of rows.
+pub fn lowest_outside_block(kinds: &KindTable, rows: &[i32]) -> Found
+    requires { ⌜ Tree (now rows) × (length (now rows) / 6 ≤ 2048) × (now kinds ≡ grammar) ⌝ }
+    ensures { λ r. ⌜ r ≡ lowestRow (now (rows .entry)) (outsideBlock (now (rows .entry))) ⌝ }
+{
+    if declaration_count(rows) == 0 {
+        return Found::Nothing;
+    }
+    lowest_declared_outside(kinds, rows)
 }

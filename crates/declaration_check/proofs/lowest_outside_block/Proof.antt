@@ -1,33 +1,24 @@
--- `lowest_outside_block` begins without notes and lends what the pass has written.
-use Rattle.declaration_check.specs.Passes.{breaks, lookedUp}
+-- `lowest_outside_block` finds nothing where there is no declaration; else the pass and the search do.
+use mathlib.Core.Path.{sym, _∙_}
+use Rattle.declaration_causes.specs.AcceptsDeclared.{undeclared-inside}
 use borrow.Author.Needs.{needs}
 use Rattle.declaration_check.proofs.lowest_outside_block.Statement.{statement}
 use Rattle.declaration_check.proofs.lowest_outside_block.Tie as tie
 
-slice-aggregate-write-notes : tie.Need-slice-aggregate-write-notes
-slice-aggregate-write-notes c = search needs
-
-write-notes-requires : tie.Need-write-notes-requires
-write-notes-requires c κs = search needs
-
-slice-aggregate-lowest-breaking : tie.Need-slice-aggregate-lowest-breaking
-slice-aggregate-lowest-breaking c = search needs
-
-lowest-breaking-requires : tie.Need-lowest-breaking-requires
-unfolding lookedUp
-lowest-breaking-requires c κs = search needs
+declaration-count-requires : tie.Need-declaration-count-requires
+declaration-count-requires c κs = search needs
 
 returns : tie.Need-returns
-unfolding breaks
 returns c =
-    c .lowest-breaking .ensures
+    sym (undeclared-inside _ (sym (c .before .declaration-count .ensures) ∙ c .if1 .taken))
+
+lowest-declared-outside-requires : tie.Need-lowest-declared-outside-requires
+lowest-declared-outside-requires c κs = search needs
+
+returns-2 : tie.Need-returns-2
+returns-2 c = search needs
 
 pub lowest-outside-block-spec : {M : Type 1} → statement M
 lowest-outside-block-spec =
     tie.close
-    (tie.spec
-    slice-aggregate-write-notes
-    write-notes-requires
-    slice-aggregate-lowest-breaking
-    lowest-breaking-requires
-    returns)
+    (tie.spec declaration-count-requires returns lowest-declared-outside-requires returns-2)

@@ -61,64 +61,57 @@ fn is_same(bytes: &[u8], name: &[u8]) -> bool
     true
 }
 
-// The names of what is done with the text of a flat list.
+// One name tried: its verb, or what the names behind it say.
+fn verb_or(name: &[u8], known: &[u8], verb: Verb, others: Verb) -> Verb
+    ensures { λ r. ⌜ r ≡ pick (sameBytes (now (name .entry)) (now (known .entry))) verb others ⌝ }
+{
+    if is_same(name, known) {
+        return verb;
+    }
+    others
+}
+
+// The names of what is done with the text of a flat list, from the last to the first.
 fn flat_verb_of(name: &[u8]) -> Verb
     ensures { λ r. ⌜ r ≡ flatVerbOf (now (name .entry)) ⌝ }
 {
-    if is_same(name, b"flat-check") {
-        return Verb::FlatCheck;
-    }
-    if is_same(name, b"flat-run") {
-        return Verb::Start(Task::FlatRun);
-    }
-    Verb::Unknown
+    let run = verb_or(name, b"flat-run", Verb::Start(Task::FlatRun), Verb::Unknown);
+    verb_or(name, b"flat-check", Verb::FlatCheck, run)
 }
 
 // The names of what is done with a kernel text, then with a flat list's.
 fn kernel_verb_of(name: &[u8]) -> Verb
     ensures { λ r. ⌜ r ≡ kernelVerbOf (now (name .entry)) ⌝ }
 {
-    if is_same(name, b"kernel-check") {
-        return Verb::Check(Form::Kernel);
-    }
-    if is_same(name, b"kernel-run") {
-        return Verb::Start(Task::Run(Form::Kernel));
-    }
-    if is_same(name, b"dispatcher-run") {
-        return Verb::Start(Task::DispatcherRun);
-    }
-    if is_same(name, b"page") {
-        return Verb::Page(Form::Kernel);
-    }
-    flat_verb_of(name)
+    let others = flat_verb_of(name);
+    let page = verb_or(name, b"page", Verb::Page(Form::Kernel), others);
+    let shown = verb_or(
+        name,
+        b"dispatcher-run",
+        Verb::Start(Task::DispatcherRun),
+        page,
+    );
+    let run = verb_or(
+        name,
+        b"kernel-run",
+        Verb::Start(Task::Run(Form::Kernel)),
+        shown,
+    );
+    verb_or(name, b"kernel-check", Verb::Check(Form::Kernel), run)
 }
 
 // The names of what is done with a source text, then the others.
 fn verb_of(name: &[u8]) -> Verb
     ensures { λ r. ⌜ r ≡ verbOf (now (name .entry)) ⌝ }
 {
-    if is_same(name, b"check") {
-        return Verb::Check(Form::Source);
-    }
-    if is_same(name, b"run") {
-        return Verb::Start(Task::Run(Form::Source));
-    }
-    if is_same(name, b"preview") {
-        return Verb::Start(Task::Preview);
-    }
-    if is_same(name, b"translate") {
-        return Verb::Translate;
-    }
-    if is_same(name, b"translate-page") {
-        return Verb::Page(Form::Source);
-    }
-    if is_same(name, b"writes") {
-        return Verb::Writes;
-    }
-    if is_same(name, b"join") {
-        return Verb::Join;
-    }
-    kernel_verb_of(name)
+    let others = kernel_verb_of(name);
+    let join = verb_or(name, b"join", Verb::Join, others);
+    let writes = verb_or(name, b"writes", Verb::Writes, join);
+    let page = verb_or(name, b"translate-page", Verb::Page(Form::Source), writes);
+    let translate = verb_or(name, b"translate", Verb::Translate, page);
+    let preview = verb_or(name, b"preview", Verb::Start(Task::Preview), translate);
+    let run = verb_or(name, b"run", Verb::Start(Task::Run(Form::Source)), preview);
+    verb_or(name, b"check", Verb::Check(Form::Source), run)
 }
 
 fn start_request(task: Task, budget: Digits, stored: bool) -> Request

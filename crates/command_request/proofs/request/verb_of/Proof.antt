@@ -1,111 +1,75 @@
--- `verb_of` tries the names one after the other, then those of the other texts.
-use mathlib.Core.Path.{sym, _∙_}
-use borrow.Author.Needs.{needs}
+-- `verb_of`: the names, each before those behind it.
 use Rattle.command_request.specs.Requests.{verbOf}
+use borrow.Author.Needs.{needs}
 use Rattle.command_request.proofs.request.verb_of.Statement.{statement}
 use Rattle.command_request.proofs.request.verb_of.Tie as tie
-
-slice-aggregate-is-same : tie.Need-slice-aggregate-is-same
-slice-aggregate-is-same c = search needs
-
-is-same-requires : tie.Need-is-same-requires
-is-same-requires c κs = search needs
-
-returns : tie.Need-returns
-unfolding verbOf
-returns c = rw (sym (c .before .is-same .ensures) ∙ c .if1 .taken)
-
-slice-aggregate-is-same-2 : tie.Need-slice-aggregate-is-same-2
-slice-aggregate-is-same-2 c = search needs
-
-is-same-requires-2 : tie.Need-is-same-requires-2
-is-same-requires-2 c κs = search needs
-
-returns-2 : tie.Need-returns-2
-unfolding verbOf
-returns-2 c = rw (sym (c .before .before .before .before .is-same .ensures) ∙ c .before .before .before .if1 .left, sym (c .before .is-same2 .ensures) ∙ c .if2 .taken)
-
-slice-aggregate-is-same-3 : tie.Need-slice-aggregate-is-same-3
-slice-aggregate-is-same-3 c = search needs
-
-is-same-requires-3 : tie.Need-is-same-requires-3
-is-same-requires-3 c κs = search needs
-
-returns-3 : tie.Need-returns-3
-unfolding verbOf
-returns-3 c = rw (sym (c .before .before .before .before .before .before .before .is-same .ensures) ∙ c .before .before .before .before .before .before .if1 .left, sym (c .before .before .before .before .is-same2 .ensures) ∙ c .before .before .before .if2 .left, sym (c .before .is-same3 .ensures) ∙ c .if3 .taken)
-
-slice-aggregate-is-same-4 : tie.Need-slice-aggregate-is-same-4
-slice-aggregate-is-same-4 c = search needs
-
-is-same-requires-4 : tie.Need-is-same-requires-4
-is-same-requires-4 c κs = search needs
-
-returns-4 : tie.Need-returns-4
-unfolding verbOf
-returns-4 c = rw (sym (c .before .before .before .before .before .before .before .before .before .before .is-same .ensures) ∙ c .before .before .before .before .before .before .before .before .before .if1 .left, sym (c .before .before .before .before .before .before .before .is-same2 .ensures) ∙ c .before .before .before .before .before .before .if2 .left, sym (c .before .before .before .before .is-same3 .ensures) ∙ c .before .before .before .if3 .left, sym (c .before .is-same4 .ensures) ∙ c .if4 .taken)
-
-slice-aggregate-is-same-5 : tie.Need-slice-aggregate-is-same-5
-slice-aggregate-is-same-5 c = search needs
-
-is-same-requires-5 : tie.Need-is-same-requires-5
-is-same-requires-5 c κs = search needs
-
-returns-5 : tie.Need-returns-5
-unfolding verbOf
-returns-5 c = rw (sym (c .before .before .before .before .before .before .before .before .before .before .before .before .before .is-same .ensures) ∙ c .before .before .before .before .before .before .before .before .before .before .before .before .if1 .left, sym (c .before .before .before .before .before .before .before .before .before .before .is-same2 .ensures) ∙ c .before .before .before .before .before .before .before .before .before .if2 .left, sym (c .before .before .before .before .before .before .before .is-same3 .ensures) ∙ c .before .before .before .before .before .before .if3 .left, sym (c .before .before .before .before .is-same4 .ensures) ∙ c .before .before .before .if4 .left, sym (c .before .is-same5 .ensures) ∙ c .if5 .taken)
-
-slice-aggregate-is-same-6 : tie.Need-slice-aggregate-is-same-6
-slice-aggregate-is-same-6 c = search needs
-
-is-same-requires-6 : tie.Need-is-same-requires-6
-is-same-requires-6 c κs = search needs
-
-returns-6 : tie.Need-returns-6
-unfolding verbOf
-returns-6 c = rw (sym (c .before .before .before .before .before .before .before .before .before .before .before .before .before .before .before .before .is-same .ensures) ∙ c .before .before .before .before .before .before .before .before .before .before .before .before .before .before .before .if1 .left, sym (c .before .before .before .before .before .before .before .before .before .before .before .before .before .is-same2 .ensures) ∙ c .before .before .before .before .before .before .before .before .before .before .before .before .if2 .left, sym (c .before .before .before .before .before .before .before .before .before .before .is-same3 .ensures) ∙ c .before .before .before .before .before .before .before .before .before .if3 .left, sym (c .before .before .before .before .before .before .before .is-same4 .ensures) ∙ c .before .before .before .before .before .before .if4 .left, sym (c .before .before .before .before .is-same5 .ensures) ∙ c .before .before .before .if5 .left, sym (c .before .is-same6 .ensures) ∙ c .if6 .taken)
-
-slice-aggregate-is-same-7 : tie.Need-slice-aggregate-is-same-7
-slice-aggregate-is-same-7 c = search needs
-
-is-same-requires-7 : tie.Need-is-same-requires-7
-is-same-requires-7 c κs = search needs
-
-returns-7 : tie.Need-returns-7
-unfolding verbOf
-returns-7 c = rw (sym (c .before .before .before .before .before .before .before .before .before .before .before .before .before .before .before .before .before .before .before .is-same .ensures) ∙ c .before .before .before .before .before .before .before .before .before .before .before .before .before .before .before .before .before .before .if1 .left, sym (c .before .before .before .before .before .before .before .before .before .before .before .before .before .before .before .before .is-same2 .ensures) ∙ c .before .before .before .before .before .before .before .before .before .before .before .before .before .before .before .if2 .left, sym (c .before .before .before .before .before .before .before .before .before .before .before .before .before .is-same3 .ensures) ∙ c .before .before .before .before .before .before .before .before .before .before .before .before .if3 .left, sym (c .before .before .before .before .before .before .before .before .before .before .is-same4 .ensures) ∙ c .before .before .before .before .before .before .before .before .before .if4 .left, sym (c .before .before .before .before .before .before .before .is-same5 .ensures) ∙ c .before .before .before .before .before .before .if5 .left, sym (c .before .before .before .before .is-same6 .ensures) ∙ c .before .before .before .if6 .left, sym (c .before .is-same7 .ensures) ∙ c .if7 .taken)
 
 kernel-verb-of-requires : tie.Need-kernel-verb-of-requires
 kernel-verb-of-requires c κs = search needs
 
-returns-8 : tie.Need-returns-8
+slice-aggregate-verb-or : tie.Need-slice-aggregate-verb-or
+slice-aggregate-verb-or c = search needs
+
+verb-or-requires : tie.Need-verb-or-requires
+verb-or-requires c κs = search needs
+
+slice-aggregate-verb-or-2 : tie.Need-slice-aggregate-verb-or-2
+slice-aggregate-verb-or-2 c = search needs
+
+verb-or-requires-2 : tie.Need-verb-or-requires-2
+verb-or-requires-2 c κs = search needs
+
+slice-aggregate-verb-or-3 : tie.Need-slice-aggregate-verb-or-3
+slice-aggregate-verb-or-3 c = search needs
+
+verb-or-requires-3 : tie.Need-verb-or-requires-3
+verb-or-requires-3 c κs = search needs
+
+slice-aggregate-verb-or-4 : tie.Need-slice-aggregate-verb-or-4
+slice-aggregate-verb-or-4 c = search needs
+
+verb-or-requires-4 : tie.Need-verb-or-requires-4
+verb-or-requires-4 c κs = search needs
+
+slice-aggregate-verb-or-5 : tie.Need-slice-aggregate-verb-or-5
+slice-aggregate-verb-or-5 c = search needs
+
+verb-or-requires-5 : tie.Need-verb-or-requires-5
+verb-or-requires-5 c κs = search needs
+
+slice-aggregate-verb-or-6 : tie.Need-slice-aggregate-verb-or-6
+slice-aggregate-verb-or-6 c = search needs
+
+verb-or-requires-6 : tie.Need-verb-or-requires-6
+verb-or-requires-6 c κs = search needs
+
+slice-aggregate-verb-or-7 : tie.Need-slice-aggregate-verb-or-7
+slice-aggregate-verb-or-7 c = search needs
+
+verb-or-requires-7 : tie.Need-verb-or-requires-7
+verb-or-requires-7 c κs = search needs
+
+returns : tie.Need-returns
 unfolding verbOf
-returns-8 c = rw (sym (c .before .before .before .before .before .before .before .before .before .before .before .before .before .before .before .before .before .before .before .before .is-same .ensures) ∙ c .before .before .before .before .before .before .before .before .before .before .before .before .before .before .before .before .before .before .before .if1 .left, sym (c .before .before .before .before .before .before .before .before .before .before .before .before .before .before .before .before .before .is-same2 .ensures) ∙ c .before .before .before .before .before .before .before .before .before .before .before .before .before .before .before .before .if2 .left, sym (c .before .before .before .before .before .before .before .before .before .before .before .before .before .before .is-same3 .ensures) ∙ c .before .before .before .before .before .before .before .before .before .before .before .before .before .if3 .left, sym (c .before .before .before .before .before .before .before .before .before .before .before .is-same4 .ensures) ∙ c .before .before .before .before .before .before .before .before .before .before .if4 .left, sym (c .before .before .before .before .before .before .before .before .is-same5 .ensures) ∙ c .before .before .before .before .before .before .before .if5 .left, sym (c .before .before .before .before .before .is-same6 .ensures) ∙ c .before .before .before .before .if6 .left, sym (c .before .before .is-same7 .ensures) ∙ c .before .if7 .left) (c .kernel-verb-of .ensures)
+returns c = rw (c .verb-or7 .ensures, c .before .before .verb-or6 .ensures, c .before .before .before .before .verb-or5 .ensures, c .before .before .before .before .before .before .verb-or4 .ensures, c .before .before .before .before .before .before .before .before .verb-or3 .ensures, c .before .before .before .before .before .before .before .before .before .before .verb-or2 .ensures, c .before .before .before .before .before .before .before .before .before .before .before .before .verb-or .ensures, c .before .before .before .before .before .before .before .before .before .before .before .before .before .before .kernel-verb-of .ensures)
 
 pub verb-of-spec : {M : Type 1} → statement M
 verb-of-spec =
     tie.close
     (tie.spec
-    slice-aggregate-is-same
-    is-same-requires
-    returns
-    slice-aggregate-is-same-2
-    is-same-requires-2
-    returns-2
-    slice-aggregate-is-same-3
-    is-same-requires-3
-    returns-3
-    slice-aggregate-is-same-4
-    is-same-requires-4
-    returns-4
-    slice-aggregate-is-same-5
-    is-same-requires-5
-    returns-5
-    slice-aggregate-is-same-6
-    is-same-requires-6
-    returns-6
-    slice-aggregate-is-same-7
-    is-same-requires-7
-    returns-7
     kernel-verb-of-requires
-    returns-8)
+    slice-aggregate-verb-or
+    verb-or-requires
+    slice-aggregate-verb-or-2
+    verb-or-requires-2
+    slice-aggregate-verb-or-3
+    verb-or-requires-3
+    slice-aggregate-verb-or-4
+    verb-or-requires-4
+    slice-aggregate-verb-or-5
+    verb-or-requires-5
+    slice-aggregate-verb-or-6
+    verb-or-requires-6
+    slice-aggregate-verb-or-7
+    verb-or-requires-7
+    returns)

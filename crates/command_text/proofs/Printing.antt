@@ -1,6 +1,5 @@
--- Tables that have room for a program, and that the text of a program has room.
-use mathlib.Core.Path.{refl, sym, ap, _∙_}
-use mathlib.Core.Bool.{true}
+-- Tables that have room for a program, and that the text of a table has room.
+use mathlib.Core.Path.{sym, ap, _∙_}
 use mathlib.Core.List.{List, _++_, append-assoc}
 use Prim.Native.Nat.{ℕ, _+_, _-_, _≤_}
 use native.Mathlib.Omega.{arith}
@@ -12,13 +11,12 @@ use Rattle.words.specs.Laws.{headerFits-facts, countFits-facts, leading-limits,
 use Rattle.words.specs.Over.{over}
 use Rattle.words.specs.declared.Form.{Form}
 use Rattle.words.specs.declared.Form.the-variants.{Kernel, Source}
-use Rattle.text_form.specs.AnswerLaws.{passes-cause}
 use Rattle.text_numbers.specs.Writer.{Put}
 use Rattle.text_lines.specs.Writer.{Measured}
 use Rattle.words.specs.Table.{rowCount}
 use Rattle.text_form.specs.Writer.{Fills}
-use Rattle.text_form.proofs.Sizing.{sized-fills}
-use Rattle.command_text.specs.Texts.{Roomy, outputRoom, Printable}
+use Rattle.text_form.proofs.Sizing.{bytes-text}
+use Rattle.command_text.specs.Texts.{Roomy, outputRoom, Tabled, Printable}
 use Rattle.words.specs.Layout.{zeros}
 
 -- tables for a kernel program serve either form
@@ -43,22 +41,33 @@ put-first bytes buffer size count lent h p =
           ∙ ap (λ (l : List ℕ). bytes ++ l) (sym (drop-append-le (length bytes) first rest h) ∙ ap (λ (l : List ℕ). drop (length bytes) l) (take-append-drop (size - 0) buffer));
     }
 
-module _ (header rows : List ℤ) (p : Printable header rows) where
-  pub rows-few : length rows ≤ 245880
-  rows-few = omega (arith, countFits-facts (p .form) (length rows) (p .passes .count-fits) .most, rowLimit-most (p .form))
+-- a program is a table of rows of six words
+pub printable-table : {header rows : List ℤ} → Printable header rows → Tabled 6 (rowCount rows) header rows
+printable-table {header} {rows} p =
+    let h = headerFits-facts (p .form) header (p .passes .header-fits) in
+    let c = countFits-facts (p .form) (length rows) (p .passes .count-fits) in
+    record {
+      filled = omega (arith, h .least, leading-limits (p .form));
+      header-few = omega (arith, h .most, leading-limits (p .form));
+      wide = omega arith;
+      whole = sym (c .whole);
+      rows-few = omega (arith, c .most, rowLimit-most (p .form));
+    }
 
-  pub header-few : length header ≤ 34
-  header-few = omega (arith, headerFits-facts (p .form) header (p .passes .header-fits) .most, leading-limits (p .form))
+module _ {width count : ℕ} {header rows : List ℤ} (t : Tabled width count header rows) {first others : ℕ} (h : Measured header first) (r : Measured rows others) where
+  pub few-bytes : first + others ≤ outputRoom
+  few-bytes = omega (arith, h .most, r .most, t .rows-few, t .header-few)
 
-  module _ {first others : ℕ} (h : Measured header first) (r : Measured rows others) where
-    pub few-bytes : first + others ≤ outputRoom
-    few-bytes = omega (arith, h .most, r .most, rows-few, header-few)
-
-    -- the bytes that both sizes add up to hold the text
-    pub sizes-fill : (out : List ℕ) → outputRoom ≤ length out → Fills 6 (rowCount rows) header rows (midOf 0 (first + others - 0) out)
-    sizes-fill out o =
-        sized-fills (record { passes = passes-cause (p .form) header (length rows) true (p .passes) refl; header-size = h; rows-size = r }) (midOf 0 (first + others - 0) out)
-        (omega (arith, mid-len 0 (first + others) out (omega (arith, few-bytes))))
+  -- the bytes that both sizes add up to hold the text
+  pub sizes-fill : (out : List ℕ) → outputRoom ≤ length out → Fills width count header rows (midOf 0 (first + others - 0) out)
+  sizes-fill out o =
+      let total = bytes-text width count header rows (t .wide) (t .filled) (t .whole) in
+      record {
+        filled = t .filled;
+        wide = t .wide;
+        whole = t .whole;
+        room = omega (arith, total, h .sum, r .sum, mid-len 0 (first + others) out (omega (arith, few-bytes)));
+      }
 
 -- arrays for a source program
 pub source-roomy : Roomy Source (zeros 33) (zeros 12288)

@@ -1,8 +1,9 @@
 -- Texts: what is printed for a text, in tables and a buffer of these sizes.
+use mathlib.Core.Path.{_≡_}
 use mathlib.Core.Bool.{true}
 use mathlib.Core.List.{List}
 use mathlib.Core.Option.{Option, none, some}
-use Prim.Native.Nat.{ℕ, _+_, _*_, _≤_}
+use Prim.Native.Nat.{ℕ, _+_, _*_, _≤_, _<_}
 use lib.IntN.{ℤ}
 use lib.ListN.{length}
 use Rattle.words.specs.Layout.{leading, rowLimit}
@@ -31,6 +32,14 @@ outputRoom = 2950968
 pub record Roomy (form : Form) (header rows : List ℤ) : Type 0 where
   pub header-room : leading form + 32 ≤ length header
   pub rows-room : 6 * rowLimit form ≤ length rows
+
+-- A header and `count` rows of `width` words whose text has room: a word takes at most twelve bytes.
+pub record Tabled (width count : ℕ) (header rows : List ℤ) : Type 0 where
+  pub filled : 0 < length header
+  pub header-few : length header ≤ 34
+  pub wide : 0 < width
+  pub whole : length rows ≡ width * count
+  pub rows-few : length rows ≤ 245880
 
 -- A program whose text can be written, of either form: the writer has no cause but 10.
 pub record Printable (header rows : List ℤ) : Type 0 where

@@ -6,12 +6,13 @@ use lib.ListN.{length}
 use Rattle.words.specs.Word.{pick}
 use Rattle.command_lines.specs.Lines.{usageLine, wrongBudgetLine, longTextLine, longStoreLine}
 use Rattle.command_request.specs.declared.request.Request.{Request}
-use Rattle.command_request.specs.declared.request.Request.the-variants.{Check, Start, Translate, Writes, Join, Page, FlatCheck, WrongArguments, WrongBudget}
+use Rattle.command_request.specs.declared.request.Request.the-variants.{Check, Start, Translate, Writes, Join, Page, Flatten, FlatCheck, WrongArguments, WrongBudget}
 use Rattle.command_text.specs.Texts.{textLimit, storeLimit}
 use Rattle.command_runs.specs.Checks.{checkOutput}
 use Rattle.command_runs.specs.Tasks.{startedOutput}
 use Rattle.command_translation.specs.Translations.{translateOutput}
 use Rattle.command_translation.specs.Pages.{pageOutput}
+use Rattle.command_flat.specs.Flattenings.{flattenOutput}
 use Rattle.command_flat.specs.Lists.{listCheckOutput}
 use Rattle.command_writes.specs.Writes.{writesOutput}
 use Rattle.command_join.specs.Joins.{joinOutput}
@@ -23,6 +24,7 @@ requestOutput Translate text stored = translateOutput text
 requestOutput Writes text stored = writesOutput text
 requestOutput Join text stored = joinOutput text stored
 requestOutput (Page form) text stored = pageOutput form text
+requestOutput Flatten text stored = flattenOutput text
 requestOutput FlatCheck text stored = listCheckOutput text
 requestOutput WrongArguments text stored = usageLine
 requestOutput WrongBudget text stored = wrongBudgetLine

@@ -1,5 +1,6 @@
 // What is printed for a request and what was read for it. The bytes stand at the start of `out`, and the answer is how many they are.
 use super::Input;
+use command_flat::flattenings::flatten_answer;
 use command_flat::list_check_answer;
 use command_join::join_answer;
 use command_lines::long_store_line;
@@ -46,6 +47,7 @@ fn request_answer(
         Request::Writes => writes_answer(text, header, rows, out),
         Request::Join => join_answer(text, stored, out),
         Request::Page(form) => page_answer(form, text, header, rows, out),
+        Request::Flatten => flatten_answer(text, header, rows, out),
         Request::FlatCheck => list_check_answer(text, header, rows, out),
         Request::WrongArguments => usage_line(out),
         Request::WrongBudget => wrong_budget_line(out),

@@ -1,4 +1,6 @@
 // What the command prints for the text of a flat list. A writer puts its bytes at the start of `out`, and answers how many they are.
+pub mod flattenings; // flattenings.rt: what `flatten` prints
+
 use clight::flat_lists::flat_check;
 use clight::flat_lists::flat_run;
 use command_lines::run_line;

@@ -34,7 +34,7 @@ dispatcherLine (dispatcher-cases.Refused refusal) words = refusedLine (refusal .
 
 -- "A wrong argument, an unreadable file, too long an input give one clear line."
 abbrev pub usageLine : List ℕ
-usageLine = ascii "misuse: command check | run BUDGET [STORE] | preview BUDGET [STORE] | translate | kernel-check | kernel-run BUDGET [STORE] | dispatcher-run BUDGET [STORE] | writes | join SECOND | page | translate-page | flat-check | flat-run BUDGET [STORE]\n"
+usageLine = ascii "misuse: command check | run BUDGET [STORE] | preview BUDGET [STORE] | translate | kernel-check | kernel-run BUDGET [STORE] | dispatcher-run BUDGET [STORE] | writes | join SECOND | page | translate-page | flatten | flat-check | flat-run BUDGET [STORE]\n"
 
 abbrev pub wrongBudgetLine : List ℕ
 wrongBudgetLine = ascii "misuse: the budget is no number from 0 to 4294967295\n"

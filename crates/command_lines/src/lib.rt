@@ -79,7 +79,7 @@ pub fn usage_line(text: &mut [u8]) -> usize
     ensures { λ r. ⌜ Put usageLine (now (text .entry)) r (now (text .exit)) ⌝ }
 {
     put_bytes(
-        b"misuse: command check | run BUDGET [STORE] | preview BUDGET [STORE] | translate | kernel-check | kernel-run BUDGET [STORE] | dispatcher-run BUDGET [STORE] | writes | join SECOND | page | translate-page | flat-check | flat-run BUDGET [STORE]\n",
+        b"misuse: command check | run BUDGET [STORE] | preview BUDGET [STORE] | translate | kernel-check | kernel-run BUDGET [STORE] | dispatcher-run BUDGET [STORE] | writes | join SECOND | page | translate-page | flatten | flat-check | flat-run BUDGET [STORE]\n",
         text,
     )
 }

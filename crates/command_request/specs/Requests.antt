@@ -15,7 +15,7 @@ use Rattle.command_request.specs.declared.request.Task.the-variants.{Run
 use Rattle.command_request.specs.declared.request.Verb.{Verb}
 use Rattle.command_request.specs.declared.request.Verb.the-variants as verb-cases
 use Rattle.command_request.specs.declared.request.Request.{Request}
-use Rattle.command_request.specs.declared.request.Request.the-variants.{Check, Start, Translate, Writes, Join, Page, FlatCheck, WrongArguments, WrongBudget}
+use Rattle.command_request.specs.declared.request.Request.the-variants.{Check, Start, Translate, Writes, Join, Page, Flatten, FlatCheck, WrongArguments, WrongBudget}
 
 unfoldable pub sameBytes : List ℕ → List ℕ → Bool
 sameBytes [] [] = true
@@ -37,7 +37,8 @@ kernelVerbOf name =
     (pick (sameBytes name (ascii "kernel-run")) (verb-cases.Start (Run Kernel))
     (pick (sameBytes name (ascii "dispatcher-run")) (verb-cases.Start DispatcherRun)
     (pick (sameBytes name (ascii "page")) (verb-cases.Page Kernel)
-    (flatVerbOf name))))
+    (pick (sameBytes name (ascii "flatten")) verb-cases.Flatten
+    (flatVerbOf name)))))
 
 -- or with a source text.
 unfoldable pub verbOf : List ℕ → Verb
@@ -68,6 +69,7 @@ requestBy verb-cases.Translate count second = pick (eqb count 1) Translate Wrong
 requestBy verb-cases.Writes count second = pick (eqb count 1) Writes WrongArguments
 requestBy verb-cases.Join count second = pick (eqb count 2) Join WrongArguments
 requestBy (verb-cases.Page form) count second = pick (eqb count 1) (Page form) WrongArguments
+requestBy verb-cases.Flatten count second = pick (eqb count 1) Flatten WrongArguments
 requestBy verb-cases.FlatCheck count second = pick (eqb count 1) FlatCheck WrongArguments
 requestBy verb-cases.Unknown count second = WrongArguments
 
@@ -82,6 +84,7 @@ readsText Translate = true
 readsText Writes = true
 readsText Join = true
 readsText (Page form) = true
+readsText Flatten = true
 readsText FlatCheck = true
 readsText WrongArguments = false
 readsText WrongBudget = false
@@ -93,6 +96,7 @@ readsStore Translate = false
 readsStore Writes = false
 readsStore Join = true
 readsStore (Page form) = false
+readsStore Flatten = false
 readsStore FlatCheck = false
 readsStore WrongArguments = false
 readsStore WrongBudget = false
@@ -105,6 +109,7 @@ fileArgument Translate = 3
 fileArgument Writes = 3
 fileArgument Join = 2
 fileArgument (Page form) = 3
+fileArgument Flatten = 3
 fileArgument FlatCheck = 3
 fileArgument WrongArguments = 3
 fileArgument WrongBudget = 3

@@ -27,6 +27,7 @@ pub enum Verb {
     Writes,
     Join,
     Page(Form),
+    Flatten,
     FlatCheck,
     Unknown,
 }
@@ -40,6 +41,7 @@ pub enum Request {
     Writes,
     Join,
     Page(Form),
+    Flatten,
     FlatCheck,
     WrongArguments,
     WrongBudget,
@@ -84,7 +86,8 @@ fn kernel_verb_of(name: &[u8]) -> Verb
     ensures { λ r. ⌜ r ≡ kernelVerbOf (now (name .entry)) ⌝ }
 {
     let others = flat_verb_of(name);
-    let page = verb_or(name, b"page", Verb::Page(Form::Kernel), others);
+    let list = verb_or(name, b"flatten", Verb::Flatten, others);
+    let page = verb_or(name, b"page", Verb::Page(Form::Kernel), list);
     let shown = verb_or(
         name,
         b"dispatcher-run",
@@ -166,6 +169,7 @@ fn request_by(verb: Verb, count: usize, second: &[u8]) -> Request
         Verb::Writes => alone(Request::Writes, count),
         Verb::Join => with_file(Request::Join, count),
         Verb::Page(form) => alone(Request::Page(form), count),
+        Verb::Flatten => alone(Request::Flatten, count),
         Verb::FlatCheck => alone(Request::FlatCheck, count),
         Verb::Unknown => Request::WrongArguments,
     }
@@ -189,6 +193,7 @@ pub fn reads_text(request: Request) -> bool
         Request::Writes => true,
         Request::Join => true,
         Request::Page(_) => true,
+        Request::Flatten => true,
         Request::FlatCheck => true,
         Request::WrongArguments => false,
         Request::WrongBudget => false,
@@ -206,6 +211,7 @@ pub fn reads_store(request: Request) -> bool
         Request::Writes => false,
         Request::Join => true,
         Request::Page(_) => false,
+        Request::Flatten => false,
         Request::FlatCheck => false,
         Request::WrongArguments => false,
         Request::WrongBudget => false,
@@ -223,6 +229,7 @@ pub fn file_argument(request: Request) -> usize
         Request::Writes => 3,
         Request::Join => 2,
         Request::Page(_) => 3,
+        Request::Flatten => 3,
         Request::FlatCheck => 3,
         Request::WrongArguments => 3,
         Request::WrongBudget => 3,

@@ -46,17 +46,23 @@ page-answer-requires c κs = (c .before .before .before .before .before .before 
 enum-told-4 : tie.Need-enum-told-4
 enum-told-4 c = search needs
 
-list-check-answer-requires : tie.Need-list-check-answer-requires
-list-check-answer-requires c κs = (c .before .before .before .before .before .before .before .before .pre .0, c .before .before .before .before .before .before .before .before .pre .1 .1)
+flatten-answer-requires : tie.Need-flatten-answer-requires
+flatten-answer-requires c κs = (c .before .before .before .before .before .before .before .before .pre .0, c .before .before .before .before .before .before .before .before .pre .1 .1)
 
 enum-told-5 : tie.Need-enum-told-5
 enum-told-5 c = search needs
 
-usage-line-requires : tie.Need-usage-line-requires
-usage-line-requires c κs = omega (arith, c .before .before .before .before .before .before .pre .1 .1)
+list-check-answer-requires : tie.Need-list-check-answer-requires
+list-check-answer-requires c κs = (c .before .before .before .before .before .before .before .before .pre .0, c .before .before .before .before .before .before .before .before .pre .1 .1)
 
 enum-told-6 : tie.Need-enum-told-6
 enum-told-6 c = search needs
+
+usage-line-requires : tie.Need-usage-line-requires
+usage-line-requires c κs = omega (arith, c .before .before .before .before .before .before .pre .1 .1)
+
+enum-told-7 : tie.Need-enum-told-7
+enum-told-7 c = search needs
 
 wrong-budget-line-requires : tie.Need-wrong-budget-line-requires
 wrong-budget-line-requires c κs = omega (arith, c .before .before .before .before .before .before .pre .1 .1)
@@ -144,21 +150,34 @@ same-length-19 c = search needs
 
 returns-7 : tie.Need-returns-7
 unfolding requestOutput
-returns-7 c = rw (c .before .before .before .before .before .before .before .before .enum-told4 .given .1) (c .before .before .before .before .list-check-answer .ensures)
+returns-7 c = rw (c .before .before .before .before .before .before .before .before .enum-told4 .given .1) (c .before .before .before .before .flatten-answer .ensures)
 
 same-length-20 : tie.Need-same-length-20
 same-length-20 c = search needs
 
-returns-8 : tie.Need-returns-8
-unfolding requestOutput
-returns-8 c = rw (c .before .before .before .before .enum-told5 .given .1) (c .before .before .usage-line .ensures)
-
 same-length-21 : tie.Need-same-length-21
 same-length-21 c = search needs
 
+same-length-22 : tie.Need-same-length-22
+same-length-22 c = search needs
+
+returns-8 : tie.Need-returns-8
+unfolding requestOutput
+returns-8 c = rw (c .before .before .before .before .before .before .before .before .enum-told5 .given .1) (c .before .before .before .before .list-check-answer .ensures)
+
+same-length-23 : tie.Need-same-length-23
+same-length-23 c = search needs
+
 returns-9 : tie.Need-returns-9
 unfolding requestOutput
-returns-9 c = rw (c .before .before .before .before .enum-told6 .given .1) (c .before .before .wrong-budget-line .ensures)
+returns-9 c = rw (c .before .before .before .before .enum-told6 .given .1) (c .before .before .usage-line .ensures)
+
+same-length-24 : tie.Need-same-length-24
+same-length-24 c = search needs
+
+returns-10 : tie.Need-returns-10
+unfolding requestOutput
+returns-10 c = rw (c .before .before .before .before .enum-told7 .given .1) (c .before .before .wrong-budget-line .ensures)
 
 pub request-answer-spec : {M : Type 1} → statement M
 request-answer-spec =
@@ -177,10 +196,12 @@ request-answer-spec =
     enum-known-request-3
     page-answer-requires
     enum-told-4
-    list-check-answer-requires
+    flatten-answer-requires
     enum-told-5
-    usage-line-requires
+    list-check-answer-requires
     enum-told-6
+    usage-line-requires
+    enum-told-7
     wrong-budget-line-requires
     same-length
     same-length-2
@@ -209,6 +230,10 @@ request-answer-spec =
     same-length-19
     returns-7
     same-length-20
-    returns-8
     same-length-21
-    returns-9)
+    same-length-22
+    returns-8
+    same-length-23
+    returns-9
+    same-length-24
+    returns-10)

@@ -31,9 +31,15 @@ slice-aggregate-verb-or-4 c = search needs
 verb-or-requires-4 : tie.Need-verb-or-requires-4
 verb-or-requires-4 c κs = search needs
 
+slice-aggregate-verb-or-5 : tie.Need-slice-aggregate-verb-or-5
+slice-aggregate-verb-or-5 c = search needs
+
+verb-or-requires-5 : tie.Need-verb-or-requires-5
+verb-or-requires-5 c κs = search needs
+
 returns : tie.Need-returns
 unfolding kernelVerbOf
-returns c = rw (c .verb-or4 .ensures, c .before .before .verb-or3 .ensures, c .before .before .before .before .verb-or2 .ensures, c .before .before .before .before .before .before .verb-or .ensures, c .before .before .before .before .before .before .before .before .flat-verb-of .ensures)
+returns c = rw (c .verb-or5 .ensures, c .before .before .verb-or4 .ensures, c .before .before .before .before .verb-or3 .ensures, c .before .before .before .before .before .before .verb-or2 .ensures, c .before .before .before .before .before .before .before .before .verb-or .ensures, c .before .before .before .before .before .before .before .before .before .before .flat-verb-of .ensures)
 
 pub kernel-verb-of-spec : {M : Type 1} → statement M
 kernel-verb-of-spec =
@@ -48,4 +54,6 @@ kernel-verb-of-spec =
     verb-or-requires-3
     slice-aggregate-verb-or-4
     verb-or-requires-4
+    slice-aggregate-verb-or-5
+    verb-or-requires-5
     returns)

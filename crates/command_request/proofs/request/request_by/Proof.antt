@@ -49,6 +49,12 @@ alone-requires-5 c κs = search needs
 enum-told-5 : tie.Need-enum-told-5
 enum-told-5 c = search needs
 
+alone-requires-6 : tie.Need-alone-requires-6
+alone-requires-6 c κs = search needs
+
+enum-told-6 : tie.Need-enum-told-6
+enum-told-6 c = search needs
+
 returns : tie.Need-returns
 unfolding requestBy
 returns c = rw (c .before .before .verb .given .1) (c .alone .ensures)
@@ -78,7 +84,11 @@ returns-7 c = rw (c .before .enum-told4 .given .1) (c .alone5 .ensures)
 
 returns-8 : tie.Need-returns-8
 unfolding requestBy
-returns-8 c = rw (c .enum-told5 .given .1)
+returns-8 c = rw (c .before .enum-told5 .given .1) (c .alone6 .ensures)
+
+returns-9 : tie.Need-returns-9
+unfolding requestBy
+returns-9 c = rw (c .enum-told6 .given .1)
 
 pub request-by-spec : {M : Type 1} → statement M
 request-by-spec =
@@ -99,6 +109,8 @@ request-by-spec =
     enum-told-4
     alone-requires-5
     enum-told-5
+    alone-requires-6
+    enum-told-6
     returns
     returns-2
     returns-3
@@ -106,4 +118,5 @@ request-by-spec =
     returns-5
     returns-6
     returns-7
-    returns-8)
+    returns-8
+    returns-9)

@@ -22,8 +22,9 @@ use Rattle.structure.specs.StructuredLaws.{structured-tree}
 use Rattle.row_fields.specs.Fields.{boundsOf}
 use Rattle.row_fields.specs.declared.Bounds.{Bounds}
 use Rattle.structure.specs.Structured.{Leads, Structured, Tree}
+use Rattle.list_items.specs.Items.{ListItem, first, next}
 use Rattle.statement_places.specs.Places.{isLoop, isLoopOrSwitch, isMark}
-use Rattle.source_check.specs.Legal.{Inside, part, along, SwitchItem, first, next, Legal}
+use Rattle.source_check.specs.Legal.{Inside, part, along, SwitchItem, Legal}
 use Rattle.accepted.specs.Sorts.{between-true, statementNumber, number-is, in-language}
 use Rattle.accepted.specs.Fields.{leads-on}
 use Rattle.accepted.specs.Statements.{StatementRow, empty-row, express-row, block-row, ifThen-row, ifElse-row, while-row, doWhile-row, for-row, switch-row, case-row, default-row, break-row, continue-row, goto-row, label-row, guardedIf-row, guardedDo-row, abort-row, ArmsRow, no-arms, arm-row, ListRow, no-items, item, case-item, default-item, label-item, root-inside, root-row, program-block}
@@ -59,7 +60,7 @@ module _ (rows : List ℤ) (t : Tree rows) where
   switch-item-from _ row field (first {row = other} k m) e f l = inl (sym (same-owner other 2 row field (omega arith) f m l e .1))
   switch-item-from _ row field (next {row = other} m i) e f l =
       let same = same-owner other 5 row field (omega arith) f m l e in
-      inr (sym (same .1), subst (SwitchItem rows) (same .0) i)
+      inr (sym (same .1), subst (ListItem rows 47 2) (same .0) i)
 
 module _ (header rows : List ℤ) (legal : Legal header rows) where
   abbrev bounds : Bounds

@@ -19,7 +19,8 @@ use Rattle.row_fields.specs.Fields.{numberFits}
 use Rattle.structure.specs.Structured.{Leads, Structured}
 use Rattle.structure.specs.Lists.{Before, adjacent, further, before-later}
 use Rattle.row_fields.specs.declared.Bounds.{Bounds}
-use Rattle.source_check.specs.Legal.{Inside, part, along, SwitchItem, first, next, Placed, Distinct}
+use Rattle.list_items.specs.Items.{ListItem, first, next}
+use Rattle.source_check.specs.Legal.{Inside, part, along, Placed, Distinct}
 use Rattle.join.specs.Moved.{movedLink, Holds, number-held, sort-held, link-held, leads-own, link-leads, leads-held}
 use Rattle.join.specs.MovedTrees.{next-alike}
 
@@ -95,18 +96,19 @@ module _ {form : Form} {bounds : Bounds} {joined rows : List ℤ} {ρ : ℕ → 
   inside-held kinds (along {row} {field} f leads i) =
       subst (Inside joined kinds) (link-leads s h row field f leads) (along f (leads-held s h row field f leads) (inside-held kinds i))
 
-  switch-held : {row : ℕ} → SwitchItem rows row → SwitchItem joined (ρ row)
-  switch-held (first {row} k leads) =
+  item-held : (kind start : ℕ) → start < 6 → {row : ℕ} → ListItem rows kind start row → ListItem joined kind start (ρ row)
+  item-held kind start f (first {row} k leads) =
       let later = leads .later in
       let below = leads .inside in
-      subst (SwitchItem joined) (link-leads s h row 2 (omega arith) leads) (first (number-held h row (omega arith) ∙ k) (leads-held s h row 2 (omega arith) leads))
-  switch-held (next {row} leads i) = subst (SwitchItem joined) (link-leads s h row 5 (omega arith) leads) (next (leads-held s h row 5 (omega arith) leads) (switch-held i))
+      subst (ListItem joined kind start) (link-leads s h row start f leads) (first (number-held h row (omega arith) ∙ k) (leads-held s h row start f leads))
+  item-held kind start f (next {row} leads i) =
+      subst (ListItem joined kind start) (link-leads s h row 5 (omega arith) leads) (next (leads-held s h row 5 (omega arith) leads) (item-held kind start f i))
 
   pub placed-held : (row : ℕ) → row < rowCount rows → Placed rows row → Placed joined (ρ row)
   placed-held row n p = record {
     break-inside = λ k. inside-held _ (p .break-inside (sym (number-held h row n) ∙ k));
     continue-inside = λ k. inside-held _ (p .continue-inside (sym (number-held h row n) ∙ k));
-    mark-inside = λ k. switch-held (p .mark-inside (rw (number-held h row n) at k));
+    mark-inside = λ k. item-held 47 2 (omega arith) (p .mark-inside (rw (number-held h row n) at k));
   }
 
   -- ---- cause 8: back along the lists

@@ -61,7 +61,7 @@ module _ (rows : List ℤ) (t : Tree rows) (sort : ℕ → Bool) where
     pub sorted : sort item ≡ true
 
   -- the nearest one, if there is one, is such an item
-  nearest : (row : ℕ) → row < rowCount rows → (earlierAt sort rows row ≡ 0 → ⊥) → Earlier row (earlierAt sort rows row)
+  pub nearest : (row : ℕ) → row < rowCount rows → (earlierAt sort rows row ≡ 0 → ⊥) → Earlier row (earlierAt sort rows row)
   nearest =
       by-owner rows t (λ (row : ℕ). (earlierAt sort rows row ≡ 0 → ⊥) → Earlier row (earlierAt sort rows row))
       (λ p. absurd (p earlier-root))

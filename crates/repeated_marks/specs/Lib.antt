@@ -6,8 +6,6 @@ pub mod Marks
 -- MarkTree: a search tree of marks for each list, by which the first repeated mark is found.
 pub mod MarkTree
 -- ---- laws
--- Laws of marks: the mark before a row stands at a lower row; a search back through the marks of a list.
-pub mod MarkLaws
 -- Laws of distinct marks: cause 8 is document 01's "second equal case, or second default, in one switch".
 pub mod DistinctLaws
 -- Laws of trees of marks: a mark that finds a free place repeats none before it and is in its tree afterwards; another repeats one.

@@ -14,9 +14,8 @@ use Rattle.words.specs.Table.{rowCount, wordAt, numberAt}
 use Rattle.words.specs.declared.Found.{Found}
 use Rattle.words.specs.declared.Found.the-variants.{At, Nothing}
 use Rattle.structure.specs.Lists.{Before}
-use Rattle.statement_places.specs.Places.{isMark, noteAt}
-use Rattle.repeated_marks.specs.Marks.{sameMark, repeated}
-use Rattle.statement_places.specs.declared.Note.the-variants.{MarkBefore}
+use Rattle.statement_places.specs.Places.{isMark}
+use Rattle.repeated_marks.specs.Marks.{sameMark, markBefore, repeated}
 
 -- ---- roots: the marks of one list share theirs
 
@@ -38,7 +37,7 @@ pub data Begins (rows : List ℤ) : ℕ → ℕ → Type 0 where
 pub record Roots (rows : List ℤ) (count : ℕ) (roots : List ℕ) : Type 0 where
   pub room : rowCount rows ≤ length roots
   pub begins : (row : ℕ) → row < count → Begins rows (getD roots row 0) row
-  pub shared : (row : ℕ) → row < count → (noteAt MarkBefore rows row ≡ 0 → ⊥) → getD roots row 0 ≡ getD roots (noteAt MarkBefore rows row) 0
+  pub shared : (row : ℕ) → row < count → (markBefore rows row ≡ 0 → ⊥) → getD roots row 0 ≡ getD roots (markBefore rows row) 0
 
 -- ---- ways down a tree
 

@@ -19,12 +19,13 @@ use Rattle.words.specs.Table.{rowCount, wordAt, numberAt}
 use Rattle.words.specs.Laws.{by-cases, both, sameWord-equal}
 use Rattle.words.specs.Links.{link}
 use Rattle.structure.specs.Structured.{Tree}
-use Rattle.statement_places.specs.Places.{isMark, noteAt}
-use Rattle.repeated_marks.specs.Marks.{sameMark, equalAmong, repeated}
+use Rattle.list_items.specs.Items.{someFrom, someEarlier}
+use Rattle.list_items.specs.EarlierLaws.{nearest}
+use Rattle.statement_places.specs.Places.{isMark, markAt}
+use Rattle.repeated_marks.specs.Marks.{sameMark, markBefore, repeated}
 use Rattle.structure.specs.Lists.{Before, adjacent, further, before-later, before-before}
 use Rattle.repeated_marks.specs.MarkTree.{rootBy, Begins, itself, earlier, Roots, NodeBefore, keyAt, child, Leading, stay, down, Reached, Children, InTree, HoldsMarks, Free, Taken}
-use Rattle.repeated_marks.specs.DistinctLaws.{noted-before, repeated-by}
-use Rattle.statement_places.specs.declared.Note.the-variants.{MarkBefore}
+use Rattle.repeated_marks.specs.DistinctLaws.{repeated-by}
 
 -- what holds of each number below n, and of n, holds below n + 1
 below-next : (P : ℕ → Type 0) (n : ℕ) → ((m : ℕ) → m < n → P m) → P n → (m : ℕ) → m < n + 1 → P m
@@ -70,8 +71,8 @@ module _ (rows : List ℤ) (t : Tree rows) where
   roots-start roots room = record { room = room; begins = λ row h. absurd (omega arith); shared = λ row h. absurd (omega arith) }
 
   -- the mark before a row stands at a lower one
-  noted-lower : (row : ℕ) → row < rowCount rows → (noteAt MarkBefore rows row ≡ 0 → ⊥) → noteAt MarkBefore rows row < row
-  noted-lower row n p = before-later (noted-before rows t row n p)
+  noted-lower : (row : ℕ) → row < rowCount rows → (markBefore rows row ≡ 0 → ⊥) → markBefore rows row < row
+  noted-lower row n p = before-later (nearest rows t (markAt rows) row n p .before)
 
   begins-lower : {root row : ℕ} → Begins rows root row → root ≤ row
   begins-lower itself = omega arith
@@ -83,14 +84,14 @@ module _ (rows : List ℤ) (t : Tree rows) where
   begins-on (earlier a) p b = earlier (record { present = a .present; before = before-before (a .before) b })
 
   module _ (row : ℕ) (roots : List ℕ) (r : Roots rows row roots) (n : row < rowCount rows) where
-    root-begins : Begins rows (rootBy (noteAt MarkBefore rows row) roots row) row
-    root-begins = go (ℕ-discrete (noteAt MarkBefore rows row) 0)
+    root-begins : Begins rows (rootBy (markBefore rows row) roots row) row
+    root-begins = go (ℕ-discrete (markBefore rows row) 0)
       where
-        go : Dec (noteAt MarkBefore rows row ≡ 0) → Begins rows (rootBy (noteAt MarkBefore rows row) roots row) row
+        go : Dec (markBefore rows row ≡ 0) → Begins rows (rootBy (markBefore rows row) roots row) row
         go (yes q) = rw (eq-eqb _ _ q) itself
-        go (no q) = rw (ne-eqb _ _ q) (begins-on (r .begins _ (noted-lower row n q)) q (noted-before rows t row n q))
+        go (no q) = rw (ne-eqb _ _ q) (begins-on (r .begins _ (noted-lower row n q)) q (nearest rows t (markAt rows) row n q .before))
 
-    pub roots-next : (root : ℕ) → root ≡ rootBy (noteAt MarkBefore rows row) roots row → Roots rows (row + 1) (set roots row root)
+    pub roots-next : (root : ℕ) → root ≡ rootBy (markBefore rows row) roots row → Roots rows (row + 1) (set roots row root)
     roots-next root e =
         let room = r .room in
         let here : getD (set roots row root) row 0 ≡ root = getD-set-same roots row root 0 (omega arith) in
@@ -100,7 +101,7 @@ module _ (rows : List ℤ) (t : Tree rows) where
           begins = below-next (λ (m : ℕ). Begins rows (getD (set roots row root) m 0) m) row
               (λ m h. rw (other m h) (r .begins m h))
               (rw (here, e) root-begins);
-          shared = below-next (λ (m : ℕ). (noteAt MarkBefore rows m ≡ 0 → ⊥) → getD (set roots row root) m 0 ≡ getD (set roots row root) (noteAt MarkBefore rows m) 0) row
+          shared = below-next (λ (m : ℕ). (markBefore rows m ≡ 0 → ⊥) → getD (set roots row root) m 0 ≡ getD (set roots row root) (markBefore rows m) 0) row
               (λ m h p. other m h ∙ r .shared m h p ∙ sym (other _ (let l = noted-lower m (omega arith) p in omega arith)))
               (λ p. here ∙ e ∙ rw (ne-eqb _ _ p) (sym (other _ (noted-lower row n p))));
         }
@@ -140,13 +141,13 @@ same-key rows mark row e = ap mag e
 module _ (rows : List ℤ) (t : Tree rows) (roots : List ℕ) (r : Roots rows (rowCount rows) roots) (row : ℕ) (n : row < rowCount rows) where
   -- a search back through the marks before a row finds none that is equal, if no mark with the row's root is
   module _ (differ : (mark : ℕ) → mark < row → getD roots mark 0 ≡ getD roots row 0 → sameMark rows mark row ≡ false) where
-    none-equal : (marks mark : ℕ) → ((mark ≡ 0 → ⊥) → (mark < row) × (getD roots mark 0 ≡ getD roots row 0)) → equalAmong marks rows mark row ≡ false
-    unfolding equalAmong
+    none-equal : (marks mark : ℕ) → ((mark ≡ 0 → ⊥) → (mark < row) × (getD roots mark 0 ≡ getD roots row 0)) → someFrom marks (markAt rows) (λ (m : ℕ). sameMark rows m row) rows mark ≡ false
+    unfolding someFrom
     none-equal zero mark h = refl
-    none-equal (suc marks) mark h = go (ℕ-discrete mark 0) (none-equal marks (noteAt MarkBefore rows mark))
+    none-equal (suc marks) mark h = go (ℕ-discrete mark 0) (none-equal marks (markBefore rows mark))
       where
-        go : Dec (mark ≡ 0) → (((noteAt MarkBefore rows mark ≡ 0 → ⊥) → (noteAt MarkBefore rows mark < row) × (getD roots (noteAt MarkBefore rows mark) 0 ≡ getD roots row 0)) → equalAmong marks rows (noteAt MarkBefore rows mark) row ≡ false)
-            → pick (eqb mark 0) false (pick (sameMark rows mark row) true (equalAmong marks rows (noteAt MarkBefore rows mark) row)) ≡ false
+        go : Dec (mark ≡ 0) → (((markBefore rows mark ≡ 0 → ⊥) → (markBefore rows mark < row) × (getD roots (markBefore rows mark) 0 ≡ getD roots row 0)) → someFrom marks (markAt rows) (λ (m : ℕ). sameMark rows m row) rows (markBefore rows mark) ≡ false)
+            → pick (eqb mark 0) false (pick (sameMark rows mark row) true (someFrom marks (markAt rows) (λ (m : ℕ). sameMark rows m row) rows (markBefore rows mark))) ≡ false
         go (yes q) rest = rw (eq-eqb _ _ q)
         go (no q) rest =
             let here = h q in
@@ -155,9 +156,9 @@ module _ (rows : List ℤ) (t : Tree rows) (roots : List ℕ) (r : Roots rows (r
             (rest (λ p. (let l = noted-lower rows t mark inside p in let k = here .0 in omega arith, sym (r .shared mark inside p) ∙ here .1)))
 
     none-repeated : repeated rows row ≡ false
-    unfolding repeated
+    unfolding repeated someEarlier
     none-repeated =
-        let search = none-equal (noteAt MarkBefore rows row) (noteAt MarkBefore rows row) (λ p. (noted-lower rows t row n p, sym (r .shared row n p))) in
+        let search = none-equal (markBefore rows row) (markBefore rows row) (λ p. (noted-lower rows t row n p, sym (r .shared row n p))) in
         by-cases (isMark (numberAt rows row 0)) (λ k. rw k search) (λ k. rw k)
 
 -- ---- trees
@@ -258,10 +259,10 @@ module _ {rows : List ℤ} (t : Tree rows) {children : List ℕ} {root row node 
   pub node-lower : node < row
   node-lower = before-later (s .node-before .before)
 
-  pub searched-equal : row < rowCount rows → isMark (numberAt rows row 0) ≡ true → sameMark rows node row ≡ true → repeated rows row ≡ true
-  searched-equal n k e =
+  pub searched-equal : isMark (numberAt rows row 0) ≡ true → sameMark rows node row ≡ true → repeated rows row ≡ true
+  searched-equal k e =
       let same = same-mark-parts rows node row e in
-      repeated-by rows t row node n k (record { before = s .node-before .before; kind = same .0; value = same .1 }) (s .node-before .present)
+      repeated-by rows t row node k (record { before = s .node-before .before; kind = same .0; value = same .1 }) (s .node-before .present)
 
   module _ (other : sameMark rows node row ≡ false) where
     past : (mark rest : ℕ) → Leading children root (keyAt rows row) mark rest → sameMark rows mark row ≡ true → (child children node key ≡ 0 → ⊥) × Leading children (child children node key) (key / 2) mark rest

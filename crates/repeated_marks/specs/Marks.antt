@@ -1,26 +1,22 @@
 -- Marks: cause 8, "second equal case, or second default, in one switch".
-use mathlib.Core.Bool.{Bool, true, false, _&&_}
+use mathlib.Core.Bool.{Bool, _&&_}
 use mathlib.Core.List.{List}
-use Prim.Native.Nat.{ℕ, zero, suc}
+use Prim.Native.Nat.{ℕ}
 use lib.Dec.{eqb}
 use lib.IntN.{ℤ}
-use Rattle.words.specs.Word.{sameWord, pick}
+use Rattle.words.specs.Word.{sameWord}
 use Rattle.words.specs.Table.{wordAt, numberAt}
-use Rattle.statement_places.specs.Places.{isMark, noteAt}
-use Rattle.statement_places.specs.declared.Note.the-variants.{MarkBefore}
+use Rattle.list_items.specs.Items.{earlierAt, someEarlier}
+use Rattle.statement_places.specs.Places.{isMark, markAt}
 
 -- Two marks are equal: two defaults, or two cases of equal value. (A default's value is an unused field, and so 0.)
 unfoldable pub sameMark : List ℤ → ℕ → ℕ → Bool
 sameMark rows mark row = eqb (numberAt rows mark 0) (numberAt rows row 0) && sameWord (wordAt rows mark 1) (wordAt rows row 1)
 
--- The row's mark is that of `mark`, or of a mark before that in its list. Marks stand at ever lower rows, so as many of them as the
--- number of the first are enough.
-unfoldable pub equalAmong : ℕ → List ℤ → ℕ → ℕ → Bool
-equalAmong zero rows mark row = false
-equalAmong (suc marks) rows mark row =
-    let rest = equalAmong marks rows (noteAt MarkBefore rows mark) row in
-    pick (eqb mark 0) false (pick (sameMark rows mark row) true rest)
+-- The nearest mark before a row in its list; 0 where there is none.
+abbrev pub markBefore : List ℤ → ℕ → ℕ
+markBefore rows = earlierAt (markAt rows) rows
 
--- Cause 8, at the "later row".
+-- Cause 8, at the "later row": a mark that is equal to one before it in its list.
 unfoldable pub repeated : List ℤ → ℕ → Bool
-repeated rows row = isMark (numberAt rows row 0) && equalAmong (noteAt MarkBefore rows row) rows (noteAt MarkBefore rows row) row
+repeated rows row = isMark (numberAt rows row 0) && someEarlier (markAt rows) (λ mark. sameMark rows mark row) rows row

@@ -16,10 +16,9 @@ ghost use lib.Signed.{mag};
 ghost use Rattle.words.specs.Table.{numberAt};
 ghost use Rattle.structure.specs.Structured.{Tree};
 ghost use Rattle.structure.specs.Passes.{Notes};
-ghost use Rattle.statement_places.specs.Places.{isMark, noteAt};
-ghost use Rattle.repeated_marks.specs.Marks.{sameMark};
+ghost use Rattle.statement_places.specs.Places.{isMark};
+ghost use Rattle.repeated_marks.specs.Marks.{sameMark, markBefore};
 ghost use Rattle.repeated_marks.specs.MarkTree.{rootBy, NodeBefore, Roots, Children, HoldsMarks, Placing, Taking};
-ghost use Rattle.statement_places.specs.declared.Note.the-variants.{MarkBefore};
 
 fn same_mark(rows: &[i32], mark: usize, row: usize) -> bool
     requires { ⌜ (6 * mark + 5 < length (now rows)) × (6 * row + 5 < length (now rows)) ⌝ }
@@ -55,7 +54,7 @@ fn root_of(before: &[u16], roots: &[u16], row: usize) -> u16
 
 // The roots of all rows, in order: a mark stands behind those before it in its list.
 pub fn write_roots(rows: &[i32], before: &[u16], roots: &mut [u16])
-    requires { ⌜ Tree (now rows) × Notes (now rows) (noteAt MarkBefore (now rows)) (now before) × (length (now rows) / 6 ≤ length (now roots)) ⌝ }
+    requires { ⌜ Tree (now rows) × Notes (now rows) (markBefore (now rows)) (now before) × (length (now rows) / 6 ≤ length (now roots)) ⌝ }
     ensures { λ _. ⌜ Roots (now (rows .entry)) (length (now (rows .entry)) / 6) (now (roots .exit)) ⌝ }
 {
     for row in 0..rows.len() / 6 {

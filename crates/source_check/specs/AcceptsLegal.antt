@@ -54,7 +54,7 @@ module _ (bounds : Bounds) (rows : List ℤ) (s : Structured Source bounds rows)
       }
     where
       differ : (row : ℕ) → row < rowCount rows → repeated rows row ≡ false → (mark : ℕ) → isMark (numberAt rows row 0) ≡ true → Repeats rows tree row mark → ⊥
-      differ row n e mark k r = true≢false (sym (repeated-by rows tree row mark n k r (mark-not-root mark (ap isMark (r .kind) ∙ k))) ∙ e)
+      differ row n e mark k r = true≢false (sym (repeated-by rows tree row mark k r (mark-not-root mark (ap isMark (r .kind) ∙ k))) ∙ e)
 
   distinct-once : (row : ℕ) → row < rowCount rows → Distinct rows row → repeated rows row ≡ false
   distinct-once row n d = by-cases (repeated rows row) (λ e. absurd (never e)) (λ e. e)

@@ -11,6 +11,7 @@ use Rattle.words.specs.Links.{link}
 use Rattle.row_fields.specs.Fields.{boundsOf}
 use Rattle.structure.specs.Structured.{Leads, Structured, Shallow}
 use Rattle.structure.specs.Lists.{Before}
+use Rattle.list_items.specs.Items.{ListItem}
 use Rattle.statement_places.specs.Places.{isLoop, isLoopOrSwitch, isMark}
 
 -- A row stands inside a row of such a kind: as one of its parts, or linked by a row that does.
@@ -18,10 +19,9 @@ pub data Inside (rows : List ℤ) (kinds : ℕ → Bool) : ℕ → Type 0 where
   part : {row field : ℕ} → field < 5 → Leads rows row field → kinds (numberAt rows row 0) ≡ true → Inside rows kinds (link rows row field)
   along : {row field : ℕ} → field < 6 → Leads rows row field → Inside rows kinds row → Inside rows kinds (link rows row field)
 
--- An item of a switch's own list.
-pub data SwitchItem (rows : List ℤ) : ℕ → Type 0 where
-  first : {row : ℕ} → numberAt rows row 0 ≡ 47 → Leads rows row 2 → SwitchItem rows (link rows row 2)
-  next : {row : ℕ} → Leads rows row 5 → SwitchItem rows row → SwitchItem rows (link rows row 5)
+-- An item of a switch's own list: kind 47, whose list begins at b.
+abbrev pub SwitchItem : List ℤ → ℕ → Type 0
+SwitchItem rows row = ListItem rows 47 2 row
 
 -- "A case or default is an item of a switch's own list. Break stands inside a loop or switch, continue inside a loop."
 pub record Placed (rows : List ℤ) (row : ℕ) : Type 0 where

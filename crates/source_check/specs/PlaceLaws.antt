@@ -1,7 +1,7 @@
 -- Laws of places: the notes say what a row stands inside, so cause 7 is document 01's sentence on break, continue, case and default.
 -- Notes and relations both go along the links: each row by the row that links it.
-use mathlib.Core.Path.{_≡_, subst, refl, sym, ap, _∙_}
-use mathlib.Core.Bool.{Bool, true, false, _&&_, true≢false}
+use mathlib.Core.Path.{_≡_, refl, sym, ap, _∙_}
+use mathlib.Core.Bool.{Bool, true, false, true≢false}
 use mathlib.Core.List.{List}
 use Prim.Native.Nat.{ℕ, _<_}
 use native.Mathlib.Omega.{arith}
@@ -15,12 +15,12 @@ use Rattle.words.specs.Laws.{by-cases}
 use Rattle.words.specs.Links.{link}
 use Rattle.structure.specs.LinkLaws.{by-owner}
 use Rattle.structure.specs.Structured.{Leads, Tree}
+use Rattle.list_items.specs.ItemLaws.{item-noted, noted-item}
+use Rattle.statement_places.specs.NoteLaws.{noteAt-root, noteAt-link, switch-item-note}
 use Rattle.statement_places.specs.Places.{isLoop, isLoopOrSwitch, isMark, handed, noteAt, outOfPlace, misplaced}
-use Rattle.source_check.specs.Legal.{Inside, part, along, SwitchItem, first, next, Placed}
-use Rattle.repeated_marks.specs.MarkLaws.{noteAt-root, noteAt-link}
+use Rattle.source_check.specs.Legal.{Inside, part, along, Placed}
 use Rattle.statement_places.specs.declared.Note.{Note}
 use Rattle.statement_places.specs.declared.Note.the-variants.{InLoop, InLoopOrSwitch}
-use Rattle.statement_places.specs.declared.Note.the-variants as note
 
 module _ (rows : List ℤ) (t : Tree rows) where
   -- ---- inside a loop, inside a loop or switch
@@ -62,36 +62,6 @@ module _ (rows : List ℤ) (t : Tree rows) where
         (λ k. part (let n = eqb-false field 5 q in lt-of-le-ne (omega arith) n) leads k)
         (λ k. along h leads (above (rw (is, q, k) at e)))))
 
-  -- ---- an item of a switch's own list
-
-  item-of : (row field : ℕ) → field < 6 → Leads rows row field
-      → noteAt note.SwitchItem rows (link rows row field) ≡ pick (eqb field 5) (noteAt note.SwitchItem rows row) (pick (eqb (numberAt rows row 0) 47 && eqb field 2) 1 0)
-  unfolding handed
-  item-of row field h leads = noteAt-link rows t note.SwitchItem row field h leads
-
-  item-noted : {row : ℕ} → SwitchItem rows row → noteAt note.SwitchItem rows row ≡ 1
-  item-noted (first {row} k leads) = item-of row 2 (omega arith) leads ∙ rw k
-  item-noted (next {row} leads i) = item-of row 5 (omega arith) leads ∙ item-noted i
-
-  first-item : (owner field : ℕ) → Leads rows owner field → eqb (numberAt rows owner 0) 47 ≡ true → eqb field 2 ≡ true → SwitchItem rows (link rows owner field)
-  first-item owner field leads k f =
-      subst (λ (x : ℕ). Leads rows owner x → SwitchItem rows (link rows owner x)) (sym (eqb-true _ _ f)) (λ l. first (eqb-true _ _ k) l) leads
-
-  next-item : (owner field : ℕ) → Leads rows owner field → eqb field 5 ≡ true → SwitchItem rows owner → SwitchItem rows (link rows owner field)
-  next-item owner field leads f i = subst (λ (x : ℕ). Leads rows owner x → SwitchItem rows (link rows owner x)) (sym (eqb-true _ _ f)) (λ l. next l i) leads
-
-  noted-item : (row : ℕ) → row < rowCount rows → eqb (noteAt note.SwitchItem rows row) 0 ≡ false → SwitchItem rows row
-  noted-item =
-      by-owner rows t (λ (row : ℕ). eqb (noteAt note.SwitchItem rows row) 0 ≡ false → SwitchItem rows row)
-      (λ e. absurd (true≢false (sym (eq-eqb _ _ (noteAt-root note.SwitchItem rows)) ∙ e)))
-      (λ owner field h leads above e.
-      let is = item-of owner field h leads in
-      by-cases (eqb field 5)
-      (λ q. next-item owner field leads q (above (rw (is, q) at e)))
-      (λ q. by-cases (eqb (numberAt rows owner 0) 47)
-      (λ k. by-cases (eqb field 2) (λ f. first-item owner field leads k f) (λ f. absurd (true≢false (rw (is, q, k, f) at e))))
-      (λ k. absurd (true≢false (rw (is, q, k) at e)))))
-
   -- ---- cause 7
 
   pub misplaced-placed : (row : ℕ) → row < rowCount rows → misplaced rows row ≡ false → Placed rows row
@@ -100,7 +70,7 @@ module _ (rows : List ℤ) (t : Tree rows) where
       record {
         break-inside = λ k. noted-inside InLoopOrSwitch isLoopOrSwitch loop-or-switch-around row n (rw k at e);
         continue-inside = λ k. noted-inside InLoop isLoop loop-around row n (rw k at e);
-        mark-inside = λ k. noted-item row n (rw (mark-other row k 50 refl, mark-other row k 51 refl, k) at e);
+        mark-inside = λ k. noted-item rows t 47 2 row n (rw (mark-other row k 50 refl, mark-other row k 51 refl, k, switch-item-note rows row) at e);
       }
     where
       mark-other : (row : ℕ) → isMark (numberAt rows row 0) ≡ true → (kind : ℕ) → isMark kind ≡ false → eqb (numberAt rows row 0) kind ≡ false
@@ -114,5 +84,5 @@ module _ (rows : List ℤ) (t : Tree rows) where
       (λ a. by-cases (eqb (numberAt rows row 0) 51)
       (λ k. rw (a, k, inside-noted InLoop isLoop loop-around (p .continue-inside (eqb-true _ _ k))))
       (λ b. by-cases (isMark (numberAt rows row 0))
-      (λ k. rw (a, b, k, item-noted (p .mark-inside k)))
+      (λ k. rw (a, b, k, switch-item-note rows row, item-noted rows t 47 2 (omega arith) (p .mark-inside k)))
       (λ c. rw (a, b, c))))

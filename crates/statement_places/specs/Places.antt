@@ -8,6 +8,7 @@ use Rattle.words.specs.Word.{pick}
 use Rattle.words.specs.Table.{numberAt}
 use Rattle.words.specs.Kinds.{between}
 use Rattle.words.specs.Links.{note}
+use Rattle.list_items.specs.Items.{itemOf, earlierOf}
 use Rattle.statement_places.specs.declared.Note.{Note}
 use Rattle.statement_places.specs.declared.Note.the-variants.{InLoop, InLoopOrSwitch, SwitchItem, MarkBefore}
 
@@ -23,13 +24,16 @@ isLoopOrSwitch kind = between 44 47 kind
 abbrev pub isMark : ℕ → Bool
 isMark kind = between 48 49 kind
 
+abbrev pub markAt : List ℤ → ℕ → Bool
+markAt rows row = isMark (numberAt rows row 0)
+
 -- What a row hands to the row that its field links. Next hands on to the next item of the same list; a loop or switch has its
 -- parts inside it; a switch's own list is its field b; a mark is before all that follow it in its list.
 unfoldable pub handed : Note → List ℤ → ℕ → ℕ → ℕ → ℕ
 handed InLoop rows owner field own = pick (eqb field 5) own (pick (isLoop (numberAt rows owner 0)) 1 own)
 handed InLoopOrSwitch rows owner field own = pick (eqb field 5) own (pick (isLoopOrSwitch (numberAt rows owner 0)) 1 own)
-handed SwitchItem rows owner field own = pick (eqb field 5) own (pick (eqb (numberAt rows owner 0) 47 && eqb field 2) 1 0)
-handed MarkBefore rows owner field own = pick (eqb field 5) (pick (isMark (numberAt rows owner 0)) owner own) 0
+handed SwitchItem rows owner field own = itemOf rows 47 2 owner field own
+handed MarkBefore rows owner field own = earlierOf (markAt rows) owner field own
 
 unfoldable pub noteAt : Note → List ℤ → ℕ → ℕ
 noteAt which rows row = note (handed which rows) 0 rows row

@@ -3,10 +3,10 @@ use super::Note;
 use grammar::KindTable;
 use grammar::between;
 use grammar::link;
-use structure::row_number::narrow;
+use list_items::hand_earlier;
+use list_items::hand_item;
 use words::table::number_at;
 ghost use mathlib.Core.Path.{_≡_};
-ghost use mathlib.Core.Bool.{_&&_};
 ghost use Prim.Native.Nat.{_+_, _*_, _/_, _<_, _≤_};
 ghost use lib.Dec.{eqb};
 ghost use lib.ListN.{length, getD};
@@ -31,47 +31,21 @@ fn inside(around: bool, field: usize, own: u16) -> u16
     own
 }
 
-// An item of a switch's own list: its first, or the next of one.
-fn switch_item(kind: usize, field: usize, own: u16) -> u16
-    ensures { λ r. ⌜ r ≡ pick (eqb field 5) own (pick (eqb kind 47 && eqb field 2) 1 0) ⌝ }
-{
-    if field == 5 {
-        return own;
-    }
-    if kind == 47 {
-        if field == 2 {
-            return 1;
-        }
-        return 0;
-    }
-    0
-}
-
-// The nearest mark before the next item of a list.
-fn mark_before(mark: bool, owner: usize, field: usize, own: u16) -> u16
-    requires { ⌜ owner < 65536 ⌝ }
-    ensures { λ r. ⌜ r ≡ pick (eqb field 5) (pick mark owner own) 0 ⌝ }
-{
-    if field == 5 {
-        if mark {
-            return narrow(owner);
-        }
-        return own;
-    }
-    0
-}
-
 // What a row hands to the row that its field links.
 fn hand(which: Note, rows: &[i32], owner: usize, field: usize, own: u16) -> u16
     requires { ⌜ (6 * owner + 5 < length (now rows)) × (owner < 65536) ⌝ }
     ensures { λ r. ⌜ r ≡ handed which (now (rows .entry)) owner field own ⌝ }
 {
-    let kind = number_at(rows, owner, 0);
     match which {
-        Note::InLoop => inside(between(44, 46, kind), field, own),
-        Note::InLoopOrSwitch => inside(between(44, 47, kind), field, own),
-        Note::SwitchItem => switch_item(kind, field, own),
-        Note::MarkBefore => mark_before(between(48, 49, kind), owner, field, own),
+        Note::InLoop => inside(between(44, 46, number_at(rows, owner, 0)), field, own),
+        Note::InLoopOrSwitch => inside(between(44, 47, number_at(rows, owner, 0)), field, own),
+        Note::SwitchItem => hand_item(rows, 47, 2, owner, field, own),
+        Note::MarkBefore => hand_earlier(
+            between(48, 49, number_at(rows, owner, 0)),
+            owner,
+            field,
+            own,
+        ),
     }
 }
 

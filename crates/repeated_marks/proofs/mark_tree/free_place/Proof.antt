@@ -37,7 +37,7 @@ same-mark-requires c κs =
 
 returns : tie.Need-returns Inv-loop μ-loop
 returns c =
-    searched-equal (c .before .before .before .before .before .before .pre .0) (c .before .before .loop .inv) (c .before .before .before .before .before .before .pre .4) (c .before .before .before .before .before .before .pre .3) (sym (c .before .same-mark .ensures) ∙ c .if1 .taken)
+    searched-equal (c .before .before .before .before .before .before .pre .0) (c .before .before .loop .inv) (c .before .before .before .before .before .before .pre .3) (sym (c .before .same-mark .ensures) ∙ c .if1 .taken)
 
 mul-place : tie.Need-mul-place Inv-loop μ-loop
 mul-place c =

@@ -4,8 +4,8 @@ use Prim.Native.Nat.{_≤_, _<_, _-_}
 use native.Mathlib.Omega.{arith}
 use lib.ListN.{length, length-set}
 use Rattle.words.specs.Table.{rowCount}
+use Rattle.list_items.specs.EarlierLaws.{earlier-inside}
 use Rattle.repeated_marks.specs.MarkTree.{Roots}
-use Rattle.repeated_marks.specs.MarkLaws.{mark-inside}
 use Rattle.repeated_marks.specs.MarkTreeLaws.{roots-start, roots-next}
 use Rattle.repeated_marks.proofs.mark_tree.write_roots.Statement.{statement}
 use Rattle.repeated_marks.proofs.mark_tree.write_roots.Tie as tie
@@ -27,7 +27,7 @@ root-of-requires c κs =
     let tree = c .before .before .before .before .before .pre .0 in
     let notes = c .before .before .before .before .before .pre .1 in
     let few = tree .few in let room = notes .room in let wide-enough = c .before .before .loop .inv .2 .room in
-    let inside = mark-inside _ tree (c .before .before .loop .row) _ (omega arith) (notes .is (c .before .before .loop .row) (omega arith)) in
+    let inside = earlier-inside _ tree _ (c .before .before .loop .row) _ (omega arith) (notes .is (c .before .before .loop .row) (omega arith)) in
     (omega arith, omega arith, omega arith)
 
 mul-roots : tie.Need-mul-roots Inv-loop μ-loop

@@ -1,5 +1,6 @@
 -- `lowest_repeated` begins with trees of no marks.
 use native.Mathlib.Omega.{arith}
+use Rattle.statement_places.specs.NoteLaws.{mark-notes}
 use Rattle.repeated_marks.specs.MarkTreeLaws.{holds-marks-start}
 use borrow.Author.Needs.{needs}
 use Rattle.repeated_marks.proofs.marks.lowest_repeated.Statement.{statement}
@@ -9,7 +10,9 @@ slice-aggregate-write-roots : tie.Need-slice-aggregate-write-roots
 slice-aggregate-write-roots c = search needs
 
 write-roots-requires : tie.Need-write-roots-requires
-write-roots-requires c κs = search needs
+write-roots-requires c κs =
+    let start = c .before .before in
+    (start .pre .0, mark-notes (start .pre .2), start .pre .1)
 
 slice-aggregate-lowest-repeated-row : tie.Need-slice-aggregate-lowest-repeated-row
 slice-aggregate-lowest-repeated-row c = search needs

@@ -20,10 +20,10 @@ use Rattle.list_items.specs.EarlierLaws.{earlier-met, met-earlier}
 use Rattle.declaration_causes.specs.Causes.{outsideBlock, sameNumber, declaredBefore, oneTooMany}
 use Rattle.declaration_causes.specs.Demands.{BlockItem, NotTwice, FewDeclarations}
 
--- "Row 0 is a block".
-pub block-undeclared : (rows : List ℤ) → numberAt rows 0 0 ≡ 42 → isDeclaration rows 0 ≡ false
+-- A block is no declaration; so row 0 is none.
+pub block-undeclared : (rows : List ℤ) (row : ℕ) → numberAt rows row 0 ≡ 42 → isDeclaration rows row ≡ false
 unfolding isDeclaration
-block-undeclared rows block = rw block
+block-undeclared rows row block = rw block
 
 module _ (rows : List ℤ) (t : Tree rows) (row : ℕ) where
   -- ---- 7

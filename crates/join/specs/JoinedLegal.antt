@@ -1,6 +1,6 @@
 -- The join of two legal programs is legal: row by row, and by the links of the joined rows.
 use mathlib.Core.Path.{_≡_, refl, sym, _∙_, ap, subst}
-use mathlib.Core.Bool.{Bool, true, false, false≢true}
+use mathlib.Core.Bool.{Bool, true, false, true≢false, false≢true}
 use mathlib.Core.List.{List}
 use Prim.Native.Nat.{ℕ, zero, suc, _+_, _*_, _/_, _%_, _≤_, _<_}
 use native.Mathlib.Omega.{arith}
@@ -26,7 +26,10 @@ use Rattle.structure.specs.Structured.{Leads, EachField, Structured}
 use Rattle.structure.specs.StructuredLaws.{structured-tree}
 use Rattle.row_fields.specs.declared.Bounds.{Bounds}
 use Rattle.statement_places.specs.Places.{isMark}
+use Rattle.declaration_causes.specs.DeclarationLaws.{block-undeclared}
+use Rattle.declaration_causes.specs.AcceptsDeclared.{undeclared-well}
 use Rattle.source_check.specs.Legal.{Placed, Distinct, Legal}
+use Rattle.source_check.specs.Undeclared.{structured-undeclared}
 use Rattle.join.specs.Join.{secondBegins, joinedRows}
 use Rattle.join.specs.JoinedRows.{length-joined}
 use Rattle.join.specs.MovedLegal.{link-named, known-held, unused-held, present-held, forward-held, fitting-held, named-held, placed-held, distinct-held}
@@ -58,6 +61,7 @@ module _ (rows : List ℤ) (row : ℕ) (block : numberAt rows row 0 ≡ 42) wher
     break-inside = λ k. absurd (omega arith);
     continue-inside = λ k. absurd (omega arith);
     mark-inside = λ k. absurd (false≢true (sym (ap isMark block) ∙ k));
+    declaration-inside = λ d. absurd (true≢false (sym d ∙ block-undeclared rows row block));
   }
 
   block-distinct : Distinct rows row
@@ -234,4 +238,5 @@ joined-legal header first second l m few flat =
           (λ r n. distinct-held s (holds-first first second s z) (back-first first second s z) r n (l .distinct r n))
           (λ r n. distinct-held z (holds-second first second s z) (back-second first second s z) r n (m .distinct r n));
       shallow = none-deep-shallow (joinedRows first second) (structured-tree Source _ (joinedRows first second) structured) Source flat;
+      well-declared = undeclared-well (joinedRows first second) (structured-undeclared _ (joinedRows first second) structured);
     }

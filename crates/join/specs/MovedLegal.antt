@@ -19,6 +19,7 @@ use Rattle.row_fields.specs.Fields.{numberFits}
 use Rattle.structure.specs.Structured.{Leads, Structured}
 use Rattle.structure.specs.Lists.{Before, adjacent, further, before-later}
 use Rattle.row_fields.specs.declared.Bounds.{Bounds}
+use Rattle.names.specs.Names.{isDeclaration}
 use Rattle.list_items.specs.Items.{ListItem, first, next}
 use Rattle.source_check.specs.Legal.{Inside, part, along, Placed, Distinct}
 use Rattle.join.specs.Moved.{movedLink, Holds, number-held, sort-held, link-held, leads-own, link-leads, leads-held}
@@ -105,10 +106,12 @@ module _ {form : Form} {bounds : Bounds} {joined rows : List ℤ} {ρ : ℕ → 
       subst (ListItem joined kind start) (link-leads s h row 5 (omega arith) leads) (next (leads-held s h row 5 (omega arith) leads) (item-held kind start f i))
 
   pub placed-held : (row : ℕ) → row < rowCount rows → Placed rows row → Placed joined (ρ row)
+  unfolding isDeclaration
   placed-held row n p = record {
     break-inside = λ k. inside-held _ (p .break-inside (sym (number-held h row n) ∙ k));
     continue-inside = λ k. inside-held _ (p .continue-inside (sym (number-held h row n) ∙ k));
     mark-inside = λ k. item-held 47 2 (omega arith) (p .mark-inside (rw (number-held h row n) at k));
+    declaration-inside = λ d. item-held 42 1 (omega arith) (p .declaration-inside (rw (number-held h row n) at d));
   }
 
   -- ---- cause 8: back along the lists

@@ -13,6 +13,7 @@ use Rattle.words.specs.declared.Verdict.the-variants.{Accepted, Refused}
 use Rattle.words.specs.declared.Found.{Found}
 use Rattle.words.specs.declared.Found.the-variants.{At, Nothing}
 use Rattle.structure.specs.Refusal.{at, unless, _next_, rowCauses, structuralRefusal}
+use Rattle.declaration_causes.specs.Causes.{declarationRefusal}
 use Rattle.source_check.specs.Refusal.{laterRefusal, refusal as sourceRefusal}
 use Rattle.kernel_check.specs.Refusal.{kernelCauses, refusal as kernelRefusal}
 use Rattle.source_check.specs.AcceptsLegal.{accepts-legal as source-accepts}
@@ -47,10 +48,11 @@ structural-caused form header rows =
     (next-caused _ _ (at-caused 4 _ (omega arith)) (next-caused _ _ (at-caused 5 _ (omega arith)) (at-caused 6 _ (omega arith))))))
 
 refusal-caused : (form : Form) (header rows : List ℤ) → Caused (refusalOf form header rows)
-unfolding sourceRefusal laterRefusal kernelRefusal kernelCauses
+unfolding sourceRefusal laterRefusal declarationRefusal kernelRefusal kernelCauses
 refusal-caused Source header rows =
     next-caused _ _ (structural-caused Source header rows)
-    (next-caused _ _ (at-caused 7 _ (omega arith)) (next-caused _ _ (at-caused 8 _ (omega arith)) (at-caused 9 _ (omega arith))))
+    (next-caused _ _ (at-caused 7 _ (omega arith)) (next-caused _ _ (at-caused 8 _ (omega arith)) (next-caused _ _ (at-caused 9 _ (omega arith))
+    (next-caused _ _ (at-caused 18 _ (omega arith)) (next-caused _ _ (at-caused 19 _ (omega arith)) (at-caused 20 _ (omega arith)))))))
 refusal-caused Kernel header rows =
     next-caused _ _ (structural-caused Kernel header rows)
     (next-caused _ _ (at-caused 9 _ (omega arith)) (next-caused _ _ (at-caused 12 _ (omega arith)) (at-caused 13 _ (omega arith))))

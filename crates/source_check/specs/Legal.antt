@@ -1,4 +1,4 @@
--- Legal: what document 01 demands of a source program.
+-- Legal: what document 01 demands of a source program, and Change 11 of its declarations.
 use mathlib.Core.Path.{_≡_}
 use mathlib.Core.Bool.{Bool, true}
 use mathlib.Core.List.{List}
@@ -12,6 +12,7 @@ use Rattle.row_fields.specs.Fields.{boundsOf}
 use Rattle.structure.specs.Structured.{Leads, Structured, Shallow}
 use Rattle.structure.specs.Lists.{Before}
 use Rattle.list_items.specs.Items.{ListItem}
+use Rattle.declaration_causes.specs.Demands.{BlockItem, WellDeclared}
 use Rattle.statement_places.specs.Places.{isLoop, isLoopOrSwitch, isMark}
 
 -- A row stands inside a row of such a kind: as one of its parts, or linked by a row that does.
@@ -23,11 +24,13 @@ pub data Inside (rows : List ℤ) (kinds : ℕ → Bool) : ℕ → Type 0 where
 abbrev pub SwitchItem : List ℤ → ℕ → Type 0
 SwitchItem rows row = ListItem rows 47 2 row
 
--- "A case or default is an item of a switch's own list. Break stands inside a loop or switch, continue inside a loop."
+-- "A case or default is an item of a switch's own list. Break stands inside a loop or switch, continue inside a loop." A declaration
+-- "is an item of a block".
 pub record Placed (rows : List ℤ) (row : ℕ) : Type 0 where
   pub break-inside : numberAt rows row 0 ≡ 50 → Inside rows isLoopOrSwitch row
   pub continue-inside : numberAt rows row 0 ≡ 51 → Inside rows isLoop row
   pub mark-inside : isMark (numberAt rows row 0) ≡ true → SwitchItem rows row
+  pub declaration-inside : BlockItem rows row
 
 -- No "second equal case, or second default, in one switch".
 pub record Distinct (rows : List ℤ) (row : ℕ) : Type 0 where
@@ -43,3 +46,5 @@ pub record Legal (header rows : List ℤ) : Type 0 where
   pub distinct : (row : ℕ) → row < rowCount rows → Distinct rows row
   -- "The limit is 64."
   pub shallow : Shallow Source rows
+  -- No "initial expression naming its own number", no "number declared twice in one block", and of declarations "at most 64".
+  pub well-declared : WellDeclared rows

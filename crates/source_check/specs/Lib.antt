@@ -3,10 +3,16 @@
 -- ---- definitions
 -- Refusal: what the check answers.
 pub mod Refusal
--- Legal: what document 01 demands of a source program.
+-- Legal: what document 01 demands of a source program, and Change 11 of its declarations.
 pub mod Legal
+-- Lower: the lower of the rows that two searches found.
+pub mod Lower
 -- ---- laws
--- Laws of places: cause 7 is document 01's sentence on break, continue, case and default.
+-- Laws of places: cause 7 is document 01's sentence on break, continue, case and default, and Change 11's on declarations.
 pub mod PlaceLaws
+-- Laws of the lower row: a search for either of two properties.
+pub mod LowerLaws
+-- Undeclared: a legal program has no declarations, while no form has the kind.
+pub mod Undeclared
 -- The theorem: the check accepts the legal source programs and no others.
 pub mod AcceptsLegal

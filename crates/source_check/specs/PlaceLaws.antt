@@ -1,4 +1,5 @@
--- Laws of places: the notes say what a row stands inside, so cause 7 is document 01's sentence on break, continue, case and default.
+-- Laws of places: the notes say what a row stands inside, so cause 7 is document 01's sentence on break, continue, case and default, and
+-- Change 11's on declarations.
 -- Notes and relations both go along the links: each row by the row that links it.
 use mathlib.Core.Path.{_≡_, refl, sym, ap, _∙_}
 use mathlib.Core.Bool.{Bool, true, false, true≢false}
@@ -11,13 +12,15 @@ use lib.IntN.{ℤ}
 use borrow.Author.Tests.{eqb-true, eqb-false, eq-eqb, ne-eqb}
 use Rattle.words.specs.Word.{pick}
 use Rattle.words.specs.Table.{rowCount, numberAt}
-use Rattle.words.specs.Laws.{by-cases}
+use Rattle.words.specs.Laws.{by-cases, neither}
 use Rattle.words.specs.Links.{link}
 use Rattle.structure.specs.LinkLaws.{by-owner}
 use Rattle.structure.specs.Structured.{Leads, Tree}
 use Rattle.list_items.specs.ItemLaws.{item-noted, noted-item}
 use Rattle.statement_places.specs.NoteLaws.{noteAt-root, noteAt-link, switch-item-note}
 use Rattle.statement_places.specs.Places.{isLoop, isLoopOrSwitch, isMark, handed, noteAt, outOfPlace, misplaced}
+use Rattle.declaration_causes.specs.DeclarationLaws.{inside-block, block-inside}
+use Rattle.source_check.specs.Refusal.{wronglyPlaced}
 use Rattle.source_check.specs.Legal.{Inside, part, along, Placed}
 use Rattle.statement_places.specs.declared.Note.{Note}
 use Rattle.statement_places.specs.declared.Note.the-variants.{InLoop, InLoopOrSwitch}
@@ -64,21 +67,23 @@ module _ (rows : List ℤ) (t : Tree rows) where
 
   -- ---- cause 7
 
-  pub misplaced-placed : (row : ℕ) → row < rowCount rows → misplaced rows row ≡ false → Placed rows row
-  unfolding misplaced outOfPlace
-  misplaced-placed row n e =
+  pub none-wrong-placed : (row : ℕ) → row < rowCount rows → wronglyPlaced rows row ≡ false → Placed rows row
+  unfolding wronglyPlaced misplaced outOfPlace
+  none-wrong-placed row n e =
+      let well = neither (misplaced rows row) _ e in
       record {
-        break-inside = λ k. noted-inside InLoopOrSwitch isLoopOrSwitch loop-or-switch-around row n (rw k at e);
-        continue-inside = λ k. noted-inside InLoop isLoop loop-around row n (rw k at e);
-        mark-inside = λ k. noted-item rows t 47 2 row n (rw (mark-other row k 50 refl, mark-other row k 51 refl, k, switch-item-note rows row) at e);
+        break-inside = λ k. noted-inside InLoopOrSwitch isLoopOrSwitch loop-or-switch-around row n (rw k at (well .0));
+        continue-inside = λ k. noted-inside InLoop isLoop loop-around row n (rw k at (well .0));
+        mark-inside = λ k. noted-item rows t 47 2 row n (rw (mark-other row k 50 refl, mark-other row k 51 refl, k, switch-item-note rows row) at (well .0));
+        declaration-inside = inside-block rows t row n (well .1);
       }
     where
       mark-other : (row : ℕ) → isMark (numberAt rows row 0) ≡ true → (kind : ℕ) → isMark kind ≡ false → eqb (numberAt rows row 0) kind ≡ false
       mark-other row k kind other = ne-eqb (numberAt rows row 0) kind (λ q. true≢false (sym k ∙ ap isMark q ∙ other))
 
-  pub placed-misplaced : (row : ℕ) → Placed rows row → misplaced rows row ≡ false
+  not-misplaced : (row : ℕ) → Placed rows row → misplaced rows row ≡ false
   unfolding misplaced outOfPlace
-  placed-misplaced row p =
+  not-misplaced row p =
       by-cases (eqb (numberAt rows row 0) 50)
       (λ k. rw (k, inside-noted InLoopOrSwitch isLoopOrSwitch loop-or-switch-around (p .break-inside (eqb-true _ _ k))))
       (λ a. by-cases (eqb (numberAt rows row 0) 51)
@@ -86,3 +91,7 @@ module _ (rows : List ℤ) (t : Tree rows) where
       (λ b. by-cases (isMark (numberAt rows row 0))
       (λ k. rw (a, b, k, switch-item-note rows row, item-noted rows t 47 2 (omega arith) (p .mark-inside k)))
       (λ c. rw (a, b, c))))
+
+  pub placed-none-wrong : (row : ℕ) → Placed rows row → wronglyPlaced rows row ≡ false
+  unfolding wronglyPlaced
+  placed-none-wrong row p = rw (not-misplaced row p) (block-inside rows t row (p .declaration-inside))

@@ -1,10 +1,11 @@
-// The check of source programs: the causes that both forms share, then 7, 8 and 9.
+// The check of source programs: the causes that both forms share, then 7, 8 and 9, then those of declarations.
+use declaration_check::declaration_refusal;
+use declaration_check::lowest_outside_block;
 use grammar::KindTable;
 use grammar::kinds::kind_table;
 use repeated_marks::marks::lowest_repeated;
 use statement_places::notes::write_notes;
 use statement_places::places::lowest_misplaced;
-use structure::causes::at;
 use structure::causes::structural_refusal;
 use structure::depth::lowest_deep_by;
 use words::Form;
@@ -18,10 +19,57 @@ ghost use Rattle.structure.specs.Structured.{Tree};
 ghost use Rattle.grammar.specs.Grammar.{grammar};
 ghost use Rattle.structure.specs.Refusal.{structuralRefusal};
 ghost use Rattle.words.specs.declared.Form.the-variants.{Source};
-ghost use Rattle.source_check.specs.Refusal.{laterRefusal, refusal};
+ghost use Rattle.source_check.specs.Refusal.{wronglyPlaced, laterRefusal, refusal};
+ghost use Rattle.source_check.specs.Lower.{lower as lowerOf};
 ghost use Rattle.statement_places.specs.Passes.{AllNotes};
+ghost use Rattle.statement_places.specs.Places.{noteAt};
+ghost use Rattle.statement_places.specs.declared.Note.the-variants.{InLoop, InLoopOrSwitch, SwitchItem};
+ghost use Rattle.structure.specs.Passes.{Notes};
+ghost use Rattle.words.specs.Search.{lowestRow};
+ghost use Rattle.words.specs.declared.Found.the-variants.{At};
 
-// Causes 7 to 9, in a tree of rows, with the notes of its rows.
+// The lower of a row and of one that a search found.
+fn lower_than(row: usize, other: Found) -> Found
+    ensures { λ r. ⌜ r ≡ lowerOf (At row) other ⌝ }
+{
+    match other {
+        Found::At(found) => {
+            if found < row {
+                return Found::At(found);
+            }
+            Found::At(row)
+        }
+        Found::Nothing => Found::At(row),
+    }
+}
+
+// The lower of the rows that two searches found.
+fn lower(one: Found, other: Found) -> Found
+    ensures { λ r. ⌜ r ≡ lowerOf one other ⌝ }
+{
+    match one {
+        Found::At(row) => lower_than(row, other),
+        Found::Nothing => other,
+    }
+}
+
+// Cause 7, in a tree of rows, with the notes of its rows.
+fn lowest_wrongly_placed(
+    kinds: &KindTable,
+    rows: &[i32],
+    loops: &[u16],
+    breakable: &[u16],
+    items: &[u16],
+) -> Found
+    requires { ⌜ Tree (now rows) × (length (now rows) / 6 ≤ 2048) × Notes (now rows) (noteAt InLoop (now rows)) (now loops) × Notes (now rows) (noteAt InLoopOrSwitch (now rows)) (now breakable) × Notes (now rows) (noteAt SwitchItem (now rows)) (now items) × (now kinds ≡ grammar) ⌝ }
+    ensures { λ r. ⌜ r ≡ lowestRow (now (rows .entry)) (wronglyPlaced (now (rows .entry))) ⌝ }
+{
+    let misplaced = lowest_misplaced(rows, loops, breakable, items);
+    let outside = lowest_outside_block(kinds, rows);
+    lower(misplaced, outside)
+}
+
+// Causes 7 to 9 and 18 to 20, in a tree of rows, with the notes of its rows.
 fn noted_refusal(
     kinds: &KindTable,
     rows: &[i32],
@@ -33,7 +81,7 @@ fn noted_refusal(
     requires { ⌜ Tree (now rows) × (length (now rows) / 6 ≤ 2048) × AllNotes (now rows) (now loops) (now breakable) (now items) (now before) × (now kinds ≡ grammar) ⌝ }
     ensures { λ r. ⌜ r ≡ laterRefusal (now (rows .entry)) ⌝ }
 {
-    let misplaced = lowest_misplaced(rows, loops, breakable, items);
+    let misplaced = lowest_wrongly_placed(kinds, rows, loops, breakable, items);
     if let Found::At(row) = misplaced {
         return Verdict::Refused(Refusal {
             number: 7,
@@ -47,10 +95,17 @@ fn noted_refusal(
             place: row,
         });
     }
-    at(9, lowest_deep_by(kinds, Form::Source, rows))
+    let deep = lowest_deep_by(kinds, Form::Source, rows);
+    if let Found::At(row) = deep {
+        return Verdict::Refused(Refusal {
+            number: 9,
+            place: row,
+        });
+    }
+    declaration_refusal(kinds, rows)
 }
 
-// Causes 7 to 9, in a tree of rows.
+// Causes 7 to 9 and 18 to 20, in a tree of rows.
 fn later_refusal_by(kinds: &KindTable, rows: &[i32]) -> Verdict
     requires { ⌜ Tree (now rows) × (length (now rows) / 6 ≤ 2048) × (now kinds ≡ grammar) ⌝ }
     ensures { λ r. ⌜ r ≡ laterRefusal (now (rows .entry)) ⌝ }

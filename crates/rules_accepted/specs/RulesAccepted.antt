@@ -1,19 +1,21 @@
--- Rules accepted: the check accepts every rule of the table, by computing; so each is legal, and the check does not turn all programs
--- down.
-use mathlib.Core.Path.{_≡_, refl, ap₂}
-use mathlib.Core.List.{List, [], _∷_, _++_, map}
+-- Rules accepted: the check accepts every rule of the table, by computing a brief test; so each is legal, and the check does not turn all
+-- programs down.
+use mathlib.Core.Path.{_≡_, refl}
+use mathlib.Core.List.{List, [], _∷_, map}
 use Rattle.words.specs.Word.{sameWord, natural}
 use Rattle.words.specs.Table.{wordAt, numberAt}
 use Rattle.words.specs.Layout.{layoutOf, sum, storeSize, storeWords, allWithin, headerFits, countFits}
+use Rattle.words.specs.declared.Form.the-variants.{Source}
 use Rattle.words.specs.declared.Verdict.{Verdict}
 use Rattle.words.specs.declared.Verdict.the-variants.{Accepted}
 use Rattle.language.specs.Rule.{Rule}
-use Rattle.language.specs.Rules.{starredRules, surprisingOrders, arithmeticRules, comparisonRules, expressionRules, statementRules, loopRules, guardedRules, table}
+use Rattle.language.specs.Rules.{table}
 use Rattle.words.specs.Links.{fits, isExpression, isPlace, isStatement, isBlock, isArm, link, target, linker, received, noteBy, note}
 use Rattle.row_fields.specs.Fields.{foreign, leadsRight, mislinked, boundsOf, numberFits, outside}
 use Rattle.words.specs.Kinds.{sortOf, sortAt, inLanguage, isLink, isRequired, kinds, kindIn, kindOf, sortIn, kindRow, expressionFields, statementFields, markFields, memberFields}
-use Rattle.structure.specs.Links.{linksAmong, linkCount, loneBlock, notOnce, deeper, depthAt, tooDeep}
-use Rattle.structure.specs.Refusal.{at, unless, _next_, rowCauses, structuralRefusal}
+use Rattle.structure.specs.Links.{loneBlock, notOnce}
+use Rattle.structure.specs.Refusal.{at, unless, _next_, structuralRefusal}
+use Rattle.structure.specs.RefusalLaws.{next-accepts, accepts-next, accepts-at}
 use Rattle.words.specs.Search.{lowest, some, lowestRow, someField}
 use Rattle.list_items.specs.Items.{itemOf, earlierOf, earlierAt, someFrom, someEarlier}
 use Rattle.repeated_marks.specs.Marks.{sameMark, repeated}
@@ -23,42 +25,37 @@ use Rattle.declaration_causes.specs.Causes.{outsideBlock, namesItself, declared
 use Rattle.source_check.specs.Refusal.{wronglyPlaced, laterRefusal, refusal}
 use Rattle.source_check.specs.Legal.{Legal}
 use Rattle.source_check.specs.AcceptsLegal.{accepts-legal}
+use Rattle.rules_accepted.specs.Brief.{targets, times, briefCauses, brief}
+use Rattle.rules_accepted.specs.BriefLaws.{brief-structural, brief-shallow, accepted, all-accepted}
 
 -- What the check answers of a rule's program.
 abbrev pub checked : Rule → Verdict
 checked rule = refusal (rule .header) (rule .rows)
 
-abbrev pub accepted : Rule → Verdict
-accepted rule = Accepted
+-- A brief test of it.
+unfoldable tested : Rule → Verdict
+tested rule =
+    brief Source (rule .header) (rule .rows)
+    next at 7 (lowestRow (rule .rows) (wronglyPlaced (rule .rows)))
+    next at 8 (lowestRow (rule .rows) (repeated (rule .rows)))
+    next declarationRefusal (rule .rows)
 
--- The table in four parts, each by computing: one computation of the whole is more than the checker grants a declaration.
-abbrev orders : List Rule
-orders = starredRules ++ surprisingOrders
+tested-accepted : (rule : Rule) → tested rule ≡ Accepted → checked rule ≡ Accepted
+unfolding tested refusal laterRefusal
+tested-accepted rule e =
+    let c6 = next-accepts (brief Source (rule .header) (rule .rows)) _ e in
+    let c7 = next-accepts (at 7 _) _ (c6 .1) in
+    let c8 = next-accepts (at 8 _) _ (c7 .1) in
+    accepts-next (structuralRefusal Source (rule .header) (rule .rows)) _ (brief-structural Source (rule .header) (rule .rows) (c6 .0))
+    (accepts-next (at 7 _) _ (c7 .0) (accepts-next (at 8 _) _ (c8 .0)
+    (accepts-next (at 9 _) _ (accepts-at 9 _ (brief-shallow Source (rule .header) (rule .rows) (c6 .0))) (c8 .1))))
 
-orders-accepted : map checked orders ≡ map accepted orders
-unfolding sameWord natural wordAt numberAt layoutOf sum storeSize storeWords allWithin headerFits countFits foreign fits leadsRight mislinked boundsOf numberFits outside kindOf kindIn kinds sortIn kindRow expressionFields statementFields markFields memberFields sortOf sortAt inLanguage isExpression isPlace isStatement isLink isRequired link target linksAmong linkCount loneBlock notOnce linker received noteBy note deeper depthAt tooDeep at unless _next_ rowCauses structuralRefusal lowest some lowestRow someField sameMark itemOf earlierOf earlierAt someFrom someEarlier repeated handed noteAt outOfPlace misplaced isDeclaration outsideBlock namesItself declaredBefore oneTooMany declarationRefusal wronglyPlaced laterRefusal refusal
-orders-accepted = refl
-
-abbrev operations : List Rule
-operations = arithmeticRules ++ (comparisonRules ++ expressionRules)
-
-operations-accepted : map checked operations ≡ map accepted operations
-unfolding sameWord natural wordAt numberAt layoutOf sum storeSize storeWords allWithin headerFits countFits foreign fits leadsRight mislinked boundsOf numberFits outside kindOf kindIn kinds sortIn kindRow expressionFields statementFields markFields memberFields sortOf sortAt inLanguage isExpression isPlace isStatement isLink isRequired link target linksAmong linkCount loneBlock notOnce linker received noteBy note deeper depthAt tooDeep at unless _next_ rowCauses structuralRefusal lowest some lowestRow someField sameMark itemOf earlierOf earlierAt someFrom someEarlier repeated handed noteAt outOfPlace misplaced isDeclaration outsideBlock namesItself declaredBefore oneTooMany declarationRefusal wronglyPlaced laterRefusal refusal
-operations-accepted = refl
-
-abbrev flow : List Rule
-flow = statementRules ++ loopRules
-
-flow-accepted : map checked flow ≡ map accepted flow
-unfolding sameWord natural wordAt numberAt layoutOf sum storeSize storeWords allWithin headerFits countFits foreign fits leadsRight mislinked boundsOf numberFits outside kindOf kindIn kinds sortIn kindRow expressionFields statementFields markFields memberFields sortOf sortAt inLanguage isExpression isPlace isStatement isLink isRequired link target linksAmong linkCount loneBlock notOnce linker received noteBy note deeper depthAt tooDeep at unless _next_ rowCauses structuralRefusal lowest some lowestRow someField sameMark itemOf earlierOf earlierAt someFrom someEarlier repeated handed noteAt outOfPlace misplaced isDeclaration outsideBlock namesItself declaredBefore oneTooMany declarationRefusal wronglyPlaced laterRefusal refusal
-flow-accepted = refl
-
-guarded-accepted : map checked guardedRules ≡ map accepted guardedRules
-unfolding sameWord natural wordAt numberAt layoutOf sum storeSize storeWords allWithin headerFits countFits foreign fits leadsRight mislinked boundsOf numberFits outside kindOf kindIn kinds sortIn kindRow expressionFields statementFields markFields memberFields sortOf sortAt inLanguage isExpression isPlace isStatement isBlock isArm isLink isRequired link target linksAmong linkCount loneBlock notOnce linker received noteBy note deeper depthAt tooDeep at unless _next_ rowCauses structuralRefusal lowest some lowestRow someField sameMark itemOf earlierOf earlierAt someFrom someEarlier repeated handed noteAt outOfPlace misplaced isDeclaration outsideBlock namesItself declaredBefore oneTooMany declarationRefusal wronglyPlaced laterRefusal refusal
-guarded-accepted = refl
+table-tested : map tested table ≡ map accepted table
+unfolding sameWord natural wordAt numberAt layoutOf sum storeSize storeWords allWithin headerFits countFits foreign fits leadsRight mislinked boundsOf numberFits outside kindOf kindIn kinds sortIn kindRow expressionFields statementFields markFields memberFields sortOf sortAt inLanguage isExpression isPlace isStatement isBlock isArm isLink isRequired link target loneBlock notOnce linker received noteBy note at unless _next_ lowest some lowestRow someField targets times briefCauses brief sameMark itemOf earlierOf earlierAt someFrom someEarlier repeated handed noteAt outOfPlace misplaced isDeclaration outsideBlock namesItself declaredBefore oneTooMany declarationRefusal wronglyPlaced tested
+table-tested = refl
 
 pub rules-accepted : map checked table ≡ map accepted table
-rules-accepted = ap₂ _++_ orders-accepted (ap₂ _++_ operations-accepted (ap₂ _++_ flow-accepted guarded-accepted))
+rules-accepted = all-accepted tested checked tested-accepted table table-tested
 
 -- Each of a list of rules is legal.
 abbrev pub AllLegal : List Rule → Type 0

@@ -2,7 +2,6 @@
 use breaks::lowest_breaking;
 use grammar::KindTable;
 use notes::write_notes;
-use resolver::counts::declaration_count;
 use resolver::counts::write_counts;
 use structure::causes::at;
 use words::Found;
@@ -20,7 +19,7 @@ ghost use Rattle.words.specs.Search.{lowestRow};
 ghost use Rattle.grammar.specs.Grammar.{grammar};
 ghost use Rattle.structure.specs.Structured.{Tree};
 ghost use Rattle.structure.specs.Passes.{Notes};
-ghost use Rattle.names.specs.Names.{declarationsBefore};
+ghost use Rattle.names.specs.Names.{declarationsBefore, declarationCount};
 ghost use Rattle.declaration_causes.specs.Causes.{outsideBlock, declarationRefusal};
 ghost use Rattle.declaration_check.specs.Passes.{noteAt};
 ghost use Rattle.declaration_check.specs.declared.Note.the-variants.{EarlierDeclaration};
@@ -79,12 +78,12 @@ fn declared_refusal(kinds: &KindTable, rows: &[i32]) -> Verdict
     noted_refusal(kinds, rows, &earlier, &counts)
 }
 
-// Causes 18 to 20, in a tree of rows. Most tables have no declaration; these are looked at once, and cost no pass along the links.
-pub fn declaration_refusal(kinds: &KindTable, rows: &[i32]) -> Verdict
-    requires { ⌜ Tree (now rows) × (length (now rows) / 6 ≤ 2048) × (now kinds ≡ grammar) ⌝ }
+// Causes 18 to 20, in a tree of rows, with the number of its declarations. Most tables have none, and cost no pass along the links.
+pub fn declaration_refusal(kinds: &KindTable, rows: &[i32], declared: usize) -> Verdict
+    requires { ⌜ Tree (now rows) × (length (now rows) / 6 ≤ 2048) × (now kinds ≡ grammar) × (declared ≡ declarationCount (now rows)) ⌝ }
     ensures { λ r. ⌜ r ≡ declarationRefusal (now (rows .entry)) ⌝ }
 {
-    if declaration_count(rows) == 0 {
+    if declared == 0 {
         return Verdict::Accepted;
     }
     declared_refusal(kinds, rows)
@@ -100,12 +99,12 @@ fn lowest_declared_outside(kinds: &KindTable, rows: &[i32]) -> Found
     lowest_breaking(Cause::OutsideBlock, kinds, rows, &items)
 }
 
-// Cause 7 for declarations: the lowest that is no item of a block, in a tree of rows.
-pub fn lowest_outside_block(kinds: &KindTable, rows: &[i32]) -> Found
-    requires { ⌜ Tree (now rows) × (length (now rows) / 6 ≤ 2048) × (now kinds ≡ grammar) ⌝ }
+// Cause 7 for declarations: the lowest that is no item of a block, in a tree of rows, with their number.
+pub fn lowest_outside_block(kinds: &KindTable, rows: &[i32], declared: usize) -> Found
+    requires { ⌜ Tree (now rows) × (length (now rows) / 6 ≤ 2048) × (now kinds ≡ grammar) × (declared ≡ declarationCount (now rows)) ⌝ }
     ensures { λ r. ⌜ r ≡ lowestRow (now (rows .entry)) (outsideBlock (now (rows .entry))) ⌝ }
 {
-    if declaration_count(rows) == 0 {
+    if declared == 0 {
         return Found::Nothing;
     }
     lowest_declared_outside(kinds, rows)

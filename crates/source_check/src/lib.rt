@@ -4,6 +4,7 @@ use declaration_check::lowest_outside_block;
 use grammar::KindTable;
 use grammar::kinds::kind_table;
 use repeated_marks::marks::lowest_repeated;
+use resolver::counts::declaration_count;
 use statement_places::notes::write_notes;
 use statement_places::places::lowest_misplaced;
 use structure::causes::structural_refusal;
@@ -25,6 +26,7 @@ ghost use Rattle.statement_places.specs.Passes.{AllNotes};
 ghost use Rattle.statement_places.specs.Places.{noteAt};
 ghost use Rattle.statement_places.specs.declared.Note.the-variants.{InLoop, InLoopOrSwitch, SwitchItem};
 ghost use Rattle.structure.specs.Passes.{Notes};
+ghost use Rattle.names.specs.Names.{declarationCount};
 ghost use Rattle.words.specs.Search.{lowestRow};
 ghost use Rattle.words.specs.declared.Found.the-variants.{At};
 
@@ -53,19 +55,20 @@ fn lower(one: Found, other: Found) -> Found
     }
 }
 
-// Cause 7, in a tree of rows, with the notes of its rows.
+// Cause 7, in a tree of rows, with the notes of its rows and the number of its declarations.
 fn lowest_wrongly_placed(
     kinds: &KindTable,
     rows: &[i32],
     loops: &[u16],
     breakable: &[u16],
     items: &[u16],
+    declared: usize,
 ) -> Found
-    requires { ⌜ Tree (now rows) × (length (now rows) / 6 ≤ 2048) × Notes (now rows) (noteAt InLoop (now rows)) (now loops) × Notes (now rows) (noteAt InLoopOrSwitch (now rows)) (now breakable) × Notes (now rows) (noteAt SwitchItem (now rows)) (now items) × (now kinds ≡ grammar) ⌝ }
+    requires { ⌜ Tree (now rows) × (length (now rows) / 6 ≤ 2048) × Notes (now rows) (noteAt InLoop (now rows)) (now loops) × Notes (now rows) (noteAt InLoopOrSwitch (now rows)) (now breakable) × Notes (now rows) (noteAt SwitchItem (now rows)) (now items) × (now kinds ≡ grammar) × (declared ≡ declarationCount (now rows)) ⌝ }
     ensures { λ r. ⌜ r ≡ lowestRow (now (rows .entry)) (wronglyPlaced (now (rows .entry))) ⌝ }
 {
     let misplaced = lowest_misplaced(rows, loops, breakable, items);
-    let outside = lowest_outside_block(kinds, rows);
+    let outside = lowest_outside_block(kinds, rows, declared);
     lower(misplaced, outside)
 }
 
@@ -81,7 +84,8 @@ fn noted_refusal(
     requires { ⌜ Tree (now rows) × (length (now rows) / 6 ≤ 2048) × AllNotes (now rows) (now loops) (now breakable) (now items) (now before) × (now kinds ≡ grammar) ⌝ }
     ensures { λ r. ⌜ r ≡ laterRefusal (now (rows .entry)) ⌝ }
 {
-    let misplaced = lowest_wrongly_placed(kinds, rows, loops, breakable, items);
+    let declared = declaration_count(rows);
+    let misplaced = lowest_wrongly_placed(kinds, rows, loops, breakable, items, declared);
     if let Found::At(row) = misplaced {
         return Verdict::Refused(Refusal {
             number: 7,
@@ -102,7 +106,7 @@ fn noted_refusal(
             place: row,
         });
     }
-    declaration_refusal(kinds, rows)
+    declaration_refusal(kinds, rows, declared)
 }
 
 // Causes 7 to 9 and 18 to 20, in a tree of rows.

@@ -5,12 +5,9 @@ use borrow.Author.Needs.{needs}
 use Rattle.declaration_check.proofs.declaration_refusal.Statement.{statement}
 use Rattle.declaration_check.proofs.declaration_refusal.Tie as tie
 
-declaration-count-requires : tie.Need-declaration-count-requires
-declaration-count-requires c κs = search needs
-
 returns : tie.Need-returns
 returns c =
-    sym (undeclared-accepted _ (sym (c .before .declaration-count .ensures) ∙ c .if1 .taken))
+    sym (undeclared-accepted _ (sym (c .before .pre .3) ∙ c .if1 .taken))
 
 declared-refusal-requires : tie.Need-declared-refusal-requires
 declared-refusal-requires c κs = search needs
@@ -20,4 +17,4 @@ returns-2 c = search needs
 
 pub declaration-refusal-spec : {M : Type 1} → statement M
 declaration-refusal-spec =
-    tie.close (tie.spec declaration-count-requires returns declared-refusal-requires returns-2)
+    tie.close (tie.spec returns declared-refusal-requires returns-2)

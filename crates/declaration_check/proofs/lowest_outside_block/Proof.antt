@@ -5,12 +5,9 @@ use borrow.Author.Needs.{needs}
 use Rattle.declaration_check.proofs.lowest_outside_block.Statement.{statement}
 use Rattle.declaration_check.proofs.lowest_outside_block.Tie as tie
 
-declaration-count-requires : tie.Need-declaration-count-requires
-declaration-count-requires c κs = search needs
-
 returns : tie.Need-returns
 returns c =
-    sym (undeclared-inside _ (sym (c .before .declaration-count .ensures) ∙ c .if1 .taken))
+    sym (undeclared-inside _ (sym (c .before .pre .3) ∙ c .if1 .taken))
 
 lowest-declared-outside-requires : tie.Need-lowest-declared-outside-requires
 lowest-declared-outside-requires c κs = search needs
@@ -20,5 +17,4 @@ returns-2 c = search needs
 
 pub lowest-outside-block-spec : {M : Type 1} → statement M
 lowest-outside-block-spec =
-    tie.close
-    (tie.spec declaration-count-requires returns lowest-declared-outside-requires returns-2)
+    tie.close (tie.spec returns lowest-declared-outside-requires returns-2)

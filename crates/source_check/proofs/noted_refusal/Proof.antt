@@ -6,6 +6,9 @@ use borrow.Author.Needs.{needs}
 use Rattle.source_check.proofs.noted_refusal.Statement.{statement}
 use Rattle.source_check.proofs.noted_refusal.Tie as tie
 
+declaration-count-requires : tie.Need-declaration-count-requires
+declaration-count-requires c κs = search needs
+
 lowest-wrongly-placed-requires : tie.Need-lowest-wrongly-placed-requires
 lowest-wrongly-placed-requires c κs = search needs
 
@@ -66,6 +69,7 @@ pub noted-refusal-spec : {M : Type 1} → statement M
 noted-refusal-spec =
     tie.close
     (tie.spec
+    declaration-count-requires
     lowest-wrongly-placed-requires
     enum-known-misplaced
     returns

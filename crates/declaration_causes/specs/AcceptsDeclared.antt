@@ -1,6 +1,6 @@
 -- The causes 18, 19 and 20 accept exactly the tables whose declarations are as the request demands; so a table without declarations.
-use mathlib.Core.Path.{_≡_, sym, _∙_}
-use mathlib.Core.Bool.{false, true≢false}
+use mathlib.Core.Path.{_≡_}
+use mathlib.Core.Bool.{false}
 use mathlib.Core.List.{List}
 use mathlib.Core.Logic.{_↔_}
 use Prim.Native.Nat.{ℕ, _<_}
@@ -54,14 +54,6 @@ module _ (rows : List ℤ) (none : declarationCount rows ≡ 0) where
   unfolding declarationCount
   none-declared row n =
       by-cases (isDeclaration rows row) (λ d. absurd (let more = before-later rows row (rowCount rows) d n in omega arith)) (λ d. d)
-
-  pub undeclared-well : WellDeclared rows
-  undeclared-well =
-      record {
-        not-own = λ row n d. absurd (true≢false (sym d ∙ none-declared row n));
-        not-twice = λ row n d. absurd (true≢false (sym d ∙ none-declared row n));
-        few-declarations = omega arith;
-      }
 
   pub undeclared-accepted : declarationRefusal rows ≡ Accepted
   unfolding declarationRefusal namesItself declaredBefore oneTooMany

@@ -25,14 +25,16 @@ use Rattle.structure.specs.DepthLaws.{none-deep-shallow}
 use Rattle.structure.specs.Structured.{Leads, EachField, Structured}
 use Rattle.structure.specs.StructuredLaws.{structured-tree}
 use Rattle.row_fields.specs.declared.Bounds.{Bounds}
+use Rattle.names.specs.Names.{isDeclaration}
 use Rattle.statement_places.specs.Places.{isMark}
 use Rattle.declaration_causes.specs.DeclarationLaws.{block-undeclared}
-use Rattle.declaration_causes.specs.AcceptsDeclared.{undeclared-well}
+use Rattle.declaration_causes.specs.Demands.{NotOwn, NotTwice}
 use Rattle.source_check.specs.Legal.{Placed, Distinct, Legal}
 use Rattle.source_check.specs.Undeclared.{structured-undeclared}
 use Rattle.join.specs.Join.{secondBegins, joinedRows}
 use Rattle.join.specs.JoinedRows.{length-joined}
 use Rattle.join.specs.MovedLegal.{link-named, known-held, unused-held, present-held, forward-held, fitting-held, named-held, placed-held, distinct-held}
+use Rattle.join.specs.MovedDeclarations.{not-own-held, not-twice-held}
 use Rattle.join.specs.JoinedLinks.{count, holds-first, holds-second, every-row, outer-block, outer-first, outer-rest, block-of-first, block-of-second, seam, no-seam, own-or-root, block-next, block-first, joined-once, back-first, back-second}
 
 -- ---- a block's fields
@@ -229,6 +231,7 @@ joined-legal header first second l m few flat =
     let s = l .structured in
     let z = m .structured in
     let structured = joined-structured first second s z few in
+    let block-declares : (isDeclaration (joinedRows first second) 0 ≡ true → ⊥) = (λ d. true≢false (sym d ∙ block-undeclared (joinedRows first second) 0 (outer-block first second s z))) in
     record {
       header-fits = l .header-fits;
       structured = structured;
@@ -238,5 +241,13 @@ joined-legal header first second l m few flat =
           (λ r n. distinct-held s (holds-first first second s z) (back-first first second s z) r n (l .distinct r n))
           (λ r n. distinct-held z (holds-second first second s z) (back-second first second s z) r n (m .distinct r n));
       shallow = none-deep-shallow (joinedRows first second) (structured-tree Source _ (joinedRows first second) structured) Source flat;
-      well-declared = undeclared-well (joinedRows first second) (structured-undeclared _ (joinedRows first second) structured);
+      well-declared = record {
+        not-own = every-row first second s z (NotOwn (joinedRows first second)) (λ d. absurd (block-declares d))
+            (λ r n. not-own-held s (holds-first first second s z) r n (l .well-declared .not-own r n))
+            (λ r n. not-own-held z (holds-second first second s z) r n (m .well-declared .not-own r n));
+        not-twice = every-row first second s z (NotTwice (joinedRows first second)) (λ d. absurd (block-declares d))
+            (λ r n. not-twice-held s (holds-first first second s z) (back-first first second s z) r n (l .well-declared .not-twice r n))
+            (λ r n. not-twice-held z (holds-second first second s z) (back-second first second s z) r n (m .well-declared .not-twice r n));
+        few-declarations = omega (arith, structured-undeclared _ (joinedRows first second) structured);
+      };
     }

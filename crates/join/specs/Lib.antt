@@ -22,6 +22,8 @@ pub mod JoinedProgram
 pub mod JoinFateLaws
 -- MovedLegal: what legality asks of a row holds at its new place.
 pub mod MovedLegal
+-- MovedDeclarations: what legality asks of a declaration's number holds at its new place.
+pub mod MovedDeclarations
 -- JoinedLinks: which word of the joined rows links which row; each row but row 0 is linked once.
 pub mod JoinedLinks
 -- JoinedLegal: the join of two legal programs is legal.

@@ -123,13 +123,14 @@ module _ {form : Form} {bounds : Bounds} {joined rows : List ℤ} {ρ : ℕ → 
     pub leads : Leads rows old 5
     pub to : link rows old 5 ≡ row
 
-  record EarlierMark (row item : ℕ) : Type 0 where
-    old : ℕ
-    is : item ≡ ρ old
-    before : Before rows old row
+  -- An item before a row, at its old place.
+  pub record EarlierItem (row item : ℕ) : Type 0 where
+    pub old : ℕ
+    pub is : item ≡ ρ old
+    pub before : Before rows old row
 
   module _ (back : (row item : ℕ) → 0 < row → row < rowCount rows → Leads joined item 5 → link joined item 5 ≡ ρ row → Earlier row item) where
-    before-back : {item place : ℕ} → Before joined item place → (row : ℕ) → 0 < row → row < rowCount rows → place ≡ ρ row → EarlierMark row item
+    pub before-back : {item place : ℕ} → Before joined item place → (row : ℕ) → 0 < row → row < rowCount rows → place ≡ ρ row → EarlierItem row item
     before-back (adjacent {item} leads) row p n e =
         let o = back row item p n leads e in
         record { old = o .old; is = o .is; before = subst (Before rows (o .old)) (o .to) (adjacent (o .leads)) }
@@ -150,7 +151,7 @@ module _ {form : Form} {bounds : Bounds} {joined rows : List ℤ} {ρ : ℕ → 
     unfolding sortAt sortOf sortIn kindOf kindIn kinds kindRow expressionFields statementFields markFields memberFields isLink
     case-value row n k = h .stays row 1 n (omega arith) (omega arith) (rw k)
 
-    old-number : {row item number : ℕ} → row < rowCount rows → (m : EarlierMark row item) → numberAt joined item 0 ≡ number → numberAt rows (m .old) 0 ≡ number
+    old-number : {row item number : ℕ} → row < rowCount rows → (m : EarlierItem row item) → numberAt joined item 0 ≡ number → numberAt rows (m .old) 0 ≡ number
     old-number n m e = let up = before-later (m .before) in sym (number-held h (m .old) (omega arith)) ∙ sym (ap (λ (x : ℕ). numberAt joined x 0) (m .is)) ∙ e
 
     pub distinct-held : (row : ℕ) → row < rowCount rows → Distinct rows row → Distinct joined (ρ row)

@@ -20,7 +20,7 @@ use Rattle.structure.specs.StructuredLaws.{structured-tree}
 use Rattle.structure.specs.DepthLaws.{depth-inside}
 use Rattle.accepted.specs.Sorts.{between-true}
 use Rattle.accepted.specs.Expressions.{ExpressionRow, constant-row, variable-row, element-row, minus-row, not-row, binary-row, and-row, or-row, comma-row, conditional-row, assign-row, compound-row, prefix-row, postfix-row, placeAt}
-use Rattle.accepted.specs.Statements.{PartRow, absent-part, present-part, StatementRow, empty-row, express-row, block-row, ifThen-row, ifElse-row, while-row, doWhile-row, for-row, switch-row, case-row, default-row, break-row, continue-row, goto-row, label-row, guardedIf-row, guardedDo-row, abort-row, ArmsRow, no-arms, arm-row, ListRow, no-items, item, case-item, default-item, label-item, root-row}
+use Rattle.accepted.specs.Statements.{PartRow, absent-part, present-part, StatementRow, empty-row, express-row, block-row, ifThen-row, ifElse-row, while-row, doWhile-row, for-row, switch-row, case-row, default-row, break-row, continue-row, goto-row, label-row, guardedIf-row, guardedDo-row, abort-row, declare-row, ArmsRow, no-arms, arm-row, ListRow, no-items, item, case-item, default-item, label-item, root-row}
 
 module _ (form : Form) (bounds : Bounds) (rows : List ℤ) (s : Structured form bounds rows) (shallow : Shallow form rows) where
   abbrev limit : ℕ
@@ -102,6 +102,7 @@ module _ (form : Form) (bounds : Bounds) (rows : List ℤ) (s : Structured form 
     deep-statement (guardedIf-row k e x) depth d = rw e (omega (arith, deep-arms x _ (room d) (below-any d 1 refl)))
     deep-statement (guardedDo-row k e x) depth d = rw e (omega (arith, deep-arms x _ (room d) (below-any d 1 refl)))
     deep-statement (abort-row k e) depth d = rw e (room d)
+    deep-statement (declare-row k p e x) depth d = rw e (omega (arith, deep-expression x _ (below d 2 refl p)))
 
     deep-arms : {l : ℕ} → ArmsRow rows l → (depth : ℕ) → depth ≤ limit + 1 → (0 < l → Depth rows l depth) → Fits depth (armsDepth (armListAt rows l))
     deep-arms (no-arms z e) depth h d = rw e (omega arith)

@@ -6,9 +6,9 @@ use lib.IntN.{ℤ}
 use Rattle.words.specs.Word.{pick}
 use Rattle.words.specs.Layout.{Layout}
 use Rattle.arithmetic.specs.Arithmetic.{isTrue}
-use Rattle.computation.specs.Computation.{Turn, again, leave, Computation, ret, _>>=_, _>>_}
+use Rattle.computation.specs.Computation.{Turn, again, leave, Computation, ret, _>>=_, _>>_, save}
 use Rattle.computation.specs.Run.{State, ok, Limit, roundsFrom, run}
-use Rattle.language.specs.Trees.{Part, absent, present, Mark, case, default, sameMark, has, Statement, empty, express, block, ifThen, ifElse, while, doWhile, for, switch, break, continue, goto, guardedIf, guardedDo, abort, Arms, noArm, arm, Items, none, _then_, _here_}
+use Rattle.language.specs.Trees.{Part, absent, present, Mark, case, default, sameMark, has, Statement, empty, express, block, ifThen, ifElse, while, doWhile, for, switch, break, continue, goto, guardedIf, guardedDo, abort, declare, Arms, noArm, arm, Items, none, _then_, _here_}
 use Rattle.language.specs.Meaning.{Signal, next, breaking, continuing, seeking, entersStatement, entersMark, target, afterSwitch, afterBody, Choice, noneTrue, ran, afterChoice, afterArms, tryArm, afterTest, enter, ifTrue, value, valueOf, evaluate, rounds, perform, choose, choiceRounds, items, exec}
 use Rattle.language.specs.WellFormed.{Placed, PlacedArms, PlacedItems}
 use Rattle.accepted.specs.Gives.{Gives, Any, any, gives-weaker, gives-then, Leaves, gives-iterate, entered, chosen}
@@ -174,6 +174,7 @@ module _ (L : Layout) (limit : Limit) where
         (λ choice τ allowed. after-choice b c choice allowed τ)
     statement-ends (guardedDo arms) b c p σ = rounds-of-arms-end arms b c p σ
     statement-ends abort b c p σ = absurd p
+    statement-ends (declare word e) b c p σ = gives-then Any (Allowed b c) (run limit (value L e) σ) (λ v. run limit (save word v >> ret next)) (any (run limit (value L e) σ)) (λ v τ _. goes-on)
 
     arms-end : (arms : Arms) (mayBreak mayContinue : Bool) → PlacedArms mayBreak mayContinue arms → (σ : State) → Gives (Choosable mayBreak mayContinue) (run limit (choose L arms) σ)
     arms-end noArm b c p σ = tt

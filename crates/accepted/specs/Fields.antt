@@ -10,14 +10,14 @@ use lib.Dec.{eqb}
 use lib.IntN.{ℤ}
 use borrow.Author.Tests.{ltb-true, leb-true, eqb-true, not-true}
 use Rattle.words.specs.Table.{rowCount, numberAt}
-use Rattle.words.specs.Kinds.{kindAt, variable, array, optionalItem, sortAt, between, isLink, isRequired, sortIn}
+use Rattle.words.specs.Kinds.{kindAt, variable, array, declaredNumber, optionalItem, sortAt, between, isLink, isRequired, sortIn}
 use Rattle.words.specs.Laws.{both, either}
 use Rattle.words.specs.declared.Form.{Form}
 use Rattle.words.specs.declared.Kind.{Kind}
 use Rattle.language.specs.Decode.{Forward}
 use Rattle.words.specs.KindLaws.{required-link}
 use Rattle.words.specs.Links.{isStatement, link, fits}
-use Rattle.row_fields.specs.Fields.{numberFits}
+use Rattle.row_fields.specs.Fields.{variableFits, numberFits}
 use Rattle.row_fields.specs.declared.Bounds.{Bounds}
 use Rattle.structure.specs.Structured.{Leads, Structured}
 use Rattle.accepted.specs.Sorts.{sort-is, item-next, between-true}
@@ -119,11 +119,17 @@ module _ (form : Form) (bounds : Bounds) (rows : List ℤ) (s : Structured form 
       let at = tested (eqb sort) k field t in
       rw (eqb-true sort (sortAt rows row field) (at .passes)) (s .named row inside field (at .first) (at .last))
 
+  word-fits : (number : ℕ) → variableFits bounds number ≡ true → NamesVariable bounds number
+  word-fits number fits =
+      ⊎-elim (λ h. inl (ltb-true _ _ h)) (λ h. let parts = both _ _ h in inr (leb-true _ _ (parts .0), ltb-true _ _ (parts .1))) (either _ _ fits)
+
   pub names-variable : {kind : Kind} → kindAt rows row ≡ kind → (field : ℕ) → holds (eqb variable) kind field ≡ true → NamesVariable bounds (numberAt rows row field)
   unfolding numberFits
-  names-variable k field t =
-      ⊎-elim (λ h. inl (ltb-true _ _ h)) (λ h. let parts = both _ _ h in inr (leb-true _ _ (parts .0), ltb-true _ _ (parts .1)))
-      (either _ _ (names k variable field t))
+  names-variable k field t = word-fits _ (names k variable field t)
+
+  pub names-declared : {kind : Kind} → kindAt rows row ≡ kind → (field : ℕ) → holds (eqb declaredNumber) kind field ≡ true → NamesVariable bounds (numberAt rows row field)
+  unfolding numberFits
+  names-declared k field t = word-fits _ (names k declaredNumber field t)
 
   pub names-array : {kind : Kind} → kindAt rows row ≡ kind → (field : ℕ) → holds (eqb array) kind field ≡ true → numberAt rows row field < bounds .arrays
   unfolding numberFits

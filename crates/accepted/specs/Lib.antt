@@ -15,6 +15,8 @@ pub mod Sound
 -- Expressions, Statements: how the trees of a structured table lie on its rows.
 pub mod Expressions
 pub mod Statements
+-- Names in expressions: variable numbers have a property that holds at the rows below them, and array numbers name arrays.
+pub mod NamedBelow
 -- Names: every variable and array number in the tree of a structured table names one.
 pub mod Names
 -- Words: the tree of a structured table is one whose constants and case values are words.

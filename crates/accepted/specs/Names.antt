@@ -1,27 +1,27 @@
 -- Names: every variable and array number in the tree of a structured table names one. By recursion on the rows.
-use mathlib.Core.Path.{_≡_, refl, subst}
+use mathlib.Core.Path.{_≡_, refl}
 use mathlib.Core.List.{List}
 use mathlib.Core.Logic.{⊎-elim}
 use Prim.Native.Nat.{ℕ, _<_}
 use native.Mathlib.Omega.{arith}
 use lib.IntN.{ℤ}
-use lib.ListN.{length}
-use Rattle.words.specs.Table.{rowCount}
-use Rattle.words.specs.Kinds.{kindRow, expressionFields, statementFields, markFields, memberFields, sortIn}
-use Rattle.words.specs.Layout.{layoutOf, storeWords}
+use Rattle.words.specs.Table.{rowCount, numberAt}
+use Rattle.words.specs.Kinds.{kindAt, kindRow, expressionFields, statementFields, markFields, memberFields, sortIn}
+use Rattle.words.specs.Layout.{layoutOf, headerStore}
 use Rattle.words.specs.declared.Form.{Form}
 use Rattle.words.specs.declared.Form.the-variants.{Source}
-use Rattle.language.specs.Trees.{read}
+use Rattle.words.specs.declared.Kind.the-variants.{OfExpression}
+use Rattle.words.specs.declared.ExpressionKind.the-variants.{Variable}
 use Rattle.language.specs.Decode.{expressionAt, statementAt, decode, listAt, armListAt, partAt}
 use Rattle.language.specs.Program.{contents}
-use Rattle.language.specs.WellFormed.{NamedExpression, NamedPlace, NamedPart, NamedStatement, NamedArms, NamedItems}
-use Rattle.words.specs.Links.{link}
+use Rattle.language.specs.WellFormed.{NamedExpression, NamedPart, NamedStatement, NamedArms, NamedItems}
 use Rattle.row_fields.specs.Fields.{boundsOf}
 use Rattle.row_fields.specs.declared.Bounds.{Bounds}
 use Rattle.structure.specs.Structured.{Structured}
-use Rattle.accepted.specs.Fields.{NamesVariable, stays, names-variable, names-array}
-use Rattle.accepted.specs.Expressions.{ExpressionRow, constant-row, variable-row, element-row, minus-row, not-row, binary-row, and-row, or-row, comma-row, conditional-row, assign-row, compound-row, prefix-row, postfix-row, placeAt}
-use Rattle.accepted.specs.Statements.{PartRow, absent-part, present-part, StatementRow, empty-row, express-row, block-row, ifThen-row, ifElse-row, while-row, doWhile-row, for-row, switch-row, case-row, default-row, break-row, continue-row, goto-row, label-row, guardedIf-row, guardedDo-row, abort-row, ArmsRow, no-arms, arm-row, ListRow, no-items, item, case-item, default-item, label-item, root-inside, program-list, program-contents, program-block}
+use Rattle.accepted.specs.Fields.{NamesVariable, stays, names-variable, names-declared}
+use Rattle.accepted.specs.Expressions.{ExpressionRow}
+use Rattle.accepted.specs.NamedBelow.{named-below, named-part-below}
+use Rattle.accepted.specs.Statements.{PartRow, StatementRow, empty-row, express-row, block-row, ifThen-row, ifElse-row, while-row, doWhile-row, for-row, switch-row, case-row, default-row, break-row, continue-row, goto-row, label-row, guardedIf-row, guardedDo-row, abort-row, declare-row, ArmsRow, no-arms, arm-row, ListRow, no-items, item, case-item, default-item, label-item, root-inside, program-list, program-contents, program-block}
 
 -- `Names` is what variable numbers within the bounds satisfy.
 module _ (form : Form) (bounds : Bounds) (rows : List ℤ) (s : Structured form bounds rows)
@@ -29,34 +29,22 @@ module _ (form : Form) (bounds : Bounds) (rows : List ℤ) (s : Structured form 
   abbrev arrays : ℕ
   arrays = bounds .arrays
 
-  -- an operand that is a place
-  named-place : (row : ℕ) → expressionAt rows row ≡ read (placeAt rows row) → NamedExpression Names arrays (expressionAt rows row) → NamedPlace Names arrays (placeAt rows row)
-  unfolding NamedExpression
-  named-place row e n = subst (NamedExpression Names arrays) e n
+  -- they satisfy it at every row
+  abbrev Anywhere : ℕ → Type 0
+  Anywhere row = Unit {0}
+
+  variable-named : (row : ℕ) → row < rowCount rows → kindAt rows row ≡ OfExpression Variable → Anywhere row → Names (numberAt rows row 1)
+  unfolding sortIn kindRow expressionFields statementFields markFields memberFields
+  variable-named row inside k b = names _ (names-variable form bounds rows s row inside k 1 refl)
 
   pub named-expression : {row : ℕ} → ExpressionRow rows row → row < rowCount rows → NamedExpression Names arrays (expressionAt rows row)
-  unfolding NamedExpression NamedPlace sortIn kindRow expressionFields statementFields markFields memberFields
-  named-expression (constant-row k e) inside = rw e tt
-  named-expression {row} (variable-row k e) inside = rw e (names _ (names-variable form bounds rows s row inside k 1 refl))
-  named-expression {row} (element-row k p e x) inside = rw e (names-array form bounds rows s row inside k 1 refl, named-expression x (p .inside))
-  named-expression (minus-row k p e x) inside = rw e (named-expression x (p .inside))
-  named-expression (not-row k p e x) inside = rw e (named-expression x (p .inside))
-  named-expression (binary-row k p q e x y) inside = rw e (named-expression x (p .inside), named-expression y (q .inside))
-  named-expression (and-row k p q e x y) inside = rw e (named-expression x (p .inside), named-expression y (q .inside))
-  named-expression (or-row k p q e x y) inside = rw e (named-expression x (p .inside), named-expression y (q .inside))
-  named-expression (comma-row k p q e x y) inside = rw e (named-expression x (p .inside), named-expression y (q .inside))
-  named-expression (conditional-row k p q r e x y z) inside = rw e (named-expression x (p .inside), named-expression y (q .inside), named-expression z (r .inside))
-  named-expression {row} (assign-row k p q i e x y) inside = rw e (named-place (link rows row 1) i (named-expression x (p .inside)), named-expression y (q .inside))
-  named-expression {row} (compound-row k p q i e x y) inside = rw e (named-place (link rows row 1) i (named-expression x (p .inside)), named-expression y (q .inside))
-  named-expression {row} (prefix-row k p i e x) inside = rw e (named-place (link rows row 1) i (named-expression x (p .inside)))
-  named-expression {row} (postfix-row k p i e x) inside = rw e (named-place (link rows row 1) i (named-expression x (p .inside)))
+  named-expression x inside = named-below form bounds rows s Names Anywhere variable-named (λ row field h l b. tt) x inside tt
 
   named-part : {l : ℕ} → PartRow rows l → (0 < l → l < rowCount rows) → NamedPart Names arrays (partAt rows l)
-  named-part (absent-part z e) inside = rw e tt
-  named-part (present-part p e x) inside = rw e (named-expression x (inside p))
+  named-part x inside = named-part-below form bounds rows s Names Anywhere variable-named (λ row field h l b. tt) x (λ p. (inside p, tt))
 
   mutual
-    unfolding NamedStatement NamedArms NamedItems
+    unfolding NamedStatement NamedArms NamedItems sortIn kindRow expressionFields statementFields markFields memberFields
 
     pub named-statement : {row : ℕ} → StatementRow rows row → row < rowCount rows → NamedStatement Names arrays (statementAt rows row)
     named-statement (empty-row k e) inside = rw e tt
@@ -79,6 +67,7 @@ module _ (form : Form) (bounds : Bounds) (rows : List ℤ) (s : Structured form 
     named-statement {row} (guardedIf-row k e x) inside = rw e (named-arms x (stays form bounds rows s row inside 1 refl))
     named-statement {row} (guardedDo-row k e x) inside = rw e (named-arms x (stays form bounds rows s row inside 1 refl))
     named-statement (abort-row k e) inside = rw e tt
+    named-statement {row} (declare-row k p e x) inside = rw e (names _ (names-declared form bounds rows s row inside k 1 refl), named-expression x (p .inside))
 
     named-arms : {l : ℕ} → ArmsRow rows l → (0 < l → l < rowCount rows) → NamedArms Names arrays (armListAt rows l)
     named-arms (no-arms z e) inside = rw e tt
@@ -103,5 +92,5 @@ structured-named form bounds rows s = rw (program-block form bounds rows s) (nam
 
 -- The source has no temporaries.
 pub source-variable : (header : List ℤ) (number : ℕ) → NamesVariable (boundsOf Source header) number → number < layoutOf Source header .variables
-unfolding boundsOf storeWords
+unfolding boundsOf headerStore
 source-variable header number = ⊎-elim (λ h. h) (λ h. absurd (omega arith))

@@ -27,12 +27,12 @@ use Rattle.statement_places.specs.Places.{isLoop, isLoopOrSwitch, isMark}
 use Rattle.source_check.specs.Legal.{Inside, part, along, SwitchItem, Legal}
 use Rattle.accepted.specs.Sorts.{between-true, statementNumber, number-is, in-language}
 use Rattle.accepted.specs.Fields.{leads-on}
-use Rattle.accepted.specs.Statements.{StatementRow, empty-row, express-row, block-row, ifThen-row, ifElse-row, while-row, doWhile-row, for-row, switch-row, case-row, default-row, break-row, continue-row, goto-row, label-row, guardedIf-row, guardedDo-row, abort-row, ArmsRow, no-arms, arm-row, ListRow, no-items, item, case-item, default-item, label-item, root-inside, root-row, program-block}
+use Rattle.accepted.specs.Statements.{StatementRow, empty-row, express-row, block-row, ifThen-row, ifElse-row, while-row, doWhile-row, for-row, switch-row, case-row, default-row, break-row, continue-row, goto-row, label-row, guardedIf-row, guardedDo-row, abort-row, declare-row, ArmsRow, no-arms, arm-row, ListRow, no-items, item, case-item, default-item, label-item, root-inside, root-row, program-block}
 
 -- ---- a row has one owner
 
 module _ (rows : List ℤ) (t : Tree rows) where
-  same-owner : (row field other there : ℕ) → field < 6 → there < 6 → Leads rows row field → Leads rows other there
+  pub same-owner : (row field other there : ℕ) → field < 6 → there < 6 → Leads rows row field → Leads rows other there
       → link rows row field ≡ link rows other there → (row ≡ other) × (field ≡ there)
   same-owner row field other there h k l m e =
       let inside : row < rowCount rows = (let a = l .later in let b = l .inside in omega arith) in
@@ -185,6 +185,7 @@ module _ (header rows : List ℤ) (legal : Legal header rows) where
     placed-statement (guardedIf-row k e x) b c a = rw e (placed-arms x b c (through-any k refl refl refl a 1 refl))
     placed-statement (guardedDo-row k e x) b c a = rw e (placed-arms x b c (through-any k refl refl refl a 1 refl))
     placed-statement (abort-row k e) b c a = absurd (not-in-source (a .inside) k refl)
+    placed-statement (declare-row k p e x) b c a = rw e tt
 
     -- what stands around a guarded statement stands around its arms' blocks
     placed-arms : {l : ℕ} → ArmsRow rows l → (mayBreak mayContinue : Bool) → (0 < l → Around mayBreak mayContinue l) → PlacedArms mayBreak mayContinue (armListAt rows l)

@@ -31,7 +31,7 @@ use Rattle.accepted.specs.Sorts.{expression-statement-or-arm, statement-
 use Rattle.accepted.specs.Fields.{holds, noLink, MayLink, link-none, linked, may-link, next-link}
 use Rattle.accepted.specs.Sums.{totalFrom, along, brought, total-one, gathers}
 use Rattle.accepted.specs.Expressions.{ExpressionRow, constant-row, variable-row, element-row, minus-row, not-row, binary-row, and-row, or-row, comma-row, conditional-row, assign-row, compound-row, prefix-row, postfix-row, placeAt, whole-rows, place-expression, expression-row}
-use Rattle.accepted.specs.Statements.{StatementRow, empty-row, express-row, block-row, ifThen-row, ifElse-row, while-row, doWhile-row, for-row, switch-row, case-row, default-row, break-row, continue-row, goto-row, label-row, guardedIf-row, guardedDo-row, abort-row, ArmsRow, no-arms, arm-row, list-some, arms-some, root-inside, root-kind, root-statement, statement-row, arms-row}
+use Rattle.accepted.specs.Statements.{StatementRow, empty-row, express-row, block-row, ifThen-row, ifElse-row, while-row, doWhile-row, for-row, switch-row, case-row, default-row, break-row, continue-row, goto-row, label-row, guardedIf-row, guardedDo-row, abort-row, declare-row, ArmsRow, no-arms, arm-row, list-some, arms-some, root-inside, root-kind, root-statement, statement-row, arms-row}
 
 unfoldable all : (ℕ → Bool) → ℕ → ℕ → Bool
 all test from zero = true
@@ -220,6 +220,7 @@ module _ (form : Form) (bounds : Bounds) (rows : List ℤ) (s : Structured form 
     statement-adds (guardedIf-row k e x) = rw e (omega (arith, arms-bring k 1 refl, free k 2 3 refl))
     statement-adds (guardedDo-row k e x) = rw e (omega (arith, arms-bring k 1 refl, free k 2 3 refl))
     statement-adds (abort-row k e) = rw e (omega (arith, free k 1 4 refl))
+    statement-adds (declare-row k p e x) = rw e (omega (arith, none-brings k 1 refl, operand-brings k 2 refl, free k 3 2 refl))
 
     arms-add : ArmsRow rows row → 0 < row → armsRows (armListAt rows row) ≡ 1 + totalFrom brings 1 5
     unfolding armsRows totalFrom all sortIn kindRow expressionFields statementFields markFields memberFields isLink

@@ -18,7 +18,7 @@ use Rattle.words.specs.declared.Kind.{Kind}
 use Rattle.words.specs.declared.Kind.the-variants.{OfExpression, OfStatement, OfMark, OfMember, Other}
 use Rattle.words.specs.declared.ExpressionKind.{ExpressionKind}
 use Rattle.words.specs.declared.ExpressionKind.the-variants.{Variable, Element}
-use Rattle.words.specs.declared.StatementKind.the-variants.{Empty, Express, Block, If, While, Do, For, Switch, Break, Continue, Goto, GuardedIf, GuardedDo, Abort}
+use Rattle.words.specs.declared.StatementKind.the-variants.{Empty, Express, Block, If, While, Do, For, Switch, Break, Continue, Goto, GuardedIf, GuardedDo, Abort, Declare}
 use Rattle.words.specs.declared.MarkKind.the-variants.{Case, Default, Label}
 use Rattle.words.specs.declared.MemberKind.the-variants.{Arm}
 use Rattle.words.specs.Links.{isExpression, isStatement, isArm}
@@ -50,6 +50,7 @@ statementNumber (OfStatement GuardedIf) = 54
 statementNumber (OfStatement GuardedDo) = 55
 statementNumber (OfMember Arm) = 56
 statementNumber (OfStatement Abort) = 57
+statementNumber (OfStatement Declare) = 58
 statementNumber Other = 0
 
 abbrev numbered : ℕ → Kind → Bool
@@ -115,8 +116,8 @@ module _ (rows : List ℤ) (row : ℕ) where
       go (OfMark Case) k t = inr (inl refl)
       go (OfMark Default) k t = inr (inr (inl refl))
       go (OfMark Label) k t = inr (inr (inr refl))
-      go (OfMember Arm) k t = absurd (let z : _≡_ {A = ℕ} 16 15 = t in omega arith)
-      go Other k t = absurd (let z : _≡_ {A = ℕ} 0 15 = t in omega arith)
+      go (OfMember Arm) k t = absurd (let z : _≡_ {A = ℕ} 17 16 = t in omega arith)
+      go Other k t = absurd (let z : _≡_ {A = ℕ} 0 16 = t in omega arith)
 
   -- a block is a statement
   pub block-statement : numberAt rows row 0 ≡ 42 → isStatement rows row ≡ true

@@ -10,16 +10,17 @@ use lib.IntN.{ℤ}
 use lib.ListN.{length}
 use borrow.Author.Tests.{ltb-true}
 use Rattle.words.specs.Table.{rowCount, numberAt}
-use Rattle.words.specs.Kinds.{kindAt, variable, array, place, optionalArm, isLink, isRequired, sortIn, sortAt, isPlaceKind}
+use Rattle.words.specs.Kinds.{kindAt, variable, array, declaredNumber, place, optionalArm, isLink, isRequired, sortIn, sortAt, isPlaceKind}
 use Rattle.words.specs.KindLaws.{required-link}
 use Rattle.words.specs.Laws.{both, either}
-use Rattle.words.specs.Layout.{Layout, layoutOf, storeSize, storeWords}
+use Rattle.words.specs.Layout.{Layout, layoutOf, storeSize, headerStore, storeWords}
+use Rattle.words.specs.StoreLaws.{store-least}
 use Rattle.words.specs.declared.Form.{Form}
 use Rattle.words.specs.declared.Kind.the-variants.{OfMember}
 use Rattle.words.specs.declared.MemberKind.the-variants.{Arm}
 use Rattle.language.specs.Sound.{OptionalLink, SoundField, Sound}
 use Rattle.words.specs.Links.{isPlace, link, fits}
-use Rattle.row_fields.specs.Fields.{boundsIn, boundsOf, numberFits}
+use Rattle.row_fields.specs.Fields.{boundsIn, boundsOf, variableFits, numberFits}
 use Rattle.structure.specs.StructuredLaws.{structured-tree}
 use Rattle.structure.specs.Structured.{Structured}
 use Rattle.accepted.specs.Sorts.{sort-is, arm-is, kind-known}
@@ -46,11 +47,18 @@ module _ (form : Form) (L : Layout) (words : ℕ) (rows : List ℤ) (store-fits 
     names : (sort : ℕ) → sortAt rows row field ≡ sort → numberFits (boundsIn L words) sort (numberAt rows row field) ≡ true
     names sort e = rw (← e) (s .named row inside field first last)
 
+    fits-a-word : variableFits (boundsIn L words) (numberAt rows row field) ≡ true → numberAt rows row field < words
+    fits-a-word fits =
+        ⊎-elim (λ h. let below : numberAt rows row field < L .variables = ltb-true _ _ h in omega (arith, store-fits, variables-fit))
+        (λ h. ltb-true _ _ (both (leb (storeSize L) (numberAt rows row field)) _ h .1)) (either _ _ fits)
+
     names-a-word : sortAt rows row field ≡ variable → numberAt rows row field < words
     unfolding numberFits
-    names-a-word e =
-        ⊎-elim (λ h. let below : numberAt rows row field < L .variables = ltb-true _ _ h in omega (arith, store-fits, variables-fit))
-        (λ h. ltb-true _ _ (both (leb (storeSize L) (numberAt rows row field)) _ h .1)) (either _ _ (names variable e))
+    names-a-word e = fits-a-word (names variable e)
+
+    declares-a-word : sortAt rows row field ≡ declaredNumber → numberAt rows row field < words
+    unfolding numberFits
+    declares-a-word e = fits-a-word (names declaredNumber e)
 
     names-an-array : sortAt rows row field ≡ array → numberAt rows row field < length (L .lengths)
     unfolding numberFits
@@ -77,6 +85,7 @@ module _ (form : Form) (L : Layout) (words : ℕ) (rows : List ℤ) (store-fits 
         (record {
           unused-zero = s .unused-zero row inside field first last;
           names-word = names-a-word;
+          declares-word = declares-a-word;
           names-array = names-an-array;
           present = required;
           forward = onward;
@@ -97,6 +106,33 @@ module _ (form : Form) (L : Layout) (words : ℕ) (rows : List ℤ) (store-fits 
       }
 
 -- The same with the bounds that a header gives.
-pub header-sound : (form : Form) (header rows : List ℤ) → Structured form (boundsOf form header) rows → Sound rows (layoutOf form header) (storeWords form header)
-unfolding boundsOf storeWords
-header-sound form header rows s = structured-sound form (layoutOf form header) (storeWords form header) rows (omega arith) s
+pub header-sound : (form : Form) (header rows : List ℤ) → Structured form (boundsOf form header) rows → Sound rows (layoutOf form header) (headerStore form header)
+unfolding boundsOf headerStore
+header-sound form header rows s = structured-sound form (layoutOf form header) (headerStore form header) rows (omega arith) s
+
+-- A store may have more words than a table names.
+module _ {rows : List ℤ} {L : Layout} {words more : ℕ} (most : words ≤ more) where
+  wider-field : {row field sort : ℕ} → SoundField rows L words row field sort → SoundField rows L more row field sort
+  wider-field f = record {
+    unused-zero = f .unused-zero;
+    names-word = λ e. let named = f .names-word e in omega arith;
+    declares-word = λ e. let named = f .declares-word e in omega arith;
+    names-array = f .names-array;
+    present = f .present;
+    forward = λ t p. let l = f .forward t p in record { later = l .later; inside = l .inside };
+    at-place = f .at-place;
+    at-arm = f .at-arm;
+  }
+
+  wider-sound : Sound rows L words → Sound rows L more
+  wider-sound s = record {
+    whole = s .whole;
+    some-rows = s .some-rows;
+    known = s .known;
+    fields = λ row inside field first last. wider-field (s .fields row inside field first last);
+    store-fits = let fits = s .store-fits in omega arith;
+  }
+
+-- The same with the words of a run's store.
+pub store-sound : (form : Form) (header rows : List ℤ) → Structured form (boundsOf form header) rows → Sound rows (layoutOf form header) (storeWords form header rows)
+store-sound form header rows s = wider-sound (store-least form header rows) (header-sound form header rows s)

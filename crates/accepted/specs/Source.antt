@@ -6,7 +6,7 @@ use lib.IntN.{ℤ, pos}
 use lib.ListN.{getD, length}
 use lib.Signed.{mag}
 use Rattle.words.specs.Table.{rowCount}
-use Rattle.words.specs.Layout.{layoutOf, storeWords}
+use Rattle.words.specs.Layout.{layoutOf, headerStore}
 use Rattle.words.specs.declared.Form.the-variants.{Source}
 use Rattle.computation.specs.Run.{Limit, start}
 use Rattle.language.specs.Trees.{block}
@@ -36,7 +36,7 @@ module _ (header rows : List ℤ) (legal : Legal header rows) where
   numbers-named = named-contents Source (boundsOf Source header) rows (legal .structured) (λ i. i < layoutOf Source header .variables) (source-variable header)
 
   -- A run may walk its rows.
-  pub legal-sound : Sound rows (layoutOf Source header) (storeWords Source header)
+  pub legal-sound : Sound rows (layoutOf Source header) (headerStore Source header)
   legal-sound = header-sound Source header rows (legal .structured)
 
   -- Its tree is the block of its items.

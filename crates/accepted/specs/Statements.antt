@@ -15,12 +15,12 @@ use Rattle.words.specs.Laws.{both}
 use Rattle.words.specs.declared.Form.{Form}
 use Rattle.words.specs.declared.Kind.{Kind}
 use Rattle.words.specs.declared.Kind.the-variants.{OfExpression, OfStatement, OfMark, OfMember, Other}
-use Rattle.words.specs.declared.StatementKind.the-variants.{Empty, Express, Block, If, While, Do, For, Switch, Break, Continue, Goto, GuardedIf, GuardedDo, Abort}
+use Rattle.words.specs.declared.StatementKind.the-variants.{Empty, Express, Block, If, While, Do, For, Switch, Break, Continue, Goto, GuardedIf, GuardedDo, Abort, Declare}
 use Rattle.words.specs.declared.MarkKind.the-variants.{Case, Default, Label}
 use Rattle.words.specs.declared.MemberKind.the-variants.{Arm}
-use Rattle.language.specs.Trees.{Expression, absent, present, case, default, label, Statement, empty, express, block, ifThen, ifElse, while, doWhile, for, switch, break, continue, goto, guardedIf, guardedDo, abort, noArm, arm, none, _then_, _here_}
+use Rattle.language.specs.Trees.{Expression, absent, present, case, default, label, Statement, empty, express, block, ifThen, ifElse, while, doWhile, for, switch, break, continue, goto, guardedIf, guardedDo, abort, declare, noArm, arm, none, _then_, _here_}
 use Rattle.language.specs.Decode.{expressionAt, statementOf, statementAt, itemsAt, armsAt, decode, listAt, armListAt, partAt}
-use Rattle.language.specs.DecodeLaws.{statement-at, at-empty, at-express, at-block, at-ifThen, at-ifElse, at-while, at-doWhile, at-for, at-switch, at-break, at-continue, at-goto, at-guardedIf, at-guardedDo, at-abort, at-item, at-case, at-default, at-label, at-arm, part-some}
+use Rattle.language.specs.DecodeLaws.{statement-at, at-empty, at-express, at-block, at-ifThen, at-ifElse, at-while, at-doWhile, at-for, at-switch, at-break, at-continue, at-goto, at-guardedIf, at-guardedDo, at-abort, at-declare, at-item, at-case, at-default, at-label, at-arm, part-some}
 use Rattle.words.specs.Links.{link, isStatement, isBlock, isArm, fits}
 use Rattle.language.specs.Program.{contents}
 use Rattle.structure.specs.StructuredLaws.{structured-tree}
@@ -79,6 +79,8 @@ module _ (rows : List ℤ) where
       guardedDo-row : {row : ℕ} → kindAt rows row ≡ OfStatement GuardedDo
           → statementAt rows row ≡ guardedDo (armListAt rows (link rows row 1)) → ArmsRow (link rows row 1) → StatementRow row
       abort-row : {row : ℕ} → kindAt rows row ≡ OfStatement Abort → statementAt rows row ≡ abort → StatementRow row
+      declare-row : {row : ℕ} → kindAt rows row ≡ OfStatement Declare → Leads rows row 2
+          → statementAt rows row ≡ declare (numberAt rows row 1) (expressionOf row 2) → ExpressionRow rows (link rows row 2) → StatementRow row
 
     -- A list, at a link: empty, or a statement or mark and the list behind it.
     pub data ListRow : ℕ → Type 0 where
@@ -235,6 +237,9 @@ module _ (form : Form) (bounds : Bounds) (rows : List ℤ) (s : Structured form 
         let a = may-at k optionalArm 1 refl refl in
         guardedDo-row k (rw (a .same) (at-guardedDo rows whole row k (a .later))) (arms-from a)
     statement-by (OfStatement Abort) k t = abort-row k (at-abort rows whole row k)
+    statement-by (OfStatement Declare) k t =
+        let b = link-at k 2 refl in
+        declare-row k (b .leads) (rw (b .same) (at-declare rows whole row k (b .later))) (operand b)
     statement-by (OfMember Arm) k t = absurd (false≢true t)
     statement-by (OfExpression kind) k t = absurd (false≢true (rw (eqb-true (sortIn (OfExpression kind) 0) statementRow t) at (operand-is rows row k)))
     statement-by Other k t = absurd (false≢true t)

@@ -11,10 +11,10 @@ use lib.Arith.{lt-of-le-ne}
 use lib.Dec.{eqb}
 use lib.IntN.{ℤ}
 use borrow.Author.Tests.{eq-eqb, ne-eqb}
-use Rattle.words.specs.Word.{pick}
+use Rattle.words.specs.Word.{pick, one}
 use Rattle.words.specs.Table.{rowCount}
 use Rattle.words.specs.Links.{link, target}
-use Rattle.structure.specs.Links.{one, linksAmong, linkCount}
+use Rattle.structure.specs.Links.{linksAmong, linkCount}
 use Rattle.structure.specs.Structured.{Tree}
 use Rattle.grammar.specs.GrammarLaws.{kind-links-none}
 use Rattle.structure.specs.LinkLaws.{word-of}

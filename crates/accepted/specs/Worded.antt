@@ -2,7 +2,7 @@
 use Prim.Native.Nat.{_^_, _<_}
 use lib.IntN.{ℤ}
 use lib.Signed.{mag}
-use Rattle.language.specs.Trees.{Expression, constant, read, minus, not, binary, and, or, comma, conditional, assign, compound, prefix, postfix, Place, variable, element, Part, absent, present, Mark, case, default, label, Statement, empty, express, block, ifThen, ifElse, while, doWhile, for, switch, break, continue, goto, guardedIf, guardedDo, abort, Arms, noArm, arm, Items, none, _then_, _here_}
+use Rattle.language.specs.Trees.{Expression, constant, read, minus, not, binary, and, or, comma, conditional, assign, compound, prefix, postfix, Place, variable, element, Part, absent, present, Mark, case, default, label, Statement, empty, express, block, ifThen, ifElse, while, doWhile, for, switch, break, continue, goto, guardedIf, guardedDo, abort, declare, Arms, noArm, arm, Items, none, _then_, _here_}
 
 -- Every constant and every case value of a tree satisfies Value.
 module _ (Value : ℤ → Type 0) where
@@ -52,6 +52,7 @@ module _ (Value : ℤ → Type 0) where
     ValuedStatement (guardedIf arms) = ValuedArms arms
     ValuedStatement (guardedDo arms) = ValuedArms arms
     ValuedStatement abort = Unit {0}
+    ValuedStatement (declare word e) = ValuedExpression e
 
     pub ValuedArms : Arms → Type 0
     ValuedArms noArm = Unit {0}

@@ -14,7 +14,7 @@ use Rattle.row_fields.specs.declared.Bounds.{Bounds}
 use Rattle.structure.specs.Structured.{Structured}
 use Rattle.accepted.specs.Worded.{ValuedExpression, ValuedPlace, ValuedPart, ValuedStatement, ValuedArms, ValuedItems, IsWord, Worded}
 use Rattle.accepted.specs.Expressions.{ExpressionRow, constant-row, variable-row, element-row, minus-row, not-row, binary-row, and-row, or-row, comma-row, conditional-row, assign-row, compound-row, prefix-row, postfix-row, placeAt}
-use Rattle.accepted.specs.Statements.{PartRow, absent-part, present-part, StatementRow, empty-row, express-row, block-row, ifThen-row, ifElse-row, while-row, doWhile-row, for-row, switch-row, case-row, default-row, break-row, continue-row, goto-row, label-row, guardedIf-row, guardedDo-row, abort-row, ArmsRow, no-arms, arm-row, ListRow, no-items, item, case-item, default-item, label-item, program-list, program-contents, program-block}
+use Rattle.accepted.specs.Statements.{PartRow, absent-part, present-part, StatementRow, empty-row, express-row, block-row, ifThen-row, ifElse-row, while-row, doWhile-row, for-row, switch-row, case-row, default-row, break-row, continue-row, goto-row, label-row, guardedIf-row, guardedDo-row, abort-row, declare-row, ArmsRow, no-arms, arm-row, ListRow, no-items, item, case-item, default-item, label-item, program-list, program-contents, program-block}
 
 module _ (rows : List ℤ) (Value : ℤ → Type 0) (values : (i : ℕ) → Value (getD rows i (pos 0))) where
   -- an operand that is a place
@@ -65,6 +65,7 @@ module _ (rows : List ℤ) (Value : ℤ → Type 0) (values : (i : ℕ) → Valu
     valued-statement (guardedIf-row k e x) = rw e (valued-arms x)
     valued-statement (guardedDo-row k e x) = rw e (valued-arms x)
     valued-statement (abort-row k e) = rw e tt
+    valued-statement (declare-row k p e x) = rw e (valued-expression x)
 
     valued-arms : {l : ℕ} → ArmsRow rows l → ValuedArms Value (armListAt rows l)
     valued-arms (no-arms z e) = rw e tt

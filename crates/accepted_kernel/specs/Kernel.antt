@@ -4,7 +4,7 @@ use mathlib.Core.List.{List}
 use Prim.Native.Nat.{_≤_}
 use lib.IntN.{ℤ}
 use Rattle.words.specs.Table.{rowCount}
-use Rattle.words.specs.Layout.{layoutOf, storeWords}
+use Rattle.words.specs.Layout.{layoutOf, headerStore}
 use Rattle.words.specs.declared.Form.the-variants.{Kernel}
 use Rattle.computation.specs.Run.{Limit, start}
 use Rattle.language.specs.Trees.{block, none}
@@ -25,7 +25,7 @@ use Rattle.accepted_kernel.specs.Forms.{contents-form}
 
 module _ (header rows : List ℤ) (legal : Legal header rows) where
   -- A run may walk its rows.
-  pub legal-sound : Sound rows (layoutOf Kernel header) (storeWords Kernel header)
+  pub legal-sound : Sound rows (layoutOf Kernel header) (headerStore Kernel header)
   legal-sound = header-sound Kernel header rows (legal .structured)
 
   -- Its tree is the block of its items, which have kernel form.

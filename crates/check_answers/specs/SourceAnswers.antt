@@ -3,7 +3,7 @@ use mathlib.Core.Path.{_≡_, refl}
 use mathlib.Core.List.{map}
 use Rattle.words.specs.Word.{sameWord, natural}
 use Rattle.words.specs.Table.{wordAt, numberAt}
-use Rattle.words.specs.Layout.{layoutOf, sum, storeSize, storeWords, allWithin, headerFits, countFits}
+use Rattle.words.specs.Layout.{layoutOf, sum, storeSize, headerStore, allWithin, headerFits, countFits}
 use Rattle.words.specs.declared.Verdict.{Verdict}
 use Rattle.words.specs.Links.{fits, isExpression, isPlace, isStatement, isBlock, isArm, link, target, linker, received, noteBy, note}
 use Rattle.row_fields.specs.Fields.{foreign, leadsRight, mislinked, boundsOf, numberFits, outside}
@@ -14,7 +14,7 @@ use Rattle.words.specs.Search.{lowest, some, lowestRow, someField}
 use Rattle.list_items.specs.Items.{itemOf, earlierOf, earlierAt, someFrom, someEarlier}
 use Rattle.repeated_marks.specs.Marks.{sameMark, repeated}
 use Rattle.statement_places.specs.Places.{handed, noteAt, outOfPlace, misplaced}
-use Rattle.names.specs.Names.{isDeclaration}
+use Rattle.words.specs.Declarations.{isDeclaration}
 use Rattle.declaration_causes.specs.Causes.{outsideBlock, namesItself, declaredBefore, oneTooMany, declarationRefusal}
 use Rattle.source_check.specs.Refusal.{wronglyPlaced, laterRefusal, refusal}
 use Rattle.check_answers.specs.Sample.{Sample}
@@ -27,5 +27,5 @@ abbrev pub expected : Sample → Verdict
 expected sample = sample .answer
 
 pub source-answers : map checked sourceSamples ≡ map expected sourceSamples
-unfolding sameWord natural wordAt numberAt layoutOf sum storeSize storeWords allWithin headerFits countFits foreign fits leadsRight mislinked boundsOf numberFits outside kindOf kindIn kinds sortIn kindRow expressionFields statementFields markFields memberFields sortOf sortAt inLanguage isExpression isPlace isStatement isBlock isArm isLink isRequired link target linksAmong linkCount loneBlock notOnce linker received noteBy note deeper depthAt tooDeep at unless _next_ rowCauses structuralRefusal lowest some lowestRow someField sameMark itemOf earlierOf earlierAt someFrom someEarlier repeated handed noteAt outOfPlace misplaced isDeclaration outsideBlock namesItself declaredBefore oneTooMany declarationRefusal wronglyPlaced laterRefusal refusal
+unfolding sameWord natural wordAt numberAt layoutOf sum storeSize headerStore allWithin headerFits countFits foreign fits leadsRight mislinked boundsOf numberFits outside kindOf kindIn kinds sortIn kindRow expressionFields statementFields markFields memberFields sortOf sortAt inLanguage isExpression isPlace isStatement isBlock isArm isLink isRequired link target linksAmong linkCount loneBlock notOnce linker received noteBy note deeper depthAt tooDeep at unless _next_ rowCauses structuralRefusal lowest some lowestRow someField sameMark itemOf earlierOf earlierAt someFrom someEarlier repeated handed noteAt outOfPlace misplaced isDeclaration outsideBlock namesItself declaredBefore oneTooMany declarationRefusal wronglyPlaced laterRefusal refusal
 source-answers = refl

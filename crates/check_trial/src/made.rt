@@ -64,16 +64,16 @@ fn put_list(rows: &mut [i32], kind: i32, first: usize, last: usize, distance: us
 
 // How many words a header without arrays has.
 fn leading(form: Form) -> usize
-    ensures { λ r. ⌜ r ≤ 2 ⌝ }
+    ensures { λ r. ⌜ r ≤ 3 ⌝ }
 {
     match form {
         Form::Source => 1,
-        Form::Kernel => 2,
+        Form::Kernel => 3,
     }
 }
 
 fn check_rows(form: Form, rows: &[i32], count: usize) {
-    let header = [0i32; 2];
+    let header = [0i32; 3];
     let words = leading(form);
     if count < 65536 {
         if 6 * count <= rows.len() {

@@ -71,7 +71,7 @@ fn answer(
     if text.len() > 2097152 {
         return long_text_line(out);
     }
-    if stored.len() > 196608 {
+    if stored.len() > 197376 {
         return long_store_line(out);
     }
     request_answer(request, text, stored, header, rows, out)

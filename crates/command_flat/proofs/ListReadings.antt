@@ -14,6 +14,7 @@ use borrow.Rule.Slice.PartMut.{putMid}
 use Rattle.words.specs.Word.{pick}
 use Rattle.words.specs.Layout.{headerFits}
 use Rattle.words.specs.Laws.{by-cases, headerFits-facts}
+use Rattle.words.specs.StoreLaws.{kernel-store, kernel-small}
 use Rattle.words.specs.declared.Form.the-variants.{Kernel}
 use Rattle.text_form.specs.declared.ReadAnswer.{ReadAnswer}
 use Rattle.text_form.specs.declared.ReadAnswer.the-variants.{Read, Refused}
@@ -31,7 +32,7 @@ unfolding unless
 none-said true number others e = (refl, e)
 none-said false number others e = absurd (let z : _≡_ {A = ℕ} 0 1 = cc in omega arith)
 
-module _ (program : Program) (header list : List ℤ) (h : 34 ≤ length header) (l : length list ≡ listRoom) where
+module _ (program : Program) (header list : List ℤ) (h : 35 ≤ length header) (l : length list ≡ listRoom) where
   header-short : headerFits Kernel (program .header) ≡ true → length (program .header) ≤ length header
   header-short f = omega (arith, headerFits-facts Kernel (program .header) f .most, h)
 
@@ -40,7 +41,12 @@ module _ (program : Program) (header list : List ℤ) (h : 34 ≤ length header)
   takes e =
       let f = none-said (headerFits Kernel (program .header)) 1 _ e in
       let r = none-said (leb (length (program .rows)) listRoom) 10 none (f .1) in
-      record { fits = f .0; header-room = header-short (f .0); rows-room = omega (arith, leb-true (length (program .rows)) listRoom (r .0), l) }
+      record {
+        fits = f .0;
+        small = omega (arith, kernel-store (program .header) (program .rows), kernel-small (program .header) (f .0));
+        header-room = header-short (f .0);
+        rows-room = omega (arith, leb-true (length (program .rows)) listRoom (r .0), l);
+      }
 
   -- the header has room wherever it is within its limits
   same-cause : flatCause (program .header) (tablesHold program header list) ≡ flatCause (program .header) (leb (length (program .rows)) listRoom)
@@ -50,7 +56,7 @@ module _ (program : Program) (header list : List ℤ) (h : 34 ≤ length header)
       (λ f. rw (l, le-leb (length (program .header)) (length header) (header-short f)))
       (λ f. rw f)
 
-module _ (text : List ℕ) (header list : List ℤ) (h : 34 ≤ length header) (l : length list ≡ listRoom) where
+module _ (text : List ℕ) (header list : List ℤ) (h : 35 ≤ length header) (l : length list ≡ listRoom) where
   list-parsed : (read : Parsed Program) (answer : ReadAnswer) {headerLeft listLeft : List ℤ} → Reads (flatParsed read header list) answer headerLeft listLeft
       → ReadFor (parsedList read) Kernel answer headerLeft listLeft
   unfolding flatParsed parsedList
@@ -71,5 +77,6 @@ whole-table printed (Read numbers words) headerLeft table lent size r =
       header-inside = r .header-inside;
       rows-inside = omega (arith, r .rows-inside, length-append lent (drop (size - 0) table));
       fits = r .fits;
+      small = rw same (r .small);
       is = λ output. rw same (r .is output);
     }

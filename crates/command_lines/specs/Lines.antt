@@ -43,7 +43,7 @@ abbrev pub longTextLine : List ℕ
 longTextLine = ascii "misuse: the input is over 2097152 bytes\n"
 
 abbrev pub longStoreLine : List ℕ
-longStoreLine = ascii "misuse: the file is over 196608 bytes\n"
+longStoreLine = ascii "misuse: the file is over 197376 bytes\n"
 
 abbrev pub unreadableTextLine : List ℕ
 unreadableTextLine = ascii "misuse: the input is unreadable\n"

@@ -108,7 +108,7 @@ pub fn long_store_line(text: &mut [u8]) -> usize
     requires { ⌜ lineRoom 5 ≤ length (now text) ⌝ }
     ensures { λ r. ⌜ Put longStoreLine (now (text .entry)) r (now (text .exit)) ⌝ }
 {
-    put_bytes(b"misuse: the file is over 196608 bytes\n", text)
+    put_bytes(b"misuse: the file is over 197376 bytes\n", text)
 }
 
 // Standard input that cannot be read.

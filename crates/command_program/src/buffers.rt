@@ -10,16 +10,16 @@ pub fn text_buffer() -> [u8; 2097153]
 }
 
 // The limit of a store file, and a byte more.
-pub fn store_buffer() -> [u8; 196609]
-    ensures { λ r. ⌜ 196609 ≡ length r ⌝ }
+pub fn store_buffer() -> [u8; 197377]
+    ensures { λ r. ⌜ 197377 ≡ length r ⌝ }
 {
-    [0; 196609]
+    [0; 197377]
 }
 
-pub fn header_table() -> [i32; 34]
-    ensures { λ r. ⌜ 34 ≡ length r ⌝ }
+pub fn header_table() -> [i32; 35]
+    ensures { λ r. ⌜ 35 ≡ length r ⌝ }
 {
-    [0; 34]
+    [0; 35]
 }
 
 pub fn row_table() -> [i32; 245880]
@@ -28,8 +28,8 @@ pub fn row_table() -> [i32; 245880]
     [0; 245880]
 }
 
-pub fn output_buffer() -> [u8; 2950968]
-    ensures { λ r. ⌜ 2950968 ≡ length r ⌝ }
+pub fn output_buffer() -> [u8; 2950980]
+    ensures { λ r. ⌜ 2950980 ≡ length r ⌝ }
 {
-    [0; 2950968]
+    [0; 2950980]
 }

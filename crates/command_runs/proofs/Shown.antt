@@ -10,11 +10,11 @@ use Rattle.program_previews.specs.PreviewLaws.{run-as-previewed}
 use Rattle.program_previews.specs.declared.PreviewVerdict.{PreviewVerdict}
 use Rattle.program_previews.specs.declared.PreviewVerdict.the-variants.{Previewed, Refused}
 use Rattle.preview_lines.specs.Changes.{Showable}
-use Rattle.command_text.specs.Texts.{outputRoom}
+use Rattle.command_text.specs.Texts.{mostStore, outputRoom}
 
--- The lines of a preview have room: it is refused, or the store has no more words than the scratch, which has at most 8,192.
+-- The lines of a preview have room: it is refused, or the store has no more words than the scratch, which has at most 16,448.
 pub showable : (verdict : PreviewVerdict) (header rows : List ℤ) (budget : ℕ) (store scratch left : List ℤ) → answerAndWords verdict store left ≡ previewResult header rows budget store scratch
-    → length left ≤ 8192 → {room : ℕ} → outputRoom ≤ room → Showable verdict store left room
+    → length left ≤ mostStore → {room : ℕ} → outputRoom ≤ room → Showable verdict store left room
 showable (Previewed preview) header rows budget store scratch left e h o =
     let told = run-as-previewed header rows budget store scratch preview (sym (ap (λ (result : PreviewResult). result .answer) e)) in
     let long : length left ≡ length (previewResult header rows budget store scratch .scratch) = ap (λ (result : PreviewResult). length (result .scratch)) e in

@@ -14,14 +14,14 @@ use Rattle.words.specs.declared.RunVerdict.the-variants.{Ran, Refused}
 use Rattle.program_runs.specs.Runs.{runResult}
 use Rattle.program_previews.specs.Previews.{toldRun, previewIf, previewAfter, previewResult}
 
--- The ending and count of the run, or its refusal: in a scratch of S words 15 does not arise.
+-- The ending and count of the run, or its refusal: in a scratch of as many words as the store 15 does not arise.
 pub told-as-run : (header rows : List ℤ) (budget : ℕ) (store : List ℤ)
-    → toldRun (previewResult header rows budget store (zeros (storeWords Source header)) .answer) ≡ runResult Source header rows budget store .answer
+    → toldRun (previewResult header rows budget store (zeros (storeWords Source header rows)) .answer) ≡ runResult Source header rows budget store .answer
 unfolding previewResult
 told-as-run header rows budget store = by (runResult Source header rows budget store .answer)
   where
-    by : (answer : RunVerdict) → toldRun (previewAfter answer (storeWords Source header) (runResult Source header rows budget store .store) store (zeros (storeWords Source header)) .answer) ≡ answer
+    by : (answer : RunVerdict) → toldRun (previewAfter answer (storeWords Source header rows) (runResult Source header rows budget store .store) store (zeros (storeWords Source header rows)) .answer) ≡ answer
     by (Ran run) =
-        ap (λ (room : Bool). toldRun (previewIf room run (storeWords Source header) (runResult Source header rows budget store .store) store (zeros (storeWords Source header)) .answer))
-        (le-leb (storeWords Source header) (length (zeros (storeWords Source header))) (omega (arith, length-replicate (storeWords Source header) (pos 0))))
+        ap (λ (room : Bool). toldRun (previewIf room run (storeWords Source header rows) (runResult Source header rows budget store .store) store (zeros (storeWords Source header rows)) .answer))
+        (le-leb (storeWords Source header rows) (length (zeros (storeWords Source header rows))) (omega (arith, length-replicate (storeWords Source header rows) (pos 0))))
     by (Refused refusal) = refl

@@ -4,7 +4,7 @@ use mathlib.Core.List.{List}
 use Prim.Native.Nat.{ℕ}
 use lib.IntN.{ℤ}
 use Rattle.words.specs.Word.{pick}
-use Rattle.words.specs.Layout.{layoutOf, storeSize, storeWords, zeros}
+use Rattle.words.specs.Layout.{layoutOf, storeSize, headerStore, storeWords, zeros}
 use Rattle.words.specs.declared.Form.{Form}
 use Rattle.words.specs.declared.Form.the-variants.{Source, Kernel}
 use Rattle.text_form.specs.Text.{Parsed, parsed, malformed}
@@ -33,12 +33,12 @@ taskText task-cases.Preview text = textOutput Source text
 taskText task-cases.DispatcherRun text = textOutput Kernel text
 taskText task-cases.FlatRun text = listOutput text
 
--- How many words it starts from: a dispatcher has no temporaries.
-abbrev pub startWords : Task → List ℤ → ℕ
-startWords (task-cases.Run form) header = storeWords form header
-startWords task-cases.Preview header = storeWords Source header
-startWords task-cases.DispatcherRun header = storeSize (layoutOf Kernel header)
-startWords task-cases.FlatRun header = storeWords Kernel header
+-- How many words it starts from: a dispatcher has the first S, no declared words and no temporaries.
+abbrev pub startWords : Task → (header rows : List ℤ) → ℕ
+startWords (task-cases.Run form) header rows = storeWords form header rows
+startWords task-cases.Preview header rows = storeWords Source header rows
+startWords task-cases.DispatcherRun header rows = storeSize (layoutOf Kernel header)
+startWords task-cases.FlatRun header list = headerStore Kernel header
 
 abbrev pub resultLine : RunResult → List ℕ
 resultLine result = runLine (result .answer) (result .store)
@@ -53,7 +53,7 @@ shownLine result = dispatcherLine (result .answer) (result .words)
 -- its preview, in a scratch of as many words as the program's store has, so that 15 does not arise.
 abbrev pub taskLines : Task → ℕ → (store header rows : List ℤ) → List ℕ
 taskLines (task-cases.Run form) budget store header rows = resultLine (runResult form header rows budget store)
-taskLines task-cases.Preview budget store header rows = resultLines (previewResult header rows budget store (zeros (storeWords Source header)))
+taskLines task-cases.Preview budget store header rows = resultLines (previewResult header rows budget store (zeros (storeWords Source header rows)))
 taskLines task-cases.DispatcherRun budget store header rows = shownLine (dispatcherResult header rows budget store)
 taskLines task-cases.FlatRun budget store header rows = listRunLine budget store header rows
 
@@ -62,7 +62,7 @@ taskOutput task budget text store = taskText task text (taskLines task budget st
 
 -- "else zeros"
 abbrev pub zerosLines : Task → ℕ → (header rows : List ℤ) → List ℕ
-zerosLines task budget header rows = taskLines task budget (zeros (startWords task header)) header rows
+zerosLines task budget header rows = taskLines task budget (zeros (startWords task header rows)) header rows
 
 unfoldable pub zerosOutput : Task → ℕ → List ℕ → List ℕ
 zerosOutput task budget text = taskText task text (zerosLines task budget)

@@ -11,7 +11,7 @@ ghost use Rattle.words.specs.Layout.{headerFits, storeWords, zeros};
 ghost use Rattle.words.specs.declared.Form.the-variants.{Source};
 ghost use Rattle.text_numbers.specs.Writer.{Put};
 ghost use Rattle.program_previews.specs.Previews.{previewResult};
-ghost use Rattle.command_text.specs.Texts.{outputRoom};
+ghost use Rattle.command_text.specs.Texts.{mostStore, outputRoom};
 ghost use Rattle.command_runs.specs.Tasks.{resultLines};
 
 // Previews a program in the lent scratch, and writes the lines.
@@ -23,7 +23,7 @@ fn put_previewed(
     scratch: &mut [i32],
     text: &mut [u8],
 ) -> usize
-    requires { ⌜ length (now scratch) ≤ 8192 ⌝ }
+    requires { ⌜ length (now scratch) ≤ mostStore ⌝ }
     requires { ⌜ outputRoom ≤ length (now text) ⌝ }
     ensures { λ r. ⌜ Put (resultLines (previewResult (now (header .entry)) (now (rows .entry)) budget (now (store .entry)) (now (scratch .entry)))) (now (text .entry)) r (now (text .exit)) ⌝ }
 {
@@ -40,10 +40,11 @@ pub fn put_preview(
     text: &mut [u8],
 ) -> usize
     requires { ⌜ headerFits Source (now header) ≡ true ⌝ }
+    requires { ⌜ storeWords Source (now header) (now rows) ≤ mostStore ⌝ }
     requires { ⌜ outputRoom ≤ length (now text) ⌝ }
-    ensures { λ r. ⌜ Put (resultLines (previewResult (now (header .entry)) (now (rows .entry)) budget (now (store .entry)) (zeros (storeWords Source (now (header .entry)))))) (now (text .entry)) r (now (text .exit)) ⌝ }
+    ensures { λ r. ⌜ Put (resultLines (previewResult (now (header .entry)) (now (rows .entry)) budget (now (store .entry)) (zeros (storeWords Source (now (header .entry)) (now (rows .entry)))))) (now (text .entry)) r (now (text .exit)) ⌝ }
 {
-    let words = store_words(Form::Source, header);
-    let mut scratch = [0i32; 8192];
+    let words = store_words(Form::Source, header, rows);
+    let mut scratch = [0i32; 16448];
     put_previewed(header, rows, store, budget, &mut scratch[0..words], text)
 }

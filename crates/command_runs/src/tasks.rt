@@ -16,19 +16,20 @@ use report::line::refused_line;
 use text_form::ReadAnswer;
 use words::Form;
 use words::RunVerdict;
+use words::layout::header_store;
 use words::layout::store_size;
 use words::layout::store_words;
 ghost use mathlib.Core.Path.{_≡_};
 ghost use mathlib.Core.Bool.{true};
 ghost use Prim.Native.Nat.{_≤_};
 ghost use lib.ListN.{length};
-ghost use Rattle.words.specs.Layout.{headerFits};
+ghost use Rattle.words.specs.Layout.{headerFits, storeWords};
 ghost use Rattle.text_numbers.specs.Writer.{Put};
 ghost use Rattle.report.specs.Lines.{lineRoom};
 ghost use Rattle.dispatcher_runs.specs.DispatcherRuns.{dispatcherResult};
 ghost use Rattle.program_runs.specs.Runs.{runResult, answerAndStore};
 ghost use Rattle.command_request.specs.StoreFile.{storeIn};
-ghost use Rattle.command_text.specs.Texts.{Roomy, outputRoom, storeLimit};
+ghost use Rattle.command_text.specs.Texts.{Roomy, mostStore, outputRoom, storeLimit};
 ghost use Rattle.command_text.specs.Read.{ReadFor};
 ghost use Rattle.command_runs.specs.Tasks.{formOf, taskText, startWords, resultLine, shownLine, taskLines, taskOutput, zerosLines, zerosOutput, storedOutput, startedOutput};
 
@@ -86,15 +87,15 @@ fn read_task(task: Task, text: &[u8], header: &mut [i32], rows: &mut [i32]) -> R
 }
 
 // How many words a task starts from.
-fn start_words(task: Task, header: &[i32]) -> usize
+fn start_words(task: Task, header: &[i32], rows: &[i32]) -> usize
     requires { ⌜ headerFits (formOf task) (now header) ≡ true ⌝ }
-    ensures { λ r. ⌜ r ≡ startWords task (now (header .entry)) ⌝ }
+    ensures { λ r. ⌜ r ≡ startWords task (now (header .entry)) (now (rows .entry)) ⌝ }
 {
     match task {
-        Task::Run(form) => store_words(form, header),
-        Task::Preview => store_words(Form::Source, header),
+        Task::Run(form) => store_words(form, header, rows),
+        Task::Preview => store_words(Form::Source, header, rows),
         Task::DispatcherRun => store_size(Form::Kernel, header),
-        Task::FlatRun => store_words(Form::Kernel, header),
+        Task::FlatRun => header_store(Form::Kernel, header),
     }
 }
 
@@ -108,6 +109,7 @@ fn put_task(
     out: &mut [u8],
 ) -> usize
     requires { ⌜ headerFits (formOf task) (now header) ≡ true ⌝ }
+    requires { ⌜ storeWords (formOf task) (now header) (now rows) ≤ mostStore ⌝ }
     requires { ⌜ lineRoom (length (now store)) ≤ length (now out) ⌝ }
     requires { ⌜ outputRoom ≤ length (now out) ⌝ }
     ensures { λ r. ⌜ Put (taskLines task budget (now (store .entry)) (now (header .entry)) (now (rows .entry))) (now (out .entry)) r (now (out .exit)) ⌝ }
@@ -152,11 +154,12 @@ fn start_text(
 // The same of a store of zeros.
 fn put_zeros_task(task: Task, header: &[i32], rows: &[i32], budget: u32, out: &mut [u8]) -> usize
     requires { ⌜ headerFits (formOf task) (now header) ≡ true ⌝ }
+    requires { ⌜ storeWords (formOf task) (now header) (now rows) ≤ mostStore ⌝ }
     requires { ⌜ outputRoom ≤ length (now out) ⌝ }
     ensures { λ r. ⌜ Put (zerosLines task budget (now (header .entry)) (now (rows .entry))) (now (out .entry)) r (now (out .exit)) ⌝ }
 {
-    let count = start_words(task, header);
-    let mut store = [0i32; 16384];
+    let count = start_words(task, header, rows);
+    let mut store = [0i32; 16448];
     put_task(task, header, rows, &mut store[0..count], budget, out)
 }
 
@@ -197,7 +200,7 @@ fn start_stored(
     requires { ⌜ outputRoom ≤ length (now out) ⌝ }
     ensures { λ r. ⌜ Put (storedOutput task budget (now (text .entry)) (storeIn (now (stored .entry)))) (now (out .entry)) r (now (out .exit)) ⌝ }
 {
-    let mut store = [0i32; 98304];
+    let mut store = [0i32; 98688];
     let read = read_words(stored, &mut store);
     match read {
         StoreRead::Malformed(number) => malformed_line(number, out),

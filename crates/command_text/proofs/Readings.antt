@@ -8,11 +8,13 @@ use native.Mathlib.Omega.{arith}
 use lib.IntN.{ℤ}
 use lib.ListN.{length, take}
 use borrow.Author.Tests.{le-leb}
-use Rattle.words.specs.Layout.{headerFits}
+use Rattle.words.specs.Layout.{headerFits, countFits, storeWords}
 use Rattle.words.specs.Over.{over}
 use Rattle.words.specs.Laws.{headerFits-facts, countFits-facts}
 use Rattle.words.specs.OverLaws.{length-over, written-part}
+use Rattle.words.specs.StoreLaws.{declarations-few, kernel-store, source-small, kernel-small}
 use Rattle.words.specs.declared.Form.{Form}
+use Rattle.words.specs.declared.Form.the-variants.{Source, Kernel}
 use Rattle.words.specs.declared.Refusal.{Refusal}
 use Rattle.text_form.specs.declared.ReadAnswer.{ReadAnswer}
 use Rattle.text_form.specs.declared.ReadAnswer.the-variants.{Read, Refused}
@@ -21,13 +23,14 @@ use Rattle.text_form.specs.Answers.{Outcome, finished, refused, causeOf, tables
 use Rattle.text_form.specs.AnswerLaws.{cause-none, refused-finished}
 use Rattle.text_form.proofs.Shapes.{cause-some}
 use Rattle.report.specs.Lines.{refusedLine}
-use Rattle.command_text.specs.Texts.{Roomy, programOutput, parsedOutput, textOutput}
+use Rattle.command_text.specs.Texts.{mostStore, Roomy, programOutput, parsedOutput, textOutput}
 use Rattle.command_text.specs.Read.{ReadText, ReadFor}
 
 -- ---- a program that the tables take in, whatever its causes are
 
 pub record Taken (form : Form) (program : Program) (header rows : List ℤ) : Type 0 where
   pub fits : headerFits form (program .header) ≡ true
+  pub small : storeWords form (program .header) (program .rows) ≤ mostStore
   pub header-room : length (program .header) ≤ length header
   pub rows-room : length (program .rows) ≤ length rows
 
@@ -48,6 +51,7 @@ module _ {form : Form} {program : Program} {header rows : List ℤ} (t : Taken f
         header-inside = omega (arith, n, length-over (program .header) header headerLeft h (t .header-room), t .header-room);
         rows-inside = omega (arith, w, length-over (program .rows) rows rowsLeft g (t .rows-room), t .rows-room);
         fits = rw first (t .fits);
+        small = rw (first, others) (t .small);
         is = λ output. rw (first, others);
       }
 
@@ -69,12 +73,21 @@ malformed-by form line header rows (Read numbers words) s = refused-finished (sy
 
 -- ---- a program of a form
 
+-- S is at most 8,192, and a row is at most one declaration; the kernel's header gives all
+small-store : (form : Form) (program : Program) → headerFits form (program .header) ≡ true → countFits form (length (program .rows)) ≡ true
+    → storeWords form (program .header) (program .rows) ≤ mostStore
+small-store Source program h c =
+    let f = countFits-facts Source (length (program .rows)) c in
+    omega (arith, source-small (program .header) (program .rows) h, declarations-few (program .rows), f .most)
+small-store Kernel program h c = omega (arith, kernel-store (program .header) (program .rows), kernel-small (program .header) h)
+
 module _ (form : Form) (program : Program) {header rows : List ℤ} (r : Roomy form header rows) where
   takes : causeOf form (program .header) (length (program .rows)) true ≡ none → Taken form program header rows
   takes e =
       let p = cause-none form (program .header) (length (program .rows)) true e in
       record {
         fits = p .header-fits;
+        small = small-store form program (p .header-fits) (p .count-fits);
         header-room = omega (arith, headerFits-facts form (program .header) (p .header-fits) .most, r .header-room);
         rows-room = omega (arith, countFits-facts form (length (program .rows)) (p .count-fits) .most, r .rows-room);
       }

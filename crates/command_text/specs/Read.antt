@@ -5,11 +5,12 @@ use mathlib.Core.List.{List}
 use Prim.Native.Nat.{ℕ, _-_, _≤_}
 use lib.IntN.{ℤ}
 use lib.ListN.{length, take}
-use Rattle.words.specs.Layout.{headerFits}
+use Rattle.words.specs.Layout.{headerFits, storeWords}
 use Rattle.words.specs.declared.Form.{Form}
 use Rattle.text_form.specs.declared.ReadAnswer.{ReadAnswer}
 use Rattle.text_form.specs.declared.ReadAnswer.the-variants.{Read, Refused}
 use Rattle.report.specs.Lines.{refusedLine}
+use Rattle.command_text.specs.Texts.{mostStore}
 
 -- A text that was read: so many words stand at the start of either table. `printed` gives what is printed for the text, by what is printed
 -- for a header and rows.
@@ -17,6 +18,7 @@ pub record ReadText (printed : (List ℤ → List ℤ → List ℕ) → List ℕ
   pub header-inside : numbers ≤ length headerLeft
   pub rows-inside : words ≤ length rowsLeft
   pub fits : headerFits form (take (numbers - 0) headerLeft) ≡ true
+  pub small : storeWords form (take (numbers - 0) headerLeft) (take (words - 0) rowsLeft) ≤ mostStore
   pub is : (output : List ℤ → List ℤ → List ℕ) → output (take (numbers - 0) headerLeft) (take (words - 0) rowsLeft) ≡ printed output
 
 -- Or its refusal is what is printed.

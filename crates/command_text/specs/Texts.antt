@@ -19,14 +19,18 @@ use Rattle.report.specs.Lines.{refusedLine}
 abbrev pub textLimit : ℕ
 textLimit = 2097152
 
--- Bytes of a store file: 16,384 words of at most eleven bytes, each with a byte that parts it from the next. Every source text that the reader
+-- Bytes of a store file: 16,448 words of at most eleven bytes, each with a byte that parts it from the next. Every source text that the reader
 -- does not refuse is shorter.
 abbrev pub storeLimit : ℕ
-storeLimit = 196608
+storeLimit = 197376
 
--- Bytes that every output has room in: twelve for each of the 34 words of a kernel header and the 245,880 of kernel rows.
+-- Words of a store, of every program that the reader does not refuse: those of the header, and at most as many declarations as rows.
+abbrev pub mostStore : ℕ
+mostStore = 16448
+
+-- Bytes that every output has room in: twelve for each of the 35 words of a kernel header and the 245,880 of kernel rows.
 abbrev pub outputRoom : ℕ
-outputRoom = 2950968
+outputRoom = 2950980
 
 -- Tables as long as a legal program of the form needs; those for a kernel program serve either.
 pub record Roomy (form : Form) (header rows : List ℤ) : Type 0 where
@@ -36,7 +40,7 @@ pub record Roomy (form : Form) (header rows : List ℤ) : Type 0 where
 -- A header and `count` rows of `width` words whose text has room: a word takes at most twelve bytes.
 pub record Tabled (width count : ℕ) (header rows : List ℤ) : Type 0 where
   pub filled : 0 < length header
-  pub header-few : length header ≤ 34
+  pub header-few : length header ≤ 35
   pub wide : 0 < width
   pub whole : length rows ≡ width * count
   pub rows-few : length rows ≤ 245880

@@ -15,7 +15,7 @@ ghost use Rattle.command_text.specs.Read.{ReadFor};
 pub fn output_room() -> usize
     ensures { λ r. ⌜ r ≡ outputRoom ⌝ }
 {
-    2950968
+    2950980
 }
 
 // Reads a program into tables as long as a legal one needs.

@@ -40,7 +40,7 @@ pub fn day(input: &[u8], output: &mut [u8]) -> usize
     ensures { λ r. ⌜ Put (dayOutput (now (input .entry))) (now (output .entry)) r (now (output .exit)) ⌝ }
 {
     let size = rule_size(input);
-    let mut header = [0i32; 34];
+    let mut header = [0i32; 35];
     let mut rows = [0i32; 768];
     let answer = read_rule(&input[0..size], &mut header, &mut rows);
     match answer {

@@ -11,7 +11,7 @@ ghost use Rattle.words.specs.Layout.{storeWords};
 ghost use Rattle.words.specs.declared.Form.the-variants.{Source};
 ghost use Rattle.words.specs.declared.Verdict.the-variants.{Accepted};
 ghost use Rattle.program_runs.specs.Runs.{refusalOf};
-ghost use Rattle.rule_text.specs.Rules.{mostWords};
+ghost use Rattle.rule_text.specs.Rules.{storeRoom};
 ghost use Rattle.day_run.specs.Days.{storePairs};
 ghost use Rattle.day_run.specs.Conditions.{LineDone};
 
@@ -44,7 +44,7 @@ fn do_on_copy(
     copy: &mut [i32],
 ) -> usize
     requires { ⌜ refusalOf Source (now header) (now rows) ≡ Accepted ⌝ }
-    requires { ⌜ length (now store) ≡ storeWords Source (now header) ⌝ }
+    requires { ⌜ length (now store) ≡ storeWords Source (now header) (now rows) ⌝ }
     requires { ⌜ length (now copy) ≡ length (now store) ⌝ }
     ensures { λ r. ⌜ LineDone (now (header .entry)) (now (rows .entry)) (now (pairs .entry)) (now (store .entry)) r (now (store .exit)) ⌝ }
 {
@@ -65,11 +65,11 @@ fn do_on_copy(
 // Does one line: 1 where its run ended plainly, 0 where it did not, and the store is as it was.
 pub fn do_line(header: &[i32], rows: &[i32], pairs: &[i32], store: &mut [i32]) -> usize
     requires { ⌜ refusalOf Source (now header) (now rows) ≡ Accepted ⌝ }
-    requires { ⌜ length (now store) ≡ storeWords Source (now header) ⌝ }
-    requires { ⌜ length (now store) ≤ mostWords ⌝ }
+    requires { ⌜ length (now store) ≡ storeWords Source (now header) (now rows) ⌝ }
+    requires { ⌜ length (now store) ≤ storeRoom ⌝ }
     ensures { λ r. ⌜ LineDone (now (header .entry)) (now (rows .entry)) (now (pairs .entry)) (now (store .entry)) r (now (store .exit)) ⌝ }
 {
     let size = store.len();
-    let mut copy = [0i32; 1024];
+    let mut copy = [0i32; 1088];
     do_on_copy(header, rows, pairs, store, &mut copy[0..size])
 }

@@ -14,11 +14,12 @@ use Rattle.words.specs.OverLaws.{part, back-in, first-of, written-part, over-ne
 use Rattle.words.specs.Word.{natural}
 use Rattle.words.specs.Layout.{layoutOf, storeSize, storeWords, zeros}
 use Rattle.words.specs.Laws.{back, headerFits-facts}
+use Rattle.words.specs.StoreLaws.{size-least}
 use Rattle.words.specs.declared.Form.the-variants.{Source}
 use Rattle.text_lines.specs.Line.{Line, lineBytes}
 use Rattle.text_lines.specs.Writer.{Measured}
 use Rattle.text_lines.proofs.Sizing.{bytes-line}
-use Rattle.rule_text.specs.Rules.{mostWords, IsAccepted}
+use Rattle.rule_text.specs.Rules.{IsAccepted}
 use Rattle.day_form.specs.Lines.{lineWords}
 use Rattle.day_run.specs.Days.{Day, newDay, doLines, pairsOf}
 use Rattle.day_run.specs.DayLaws.{lines-counted}
@@ -49,14 +50,9 @@ as-words value plain other variables h few = rw (back value h, toZ-pos w32 {n = 
 
 -- ---- the store of a rule
 
--- a source program has no temporaries
-pub rule-words : {header rows : List ℤ} → IsAccepted header rows → storeWords Source header ≤ mostWords
-unfolding storeWords
-rule-words a = omega (arith, a .few-words)
-
-pub variables-inside : {header rows : List ℤ} → IsAccepted header rows → (layoutOf Source header .variables ≤ storeWords Source header) × (layoutOf Source header .variables ≤ 256)
-unfolding storeWords storeSize
-variables-inside {header = header} a = (omega arith, headerFits-facts Source header (a .header-fits) .few-variables)
+pub variables-inside : {header rows : List ℤ} → IsAccepted header rows → (layoutOf Source header .variables ≤ storeWords Source header rows) × (layoutOf Source header .variables ≤ 256)
+unfolding storeSize
+variables-inside {header} {rows} a = (omega (arith, size-least Source header rows), headerFits-facts Source header (a .header-fits) .few-variables)
 
 pub variables-are : (header : List ℤ) (number : ℕ) → number ≡ natural (getD header 0 (pos 0)) → number ≡ layoutOf Source header .variables
 unfolding layoutOf
@@ -80,7 +76,7 @@ module _ (header rows : List ℤ) (lines : List Line) (start : List ℤ) (tally 
       let other : doLines header rows (pairsOf lines) (newDay start) .other ≡ tally .other = ap (λ (d : Day). d .other) (sym e) in
       (omega arith, omega arith)
 
-  pub day-line : (variable variables : ℕ) (value : ℤ) → start ≡ set (zeros (storeWords Source header)) variable value → variables ≡ layoutOf Source header .variables
+  pub day-line : (variable variables : ℕ) (value : ℤ) → start ≡ set (zeros (storeWords Source header rows)) variable value → variables ≡ layoutOf Source header .variables
       → lineBytes (value ∷ (pos (tally .plain) ∷ (pos (tally .other) ∷ take (variables - 0) store))) ≡ dayLine header rows variable (pairsOf lines) value
   unfolding dayLine dayNumbers dayOf
   day-line variable variables value s v = rw (← s, ← e, first-of store variables, v)

@@ -11,7 +11,7 @@ use Rattle.day_run.specs.Days.{Day, newDay, doLines}
 
 -- "It starts from zeros, stores the value and does the lines".
 unfoldable pub dayOf : List ℤ → List ℤ → ℕ → List (List ℤ) → ℤ → Day
-dayOf header rows variable lines value = doLines header rows lines (newDay (set (zeros (storeWords Source header)) variable value))
+dayOf header rows variable lines value = doLines header rows lines (newDay (set (zeros (storeWords Source header rows)) variable value))
 
 -- "The value, lines that ended plainly, lines that didn't, and the V variables".
 unfoldable pub dayNumbers : List ℤ → ℤ → Day → List ℤ

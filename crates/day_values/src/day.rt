@@ -84,7 +84,7 @@ fn put_day_on(
     output: &mut [u8],
 ) -> usize
     requires { ⌜ Fits (now header) (now rows) (now text) ⌝ }
-    requires { ⌜ now store ≡ zeros (storeWords Source (now header)) ⌝ }
+    requires { ⌜ now store ≡ zeros (storeWords Source (now header) (now rows)) ⌝ }
     requires { ⌜ lineRoom ≤ length (now output) ⌝ }
     ensures { λ r. ⌜ Put (dayLine (now (header .entry)) (now (rows .entry)) variable (pairsOf (linesOf (now (text .entry)))) value) (now (output .entry)) r (now (output .exit)) ⌝ }
     ensures { λ r. ⌜ r ≤ lineRoom ⌝ }
@@ -115,8 +115,8 @@ pub fn put_day(
     ensures { λ r. ⌜ Put (dayLine (now (header .entry)) (now (rows .entry)) variable (pairsOf (linesOf (now (text .entry)))) value) (now (output .entry)) r (now (output .exit)) ⌝ }
     ensures { λ r. ⌜ r ≤ lineRoom ⌝ }
 {
-    let size = store_words(Form::Source, header);
-    let mut store = [0i32; 1024];
+    let size = store_words(Form::Source, header, rows);
+    let mut store = [0i32; 1088];
     put_day_on(
         header,
         rows,

@@ -15,7 +15,7 @@ use Rattle.words.specs.SearchLaws.{lowestRow-all, all-lowestRow}
 use Rattle.structure.specs.Refusal.{at, _next_}
 use Rattle.structure.specs.RefusalLaws.{next-accepts, accepts-next, at-accepts, accepts-at}
 use Rattle.structure.specs.Structured.{Tree}
-use Rattle.names.specs.Names.{isDeclaration, declarationCount}
+use Rattle.words.specs.Declarations.{isDeclaration, declarationCount}
 use Rattle.names.specs.ScopeLaws.{before-later}
 use Rattle.declaration_causes.specs.Causes.{outsideBlock, namesItself, declaredBefore, oneTooMany, declarationRefusal}
 use Rattle.declaration_causes.specs.Demands.{WellDeclared}

@@ -10,7 +10,8 @@ use Rattle.words.specs.Search.{lowestRow, someField}
 use Rattle.words.specs.declared.Verdict.{Verdict}
 use Rattle.words.specs.Links.{link}
 use Rattle.structure.specs.Refusal.{at, _next_}
-use Rattle.names.specs.Names.{isDeclaration, isName, declarationsBefore, declarationLimit}
+use Rattle.words.specs.Declarations.{isDeclaration, declarationsBefore, declarationLimit}
+use Rattle.names.specs.Names.{isName}
 use Rattle.list_items.specs.Items.{itemAt, someEarlier}
 
 -- Cause 7: "It is an item of a block (elsewhere 7)". A block is kind 42, its list begins at a.

@@ -13,7 +13,7 @@ use Rattle.words.specs.Search.{lowestRow}
 use Rattle.words.specs.SearchLaws.{lowestRow-all, all-lowestRow}
 use Rattle.words.specs.declared.Found.the-variants.{Nothing}
 use Rattle.structure.specs.Structured.{Tree}
-use Rattle.names.specs.Names.{isDeclaration, declarationsBefore, declarationCount}
+use Rattle.words.specs.Declarations.{isDeclaration, declarationsBefore, declarationCount}
 use Rattle.names.specs.ScopeLaws.{before-later}
 use Rattle.list_items.specs.ItemLaws.{item-noted, noted-item}
 use Rattle.list_items.specs.EarlierLaws.{earlier-met, met-earlier}

@@ -8,7 +8,8 @@ use Rattle.words.specs.Table.{rowCount, numberAt}
 use Rattle.words.specs.Links.{link}
 use Rattle.structure.specs.Structured.{Leads}
 use Rattle.structure.specs.Lists.{Before}
-use Rattle.names.specs.Names.{isDeclaration, isName, declarationCount}
+use Rattle.words.specs.Declarations.{isDeclaration, declarationCount}
+use Rattle.names.specs.Names.{isName}
 use Rattle.list_items.specs.Items.{ListItem}
 
 -- The rows of a declaration's initial expression: b, and what stands below it.

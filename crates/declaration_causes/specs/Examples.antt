@@ -8,7 +8,7 @@ use Rattle.words.specs.Table.{wordAt, numberAt}
 use Rattle.words.specs.Search.{lowest, lowestRow}
 use Rattle.words.specs.declared.Found.{Found}
 use Rattle.words.specs.declared.Found.the-variants.{At, Nothing}
-use Rattle.names.specs.Names.{isDeclaration, declarationsBefore}
+use Rattle.words.specs.Declarations.{isDeclaration, declarationsBefore}
 use Rattle.declaration_causes.specs.Causes.{oneTooMany}
 
 -- A row and the rows behind it.

@@ -16,7 +16,8 @@ use Rattle.words.specs.Search.{some, someField}
 use Rattle.words.specs.SearchLaws.{someField-all}
 use Rattle.structure.specs.NoteLaws.{above-zero}
 use Rattle.structure.specs.Structured.{Leads, Tree}
-use Rattle.names.specs.Names.{isDeclaration, isName}
+use Rattle.words.specs.Declarations.{isDeclaration}
+use Rattle.names.specs.Names.{isName}
 use Rattle.declaration_causes.specs.Causes.{namesNumber, namedWithin, namedFrom, namesItself}
 use Rattle.declaration_causes.specs.Demands.{InInitial, whole, below, NotOwn}
 

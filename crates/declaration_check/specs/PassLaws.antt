@@ -12,7 +12,7 @@ use Rattle.structure.specs.Structured.{Tree}
 use Rattle.structure.specs.Passes.{written, Notes}
 use Rattle.structure.specs.NoteLaws.{Noted, noted-start}
 use Rattle.structure.specs.WrittenLaws.{written-length, written-noted, notes-written}
-use Rattle.names.specs.Names.{isDeclaration}
+use Rattle.words.specs.Declarations.{isDeclaration}
 use Rattle.list_items.specs.Items.{itemAt, earlierAt}
 use Rattle.declaration_causes.specs.Causes.{outsideBlock, namesItself, declaredBefore, oneTooMany}
 use Rattle.declaration_check.specs.Passes.{handed, noteAt, breaks}

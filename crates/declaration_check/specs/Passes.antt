@@ -3,7 +3,7 @@ use mathlib.Core.Bool.{Bool}
 use mathlib.Core.List.{List}
 use Prim.Native.Nat.{ℕ}
 use lib.IntN.{ℤ}
-use Rattle.names.specs.Names.{isDeclaration, declarationsBefore}
+use Rattle.words.specs.Declarations.{isDeclaration, declarationsBefore}
 use Rattle.list_items.specs.Items.{itemOf, itemAt, earlierOf, earlierAt}
 use Rattle.declaration_causes.specs.Causes.{outsideBlock, namesItself, declaredBefore, oneTooMany}
 use Rattle.declaration_check.specs.declared.Note.{Note}

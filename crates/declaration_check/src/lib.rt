@@ -7,6 +7,7 @@ use structure::causes::at;
 use words::Found;
 use words::Refusal;
 use words::Verdict;
+use words::declarations::declaration_count;
 
 pub mod breaks; // breaks.rt: the lowest row that breaks a cause
 pub mod initial; // initial.rt: cause 18, a walk down an initial expression
@@ -19,7 +20,8 @@ ghost use Rattle.words.specs.Search.{lowestRow};
 ghost use Rattle.grammar.specs.Grammar.{grammar};
 ghost use Rattle.structure.specs.Structured.{Tree};
 ghost use Rattle.structure.specs.Passes.{Notes};
-ghost use Rattle.names.specs.Names.{declarationsBefore, declarationCount};
+ghost use Rattle.words.specs.Declarations.{declarationCount};
+ghost use Rattle.words.specs.Declarations.{declarationsBefore};
 ghost use Rattle.declaration_causes.specs.Causes.{outsideBlock, declarationRefusal};
 ghost use Rattle.declaration_check.specs.Passes.{noteAt};
 ghost use Rattle.declaration_check.specs.declared.Note.the-variants.{EarlierDeclaration};

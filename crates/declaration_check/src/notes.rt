@@ -4,7 +4,7 @@ use grammar::KindTable;
 use grammar::link;
 use list_items::hand_earlier;
 use list_items::hand_item;
-use resolver::scopes::is_declaration;
+use words::declarations::is_declaration;
 ghost use mathlib.Core.Path.{_≡_};
 ghost use Prim.Native.Nat.{_+_, _*_, _/_, _<_, _≤_};
 ghost use lib.ListN.{length, getD};

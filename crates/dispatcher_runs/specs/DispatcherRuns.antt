@@ -7,7 +7,7 @@ use lib.ListN.{length}
 use Rattle.words.specs.Word.{pick}
 use Rattle.words.specs.Answers.{endingNumber}
 use Rattle.words.specs.Numbers.{Numbers, done, refused}
-use Rattle.words.specs.Layout.{layoutOf, storeSize, temporariesOf, zeros}
+use Rattle.words.specs.Layout.{layoutOf, storeSize, behindOf, zeros}
 use Rattle.words.specs.declared.Ending.{Ending}
 use Rattle.words.specs.declared.Form.the-variants.{Kernel}
 use Rattle.words.specs.declared.Refusal.{Refusal}
@@ -41,9 +41,9 @@ dispatcherRefused refusal words = answerAndWords (DispatcherRefused refusal) wor
 abbrev pub shown : DispatcherView → DispatcherResult
 shown view = answerAndWords (Shown (view .ending)) (view .words)
 
--- The dispatcher's view of a kernel run on these words, whose temporaries begin as zeros.
+-- The dispatcher's view of a kernel run on these words, whose declared words and temporaries begin as zeros.
 abbrev pub viewOfRun : List ℤ → List ℤ → ℕ → List ℤ → DispatcherView
-viewOfRun header rows budget words = dispatcherView (storeSize (layoutOf Kernel header)) (runProgram Kernel header rows budget (words ++ zeros (temporariesOf Kernel header)))
+viewOfRun header rows budget words = dispatcherView (storeSize (layoutOf Kernel header)) (runProgram Kernel header rows budget (words ++ zeros (behindOf Kernel header)))
 
 -- The check's causes first; then 11, not S words; then the run.
 abbrev pub dispatcherAfter : Verdict → List ℤ → List ℤ → ℕ → List ℤ → DispatcherResult

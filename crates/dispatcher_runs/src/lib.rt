@@ -1,4 +1,4 @@
-// The run that a dispatcher sees: the ending and the first S words. The temporaries are kept here.
+// The run that a dispatcher sees: the ending and the first S words. The declared words and the temporaries are kept here.
 use copying::put;
 use program_runs::kernel_check;
 use program_runs::run_accepted;
@@ -6,11 +6,11 @@ use words::Ending;
 use words::Form;
 use words::Refusal;
 use words::Verdict;
+use words::layout::header_store;
 use words::layout::store_size;
-use words::layout::store_words;
 ghost use mathlib.Core.Path.{_≡_};
 ghost use lib.ListN.{length};
-ghost use Rattle.words.specs.Layout.{layoutOf, storeSize, storeWords, zeros};
+ghost use Rattle.words.specs.Layout.{layoutOf, storeSize, headerStore, zeros};
 ghost use Rattle.words.specs.declared.Form.the-variants.{Kernel};
 ghost use Rattle.words.specs.declared.Verdict.the-variants.{Accepted};
 ghost use Rattle.fate.specs.Views.{DispatcherView};
@@ -23,7 +23,7 @@ pub enum DispatcherVerdict {
     Refused(Refusal),
 }
 
-// Runs an accepted program on its words and temporaries in a store of zeros, and takes the words back.
+// Runs an accepted program on its words in a store of zeros, and takes the words back.
 fn run_in_store(
     header: &[i32],
     rows: &[i32],
@@ -33,7 +33,7 @@ fn run_in_store(
 ) -> Ending
     requires { ⌜ refusalOf Kernel (now header) (now rows) ≡ Accepted ⌝ }
     requires { ⌜ length (now words) ≡ storeSize (layoutOf Kernel (now header)) ⌝ }
-    requires { ⌜ now store ≡ zeros (storeWords Kernel (now header)) ⌝ }
+    requires { ⌜ now store ≡ zeros (headerStore Kernel (now header)) ⌝ }
     ensures { λ r. ⌜ _≡_ {A = DispatcherView} (record { ending = r; words = now (words .exit) }) (viewOfRun (now (header .entry)) (now (rows .entry)) budget (now (words .entry))) ⌝ }
 {
     put(words, store);
@@ -49,8 +49,8 @@ fn run_on_words(header: &[i32], rows: &[i32], words: &mut [i32], budget: u32) ->
     requires { ⌜ length (now words) ≡ storeSize (layoutOf Kernel (now header)) ⌝ }
     ensures { λ r. ⌜ _≡_ {A = DispatcherView} (record { ending = r; words = now (words .exit) }) (viewOfRun (now (header .entry)) (now (rows .entry)) budget (now (words .entry))) ⌝ }
 {
-    let size = store_words(Form::Kernel, header);
-    let mut store = [0i32; 16384];
+    let size = header_store(Form::Kernel, header);
+    let mut store = [0i32; 16448];
     run_in_store(header, rows, words, budget, &mut store[0..size])
 }
 

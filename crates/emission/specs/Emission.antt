@@ -7,7 +7,7 @@ use lib.IntN.{ℤ, pos}
 use Rattle.words.specs.Word.{pick}
 use Rattle.words.specs.declared.Operator.{Operator}
 use Rattle.words.specs.declared.Operator.the-variants.{Add, Subtract, Multiply, Divide, Remainder, Less, Greater, LessOrEqual, GreaterOrEqual, Equal, NotEqual}
-use Rattle.language.specs.Trees.{Expression, constant, read, minus, not, binary, and, or, comma, conditional, assign, compound, prefix, postfix, Place, variable, element, Part, absent, present, Mark, case, default, label, Statement, empty, express, block, ifThen, ifElse, while, doWhile, for, switch, break, continue, goto, guardedIf, guardedDo, abort, Arms, noArm, arm, Items, none, _then_, _here_}
+use Rattle.language.specs.Trees.{Expression, constant, read, minus, not, binary, and, or, comma, conditional, assign, compound, prefix, postfix, Place, variable, element, Part, absent, present, Mark, case, default, label, Statement, empty, express, block, ifThen, ifElse, while, doWhile, for, switch, break, continue, goto, guardedIf, guardedDo, abort, declare, Arms, noArm, arm, Items, none, _then_, _here_}
 use Rattle.language.specs.Sizes.{expressionRows, placeRows, partRows, statementRows}
 
 -- "kind, a, b, c, d, next"; a is a value or a number, the others are numbers.
@@ -106,6 +106,7 @@ unfoldable mutual
   emitStatement (guardedIf arms) base next = rowOf 54 (pos (armsLink arms (base + 1))) 0 0 0 next ++ emitArms arms (base + 1)
   emitStatement (guardedDo arms) base next = rowOf 55 (pos (armsLink arms (base + 1))) 0 0 0 next ++ emitArms arms (base + 1)
   emitStatement abort base next = rowOf 57 (pos 0) 0 0 0 next
+  emitStatement (declare i e) base next = rowOf 58 (pos i) (base + 1) 0 0 next ++ emitExpression e (base + 1)
 
   -- The rows of arms, from the row `base` on.
   pub emitArms : Arms → ℕ → List ℤ

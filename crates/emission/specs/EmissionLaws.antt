@@ -5,7 +5,7 @@ use mathlib.Core.List.{_++_, append-assoc}
 use Prim.Native.Nat.{ℕ, _+_, _*_}
 use native.Mathlib.Omega.{arith}
 use lib.ListN.{length, length-append}
-use Rattle.language.specs.Trees.{Expression, constant, read, minus, not, binary, and, or, comma, conditional, assign, compound, prefix, postfix, Place, variable, element, Part, absent, present, Mark, case, default, label, Statement, empty, express, block, ifThen, ifElse, while, doWhile, for, switch, break, continue, goto, guardedIf, guardedDo, abort, Arms, noArm, arm, Items, none, _then_, _here_, _⧺_}
+use Rattle.language.specs.Trees.{Expression, constant, read, minus, not, binary, and, or, comma, conditional, assign, compound, prefix, postfix, Place, variable, element, Part, absent, present, Mark, case, default, label, Statement, empty, express, block, ifThen, ifElse, while, doWhile, for, switch, break, continue, goto, guardedIf, guardedDo, abort, declare, Arms, noArm, arm, Items, none, _then_, _here_, _⧺_}
 use Rattle.language.specs.Sizes.{expressionRows, placeRows, partRows, statementRows, armsRows, itemsRows}
 use Rattle.emission.specs.Emission.{emitExpression, emitPlace, emitPart, listLink, emitMark, emitStatement, emitArms, emitItems, emit}
 
@@ -99,6 +99,7 @@ mutual
   length-statement (guardedIf arms) base next = omega (arith, length-arms arms (base + 1))
   length-statement (guardedDo arms) base next = omega (arith, length-arms arms (base + 1))
   length-statement abort base next = refl
+  length-statement (declare i e) base next = omega (arith, length-expression e (base + 1))
 
   length-arms : (arms : Arms) (base : ℕ) → length (emitArms arms base) ≡ 6 * armsRows arms
   length-arms noArm base = refl

@@ -12,14 +12,13 @@ use lib.Dec.{eqb}
 use borrow.Author.Tests.{eq-eqb, eqb-true}
 use lib.IntN.{ℤ, pos}
 use lib.ListN.{length, List·getD-eq-default}
-use Rattle.words.specs.Word.{natural}
+use Rattle.words.specs.Word.{natural, one}
 use Rattle.words.specs.Table.{rowCount, wordAt, numberAt}
 use Rattle.language.specs.Trees.{Expression, Statement, Items}
 use Rattle.language.specs.Sizes.{expressionRows, statementRows, itemsRows}
 use Rattle.translation.specs.KernelForm.{statementTimes, itemsTimes}
 use Rattle.words.specs.Kinds.{sortOf, sortAt, kindOf, kindIn, kinds, sortIn, kindRow, expressionFields, statementFields, markFields}
 use Rattle.words.specs.Links.{isStatement}
-use Rattle.structure.specs.Links.{one}
 use Rattle.kernel_check.specs.Legal.{Label}
 use Rattle.emission.specs.Emitted.{Row, EmittedExpression, EmittedStatement, empty-at, express-at, block-at, if-at, while-at, goto-at, abort-at, EmittedItems, none-at, then-at, label-at}
 use Rattle.emission_legal.specs.Ranges.{Each}

@@ -3,12 +3,12 @@
 use mathlib.Core.Path.{_≡_}
 use mathlib.Core.Bool.{true}
 use mathlib.Core.List.{List}
-use Prim.Native.Nat.{ℕ, _*_, _≤_, _<_}
+use Prim.Native.Nat.{ℕ, _+_, _*_, _≤_, _<_}
 use native.Mathlib.Omega.{arith}
 use lib.IntN.{ℤ}
 use lib.ListN.{length}
 use Rattle.words.specs.Table.{rowCount, numberAt}
-use Rattle.words.specs.Layout.{Layout, temporariesOf, layoutOf, headerFits}
+use Rattle.words.specs.Layout.{Layout, behindOf, layoutOf, storeSize, headerFits}
 use Rattle.words.specs.declared.Form.the-variants.{Source, Kernel}
 use Rattle.language.specs.Trees.{has, block, Items}
 use Rattle.language.specs.Decode.{decode}
@@ -16,7 +16,8 @@ use Rattle.language.specs.Sizes.{statementRows, statementDepth}
 use Rattle.language.specs.WellFormed.{SourceTree}
 use Rattle.translation.specs.Translate.{translate, temporaries, kernelHeader}
 use Rattle.translation.specs.KernelForm.{kernel-block, statementTimes, KernelTree}
-use Rattle.translation_form.specs.TranslateKernel.{translation-is-kernel, header-layout, header-temporaries, header-fits}
+use Rattle.translation.specs.TranslateBounds.{temporaries-bound}
+use Rattle.translation_form.specs.TranslateKernel.{translation-is-kernel, header-layout, header-behind, header-fits}
 use Rattle.words.specs.Kinds.{sortOf, sortAt, kindOf, kindIn, kinds, sortIn, kindRow, expressionFields, statementFields, markFields}
 use Rattle.words.specs.Links.{isStatement}
 use Rattle.kernel_check.specs.Legal.{Legal}
@@ -45,7 +46,7 @@ unfolding isStatement sortAt sortOf kindOf kindIn kinds sortIn kindRow expressio
 goto-statement rows row e = rw e
 
 -- The table of a kernel program's tree is a legal kernel program.
-pub kernel-legal : (header : List ℤ) {program : Items} → headerFits Kernel header ≡ true → KernelTree (layoutOf Kernel header) (temporariesOf Kernel header) program
+pub kernel-legal : (header : List ℤ) {program : Items} → headerFits Kernel header ≡ true → KernelTree (layoutOf Kernel header) (behindOf Kernel header) program
     → Legal header (emit (block program))
 unfolding statementTimes has
 kernel-legal header {program} fit k =
@@ -70,17 +71,17 @@ kernel-legal header {program} fit k =
 -- "The translation of an accepted program is itself a legal kernel program": its header and its table, where the check has found the
 -- program's limits and its tree well formed.
 module _ (header : List ℤ) (program : Items) (fit : headerFits Source header ≡ true) (source : SourceTree (layoutOf Source header) program)
-    (few : statementRows (block program) ≤ 2048) (shallow : statementDepth (block program) ≤ 64) where
+    (few : statementRows (block program) ≤ 2048) (shallow : statementDepth (block program) ≤ 64) (D : ℕ) (declared : D ≤ 64) where
   abbrev layout : Layout
   layout = layoutOf Source header
 
-  kernel-tree : KernelTree layout (temporaries program) (translate layout program)
-  kernel-tree = translation-is-kernel layout program source few shallow
+  kernel-tree : KernelTree layout (D + temporaries program) (translate (storeSize layout + D) program)
+  kernel-tree = translation-is-kernel layout D declared program source few shallow
 
-  pub translated-legal : Legal (kernelHeader layout (temporaries program)) (emit (block (translate layout program)))
+  pub translated-legal : Legal (kernelHeader layout D (temporaries program)) (emit (block (translate (storeSize layout + D) program)))
   translated-legal =
       let T = temporaries program in
-      kernel-legal (kernelHeader layout T) (header-fits header fit T (kernel-tree .few-temporaries)) (rw (header-layout layout T, header-temporaries layout T) kernel-tree)
+      kernel-legal (kernelHeader layout D T) (header-fits header fit D T declared (omega (arith, temporaries-bound program))) (rw (header-layout layout D T, header-behind layout D T) kernel-tree)
 
-  pub translated-decodes : decode (emit (block (translate layout program))) ≡ block (translate layout program)
+  pub translated-decodes : decode (emit (block (translate (storeSize layout + D) program))) ≡ block (translate (storeSize layout + D) program)
   translated-decodes = kernel-decodes kernel-tree

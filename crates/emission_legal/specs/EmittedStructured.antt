@@ -9,7 +9,7 @@ use borrow.Author.Tests.{lt-ltb, le-leb}
 use lib.IntN.{ℤ}
 use lib.ListN.{length}
 use Rattle.words.specs.Table.{rowCount}
-use Rattle.words.specs.Layout.{temporariesOf, layoutOf, storeSize, storeWords}
+use Rattle.words.specs.Layout.{behindOf, layoutOf, storeSize, headerStore}
 use Rattle.words.specs.Laws.{facts-countFits}
 use Rattle.words.specs.declared.Form.the-variants.{Kernel}
 use Rattle.language.specs.Trees.{block, Items, none}
@@ -32,13 +32,13 @@ use Rattle.emission_legal.specs.EmittedOnce.{linked-once}
 block-row : {rows : List ℤ} {contents : Items} {base next : ℕ} → EmittedStatement rows (block contents) base next → Row rows base 42 (listLink false contents (base + 1)) 0 0 0 next
 block-row (block-at r m) = r
 
-name-fits : (header : List ℤ) (i : ℕ) → KernelName (layoutOf Kernel header) (temporariesOf Kernel header) i → numberFits (boundsOf Kernel header) variable i ≡ true
-unfolding numberFits boundsOf storeWords
+name-fits : (header : List ℤ) (i : ℕ) → KernelName (layoutOf Kernel header) (behindOf Kernel header) i → numberFits (boundsOf Kernel header) variable i ≡ true
+unfolding numberFits boundsOf headerStore
 name-fits header i (name-variable h) = rw (lt-ltb _ _ h)
 name-fits header i (name-temporary {t} h) =
     let L = layoutOf Kernel header in
     let least : storeSize L ≤ storeSize L + t = omega arith in
-    let most : storeSize L + t < storeSize L + temporariesOf Kernel header = omega arith in
+    let most : storeSize L + t < storeSize L + behindOf Kernel header = omega arith in
     rw (le-leb _ _ least, lt-ltb _ _ most) (or-true (ltb (storeSize L + t) (L .variables)))
 
 array-fits : (header : List ℤ) (i : ℕ) → i < length (layoutOf Kernel header .lengths) → numberFits (boundsOf Kernel header) array i ≡ true
@@ -50,7 +50,7 @@ unfolding numberFits
 label-fits header l h = rw (lt-ltb _ _ h)
 
 module _ (header : List ℤ) {contents : Items} (few : statementRows (block contents) ≤ 40980) (form : KernelItems none contents)
-    (named : NamedItems (KernelName (layoutOf Kernel header) (temporariesOf Kernel header)) (length (layoutOf Kernel header .lengths)) contents) where
+    (named : NamedItems (KernelName (layoutOf Kernel header) (behindOf Kernel header)) (length (layoutOf Kernel header .lengths)) contents) where
   -- The table of a block of kernel form, whose numbers are in range.
   pub emitted-structured : Structured Kernel (boundsOf Kernel header) (emit (block contents))
   unfolding NamedStatement
@@ -61,7 +61,7 @@ module _ (header : List ℤ) {contents : Items} (few : statementRows (block cont
       let some = statement-some (block contents) in
       let first = emitted (a-block (items-kinds form)) in
       let bounds = boundsOf Kernel header in
-      let legal = legal-statement bounds rows (KernelName (layoutOf Kernel header) (temporariesOf Kernel header)) (length (layoutOf Kernel header .lengths)) (name-fits header) (array-fits header) (label-fits header)
+      let legal = legal-statement bounds rows (KernelName (layoutOf Kernel header) (behindOf Kernel header)) (length (layoutOf Kernel header .lengths)) (name-fits header) (array-fits header) (label-fits header)
       (rowCount rows) (omega arith) first (suits-absent bounds rows 0) named (kernel-block form) in
       let row-legal : (row : ℕ) → row < rowCount rows → RowLegal bounds rows row = λ row h. legal row (omega arith) h in
       let root = block-row first in

@@ -10,7 +10,7 @@ use lib.IntN.{ℤ}
 use Rattle.words.specs.Word.{pick}
 use Rattle.words.specs.Table.{rowCount, numberAt}
 use Rattle.words.specs.declared.Form.the-variants.{Kernel}
-use Rattle.words.specs.Kinds.{unused, value, variable, label, expression, optionalItem, sortOf, sortAt, inLanguage, isLink, isRequired}
+use Rattle.words.specs.Kinds.{unused, value, variable, array, label, declaredNumber, expression, place, branch, optionalItem, bodyBlock, optionalArm, sortOf, sortAt, inLanguage, isLink, isRequired}
 use Rattle.words.specs.Links.{link, fits}
 use Rattle.row_fields.specs.Fields.{numberFits}
 use Rattle.grammar.specs.GrammarLaws.{kind-links-none}
@@ -103,8 +103,8 @@ module _ (bounds : Bounds) (rows : List ℤ) (row : ℕ) where
   pub suits-name : (sort number : ℕ) → variable ≤ sort → sort ≤ label → numberFits bounds sort number ≡ true → Suits bounds rows row sort number
   unfolding isRequired isLink
   suits-name sort number l m fit =
-      let required : isRequired sort ≡ false = rw (ne-eqb sort 5 (λ e. omega arith), ne-eqb sort 7 (λ e. omega arith), ne-eqb sort 8 (λ e. omega arith), ne-eqb sort 11 (λ e. omega arith)) in
-      let linking : isLink sort ≡ false = rw (lt-leb 5 sort (omega arith)) in
+      let required : isRequired sort ≡ false = rw (ne-eqb sort expression (λ e. omega arith), ne-eqb sort place (λ e. omega arith), ne-eqb sort branch (λ e. omega arith), ne-eqb sort bodyBlock (λ e. omega arith)) in
+      let linking : isLink sort ≡ false = rw (lt-leb expression sort (omega arith)) in
       record {
         zero-where-unused = λ q. absurd (omega arith);
         there-where-required = λ q. absurd (false≢true (sym required ∙ q));
@@ -118,14 +118,14 @@ module _ (bounds : Bounds) (rows : List ℤ) (row : ℕ) where
   pub suits-link-to : (sort number : ℕ) → expression ≤ sort → sort ≤ optionalItem → row < number → number < rowCount rows → fits rows sort number ≡ true → Suits bounds rows row sort number
   unfolding isRequired isLink numberFits
   suits-link-to sort number l m later inside fitting =
-      let linking : isLink sort ≡ true = rw (le-leb 5 sort l, le-leb sort 12 (omega arith)) in
+      let linking : isLink sort ≡ true = rw (le-leb expression sort l, le-leb sort optionalArm (omega arith)) in
       record {
         zero-where-unused = λ q. absurd (omega arith);
         there-where-required = λ q. (linking, omega arith);
         forward = λ q h. later;
         inside = λ q h. inside;
         fitting = λ q h. fitting;
-        named = rw (ne-eqb sort 2 (λ e. omega arith), ne-eqb sort 3 (λ e. omega arith), ne-eqb sort 4 (λ e. omega arith));
+        named = rw (ne-eqb sort variable (λ e. omega arith), ne-eqb sort declaredNumber (λ e. omega arith), ne-eqb sort array (λ e. omega arith), ne-eqb sort label (λ e. omega arith));
       }
 
   -- An item that is absent.

@@ -6,7 +6,7 @@ use mathlib.Core.List.{List}
 use Prim.Native.Nat.{ℕ, zero, suc, _+_, _*_, _≤_, _<_}
 use native.Mathlib.Omega.{arith}
 use lib.IntN.{ℤ, pos}
-use lib.ListN.{length}
+use lib.ListN.{length, set}
 use Rattle.words.specs.Word.{natural, pick}
 use Rattle.words.specs.Table.{rowCount, wordAt, numberAt}
 use Rattle.words.specs.Kinds.{kindOf, isStatementKind, isLink, isRequired, statementFields, kindRow, sortIn}
@@ -15,15 +15,15 @@ use Rattle.words.specs.Layout.{Layout}
 use Rattle.arithmetic.specs.Arithmetic.{isTrue}
 use Rattle.words.specs.declared.Kind.{Kind}
 use Rattle.words.specs.declared.Kind.the-variants.{OfStatement}
-use Rattle.words.specs.declared.StatementKind.the-variants.{Empty, Express, Block, If, While, Do, For, Switch, Break, Continue, Goto}
+use Rattle.words.specs.declared.StatementKind.the-variants.{Empty, Express, Block, If, While, Do, For, Switch, Break, Continue, Goto, Declare}
 use Rattle.computation.specs.Computation.{Computation, ret, _>>=_, loop}
 use Rattle.computation.specs.Remaining.{Rest, gives, onward, spend}
-use Rattle.language.specs.Trees.{Part, absent, present, label, Statement, express, block, ifThen, ifElse, while, doWhile, for, switch}
+use Rattle.language.specs.Trees.{Part, absent, present, label, Statement, express, block, ifThen, ifElse, while, doWhile, for, switch, declare}
 use Rattle.language.specs.Decode.{expressionAt, statementAt, listAt, partAt}
-use Rattle.language.specs.DecodeLaws.{at-no-statement, at-empty, at-express, at-block, at-ifThen, at-ifElse, at-while, at-doWhile, at-for, at-switch, at-break, at-continue, at-goto, part-some}
+use Rattle.language.specs.DecodeLaws.{at-no-statement, at-empty, at-express, at-block, at-ifThen, at-ifElse, at-while, at-doWhile, at-for, at-switch, at-break, at-continue, at-goto, at-declare, part-some}
 use Rattle.language.specs.Meaning.{Signal, next, breaking, continuing, seeking, perform, items, afterSwitch}
 use Rattle.language.specs.Sound.{Link, OptionalLink}
-use Rattle.language.specs.SoundLaws.{optional-link-of}
+use Rattle.language.specs.SoundLaws.{field-of, optional-link-of}
 use Rattle.operations.specs.Bounds.{layoutFrom}
 use Rattle.operations.specs.Ready.{Ready, Entered}
 use Rattle.operations.specs.Rows.{valueAt}
@@ -210,10 +210,29 @@ module _ {rows : List ℤ} {bounds : List ℕ} {words row : ℕ} where
   unfolding spend perform numberAt
   goto-row here n s = known rows bounds row _ n s (at-goto rows (whole here) row (here .kind-is))
 
+  pub declare-link : Entered rows bounds words row (OfStatement Declare) → Link rows (layoutFrom bounds) words row 2
+  unfolding isLink isRequired sortIn kindRow statementFields
+  declare-link here = link here 2 (omega arith) (omega arith) refl
+
+  -- the word of the new object is in the store
+  pub declared-inside : Entered rows bounds words row (OfStatement Declare) → numberAt rows row 1 < words
+  unfolding sortIn kindRow statementFields
+  declared-inside here = field-of (here .ready .setting .sound) (here .ready .below) (here .kind-is) 1 (omega arith) (omega arith) .declares-word refl
+
+  pub declared-asks : Entered rows bounds words row (OfStatement Declare) → (6 * row + 1 < length rows) × (numberAt rows row 1 < 2147483648)
+  declared-asks here = (omega (arith, whole here, here .ready .below), omega (arith, declared-inside here, here .ready .setting .few-words))
+
+  pub declare-row : Entered rows bounds words row (OfStatement Declare) → {i b : ℕ} → i ≡ numberAt rows row 1 → b ≡ numberAt rows row 2 → (n : ℕ) (s : List ℤ)
+      → spend (performAt rows bounds row) n s ≡ onward (spend (valueAt rows bounds b) n s) (λ v n s. gives next n (set s i v))
+  unfolding spend perform
+  declare-row here {i} {b} p q n s =
+      let t : statementAt rows row ≡ declare i (expressionAt rows b) = at-declare rows (whole here) row (here .kind-is) (declare-link here .later) ∙ rw (← p, ← q) in
+      known rows bounds row _ n s t
+
   -- a row whose number no statement has
   pub other-row : Ready rows bounds words row → {number : ℕ} → number ≡ numberAt rows row 0 → ((40 ≤ number) × (number ≤ 47) → ⊥) → ((50 ≤ number) × (number ≤ 52) → ⊥)
-      → ((54 ≤ number) × (number ≤ 55) → ⊥) → (number ≡ 57 → ⊥) → (n : ℕ) (s : List ℤ)
+      → ((54 ≤ number) × (number ≤ 55) → ⊥) → ((57 ≤ number) × (number ≤ 58) → ⊥) → (n : ℕ) (s : List ℤ)
       → spend (performAt rows bounds row) n s ≡ gives next n s
   unfolding spend perform
-  other-row here {number} p plain jumps guarded aborting n s =
-      known rows bounds row _ n s (at-no-statement rows (here .setting .sound .whole) row (ap isStatementKind (kind-numbered rows row p number refl) ∙ no-statement number plain jumps guarded aborting))
+  other-row here {number} p plain jumps guarded others n s =
+      known rows bounds row _ n s (at-no-statement rows (here .setting .sound .whole) row (ap isStatementKind (kind-numbered rows row p number refl) ∙ no-statement number plain jumps guarded others))

@@ -27,7 +27,7 @@ use words::table::word_at;
 ghost use mathlib.Core.Path.{_≡_};
 ghost use lib.ListN.{length};
 ghost use Rattle.words.specs.declared.Kind.the-variants.{OfStatement};
-ghost use Rattle.words.specs.declared.StatementKind.the-variants.{Express, If, For, Switch, GuardedIf, GuardedDo};
+ghost use Rattle.words.specs.declared.StatementKind.the-variants.{Express, If, For, Switch, GuardedIf, GuardedDo, Declare};
 ghost use Rattle.computation.specs.Remaining.{spend};
 ghost use Rattle.operations.specs.Answers.{answered};
 ghost use Rattle.operations.specs.Ready.{Ready, Entered};
@@ -62,6 +62,21 @@ fn express(rows: &[i32], bounds: &[usize], row: usize, store: &mut [i32], left: 
     let Operand::Value(_) = value else {
         return answer;
     };
+    NEXT
+}
+
+// A declaration's row, entered: the value of the initial expression goes to the word of the new object.
+fn declare(rows: &[i32], bounds: &[usize], row: usize, store: &mut [i32], left: &mut u32) -> i64
+    requires { ⌜ Entered (now rows) (now bounds) (length (now store)) row (OfStatement Declare) ⌝ }
+    ensures { λ r. ⌜ ran r (now (left .exit)) (now (store .exit)) ≡ spend (performAt (now (rows .entry)) (now (bounds .entry)) row) (now (left .entry)) (now (store .entry)) ⌝ }
+{
+    let answer = eval(&*rows, &*bounds, link_at(rows, row, 2), store, left);
+    let first = operand(answer);
+    let Operand::Value(value) = first else {
+        return answer;
+    };
+    let at = link_at(rows, row, 1);
+    store[at] = value;
     NEXT
 }
 
@@ -117,6 +132,7 @@ fn perform(rows: &[i32], bounds: &[usize], row: usize, store: &mut [i32], left: 
         54 => guarded_if(&*rows, &*bounds, row, store, left),
         55 => guarded_do(&*rows, &*bounds, row, store, left),
         57 => GUARD,
+        58 => declare(&*rows, &*bounds, row, store, left),
         _ => NEXT,
     }
 }

@@ -10,6 +10,7 @@ use shapes::rows::place_at;
 ghost use mathlib.Core.Path.{_≡_};
 ghost use Prim.Native.Nat.{_+_, _*_, _≤_, _<_};
 ghost use lib.ListN.{length};
+ghost use Rattle.words.specs.Word.{pick};
 ghost use Rattle.words.specs.Table.{rowCount};
 ghost use Rattle.language.specs.Decode.{placeOf, expressionAt};
 ghost use Rattle.translation.specs.Uses.{direct};
@@ -121,4 +122,15 @@ pub fn direct_at(rows: &[i32], row: usize) -> bool
         ExpressionShape::Operation(operation) => direct_operation(operation),
         ExpressionShape::Choice(_) => false,
     }
+}
+
+// How many rows store the value of the expression at a row in a variable: none where it goes straight there.
+pub fn store_rows(rows: &[i32], row: usize) -> usize
+    requires { ⌜ Source (now rows) × (row < rowCount (now rows)) ⌝ }
+    ensures { λ r. ⌜ r ≡ pick (direct (expressionAt (now (rows .entry)) row)) 0 4 ⌝ }
+{
+    if direct_at(rows, row) {
+        return 0;
+    }
+    4
 }

@@ -6,12 +6,12 @@ use Prim.Native.Nat.{ℕ, _*_, _≤_}
 use lib.IntN.{ℤ}
 use lib.ListN.{length, take}
 use Rattle.words.specs.Table.{rowCount}
-use Rattle.words.specs.Layout.{layoutOf, storeSize, temporariesOf}
+use Rattle.words.specs.Layout.{storeWords, temporariesOf}
 use Rattle.words.specs.declared.Form.the-variants.{Source, Kernel}
 use Rattle.words.specs.declared.Ending.the-variants.{Spent}
 use Rattle.language.specs.Program.{Finished, runProgram}
 
--- A source program and a kernel program, started on the same variables and arrays, the kernel with these temporaries.
+-- A source program and a kernel program, started on the same variables, arrays and declared words, the kernel with these temporaries.
 module _ (header rows kernelHeader kernelRows store temporaries : List ℤ) where
   abbrev pub sourceRun : ℕ → Finished
   sourceRun budget = runProgram Source header rows budget store
@@ -33,7 +33,7 @@ module _ (header rows kernelHeader kernelRows store temporaries : List ℤ) wher
     pub end-together : SourceEnds ↔ KernelEnds
     -- for budgets that are enough: "then both plainly or both with a fault of the same sort,"
     pub same-ending : (b d : ℕ) → ((sourceRun b) .ending ≡ Spent → ⊥) → ((kernelRun d) .ending ≡ Spent → ⊥) → (kernelRun d) .ending ≡ (sourceRun b) .ending
-    -- "with every variable and array cell equal;"
+    -- "with every variable and array cell equal;" the declared words too
     pub same-cells : (b d : ℕ) → ((sourceRun b) .ending ≡ Spent → ⊥) → ((kernelRun d) .ending ≡ Spent → ⊥) → take (length store) ((kernelRun d) .store) ≡ (sourceRun b) .store
     -- "and the kernel's count is at most the translation's rows × the source's count."
     pub count-bound : (b d : ℕ) → ((sourceRun b) .ending ≡ Spent → ⊥) → ((kernelRun d) .ending ≡ Spent → ⊥) → (kernelRun d) .count ≤ rowCount kernelRows * (sourceRun b) .count
@@ -41,5 +41,5 @@ module _ (header rows kernelHeader kernelRows store temporaries : List ℤ) wher
 -- "whatever its variables and arrays hold and whatever stands in the temporaries"
 abbrev pub ShareFate : List ℤ → List ℤ → List ℤ → List ℤ → Type 0
 ShareFate header rows kernelHeader kernelRows =
-    (store temporaries : List ℤ) → length store ≡ storeSize (layoutOf Source header) → length temporaries ≡ temporariesOf Kernel kernelHeader
+    (store temporaries : List ℤ) → length store ≡ storeWords Source header rows → length temporaries ≡ temporariesOf Kernel kernelHeader
     → SharedFate header rows kernelHeader kernelRows store temporaries

@@ -1,15 +1,17 @@
 -- The theorem: every accepted program has a kernel form that is legal, shares its fate, makes the same writes and hides its temporaries. From
 -- the theorems about trees (`translation-preserves`, `translation-writes`, `temporaries-hidden`, `translated-legal`), since decode reads both
 -- tables.
-use mathlib.Core.Path.{_≡_, refl, ap, ap₂, _∙_}
+use mathlib.Core.Path.{_≡_, refl, sym, ap, ap₂, _∙_}
 use mathlib.Core.List.{List, _++_}
 use Prim.Native.Nat.{ℕ, _+_, _*_, _≤_}
 use native.Mathlib.Omega.{arith}
 use lib.IntN.{ℤ}
 use lib.ListN.{length, take}
-use lib.Seq.{take-at}
+use lib.Seq.{take-at, take-take}
 use Rattle.words.specs.Table.{rowCount}
-use Rattle.words.specs.Layout.{Layout, layoutOf, storeSize, temporariesOf}
+use Rattle.words.specs.Declarations.{declarationCount}
+use Rattle.words.specs.Layout.{Layout, layoutOf, storeSize, storeWords, declaredOf, temporariesOf}
+use Rattle.words.specs.StoreLaws.{source-store, size-least}
 use Rattle.words.specs.Laws.{countFits-facts}
 use Rattle.words.specs.declared.Form.the-variants.{Source, Kernel}
 use Rattle.words.specs.declared.Ending.{Ending}
@@ -30,11 +32,12 @@ use Rattle.translation_form.specs.TranslateBlind.{Shown, temporaries-hidden}
 use Rattle.translation.specs.TranslateBounds.{rows-bound, temporaries-bound}
 use Rattle.translation.specs.Copies.{statementCopies, ownCopies, ownResults, total}
 use Rattle.translation.specs.CopyLaws.{copies-exactly}
-use Rattle.translation_form.specs.TranslateKernel.{header-layout, header-temporaries}
+use Rattle.translation_form.specs.TranslateKernel.{header-layout, header-declared, header-temporaries}
 use Rattle.emission.specs.EmissionLaws.{length-emit}
 use Rattle.emission_legal.specs.EmittedLegal.{translated-legal, translated-decodes}
 use Rattle.source_check.specs.Legal.{Legal}
 use Rattle.source_check.specs.AcceptsLegal.{accepts-legal as source-accepts}
+use Rattle.source_check.specs.DeclarationLaws.{legal-declarations}
 use Rattle.kernel_check.specs.Accepts.{accepts-legal as kernel-accepts}
 use Rattle.accepted.specs.Source.{legal-block, legal-tree, legal-rows, legal-depth}
 use Rattle.fate.specs.Fate.{SourceEnds, KernelEnds, SharedFate}
@@ -56,8 +59,12 @@ ends-settled (stopped (fault sort) σ) e = tt
 
 -- ---- results that show the same
 
-same-view : (S : ℕ) (r q : Result Signal) → Shown S r q → dispatcherView S (finished r) ≡ dispatcherView S (finished q)
-same-view S r q h = ap₂ (λ (ending : Ending) (words : List ℤ). record { ending = ending; words = words }) (h .same-ending) (h .same-words)
+-- the first S words of more that are the same
+same-view : (S more : ℕ) → S ≤ more → (r q : Result Signal) → Shown more r q → dispatcherView S (finished r) ≡ dispatcherView S (finished q)
+same-view S more most r q h = ap₂ (λ (ending : Ending) (words : List ℤ). record { ending = ending; words = words }) (h .same-ending) words
+  where
+    words : take S ((final r) .store) ≡ take S ((final q) .store)
+    words = sym (take-take S more ((final r) .store) most) ∙ ap (take S) (h .same-words) ∙ take-take S more ((final q) .store) most
 
 module _ (header rows : List ℤ) (legal : Legal header rows) where
   abbrev L : Layout
@@ -85,29 +92,44 @@ module _ (header rows : List ℤ) (legal : Legal header rows) where
 
   kernel-layout : layoutOf Kernel (kernelHeaderOf header rows) ≡ L
   unfolding kernelHeaderOf
-  kernel-layout = header-layout L (temporaries program)
+  kernel-layout = header-layout L (declarationCount rows) (temporaries program)
 
   kernel-temporaries : temporariesOf Kernel (kernelHeaderOf header rows) ≡ temporaries program
   unfolding kernelHeaderOf
-  kernel-temporaries = header-temporaries L (temporaries program)
+  kernel-temporaries = header-temporaries L (declarationCount rows) (temporaries program)
 
-  kernel-tree : decode (kernelRowsOf header rows) ≡ block (translate L program)
+  -- "At most 64."
+  declared : declarationCount rows ≤ 64
+  declared = legal-declarations header rows legal
+
+  kernel-declared : declaredOf Kernel (kernelHeaderOf header rows) ≡ declarationCount rows
+  unfolding kernelHeaderOf
+  kernel-declared = header-declared L (declarationCount rows) (temporaries program)
+
+  -- where the temporaries begin
+  abbrev first : ℕ
+  first = storeWords Source header rows
+
+  inside : storeSize L ≤ first
+  inside = size-least Source header rows
+
+  kernel-tree : decode (kernelRowsOf header rows) ≡ block (translate first program)
   unfolding kernelRowsOf
-  kernel-tree = translated-decodes header program (legal .header-fits) tree few shallow
+  kernel-tree = rw (source-store header rows) (translated-decodes header program (legal .header-fits) tree few shallow (declarationCount rows) declared)
 
-  kernel-rows : rowCount (kernelRowsOf header rows) ≡ statementRows (block (translate L program))
+  kernel-rows : rowCount (kernelRowsOf header rows) ≡ statementRows (block (translate first program))
   unfolding kernelRowsOf
-  kernel-rows = let l = length-emit (block (translate L program)) in omega arith
+  kernel-rows = let l = length-emit (block (translate first program)) in omega arith
 
-  module _ (store temporaryWords : List ℤ) (all-words : length store ≡ storeSize L) (enough : length temporaryWords ≡ temporariesOf Kernel (kernelHeaderOf header rows)) where
-    trees : TreesShareFate L program store temporaryWords
-    trees = translation-preserves L program store temporaryWords tree all-words (omega (arith, kernel-temporaries))
+  module _ (store temporaryWords : List ℤ) (all-words : length store ≡ first) (enough : length temporaryWords ≡ temporariesOf Kernel (kernelHeaderOf header rows)) where
+    trees : TreesShareFate L first program store temporaryWords
+    trees = translation-preserves L first inside program store temporaryWords tree all-words (omega (arith, kernel-temporaries))
 
     abbrev source : ℕ → Result Signal
     source b = run (steps b) (exec L (block program)) (start store)
 
     abbrev kernel : ℕ → Result Signal
-    kernel d = run (steps d) (exec L (block (translate L program))) (start (store ++ temporaryWords))
+    kernel d = run (steps d) (exec L (block (translate first program))) (start (store ++ temporaryWords))
 
     source-under : (b : ℕ) → runUnder (steps b) Source header rows store ≡ source b
     unfolding runUnder programOf
@@ -137,10 +159,10 @@ module _ (header rows : List ℤ) (legal : Legal header rows) where
     ends-source : Ends (exec L (block program)) (start store) → SourceEnds header rows (kernelHeaderOf header rows) (kernelRowsOf header rows) store temporaryWords
     ends-source e = record { budget = e .budget; ends = rw (source-run (e .budget)) (settled-ends (source (e .budget)) (e .settled)) }
 
-    kernel-ends : KernelEnds header rows (kernelHeaderOf header rows) (kernelRowsOf header rows) store temporaryWords → Ends (exec L (block (translate L program))) (start (store ++ temporaryWords))
+    kernel-ends : KernelEnds header rows (kernelHeaderOf header rows) (kernelRowsOf header rows) store temporaryWords → Ends (exec L (block (translate first program))) (start (store ++ temporaryWords))
     kernel-ends e = record { budget = e .budget; settled = kernel-settled (e .budget) (e .ends) }
 
-    ends-kernel : Ends (exec L (block (translate L program))) (start (store ++ temporaryWords)) → KernelEnds header rows (kernelHeaderOf header rows) (kernelRowsOf header rows) store temporaryWords
+    ends-kernel : Ends (exec L (block (translate first program))) (start (store ++ temporaryWords)) → KernelEnds header rows (kernelHeaderOf header rows) (kernelRowsOf header rows) store temporaryWords
     ends-kernel e = record { budget = e .budget; ends = rw (kernel-run (e .budget)) (settled-ends (kernel (e .budget)) (e .settled)) }
 
     shared-fate : SharedFate header rows (kernelHeaderOf header rows) (kernelRowsOf header rows) store temporaryWords
@@ -151,37 +173,37 @@ module _ (header rows : List ℤ) (legal : Legal header rows) where
       count-bound = λ b d s t. rw (source-run b, kernel-run d, kernel-rows) (trees .same-state b d (source-settled b s) (kernel-settled d t) .few-steps);
     }
       where
-        cells : (b d : ℕ) → SameWords (statementRows (block (translate L program))) (length temporaryWords) (final (source b)) (final (kernel d))
+        cells : (b d : ℕ) → SameWords (statementRows (block (translate first program))) (length temporaryWords) (final (source b)) (final (kernel d))
             → take (length store) ((runProgram Kernel (kernelHeaderOf header rows) (kernelRowsOf header rows) d (store ++ temporaryWords)) .store) ≡ (runProgram Source header rows b store) .store
         cells b d w = rw (source-run b, kernel-run d, w .same-words) (take-at ((final (source b)) .store) (w .left) (length store) (store-keeps-length (steps b) (exec L (block program)) (start store)))
 
-    tree-writes : TreesWriteAlike L program store temporaryWords
-    tree-writes = translation-writes L program store temporaryWords tree all-words (omega (arith, kernel-temporaries))
+    tree-writes : TreesWriteAlike L first program store temporaryWords
+    tree-writes = translation-writes L first inside program store temporaryWords tree all-words (omega (arith, kernel-temporaries))
 
     same-writes : SameWrites header rows (kernelHeaderOf header rows) (kernelRowsOf header rows) store temporaryWords
     same-writes = record {
-      kernel-follows = λ N. rw (kernel-rows, source-under N, kernel-under (statementRows (block (translate L program)) * N)) (tree-writes .kernel-follows N);
+      kernel-follows = λ N. rw (kernel-rows, source-under N, kernel-under (statementRows (block (translate first program)) * N)) (tree-writes .kernel-follows N);
       source-follows = λ N. record { within = tree-writes .sourceSteps N; as-first = rw (kernel-under N, source-under (tree-writes .sourceSteps N)) (tree-writes .source-follows N) };
     }
 
   hides-temporaries : HidesTemporaries (kernelHeaderOf header rows) (kernelRowsOf header rows)
   hides-temporaries store temporaryWords others words are others-are budget =
-      let all-words : length store ≡ storeSize L = rw kernel-layout at words in
-      let h = temporaries-hidden L program tree store all-words (steps budget) temporaryWords others (omega (arith, are, others-are)) in
-      rw (kernel-run store temporaryWords all-words are budget, kernel-run store others all-words others-are budget, all-words) (same-view (storeSize L) _ _ h)
+      let all-words : length store ≡ first = rw (kernel-layout, kernel-declared, ← source-store header rows) at words in
+      let h = temporaries-hidden L first inside program tree store all-words (steps budget) temporaryWords others (omega (arith, are, others-are)) in
+      rw (kernel-run store temporaryWords all-words are budget, kernel-run store others all-words others-are budget, kernel-layout) (same-view (storeSize L) first inside _ _ h)
 
-  copies-allowed : statementCopies (storeSize L) (decode (kernelRowsOf header rows)) ≡ total ownCopies program + total ownResults program
-  unfolding statementCopies
-  copies-allowed = ap (statementCopies (storeSize L)) kernel-tree ∙ copies-exactly L program tree
+  copies-allowed : statementCopies first (decode (kernelRowsOf header rows)) ≡ total ownCopies program + total ownResults program
+  unfolding statementCopies storeSize
+  copies-allowed = ap (statementCopies first) kernel-tree ∙ copies-exactly L first (omega (arith, inside)) program tree
 
   kernel-form-of : KernelFormOf header rows (kernelHeaderOf header rows) (kernelRowsOf header rows)
   unfolding kernelHeaderOf kernelRowsOf
   kernel-form-of = record {
-    accepted = kernel-accepts (kernelHeaderOf header rows) (kernelRowsOf header rows) .1 (translated-legal header program (legal .header-fits) tree few shallow);
+    accepted = kernel-accepts (kernelHeaderOf header rows) (kernelRowsOf header rows) .1 (rw (source-store header rows) (translated-legal header program (legal .header-fits) tree few shallow (declarationCount rows) declared));
     share-fate = λ store temporaryWords s t. shared-fate store temporaryWords s t;
     write-alike = λ store temporaryWords s t. same-writes store temporaryWords s t;
     hides-temporaries = hides-temporaries;
-    few-rows = omega (arith, kernel-rows, rows-bound L program, source-rows);
+    few-rows = omega (arith, kernel-rows, rows-bound first program, source-rows);
     few-temporaries = omega (arith, kernel-temporaries, temporaries-bound program, source-rows);
     copies-allowed = copies-allowed;
   }

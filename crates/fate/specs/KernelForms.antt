@@ -4,7 +4,8 @@ use mathlib.Core.List.{List}
 use Prim.Native.Nat.{_+_, _*_, _≤_}
 use lib.IntN.{ℤ}
 use Rattle.words.specs.Table.{rowCount}
-use Rattle.words.specs.Layout.{layoutOf, storeSize, temporariesOf}
+use Rattle.words.specs.Declarations.{declarationCount}
+use Rattle.words.specs.Layout.{layoutOf, storeWords, temporariesOf}
 use Rattle.words.specs.declared.Form.the-variants.{Source, Kernel}
 use Rattle.words.specs.declared.Verdict.the-variants.{Accepted}
 use Rattle.language.specs.Trees.{block}
@@ -19,12 +20,12 @@ use Rattle.fate.specs.Fate.{ShareFate}
 use Rattle.fate.specs.SameWrites.{WriteAlike}
 use Rattle.fate.specs.Views.{HidesTemporaries}
 
--- The rewriting of docs/REWRITING.md, written out: V, T, the array lengths; and the rows of the translation.
+-- The rewriting of docs/REWRITING.md, written out: V, D, T, the array lengths; and the rows of the translation: "temporaries begin at S+D".
 unfoldable pub kernelHeaderOf : List ℤ → List ℤ → List ℤ
-kernelHeaderOf header rows = kernelHeader (layoutOf Source header) (temporaries (contents rows))
+kernelHeaderOf header rows = kernelHeader (layoutOf Source header) (declarationCount rows) (temporaries (contents rows))
 
 unfoldable pub kernelRowsOf : List ℤ → List ℤ → List ℤ
-kernelRowsOf header rows = emit (block (translate (layoutOf Source header) (contents rows)))
+kernelRowsOf header rows = emit (block (translate (storeWords Source header rows) (contents rows)))
 
 -- What a kernel header and kernel rows have to be for a source program.
 pub record KernelFormOf (header rows kernelHeader kernelRows : List ℤ) : Type 0 where
@@ -41,7 +42,7 @@ pub record KernelFormOf (header rows kernelHeader kernelRows : List ℤ) : Type 
   pub few-temporaries : temporariesOf Kernel kernelHeader ≤ 4 * rowCount rows
   -- Change 1: "A variable used as an operand, index, test or selector is copied only if something evaluated after it, and before its use,
   -- can write that variable": the kernel's statements that move a variable into a temporary are those copies and the results.
-  pub copies-allowed : statementCopies (storeSize (layoutOf Source header)) (decode kernelRows) ≡ total ownCopies (contents rows) + total ownResults (contents rows)
+  pub copies-allowed : statementCopies (storeWords Source header rows) (decode kernelRows) ≡ total ownCopies (contents rows) + total ownResults (contents rows)
 
 -- What holds of every source program that the check accepts.
 abbrev pub HasKernelForm : List ℤ → List ℤ → Type 0

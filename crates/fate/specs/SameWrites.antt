@@ -5,13 +5,13 @@ use Prim.Native.Nat.{ℕ, _*_}
 use lib.IntN.{ℤ}
 use lib.ListN.{length}
 use Rattle.words.specs.Table.{rowCount}
-use Rattle.words.specs.Layout.{layoutOf, storeSize, temporariesOf}
+use Rattle.words.specs.Layout.{layoutOf, storeSize, storeWords, temporariesOf}
 use Rattle.words.specs.declared.Form.the-variants.{Source, Kernel}
 use Rattle.computation.specs.Run.{steps}
 use Rattle.computation.specs.WritesMade.{Stored, made, FirstOf}
 use Rattle.language.specs.Program.{runUnder}
 
--- A source program and a kernel program, started on the same variables and arrays, the kernel with these temporaries.
+-- A source program and a kernel program, started on the same variables, arrays and declared words, the kernel with these temporaries.
 module _ (header rows kernelHeader kernelRows store temporaries : List ℤ) where
   -- "The writes to the first S words, each as place and value, in order", that the run with budget N makes.
   abbrev pub sourceWrites : ℕ → List Stored
@@ -34,5 +34,5 @@ module _ (header rows kernelHeader kernelRows store temporaries : List ℤ) wher
 -- "Begin both runs as demand 3 does": whatever the variables, the arrays and the temporaries hold.
 abbrev pub WriteAlike : List ℤ → List ℤ → List ℤ → List ℤ → Type 0
 WriteAlike header rows kernelHeader kernelRows =
-    (store temporaries : List ℤ) → length store ≡ storeSize (layoutOf Source header) → length temporaries ≡ temporariesOf Kernel kernelHeader
+    (store temporaries : List ℤ) → length store ≡ storeWords Source header rows → length temporaries ≡ temporariesOf Kernel kernelHeader
     → SameWrites header rows kernelHeader kernelRows store temporaries

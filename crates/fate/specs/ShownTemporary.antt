@@ -9,7 +9,7 @@ use lib.ListN.{getD}
 use Rattle.words.specs.Word.{isWord, sameWord, natural}
 use Rattle.words.specs.Table.{wordAt, numberAt}
 use Rattle.words.specs.Kinds.{kindOf, kindIn, kindAt, kinds, sortIn, kindRow, expressionFields, statementFields, markFields, sortOf, sortAt, inLanguage, isLink, isRequired}
-use Rattle.words.specs.Layout.{layoutOf, sum, arrayLength, arrayBase, storeSize, storeWords, allWithin, headerFits, countFits}
+use Rattle.words.specs.Layout.{layoutOf, sum, arrayLength, arrayBase, storeSize, headerStore, allWithin, headerFits, countFits}
 use Rattle.words.specs.Links.{fits, isExpression, isPlace, isStatement, link, target, linker, received, noteBy, note}
 use Rattle.words.specs.Search.{lowest, some, lowestRow, someField}
 use Rattle.words.specs.declared.Verdict.the-variants.{Accepted}
@@ -28,7 +28,7 @@ use Rattle.fate.specs.Views.{DispatcherView, HidesTemporaries}
 
 -- One variable and one temporary, which is variable number 1: v0 = t0.
 abbrev pub showingHeader : List ℤ
-showingHeader = pos 1 ∷ pos 1 ∷ []
+showingHeader = pos 1 ∷ pos 0 ∷ pos 1 ∷ []
 
 abbrev pub showingRows : List ℤ
 showingRows = row 42 1 0 0 0 0
@@ -38,7 +38,7 @@ showingRows = row 42 1 0 0 0 0
     ++ row 2 1 0 0 0 0
 
 pub showing-accepted : refusal showingHeader showingRows ≡ Accepted
-unfolding natural wordAt numberAt layoutOf sum storeSize storeWords allWithin headerFits countFits foreign fits leadsRight mislinked boundsOf numberFits outside kindOf kindIn kinds sortIn kindRow expressionFields statementFields markFields sortOf sortAt inLanguage isExpression isPlace isStatement isLink isRequired link target linksAmong linkCount loneBlock notOnce linker received noteBy note deeper depthAt tooDeep at unless _next_ rowCauses structuralRefusal lowest some lowestRow someField isLabel repeatedLabel owning ownerAt labelBehind labelAhead gotoWithoutLabel labelFault kernelCauses refusal isAtom isAtomMinus isAtomOperation isAtomElement fitsVariable isAssignment isBlock isKernelIf isKernelWhile isKernelExpression isKernelStatement notKernelForm
+unfolding natural wordAt numberAt layoutOf sum storeSize headerStore allWithin headerFits countFits foreign fits leadsRight mislinked boundsOf numberFits outside kindOf kindIn kinds sortIn kindRow expressionFields statementFields markFields sortOf sortAt inLanguage isExpression isPlace isStatement isLink isRequired link target linksAmong linkCount loneBlock notOnce linker received noteBy note deeper depthAt tooDeep at unless _next_ rowCauses structuralRefusal lowest some lowestRow someField isLabel repeatedLabel owning ownerAt labelBehind labelAhead gotoWithoutLabel labelFault kernelCauses refusal isAtom isAtomMinus isAtomOperation isAtomElement fitsVariable isAssignment isBlock isKernelIf isKernelWhile isKernelExpression isKernelStatement notKernelForm
 showing-accepted = refl
 
 -- The variable as the dispatcher sees it.

@@ -1,10 +1,10 @@
 -- Views: what the dispatcher and the maintainer are shown of a kernel run. Change 9.
 use mathlib.Core.Path.{_≡_}
 use mathlib.Core.List.{List, _++_}
-use Prim.Native.Nat.{ℕ}
+use Prim.Native.Nat.{ℕ, _+_}
 use lib.IntN.{ℤ}
 use lib.ListN.{length, take}
-use Rattle.words.specs.Layout.{layoutOf, storeSize, temporariesOf}
+use Rattle.words.specs.Layout.{layoutOf, storeSize, declaredOf, temporariesOf}
 use Rattle.words.specs.declared.Form.the-variants.{Kernel}
 use Rattle.words.specs.declared.Ending.{Ending}
 use Rattle.language.specs.Program.{Finished, runProgram}
@@ -29,5 +29,7 @@ maintainerView finished = record { store = finished .store; count = finished .co
 -- natural number.
 abbrev pub HidesTemporaries : List ℤ → List ℤ → Type 0
 HidesTemporaries header rows =
-    (store temporaries others : List ℤ) → length store ≡ storeSize (layoutOf Kernel header) → length temporaries ≡ temporariesOf Kernel header → length others ≡ temporariesOf Kernel header → (budget : ℕ)
-    → dispatcherView (length store) (runProgram Kernel header rows budget (store ++ temporaries)) ≡ dispatcherView (length store) (runProgram Kernel header rows budget (store ++ others))
+    (store temporaries others : List ℤ) → length store ≡ storeSize (layoutOf Kernel header) + declaredOf Kernel header
+    → length temporaries ≡ temporariesOf Kernel header → length others ≡ temporariesOf Kernel header → (budget : ℕ)
+    → dispatcherView (storeSize (layoutOf Kernel header)) (runProgram Kernel header rows budget (store ++ temporaries))
+    ≡ dispatcherView (storeSize (layoutOf Kernel header)) (runProgram Kernel header rows budget (store ++ others))

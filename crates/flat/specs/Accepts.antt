@@ -11,7 +11,7 @@ use borrow.Author.Tests.{ltb-true, lt-ltb, leb-true, le-leb, eqb-true, eqb-false
 use Rattle.words.specs.Word.{natural, pick}
 use Rattle.words.specs.Kinds.{variable, array, between, operatorOf, operators}
 use Rattle.words.specs.Laws.{by-cases, both, natural-pos, headerFits-facts}
-use Rattle.words.specs.Layout.{headerFits, storeSize, storeWords}
+use Rattle.words.specs.Layout.{headerFits, storeSize, headerStore}
 use Rattle.words.specs.Search.{some, lowest}
 use Rattle.words.specs.SearchLaws.{lowest-all, all-lowest, some-all}
 use Rattle.words.specs.declared.Form.the-variants.{Kernel}
@@ -89,7 +89,7 @@ zero-word z e = natural-pos z 0 (eqb-true (natural z) 0 e) (omega arith)
 -- numbers that fit are small
 pub record Small (bounds : Bounds) : Type 0 where
   pub few-variables : bounds .variables ≤ bounds .words
-  pub few-words : bounds .words ≤ 16384
+  pub few-words : bounds .words ≤ 16448
   pub few-arrays : bounds .arrays ≤ 32
 
 module _ (bounds : Bounds) (small : Small bounds) (n : ℕ) where
@@ -397,10 +397,10 @@ module _ (bounds : Bounds) (list : List ℤ) (i : ℕ) (inside : i < lineCount l
 
 -- The bounds of a header within its limits are small.
 pub small-bounds : (header : List ℤ) → headerFits Kernel header ≡ true → Small (boundsOf Kernel header)
-unfolding boundsOf storeWords storeSize
+unfolding boundsOf headerStore storeSize
 small-bounds header e =
     let f = headerFits-facts Kernel header e in
-    record { few-variables = omega arith; few-words = omega (arith, f .small-store, f .few-temporaries); few-arrays = f .few-arrays }
+    record { few-variables = omega arith; few-words = omega (arith, f .small-store, f .few-declared, f .few-temporaries); few-arrays = f .few-arrays }
 
 -- a cause that no line breaks
 none : (list : List ℤ) (p : ℕ → Bool) → lowest p 0 (lineCount list) ≡ Nothing → (i : ℕ) → i < lineCount list → p i ≡ false

@@ -6,7 +6,7 @@ use lib.IntN.{ℤ}
 use lib.ListN.{length}
 use Rattle.words.specs.Word.{pick}
 use Rattle.words.specs.Numbers.{Numbers, runNumbers}
-use Rattle.words.specs.Layout.{layoutOf, storeWords}
+use Rattle.words.specs.Layout.{layoutOf, headerStore}
 use Rattle.words.specs.declared.Form.the-variants.{Kernel}
 use Rattle.words.specs.declared.Refusal.{Refusal}
 use Rattle.words.specs.declared.Verdict.{Verdict}
@@ -42,7 +42,7 @@ flatRan finished = answerAndStore (Ran (record { ending = finished .ending; coun
 abbrev pub flatAfter : Verdict → List ℤ → List ℤ → ℕ → List ℤ → FlatResult
 flatAfter (Refused refusal) header list budget store = flatRefused refusal store
 flatAfter Accepted header list budget store =
-    pick (eqb (length store) (storeWords Kernel header)) (flatRan (runList header list budget store)) (flatRefused (record { number = 11; place = 0 }) store)
+    pick (eqb (length store) (headerStore Kernel header)) (flatRan (runList header list budget store)) (flatRefused (record { number = 11; place = 0 }) store)
 
 unfoldable pub flatResult : List ℤ → List ℤ → ℕ → List ℤ → FlatResult
 flatResult header list budget store = flatAfter (refusal header list) header list budget store

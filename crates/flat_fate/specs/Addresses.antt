@@ -11,7 +11,7 @@ use lib.ListN.{length}
 use borrow.Author.Tests.{eq-eqb}
 use Rattle.words.specs.Word.{pick}
 use Rattle.words.specs.Layout.{Layout}
-use Rattle.language.specs.Trees.{label, case, default, Statement, empty, express, block, ifThen, ifElse, while, doWhile, for, switch, break, continue, goto, guardedIf, guardedDo, abort, Items, none, _then_, _here_}
+use Rattle.language.specs.Trees.{label, case, default, Statement, empty, express, block, ifThen, ifElse, while, doWhile, for, switch, break, continue, goto, guardedIf, guardedDo, abort, declare, Items, none, _then_, _here_}
 use Rattle.translation.specs.KernelForm.{markTimes, statementTimes, itemsTimes, KernelStatement, kernel-empty, kernel-assign, kernel-block, kernel-if, kernel-while, kernel-goto, kernel-abort, KernelItems, kernel-none, kernel-then, kernel-label}
 use Rattle.flat.specs.Lines.{Line, nextAt}
 use Rattle.flat_fate.specs.Stands.{StandsItems}
@@ -39,6 +39,7 @@ unfoldable mutual
   statementAddress l (guardedIf arms) i other = other
   statementAddress l (guardedDo arms) i other = other
   statementAddress l abort i other = other
+  statementAddress l (declare word e) i other = other
 
   pub itemsAddress : ℕ → Items → ℕ → ℕ → ℕ
   itemsAddress l none i other = other

@@ -5,7 +5,7 @@ use mathlib.Core.List.{List, [], _∷_, _++_}
 use Prim.Native.Nat.{ℕ, zero, suc, _+_}
 use lib.IntN.{pos}
 use Rattle.arithmetic.specs.Arithmetic.{isTrue}
-use Rattle.language.specs.Trees.{Expression, constant, read, minus, not, binary, and, or, comma, conditional, assign, compound, prefix, postfix, Place, variable, element, Statement, empty, express, block, ifThen, ifElse, while, doWhile, for, switch, break, continue, goto, guardedIf, guardedDo, abort, Items, none, _then_, _here_}
+use Rattle.language.specs.Trees.{Expression, constant, read, minus, not, binary, and, or, comma, conditional, assign, compound, prefix, postfix, Place, variable, element, Statement, empty, express, block, ifThen, ifElse, while, doWhile, for, switch, break, continue, goto, guardedIf, guardedDo, abort, declare, Items, none, _then_, _here_}
 use Rattle.flat.specs.Lines.{Operand, number, word, Operation, copy, minus as negate, operate, fetch, put, Line, does, jump, jumpZero, jumpOther, abort as abortLine}
 
 -- An atom; every other expression is none.
@@ -104,6 +104,7 @@ unfoldable mutual
   statementLines (guardedIf arms) = 0
   statementLines (guardedDo arms) = 0
   statementLines abort = 1
+  statementLines (declare i e) = 0
 
   pub itemsLines : Items → ℕ
   itemsLines none = 0
@@ -141,6 +142,7 @@ module _ (address : ℕ → ℕ) where
     statementCode (guardedIf arms) i = []
     statementCode (guardedDo arms) i = []
     statementCode abort i = abortLine ∷ []
+    statementCode (declare j e) i = []
 
     pub itemsCode : Items → ℕ → List Line
     itemsCode none i = []

@@ -11,7 +11,7 @@ use lib.ListN.{length, length-append}
 use borrow.Author.Tests.{lt-ltb, le-leb}
 use Rattle.words.specs.Word.{pick}
 use Rattle.words.specs.Kinds.{variable as variableSort, array as arraySort}
-use Rattle.words.specs.Layout.{Layout, layoutOf, storeSize, storeWords, temporariesOf, headerFits}
+use Rattle.words.specs.Layout.{Layout, layoutOf, storeSize, headerStore, behindOf, headerFits}
 use Rattle.words.specs.Laws.{or-right}
 use Rattle.words.specs.declared.Form.the-variants.{Kernel}
 use Rattle.row_fields.specs.Fields.{boundsOf, boundsIn, numberFits}
@@ -173,8 +173,8 @@ module _ (L : Layout) (T : ℕ) where
       (λ l. items-address l (itemsLines program) (k .form) 0 0 (omega arith) (omega arith)) (k .form) (k .named) 0 (omega arith)
 
 -- "Every flattened list passes the flat check": of a header within its limits, with a kernel tree of its layout and temporaries.
-pub flattened-legal : (header : List ℤ) (program : Items) → headerFits Kernel header ≡ true → KernelTree (layoutOf Kernel header) (temporariesOf Kernel header) program → LegalFlat header (wordsFrom 0 (flatOf program))
-unfolding boundsOf storeWords
+pub flattened-legal : (header : List ℤ) (program : Items) → headerFits Kernel header ≡ true → KernelTree (layoutOf Kernel header) (behindOf Kernel header) program → LegalFlat header (wordsFrom 0 (flatOf program))
+unfolding boundsOf headerStore
 flattened-legal header program e k =
     let L = layoutOf Kernel header in
     let size = flat-size L program (k .form) (k .labels-once) in
@@ -183,6 +183,6 @@ flattened-legal header program e k =
     record {
       header-fits = e;
       whole = omega arith;
-      lines = λ i h. subst (λ (n : ℕ). LegalLine (boundsIn L (storeSize L + temporariesOf Kernel header)) (wordsFrom 0 (flatOf program)) n) (let z : 0 + i ≡ i = omega arith in z)
-          (legal-from (boundsIn L (storeSize L + temporariesOf Kernel header)) (itemsLines program) [] 0 (flatOf program) refl count (lines-within L (temporariesOf Kernel header) program k) i (omega arith));
+      lines = λ i h. subst (λ (n : ℕ). LegalLine (boundsIn L (storeSize L + behindOf Kernel header)) (wordsFrom 0 (flatOf program)) n) (let z : 0 + i ≡ i = omega arith in z)
+          (legal-from (boundsIn L (storeSize L + behindOf Kernel header)) (itemsLines program) [] 0 (flatOf program) refl count (lines-within L (behindOf Kernel header) program k) i (omega arith));
     }

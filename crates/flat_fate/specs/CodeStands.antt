@@ -8,7 +8,7 @@ use native.Mathlib.Omega.{arith}
 use native.Mathlib.Nat.{add-zero}
 use lib.ListN.{length, length-append}
 use Rattle.words.specs.Layout.{Layout}
-use Rattle.language.specs.Trees.{Expression, label, case, default, Statement, empty, express, block, ifThen, ifElse, while, doWhile, for, switch, break, continue, goto, guardedIf, guardedDo, abort, Items, none, _then_, _here_}
+use Rattle.language.specs.Trees.{Expression, label, case, default, Statement, empty, express, block, ifThen, ifElse, while, doWhile, for, switch, break, continue, goto, guardedIf, guardedDo, abort, declare, Items, none, _then_, _here_}
 use Rattle.translation.specs.KernelForm.{IsAtom, constant-atom, variable-atom, Assigns, assigns-atom, assigns-minus, assigns-operation, assigns-element, assigns-to-element, KernelStatement, kernel-empty, kernel-assign, kernel-block, kernel-if, kernel-while, kernel-goto, kernel-abort, KernelItems, kernel-none, kernel-then, kernel-label}
 use Rattle.flat.specs.Lines.{Operand, Line, jump, jumpZero}
 use Rattle.flat_fate.specs.Stands.{Means, means-number, means-word, Acts, acts-copy, acts-minus, acts-operate, acts-fetch, acts-put, At, Stands, stands-empty, stands-assign, stands-block, stands-neither, stands-yes, stands-no, stands-both, stands-while, stands-endless, stands-goto, stands-abort, StandsItems, stands-none, stands-then, stands-label}
@@ -90,6 +90,7 @@ module _ (L : Layout) (lines : List Line) (address : ℕ → ℕ) where
     statement-length (guardedIf arms) i = refl
     statement-length (guardedDo arms) i = refl
     statement-length abort i = refl
+    statement-length (declare word e) i = refl
 
     pub items-length : (is : Items) (i : ℕ) → length (itemsCode address is i) ≡ itemsLines is
     items-length none i = refl
@@ -115,6 +116,7 @@ module _ (L : Layout) (lines : List Line) (address : ℕ → ℕ) where
     Addressed (guardedIf arms) i = Unit {0}
     Addressed (guardedDo arms) i = Unit {0}
     Addressed abort i = Unit {0}
+    Addressed (declare word e) i = Unit {0}
 
     pub AddressedItems : Items → ℕ → Type 0
     AddressedItems none i = Unit {0}

@@ -9,7 +9,7 @@ use lib.ListN.{length, getD, take, drop, length-drop}
 use borrow.Author.Tests.{le-leb}
 use Rattle.words.specs.Word.{natural}
 use Rattle.words.specs.Laws.{HeaderFits, headerFits-facts}
-use Rattle.words.specs.Layout.{Layout, leading, layoutOf, storeWords}
+use Rattle.words.specs.Layout.{Layout, leading, layoutOf, headerStore}
 use Rattle.words.specs.declared.Form.the-variants.{Kernel}
 use Rattle.words.proofs.Lengths.{part, size-is}
 use Rattle.row_fields.specs.Fields.{boundsIn, boundsOf as numbersOf}
@@ -67,7 +67,7 @@ module _ (i lines : ℕ) (h : i < lines) where
 
 -- ---- the list
 
-module _ (header list : List ℤ) (legal : LegalFlat header list) (words : ℕ) (e : words ≡ storeWords Kernel header) where
+module _ (header list : List ℤ) (legal : LegalFlat header list) (words : ℕ) (e : words ≡ headerStore Kernel header) where
   abbrev L : Layout
   L = layoutOf Kernel header
 
@@ -102,11 +102,11 @@ module _ (header list : List ℤ) (legal : LegalFlat header list) (words : ℕ) 
 
   -- with the bounds of the layout
   setting : Setting (boundsFrom (L .variables) (L .lengths)) list words
-  unfolding storeWords
+  unfolding headerStore
   setting = record {
     bounds-are = bounds-again L;
     store-fits = rw (layout-again L) (omega (arith, e));
-    few-words = omega (arith, e, fits .small-store, fits .few-temporaries);
+    few-words = omega (arith, e, fits .small-store, fits .few-declared, fits .few-temporaries);
     few-arrays = rw (layout-again L) (fits .few-arrays);
     known = λ i h. known-is i h;
     small = λ i h. small-is i h;

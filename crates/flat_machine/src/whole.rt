@@ -9,14 +9,14 @@ use words::Refusal;
 use words::RunAnswer;
 use words::RunVerdict;
 use words::Verdict;
+use words::layout::header_store;
 use words::layout::leading;
-use words::layout::store_words;
 use words::table::natural;
 ghost use mathlib.Core.Path.{_≡_};
 ghost use mathlib.Core.List.{map};
 ghost use lib.ListN.{length};
 ghost use Rattle.words.specs.Word.{natural as naturalOf};
-ghost use Rattle.words.specs.Layout.{storeWords};
+ghost use Rattle.words.specs.Layout.{headerStore};
 ghost use Rattle.words.specs.declared.Form.the-variants.{Kernel};
 ghost use Rattle.words.specs.declared.Verdict.the-variants.{Accepted};
 ghost use Rattle.operations.specs.Bounds.{boundsFrom, layoutFrom};
@@ -82,7 +82,7 @@ fn start(
 // Runs an accepted list on a store of its size, for a caller that has the check's answer: nothing is tested again.
 pub fn run_accepted(header: &[i32], list: &[i32], store: &mut [i32], budget: u32) -> RunAnswer
     requires { ⌜ refusalOf (now header) (now list) ≡ Accepted ⌝ }
-    requires { ⌜ length (now store) ≡ storeWords Kernel (now header) ⌝ }
+    requires { ⌜ length (now store) ≡ headerStore Kernel (now header) ⌝ }
     ensures { λ r. ⌜ finishedOf r (now (store .exit)) ≡ runList (now (header .entry)) (now (list .entry)) budget (now (store .entry)) ⌝ }
 {
     let first = leading(Form::Kernel);
@@ -103,7 +103,7 @@ fn run_on_store(header: &[i32], list: &[i32], store: &mut [i32], budget: u32) ->
     requires { ⌜ refusalOf (now header) (now list) ≡ Accepted ⌝ }
     ensures { λ r. ⌜ answerAndStore r (now (store .exit)) ≡ flatAfter Accepted (now (header .entry)) (now (list .entry)) budget (now (store .entry)) ⌝ }
 {
-    if store.len() != store_words(Form::Kernel, header) {
+    if store.len() != header_store(Form::Kernel, header) {
         return RunVerdict::Refused(Refusal {
             number: 11,
             place: 0,

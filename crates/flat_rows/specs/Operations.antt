@@ -11,7 +11,7 @@ use lib.IntN.{ℤ, pos}
 use borrow.Author.Tests.{eqb-true, eq-eqb, ne-eqb}
 use Rattle.words.specs.Word.{natural, pick}
 use Rattle.words.specs.Table.{rowCount, wordAt, numberAt, Whole}
-use Rattle.words.specs.Layout.{layoutOf, storeSize, storeWords, temporariesOf}
+use Rattle.words.specs.Layout.{layoutOf, storeSize, headerStore, behindOf}
 use Rattle.words.specs.Kinds.{kinds, kindIn, kindOf, kindAt, expression, place, isRequired, sortIn, kindRow, expressionFields, statementFields, markFields, memberFields}
 use Rattle.words.specs.Laws.{both, either, natural-pos, headerFits-facts}
 use Rattle.words.specs.SearchLaws.{from-on}
@@ -93,12 +93,13 @@ module _ {rows : List ℤ} (table : KernelTable rows) where
   word-number row field h = natural-pos (wordAt rows row field) (natural (wordAt rows row field)) refl h
 
   pub variable-few : (row : ℕ) → row < rowCount rows → numberAt rows row 0 ≡ 2 → numberAt rows row 1 < 65536
-  unfolding kindOf kindIn kinds sortIn kindRow expressionFields boundsOf storeWords
+  unfolding kindOf kindIn kinds sortIn kindRow expressionFields boundsOf headerStore
   variable-few row n k =
       let few = headerFits-facts Kernel (table .header) (table .legal .header-fits) in
       let a = few .few-variables in
       let b = few .small-store in
-      let c = few .few-temporaries in
+      let c = few .few-declared in
+      let d = few .few-temporaries in
       ⊎-elim (λ h. omega arith) (λ h. let top = h .1 in omega arith) (names-variable Kernel bounds rows s row n (kind-of row 2 k) 1 refl)
 
   variable-word : (row : ℕ) → row < rowCount rows → numberAt rows row 0 ≡ 2 → wordAt rows row 1 ≡ pos (numberAt rows row 1)

@@ -5,7 +5,7 @@ use mathlib.Core.List.{List, _++_}
 use Prim.Native.Nat.{ℕ}
 use lib.IntN.{ℤ}
 use lib.ListN.{length, take}
-use Rattle.words.specs.Layout.{layoutOf, storeSize, temporariesOf}
+use Rattle.words.specs.Layout.{storeWords, temporariesOf}
 use Rattle.words.specs.declared.Form.the-variants.{Source, Kernel}
 use Rattle.words.specs.declared.Ending.the-variants.{Spent}
 use Rattle.words.specs.declared.Verdict.the-variants.{Accepted}
@@ -16,7 +16,7 @@ use Rattle.flat.specs.Refusal.{refusal as flatRefusal}
 use Rattle.flat.specs.Results.{runList}
 use Rattle.flat_fate.specs.FlatWords.{flattened}
 
--- A source program and a flat list, started on the same variables and arrays, the list with these temporaries.
+-- A source program and a flat list, started on the same variables, arrays and declared words, the list with these temporaries.
 module _ (header rows kernelHeader list store temporaries : List ℤ) where
   abbrev pub sourceRun : ℕ → Finished
   sourceRun budget = runProgram Source header rows budget store
@@ -42,7 +42,7 @@ pub record FlatFormOf (header rows kernelHeader list : List ℤ) : Type 0 where
   -- the list's own check takes it
   pub accepted : flatRefusal kernelHeader list ≡ Accepted
   -- "whatever its variables and arrays hold and whatever stands in the temporaries"
-  pub share-fate : (store temporaries : List ℤ) → length store ≡ storeSize (layoutOf Source header) → length temporaries ≡ temporariesOf Kernel kernelHeader
+  pub share-fate : (store temporaries : List ℤ) → length store ≡ storeWords Source header rows → length temporaries ≡ temporariesOf Kernel kernelHeader
       → SharedFate header rows kernelHeader list store temporaries
 
 -- What holds of every source program that the check accepts, and of the flat list of its translation.

@@ -2,11 +2,13 @@
 -- program and its list, one behind the other.
 use mathlib.Core.Path.{_≡_, sym, ap, _∙_}
 use mathlib.Core.List.{List, _++_}
-use Prim.Native.Nat.{ℕ, _≤_}
+use Prim.Native.Nat.{ℕ, _+_, _≤_}
 use native.Mathlib.Omega.{arith}
 use lib.IntN.{ℤ}
 use lib.ListN.{length, take}
-use Rattle.words.specs.Layout.{layoutOf, storeSize, temporariesOf}
+use Rattle.words.specs.Declarations.{declarationCount}
+use Rattle.words.specs.Layout.{layoutOf, storeWords, temporariesOf, behindOf}
+use Rattle.words.specs.StoreLaws.{source-store}
 use Rattle.words.specs.Laws.{countFits-facts}
 use Rattle.words.specs.declared.Form.the-variants.{Source, Kernel}
 use Rattle.words.specs.declared.Verdict.the-variants.{Accepted}
@@ -15,10 +17,11 @@ use Rattle.language.specs.Program.{contents}
 use Rattle.language.specs.Sizes.{statementRows}
 use Rattle.translation.specs.Translate.{translate, temporaries}
 use Rattle.translation.specs.KernelForm.{itemsTimes, KernelTree}
-use Rattle.translation_form.specs.TranslateKernel.{translation-is-kernel, header-layout, header-temporaries}
+use Rattle.translation_form.specs.TranslateKernel.{translation-is-kernel, header-layout, header-behind}
 use Rattle.source_check.specs.Refusal.{refusal as sourceRefusal}
 use Rattle.source_check.specs.Legal.{Legal as SourceLegal}
 use Rattle.source_check.specs.AcceptsLegal.{accepts-legal as source-accepts}
+use Rattle.source_check.specs.DeclarationLaws.{legal-declarations}
 use Rattle.kernel_check.specs.Legal.{Legal as KernelLegal}
 use Rattle.kernel_check.specs.Accepts.{accepts-legal as kernel-accepts}
 use Rattle.accepted.specs.Source.{legal-tree, legal-rows, legal-depth}
@@ -43,7 +46,7 @@ module _ (header rows : List ℤ) (accepted : sourceRefusal header rows ≡ Acce
   R = kernelRowsOf header rows
 
   abbrev translation : Items
-  translation = translate (layoutOf Source header) (contents rows)
+  translation = translate (storeWords Source header rows) (contents rows)
 
   legal : SourceLegal header rows
   legal = source-accepts header rows .0 accepted
@@ -57,22 +60,22 @@ module _ (header rows : List ℤ) (accepted : sourceRefusal header rows ≡ Acce
   few : statementRows (block (contents rows)) ≤ 2048
   few = let c = countFits-facts Source (length rows) (legal .structured .count-fits) in omega (arith, c .most, legal-rows header rows legal)
 
-  kernel-tree : KernelTree (layoutOf Source header) (temporaries (contents rows)) translation
-  kernel-tree = translation-is-kernel (layoutOf Source header) (contents rows) (legal-tree header rows legal) few (legal-depth header rows legal)
+  kernel-tree : KernelTree (layoutOf Source header) (declarationCount rows + temporaries (contents rows)) translation
+  kernel-tree = rw (source-store header rows) (translation-is-kernel (layoutOf Source header) (declarationCount rows) (legal-declarations header rows legal) (contents rows) (legal-tree header rows legal) few (legal-depth header rows legal))
 
   -- the kernel's items are the translation's, in which a label stands once
   kernel-items : contents R ≡ translation
   unfolding kernelRowsOf
   kernel-items =
       let read = legal-block K R kernel-legal in
-      let tree = translated-decodes header (contents rows) (legal .header-fits) (legal-tree header rows legal) few (legal-depth header rows legal) in
+      let tree = rw (← source-store header rows) at (translated-decodes header (contents rows) (legal .header-fits) (legal-tree header rows legal) few (legal-depth header rows legal) (declarationCount rows) (legal-declarations header rows legal)) in
       let same : block (contents R) ≡ block translation = sym read ∙ tree in
       cc
 
   once : (l : ℕ) → itemsTimes l (contents R) ≤ 1
   once l = rw kernel-items (kernel-tree .labels-once l)
 
-  module _ (store temporaryWords : List ℤ) (all-words : length store ≡ storeSize (layoutOf Source header)) (enough : length temporaryWords ≡ temporariesOf Kernel K) where
+  module _ (store temporaryWords : List ℤ) (all-words : length store ≡ storeWords Source header rows) (enough : length temporaryWords ≡ temporariesOf Kernel K) where
     first : SourceKernelFate header rows K R store temporaryWords
     first = kernel-form .share-fate store temporaryWords all-words enough
 
@@ -99,9 +102,9 @@ module _ (header rows : List ℤ) (accepted : sourceRefusal header rows ≡ Acce
             record { budget = f .budget; ends = f .ends }
 
   -- the kernel's own tree, under the kernel's header
-  own-tree : KernelTree (layoutOf Kernel K) (temporariesOf Kernel K) (contents R)
+  own-tree : KernelTree (layoutOf Kernel K) (behindOf Kernel K) (contents R)
   unfolding kernelHeaderOf
-  own-tree = rw (header-layout (layoutOf Source header) (temporaries (contents rows)), header-temporaries (layoutOf Source header) (temporaries (contents rows)), kernel-items) kernel-tree
+  own-tree = rw (header-layout (layoutOf Source header) (declarationCount rows) (temporaries (contents rows)), header-behind (layoutOf Source header) (declarationCount rows) (temporaries (contents rows)), kernel-items) kernel-tree
 
   takes : flatRefusal K (flattened R) ≡ Accepted
   unfolding flattened

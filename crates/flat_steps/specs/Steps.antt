@@ -38,7 +38,7 @@ pub record ReadyJump (list : List ℤ) (line : ℕ) : Type 0 where
 pub record Setting (bounds : List ℕ) (list : List ℤ) (words : ℕ) : Type 0 where
   pub bounds-are : bounds ≡ boundsOf (layoutFrom bounds)
   pub store-fits : storeSize (layoutFrom bounds) ≤ words
-  pub few-words : words ≤ 16384
+  pub few-words : words ≤ 16448
   pub few-arrays : length (layoutFrom bounds .lengths) ≤ 32
   pub known : (line : ℕ) → line < lineCount list → LineKind (kindOf (operationAt list line))
   pub small : (line : ℕ) → line < lineCount list → operationAt list line < 256

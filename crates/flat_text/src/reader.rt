@@ -20,7 +20,7 @@ fn first_fits(line: &[u8], numbers: usize) -> bool
     requires { ⌜ HoldsExactly (numbersOf (fieldsOf (now line))) numbers ⌝ }
     ensures { λ r. ⌜ r ≡ headerFits Kernel (numbersIn (numbersOf (fieldsOf (now (line .entry))))) ⌝ }
 {
-    let mut header = [0i32; 34];
+    let mut header = [0i32; 35];
     store_numbers(line, &mut header);
     header_fits(Form::Kernel, &header[0..numbers])
 }

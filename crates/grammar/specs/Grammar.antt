@@ -5,7 +5,7 @@ use Rattle.words.specs.Kinds.{Forms, inBoth, inSource, inKernel, inNeither, Kin
 
 -- No kind has this number or a higher one.
 abbrev pub kindLimit : ℕ
-kindLimit = 58
+kindLimit = 59
 
 abbrev pub formsNumber : Forms → ℕ
 formsNumber inNeither = 0

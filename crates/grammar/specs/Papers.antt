@@ -3,7 +3,7 @@ use mathlib.Core.Bool.{Bool, _||_}
 use mathlib.Core.List.{List, [], _∷_}
 use Prim.Native.Nat.{ℕ}
 use Rattle.words.specs.Word.{pick}
-use Rattle.words.specs.Kinds.{unused, value, variable, array, label, expression, optionalExpression, place, branch, optionalBranch, optionalItem, bodyBlock, optionalArm, expressionRow, placeRow, statementRow, armRow, between, Forms, inBoth, inSource, inKernel, KindRow, kindRow}
+use Rattle.words.specs.Kinds.{unused, value, variable, array, label, declaredNumber, expression, optionalExpression, place, branch, optionalBranch, optionalItem, bodyBlock, optionalArm, expressionRow, placeRow, statementRow, armRow, between, Forms, inBoth, inSource, inKernel, inNeither, KindRow, kindRow}
 use Rattle.words.specs.declared.Kind.the-variants.{Other}
 
 -- A line is about the kinds from one number to another, and says what a, b, c and d hold.
@@ -45,6 +45,7 @@ lines =
     line 54 55 optionalArm unused unused unused ∷  -- "kind 54 (guarded if) and 55 (guarded do), each with a the first arm or 0"
     line 56 56 expression bodyBlock unused unused ∷  -- "kind 56 (arm): a guard, b block, next the next arm"
     line 57 57 unused unused unused unused ∷  -- "the kernel's new kind 57 (abort, no fields)"
+    line 58 58 declaredNumber expression unused unused ∷  -- "Kind 58: a variable number below V, b initial expression"
     []
 
 -- "'Place' means a row of kind 2 or 3." "Kinds 1 to 30 are expressions, the rest statements." "An arm elsewhere, or another kind among
@@ -61,9 +62,11 @@ nextSaid number = pick (between 1 30 number) unused (pick (between 56 56 number)
 abbrev pub inParagraph : ℕ → Bool
 inParagraph number = between 1 4 number || (between 6 16 number || (between 21 21 number || (between 40 44 number || between 52 53 number)))
 
--- "(kernel only)". "The kernel's new kind 57". "Kinds not named in this paragraph are not in the kernel language."
+-- "(kernel only)". "The kernel's new kind 57". "Kinds not named in this paragraph are not in the kernel language." Kind 58 stands in no
+-- form until both checks know its causes.
 abbrev pub formsSaid : ℕ → Forms
-formsSaid number = pick (between 52 53 number || between 57 57 number) inKernel (pick (inParagraph number) inBoth inSource)
+formsSaid number =
+    pick (between 52 53 number || between 57 57 number) inKernel (pick (inParagraph number) inBoth (pick (between 58 58 number) inNeither inSource))
 
 abbrev pub rowSaid : ℕ → Line → KindRow
 rowSaid number l =

@@ -20,33 +20,35 @@ pub const VARIABLE: u8 = 2;
 pub const ARRAY: u8 = 3;
 
 pub const LABEL: u8 = 4;
+
+pub const DECLARED: u8 = 5;
 // Links. Optional ones "may be 0": an operand is an expression; a body is "a branch or body", whose next is 0, and the body of an arm is a
 // block; an item is the first of a list, or the next, and may be 0; so is an arm, in a list of arms.
-pub const OPERAND: u8 = 5;
+pub const OPERAND: u8 = 6;
 
-pub const OPTIONAL: u8 = 6;
+pub const OPTIONAL: u8 = 7;
 
-pub const PLACE: u8 = 7;
+pub const PLACE: u8 = 8;
 
-pub const BODY: u8 = 8;
+pub const BODY: u8 = 9;
 
-pub const OPTIONAL_BODY: u8 = 9;
+pub const OPTIONAL_BODY: u8 = 10;
 
-pub const ITEM: u8 = 10;
+pub const ITEM: u8 = 11;
 
-pub const BODY_BLOCK: u8 = 11;
+pub const BODY_BLOCK: u8 = 12;
 
-pub const ARM: u8 = 12;
+pub const ARM: u8 = 13;
 // What a row is.
 pub const NO_ROW: u8 = 0;
 
-pub const EXPRESSION: u8 = 13;
+pub const EXPRESSION: u8 = 14;
 
-pub const PLACE_ROW: u8 = 14;
+pub const PLACE_ROW: u8 = 15;
 
-pub const STATEMENT: u8 = 15;
+pub const STATEMENT: u8 = 16;
 
-pub const ARM_ROW: u8 = 16;
+pub const ARM_ROW: u8 = 17;
 // The forms that have a kind.
 pub const NEITHER: u8 = 0;
 
@@ -57,7 +59,7 @@ pub const BOTH: u8 = 2;
 pub const KERNEL: u8 = 3;
 
 // No kind has this number or a higher one.
-pub const KIND_LIMIT: usize = 58;
+pub const KIND_LIMIT: usize = 59;
 
 pub type KindTable = [[u8; 7]; KIND_LIMIT];
 

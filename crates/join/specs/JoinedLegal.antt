@@ -25,7 +25,7 @@ use Rattle.structure.specs.DepthLaws.{none-deep-shallow}
 use Rattle.structure.specs.Structured.{Leads, EachField, Structured}
 use Rattle.structure.specs.StructuredLaws.{structured-tree}
 use Rattle.row_fields.specs.declared.Bounds.{Bounds}
-use Rattle.names.specs.Names.{isDeclaration}
+use Rattle.words.specs.Declarations.{isDeclaration}
 use Rattle.statement_places.specs.Places.{isMark}
 use Rattle.declaration_causes.specs.DeclarationLaws.{block-undeclared}
 use Rattle.declaration_causes.specs.Demands.{NotOwn, NotTwice}

@@ -16,7 +16,8 @@ use Rattle.row_fields.specs.declared.Bounds.{Bounds}
 use Rattle.grammar.specs.GrammarLaws.{kind-no-link}
 use Rattle.structure.specs.Structured.{Leads, Structured}
 use Rattle.structure.specs.Lists.{before-later}
-use Rattle.names.specs.Names.{declarationKind, isDeclaration, isName}
+use Rattle.names.specs.Names.{isName}
+use Rattle.words.specs.Declarations.{declarationKind, isDeclaration}
 use Rattle.declaration_causes.specs.Demands.{InInitial, whole, below, NotOwn, NotTwice}
 use Rattle.declaration_causes.specs.DeclarationLaws.{block-undeclared}
 use Rattle.join.specs.Moved.{Holds, number-held, link-leads}

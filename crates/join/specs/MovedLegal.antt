@@ -11,7 +11,7 @@ use borrow.Author.Tests.{ne-eqb}
 use Rattle.words.specs.Word.{natural, pick}
 use Rattle.words.specs.Laws.{by-cases}
 use Rattle.words.specs.Table.{rowCount, wordAt, numberAt}
-use Rattle.words.specs.Kinds.{kinds, kindIn, kindOf, unused, variable, array, label, expression, optionalArm, isLink, isRequired, inLanguage, kindRow, expressionFields, statementFields, markFields, memberFields, sortIn, sortOf, sortAt}
+use Rattle.words.specs.Kinds.{kinds, kindIn, kindOf, unused, variable, array, label, declaredNumber, expression, optionalArm, isLink, isRequired, inLanguage, kindRow, expressionFields, statementFields, markFields, memberFields, sortIn, sortOf, sortAt}
 use Rattle.words.specs.KindLaws.{between-both}
 use Rattle.words.specs.Links.{link, fits, isExpression, isPlace, isStatement, isBlock, isArm}
 use Rattle.words.specs.declared.Form.{Form}
@@ -19,7 +19,7 @@ use Rattle.row_fields.specs.Fields.{numberFits}
 use Rattle.structure.specs.Structured.{Leads, Structured}
 use Rattle.structure.specs.Lists.{Before, adjacent, further, before-later}
 use Rattle.row_fields.specs.declared.Bounds.{Bounds}
-use Rattle.names.specs.Names.{isDeclaration}
+use Rattle.words.specs.Declarations.{isDeclaration}
 use Rattle.list_items.specs.Items.{ListItem, first, next}
 use Rattle.source_check.specs.Legal.{Inside, part, along, Placed, Distinct}
 use Rattle.join.specs.Moved.{movedLink, Holds, number-held, sort-held, link-held, leads-own, link-leads, leads-held}
@@ -31,7 +31,7 @@ unfolding numberFits isLink
 link-named bounds sort number e =
     let range = between-both expression optionalArm sort e in
     let least = range .0 in
-    rw (ne-eqb sort variable (λ q. omega arith), ne-eqb sort array (λ q. omega arith), ne-eqb sort label (λ q. omega arith))
+    rw (ne-eqb sort variable (λ q. omega arith), ne-eqb sort array (λ q. omega arith), ne-eqb sort label (λ q. omega arith), ne-eqb sort declaredNumber (λ q. omega arith))
 
 zero-alike : (m l : ℕ) → (m ≡ 0) ↔ (l ≡ 0) → eqb m 0 ≡ eqb l 0
 zero-alike zero zero a = refl

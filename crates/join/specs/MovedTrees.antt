@@ -18,7 +18,7 @@ use Rattle.words.specs.declared.Form.{Form}
 use Rattle.words.specs.declared.Kind.{Kind}
 use Rattle.words.specs.declared.Kind.the-variants.{OfExpression, OfStatement, OfMark, OfMember, Other}
 use Rattle.words.specs.declared.ExpressionKind.the-variants.{Constant, Variable, Element, Minus, Not, Binary, And, Or, Conditional, Comma, Assign, Compound, Prefix, Postfix}
-use Rattle.words.specs.declared.StatementKind.the-variants.{Empty, Express, Block, If, While, Do, For, Switch, Break, Continue, Goto, GuardedIf, GuardedDo, Abort}
+use Rattle.words.specs.declared.StatementKind.the-variants.{Empty, Express, Block, If, While, Do, For, Switch, Break, Continue, Goto, GuardedIf, GuardedDo, Abort, Declare}
 use Rattle.words.specs.declared.MarkKind.the-variants.{Case, Default, Label}
 use Rattle.words.specs.declared.MemberKind.the-variants.{Arm}
 use Rattle.language.specs.Trees.{Expression, constant, Statement, empty, Arms, noArm, Items, none}
@@ -109,6 +109,7 @@ module _ (v w : ℕ → ℤ) (f g : ℕ → Expression) (fs gs : ℕ → Stateme
   statement-moved (OfStatement GuardedIf) same absence e s i a = rw (a 1 (omega arith) (omega arith) refl)
   statement-moved (OfStatement GuardedDo) same absence e s i a = rw (a 1 (omega arith) (omega arith) refl)
   statement-moved (OfStatement Abort) same absence e s i a = refl
+  statement-moved (OfStatement Declare) same absence e s i a = rw (same 1 (omega arith) refl, e 2 (omega arith) (omega arith) refl)
   statement-moved (OfMark kind) same absence e s i a = refl
   statement-moved (OfMember kind) same absence e s i a = refl
   statement-moved Other same absence e s i a = refl

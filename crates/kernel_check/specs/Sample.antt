@@ -7,7 +7,7 @@ use lib.IntN.{ℤ, pos}
 use lib.ListN.{set}
 use Rattle.words.specs.Word.{natural}
 use Rattle.words.specs.Table.{wordAt, numberAt}
-use Rattle.words.specs.Layout.{layoutOf, sum, storeSize, storeWords, allWithin, headerFits, countFits}
+use Rattle.words.specs.Layout.{layoutOf, sum, storeSize, headerStore, allWithin, headerFits, countFits}
 use Rattle.words.specs.declared.Verdict.{Verdict}
 use Rattle.words.specs.declared.Verdict.the-variants.{Accepted, Refused}
 use Rattle.words.specs.Links.{fits, isExpression, isPlace, isStatement, link, target, linker, received, noteBy, note}
@@ -24,7 +24,7 @@ use Rattle.kernel_statements.specs.Statements.{isAtom, isAtomMinus, isAtomOpera
 
 -- One variable (0), one temporary (4), one array of 3.
 abbrev header : List ℤ
-header = pos 1 ∷ pos 1 ∷ pos 3 ∷ []
+header = pos 1 ∷ pos 0 ∷ pos 1 ∷ pos 3 ∷ []
 
 abbrev row : ℕ → ℕ → ℕ → ℕ → ℕ → List ℤ → List ℤ
 row kind a b c following rest = pos kind ∷ pos a ∷ pos b ∷ pos c ∷ pos 0 ∷ pos following ∷ rest
@@ -62,7 +62,7 @@ pub record Answers : Type 0 where
   pub label-twice : refusal header (changed 60 53) ≡ refused 13 11
 
 pub sample-answers : Answers
-unfolding natural wordAt numberAt layoutOf sum storeSize storeWords allWithin headerFits countFits foreign fits leadsRight mislinked boundsOf numberFits outside sortOf sortIn kindOf kindIn kinds kindRow expressionFields statementFields markFields memberFields sortAt inLanguage isExpression isPlace isStatement isLink isRequired link target linksAmong linkCount loneBlock notOnce linker received noteBy note deeper depthAt tooDeep at unless _next_ rowCauses structuralRefusal lowest some lowestRow someField isLabel repeatedLabel owning ownerAt labelBehind labelAhead gotoWithoutLabel labelFault kernelCauses refusal isAtom isAtomMinus isAtomOperation isAtomElement fitsVariable isAssignment isBlock isKernelIf isKernelWhile isKernelExpression isKernelStatement notKernelForm
+unfolding natural wordAt numberAt layoutOf sum storeSize headerStore allWithin headerFits countFits foreign fits leadsRight mislinked boundsOf numberFits outside sortOf sortIn kindOf kindIn kinds kindRow expressionFields statementFields markFields memberFields sortAt inLanguage isExpression isPlace isStatement isLink isRequired link target linksAmong linkCount loneBlock notOnce linker received noteBy note deeper depthAt tooDeep at unless _next_ rowCauses structuralRefusal lowest some lowestRow someField isLabel repeatedLabel owning ownerAt labelBehind labelAhead gotoWithoutLabel labelFault kernelCauses refusal isAtom isAtomMinus isAtomOperation isAtomElement fitsVariable isAssignment isBlock isKernelIf isKernelWhile isKernelExpression isKernelStatement notKernelForm
 sample-answers = record { whole = refl; variable-V = refl; no-block = refl; no-label = refl; label-twice = refl }
 
 pub sample-legal : Legal header program

@@ -9,7 +9,7 @@ use lib.Dec.{ltb, eqb}
 use lib.IntN.{ℤ}
 use borrow.Author.Tests.{ltb-false, le-ltb, eqb-true, eq-eqb, ne-eqb}
 use Rattle.words.specs.Table.{rowCount, numberAt, Whole}
-use Rattle.words.specs.Kinds.{kinds, kindIn, kindOf, kindAt, expression, place, branch, optionalBranch, optionalItem, bodyBlock, optionalArm, expressionRow, placeRow, statementRow, armRow, between, sortAt, sortOf, isLink, isRequired, sortIn, kindRow, expressionFields, statementFields, markFields, memberFields, standsIn, isStatementKind}
+use Rattle.words.specs.Kinds.{kinds, kindIn, kindOf, kindAt, expression, optionalExpression, place, branch, optionalBranch, optionalItem, bodyBlock, optionalArm, expressionRow, placeRow, statementRow, armRow, between, sortAt, sortOf, isLink, isRequired, sortIn, kindRow, expressionFields, statementFields, markFields, memberFields, standsIn, isStatementKind}
 use Rattle.words.specs.KindLaws.{everyLine, every-number}
 use Rattle.words.specs.SearchLaws.{from-on}
 use Rattle.words.specs.Word.{pick}
@@ -130,11 +130,11 @@ pub data StatementLink (rows : List ℤ) (row : ℕ) : ℕ → Type 0 where
   loop-body : {field : ℕ} → field ≡ 2 → numberAt rows row 0 ≡ 44 → StatementLink rows row field
 
 -- an expression, a place or an arm is no statement
-not-statement : (rows : List ℤ) (row least most : ℕ) → (15 < least) ⊎ (most < 15) → between least most (sortAt rows row 0) ≡ true → isStatement rows row ≡ false
+not-statement : (rows : List ℤ) (row least most : ℕ) → (statementRow < least) ⊎ (most < statementRow) → between least most (sortAt rows row 0) ≡ true → isStatement rows row ≡ false
 unfolding isStatement
 not-statement rows row least most h e =
     let range = between-true least most (sortAt rows row 0) e in
-    ne-eqb _ _ (λ (q : sortAt rows row 0 ≡ 15). ⊎-elim (λ l. omega arith) (λ l. omega arith) h)
+    ne-eqb _ _ (λ (q : sortAt rows row 0 ≡ statementRow). ⊎-elim (λ l. omega arith) (λ l. omega arith) h)
 
 -- what fits a sort, and is a statement: the sort is one of branches, bodies and items
 module _ (rows : List ℤ) (row : ℕ) where
@@ -150,24 +150,24 @@ module _ (rows : List ℤ) (row : ℕ) where
 
   as-place : isPlace rows row ≡ true → isStatement rows row ≡ false
   unfolding isPlace isStatement
-  as-place e = ne-eqb _ _ (λ (q : sortAt rows row 0 ≡ 15). let z = eqb-true (sortAt rows row 0) placeRow e in omega arith)
+  as-place e = ne-eqb _ _ (λ (q : sortAt rows row 0 ≡ statementRow). let z = eqb-true (sortAt rows row 0) placeRow e in omega arith)
 
   as-arm : isArm rows row ≡ true → isStatement rows row ≡ false
   unfolding isArm isStatement
-  as-arm e = ne-eqb _ _ (λ (q : sortAt rows row 0 ≡ 15). let z = eqb-true (sortAt rows row 0) armRow e in omega arith)
+  as-arm e = ne-eqb _ _ (λ (q : sortAt rows row 0 ≡ statementRow). let z = eqb-true (sortAt rows row 0) armRow e in omega arith)
 
   statement-sort : (sort : ℕ) → isLink sort ≡ true → SortOf sort
   unfolding fits isLink
   statement-sort sort l =
       let range = between-true expression optionalArm sort l in
-      from-on SortOf sort 5 (range .0) (λ f t. never (as-expression f) t)
-      (λ h. from-on SortOf sort 6 h (λ f t. never (as-expression f) t)
-      (λ h. from-on SortOf sort 7 h (λ f t. never (as-place f) t)
-      (λ h. from-on SortOf sort 8 h (λ f t. refl)
-      (λ h. from-on SortOf sort 9 h (λ f t. refl)
-      (λ h. from-on SortOf sort 10 h (λ f t. refl)
-      (λ h. from-on SortOf sort 11 h (λ f t. refl)
-      (λ h. from-on SortOf sort 12 h (λ f t. never (as-arm f) t)
+      from-on SortOf sort expression (range .0) (λ f t. never (as-expression f) t)
+      (λ h. from-on SortOf sort optionalExpression h (λ f t. never (as-expression f) t)
+      (λ h. from-on SortOf sort place h (λ f t. never (as-place f) t)
+      (λ h. from-on SortOf sort branch h (λ f t. refl)
+      (λ h. from-on SortOf sort optionalBranch h (λ f t. refl)
+      (λ h. from-on SortOf sort optionalItem h (λ f t. refl)
+      (λ h. from-on SortOf sort bodyBlock h (λ f t. refl)
+      (λ h. from-on SortOf sort optionalArm h (λ f t. never (as-arm f) t)
       (λ h. absurd (omega arith)))))))))
 
 -- A table of rows that is legal with some header.

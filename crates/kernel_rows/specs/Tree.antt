@@ -5,7 +5,7 @@ use mathlib.Core.Logic.{⊎-elim}
 use Prim.Native.Nat.{ℕ, _+_, _-_, _≤_, _<_}
 use native.Mathlib.Omega.{arith}
 use lib.IntN.{ℤ}
-use Rattle.words.specs.Layout.{layoutOf, storeSize, storeWords, temporariesOf}
+use Rattle.words.specs.Layout.{layoutOf, storeSize, headerStore, behindOf}
 use Rattle.words.specs.Laws.{headerFits-facts}
 use Rattle.words.specs.declared.Form.the-variants.{Kernel}
 use Rattle.words.specs.Table.{numberAt}
@@ -24,9 +24,9 @@ use Rattle.kernel_rows.specs.Rows.{block-at, statement-list}
 use Rattle.kernel_rows.specs.Labels.{legal-once}
 
 module _ (header rows : List ℤ) (legal : Legal header rows) where
-  -- "T temporaries, which are variable numbers S to S+T−1; numbers V to S−1 name nothing."
-  named : (number : ℕ) → NamesVariable (boundsOf Kernel header) number → KernelName (layoutOf Kernel header) (temporariesOf Kernel header) number
-  unfolding boundsOf storeWords
+  -- "T temporaries, which are variable numbers S to S+T−1; numbers V to S−1 name nothing." Change 11: S to S+D+T−1.
+  named : (number : ℕ) → NamesVariable (boundsOf Kernel header) number → KernelName (layoutOf Kernel header) (behindOf Kernel header) number
+  unfolding boundsOf headerStore
   named number =
       ⊎-elim (λ h. name-variable h)
       (λ h.
@@ -34,17 +34,17 @@ module _ (header rows : List ℤ) (legal : Legal header rows) where
       let least = h .0 in
       let most = h .1 in
       let there : S + (number - S) ≡ number = omega arith in
-      subst (KernelName (layoutOf Kernel header) (temporariesOf Kernel header)) there (name-temporary {t = number - S} (omega arith)))
+      subst (KernelName (layoutOf Kernel header) (behindOf Kernel header)) there (name-temporary {t = number - S} (omega arith)))
 
   -- A legal kernel program is a kernel tree.
-  pub legal-tree : KernelTree (layoutOf Kernel header) (temporariesOf Kernel header) (contents rows)
+  pub legal-tree : KernelTree (layoutOf Kernel header) (behindOf Kernel header) (contents rows)
   unfolding boundsOf
   legal-tree =
       record {
         form = legal-form header rows legal;
         labels-once = λ l. legal-once header rows legal l;
-        named = named-contents Kernel (boundsOf Kernel header) rows (legal .structured) (KernelName (layoutOf Kernel header) (temporariesOf Kernel header)) named;
-        few-temporaries = headerFits-facts Kernel header (legal .header-fits) .few-temporaries;
+        named = named-contents Kernel (boundsOf Kernel header) rows (legal .structured) (KernelName (layoutOf Kernel header) (behindOf Kernel header)) named;
+        few-temporaries = let f = headerFits-facts Kernel header (legal .header-fits) in omega (arith, f .few-declared, f .few-temporaries);
         few-rows = omega (arith, legal-rows header rows legal, structured-tree Kernel (boundsOf Kernel header) rows (legal .structured) .few);
         shallow = legal-depth header rows legal;
       }

@@ -10,10 +10,10 @@ use Rattle.words.specs.Kinds.{kindAt}
 use Rattle.words.specs.declared.Kind.{Kind}
 use Rattle.words.specs.declared.Kind.the-variants.{OfExpression, OfStatement, OfMark, OfMember, Other}
 use Rattle.words.specs.declared.ExpressionKind.the-variants.{Constant, Variable, Element, Minus, Not, Binary, And, Or, Conditional, Comma, Assign, Compound, Prefix, Postfix}
-use Rattle.words.specs.declared.StatementKind.the-variants.{Empty, Express, Block, If, While, Do, For, Switch, Break, Continue, Goto, GuardedIf, GuardedDo, Abort}
+use Rattle.words.specs.declared.StatementKind.the-variants.{Empty, Express, Block, If, While, Do, For, Switch, Break, Continue, Goto, GuardedIf, GuardedDo, Abort, Declare}
 use Rattle.words.specs.declared.MarkKind.the-variants.{Case, Default, Label}
 use Rattle.words.specs.declared.MemberKind.the-variants.{Arm}
-use Rattle.language.specs.Trees.{Expression, constant, read, minus, not, binary, and, or, comma, conditional, assign, compound, prefix, postfix, Place, variable, element, Part, absent, present, case, default, label, Statement, empty, express, block, ifThen, ifElse, while, doWhile, for, switch, break, continue, goto, guardedIf, guardedDo, abort, Arms, noArm, arm, Items, none, _then_, _here_}
+use Rattle.language.specs.Trees.{Expression, constant, read, minus, not, binary, and, or, comma, conditional, assign, compound, prefix, postfix, Place, variable, element, Part, absent, present, case, default, label, Statement, empty, express, block, ifThen, ifElse, while, doWhile, for, switch, break, continue, goto, guardedIf, guardedDo, abort, declare, Arms, noArm, arm, Items, none, _then_, _here_}
 
 -- "A link is a row number greater than the row's own": the tree at such a link, else `other`.
 abbrev pub later : {A : Type 0} → A → ℕ → (ℕ → A) → ℕ → A
@@ -91,6 +91,7 @@ statementOf (OfStatement Goto) word expression statement items arms = goto (natu
 statementOf (OfStatement GuardedIf) word expression statement items arms = guardedIf (arms (natural (word 1)))
 statementOf (OfStatement GuardedDo) word expression statement items arms = guardedDo (arms (natural (word 1)))
 statementOf (OfStatement Abort) word expression statement items arms = abort
+statementOf (OfStatement Declare) word expression statement items arms = declare (natural (word 1)) (expression (natural (word 2)))
 statementOf (OfMark kind) word expression statement items arms = empty
 statementOf (OfMember kind) word expression statement items arms = empty
 statementOf Other word expression statement items arms = empty

@@ -15,10 +15,10 @@ use Rattle.words.specs.declared.Operator.{Operator}
 use Rattle.words.specs.declared.Kind.{Kind}
 use Rattle.words.specs.declared.Kind.the-variants.{OfExpression, OfStatement, OfMark, OfMember, Other}
 use Rattle.words.specs.declared.ExpressionKind.the-variants.{Constant, Variable, Element, Minus, Not, Binary, And, Or, Conditional, Comma, Assign, Compound, Prefix, Postfix}
-use Rattle.words.specs.declared.StatementKind.the-variants.{Empty, Express, Block, If, While, Do, For, Switch, Break, Continue, Goto, GuardedIf, GuardedDo, Abort}
+use Rattle.words.specs.declared.StatementKind.the-variants.{Empty, Express, Block, If, While, Do, For, Switch, Break, Continue, Goto, GuardedIf, GuardedDo, Abort, Declare}
 use Rattle.words.specs.declared.MarkKind.the-variants.{Case, Default, Label}
 use Rattle.words.specs.declared.MemberKind.the-variants.{Arm}
-use Rattle.language.specs.Trees.{Expression, constant, read, minus, not, binary, and, or, comma, conditional, assign, compound, prefix, postfix, variable, element, present, case, default, label, Statement, empty, express, block, ifThen, ifElse, while, doWhile, for, switch, break, continue, goto, guardedIf, guardedDo, abort, Arms, noArm, arm, Items, none, _then_, _here_}
+use Rattle.language.specs.Trees.{Expression, constant, read, minus, not, binary, and, or, comma, conditional, assign, compound, prefix, postfix, variable, element, present, case, default, label, Statement, empty, express, block, ifThen, ifElse, while, doWhile, for, switch, break, continue, goto, guardedIf, guardedDo, abort, declare, Arms, noArm, arm, Items, none, _then_, _here_}
 use Rattle.language.specs.Decode.{later, placeOf, expressionOf, expressionBy, expressionAt, partOf, ifOf, statementOf, itemsOf, armsOf, treesOf, treesBy, statementAt, itemsAt, armsAt, Forward, listAt, armListAt, partAt}
 
 later-same : {A : Type 0} (other : A) (row : ℕ) (f g : ℕ → A) → ((l : ℕ) → row < l → f l ≡ g l) → (l : ℕ) → later other row f l ≡ later other row g l
@@ -204,7 +204,7 @@ module _ (rows : List ℤ) (whole : Whole rows) where
     unfolding expressionOf numberAt
     at-postfix o k p = rw (expression-at row, k, lt-ltb row a p)
 
-    -- ---- kinds 40 to 57
+    -- ---- kinds 40 to 58
 
     abbrev s-at : ℕ → Statement
     s-at l = statementAt rows l
@@ -272,6 +272,10 @@ module _ (rows : List ℤ) (whole : Whole rows) where
     pub at-abort : kindAt rows row ≡ OfStatement Abort → statementAt rows row ≡ abort
     unfolding statementOf
     at-abort k = rw (statement-at row, k)
+
+    pub at-declare : kindAt rows row ≡ OfStatement Declare → row < b → statementAt rows row ≡ declare a (e-at b)
+    unfolding statementOf numberAt
+    at-declare k p = rw (statement-at row, k, lt-ltb row b p)
 
     -- ---- items: a statement or a mark, and the list behind it
 

@@ -8,7 +8,7 @@ use Rattle.language.specs.Rule.{Rule, row, constant}
 -- v4 = 5; v5 = v4 + 2; a[2] = v5; v0 = a[2]; with temporaries v4 and v5 behind an array of 3
 abbrev pub temporaries : Rule
 temporaries = record {
-  header = pos 1 ∷ pos 2 ∷ pos 3 ∷ [];
+  header = pos 1 ∷ pos 0 ∷ pos 2 ∷ pos 3 ∷ [];
   rows = row 42 1 0 0 0 0
       ++ row 41 2 0 0 0 5
       ++ row 21 3 4 0 0 0
@@ -38,7 +38,7 @@ temporaries = record {
 -- goto 7; v0 = 1; label 7: v1 = 1;
 abbrev pub goto-passes-over : Rule
 goto-passes-over = record {
-  header = pos 2 ∷ pos 0 ∷ [];
+  header = pos 2 ∷ pos 0 ∷ pos 0 ∷ [];
   rows = row 42 1 0 0 0 0
       ++ row 52 7 0 0 0 2
       ++ row 41 3 0 0 0 6
@@ -58,7 +58,7 @@ goto-passes-over = record {
 -- label 0: v0 = 1;
 abbrev pub label-fallen-into : Rule
 label-fallen-into = record {
-  header = pos 1 ∷ pos 0 ∷ [];
+  header = pos 1 ∷ pos 0 ∷ pos 0 ∷ [];
   rows = row 42 1 0 0 0 0
       ++ row 53 0 0 0 0 2
       ++ row 41 3 0 0 0 0
@@ -73,7 +73,7 @@ label-fallen-into = record {
 -- { { goto 1; v0 = 1; } label 0: v1 = 1; } label 1: v2 = 1;
 abbrev pub goto-leaves-blocks : Rule
 goto-leaves-blocks = record {
-  header = pos 3 ∷ pos 0 ∷ [];
+  header = pos 3 ∷ pos 0 ∷ pos 0 ∷ [];
   rows = row 42 1 0 0 0 0
       ++ row 42 2 0 0 0 13
       ++ row 42 3 0 0 0 8
@@ -100,7 +100,7 @@ goto-leaves-blocks = record {
 -- { goto 0; v0 = 1; label 0: v1 = 1; } v2 = 1;
 abbrev pub goto-stays-in-block : Rule
 goto-stays-in-block = record {
-  header = pos 3 ∷ pos 0 ∷ [];
+  header = pos 3 ∷ pos 0 ∷ pos 0 ∷ [];
   rows = row 42 1 0 0 0 0
       ++ row 42 2 0 0 0 12
       ++ row 52 0 0 0 0 3
@@ -125,7 +125,7 @@ goto-stays-in-block = record {
 -- while (1) { goto 3; v0 = 1; } v1 = 1; label 3: v2 = 1;
 abbrev pub goto-leaves-while : Rule
 goto-leaves-while = record {
-  header = pos 3 ∷ pos 0 ∷ [];
+  header = pos 3 ∷ pos 0 ∷ pos 0 ∷ [];
   rows = row 42 1 0 0 0 0
       ++ row 44 2 3 0 0 9
       ++ constant (pos 1)
@@ -152,7 +152,7 @@ goto-leaves-while = record {
 -- while (v0) { v0 = v0 - 1; if (v0) { goto 2; } else {} v1 = v1 + 1; label 2: } with v0 = 2
 abbrev pub goto-in-while : Rule
 goto-in-while = record {
-  header = pos 2 ∷ pos 0 ∷ [];
+  header = pos 2 ∷ pos 0 ∷ pos 0 ∷ [];
   rows = row 42 1 0 0 0 0
       ++ row 44 2 3 0 0 0
       ++ row 2 0 0 0 0 0
@@ -183,7 +183,7 @@ goto-in-while = record {
 -- a[v0] = 1; with v0 = 2, an array of 2 and 3 temporaries behind it
 abbrev pub kernel-index : Rule
 kernel-index = record {
-  header = pos 1 ∷ pos 3 ∷ pos 2 ∷ [];
+  header = pos 1 ∷ pos 0 ∷ pos 3 ∷ pos 2 ∷ [];
   rows = row 42 1 0 0 0 0
       ++ row 41 2 0 0 0 0
       ++ row 21 3 5 0 0 0
@@ -198,7 +198,7 @@ kernel-index = record {
 -- while (1) {} with budget 9
 abbrev pub kernel-spent : Rule
 kernel-spent = record {
-  header = pos 0 ∷ pos 0 ∷ [];
+  header = pos 0 ∷ pos 0 ∷ pos 0 ∷ [];
   rows = row 42 1 0 0 0 0
       ++ row 44 2 3 0 0 0
       ++ constant (pos 1)
@@ -211,7 +211,7 @@ kernel-spent = record {
 -- v0 = 1; { abort; } v0 = 2;
 abbrev pub abort-fails : Rule
 abort-fails = record {
-  header = pos 1 ∷ pos 0 ∷ [];
+  header = pos 1 ∷ pos 0 ∷ pos 0 ∷ [];
   rows = row 42 1 0 0 0 0
       ++ row 41 2 0 0 0 5
       ++ row 21 3 4 0 0 0
@@ -231,7 +231,7 @@ abort-fails = record {
 -- goto 0; abort; label 0: v0 = 1;
 abbrev pub goto-passes-abort : Rule
 goto-passes-abort = record {
-  header = pos 1 ∷ pos 0 ∷ [];
+  header = pos 1 ∷ pos 0 ∷ pos 0 ∷ [];
   rows = row 42 1 0 0 0 0
       ++ row 52 0 0 0 0 2
       ++ row 57 0 0 0 0 3

@@ -10,7 +10,7 @@ pub mod Meaning
 -- Programs: the items of a table of rows, and its run.
 pub mod Program
 -- Rules: what a rule on the shelf is; document 01's starred rules; orders that surprise; rules that pin each clause, by subject; all as
--- one table, those in kernel form as another.
+-- one table, those in kernel form as another, those with declarations as a third.
 pub mod Rule
 pub mod StarredRules
 pub mod SurprisingOrders
@@ -21,6 +21,7 @@ pub mod StatementRules
 pub mod LoopRules
 pub mod GuardedRules
 pub mod KernelRules
+pub mod DeclarationRules
 pub mod Rules
 -- Write sets: which variables an expression can write.
 pub mod Writes
@@ -31,7 +32,7 @@ pub mod WellFormed
 -- Sound tables: what a run asks of a table.
 pub mod Sound
 -- ---- laws
--- The theorem: every rule of both tables holds.
+-- The theorem: every rule of the three tables holds.
 pub mod RulesHold
 -- The writes that some runs make.
 pub mod WriteExamples

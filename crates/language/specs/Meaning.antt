@@ -9,7 +9,7 @@ use Rattle.arithmetic.specs.Arithmetic.{isTrue, truth, logicalNot, apply, minus
 use Rattle.words.specs.declared.Operator.{Operator}
 use Rattle.words.specs.declared.FaultSort.the-variants.{Guard}
 use Rattle.computation.specs.Computation.{Turn, again, leave, Computation, ret, _>>=_, _>>_, step, load, save, fail, loop, settle}
-use Rattle.language.specs.Trees.{Expression, constant, read, minus, not, binary, and, or, comma, conditional, assign, compound, prefix, postfix, Place, variable, element, Part, absent, present, Mark, case, default, label, Statement, empty, express, block, ifThen, ifElse, while, doWhile, for, switch, break, continue, goto, guardedIf, guardedDo, abort, Arms, noArm, arm, Items, none, _then_, _here_, sameMark, has}
+use Rattle.language.specs.Trees.{Expression, constant, read, minus, not, binary, and, or, comma, conditional, assign, compound, prefix, postfix, Place, variable, element, Part, absent, present, Mark, case, default, label, Statement, empty, express, block, ifThen, ifElse, while, doWhile, for, switch, break, continue, goto, guardedIf, guardedDo, abort, declare, Arms, noArm, arm, Items, none, _then_, _here_, sameMark, has}
 
 -- Entering a row is one step; what follows is m.
 abbrev pub enter : {A : Type 0} → Computation A → Computation A
@@ -228,6 +228,11 @@ module _ (L : Layout) where
     perform (guardedDo arms) = choiceRounds arms
     -- "As does the kernel's new kind 57 (abort, no fields)."
     perform abort = fail Guard
+    -- Kind 58: "b initial expression". Its value goes to the new object's word; no row stands for that word, so the store is no step.
+    perform (declare word e) = do
+      v ← value L e
+      save word v
+      ret next
 
     -- The arms from one on. The guards behind a true one are not worked out; what false guards stored stays.
     pub choose : Arms → Computation Choice

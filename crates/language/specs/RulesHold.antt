@@ -1,4 +1,4 @@
--- The theorem: every rule of both tables holds, by computing the run of its rows.
+-- The theorem: every rule of the three tables holds, by computing the run of its rows.
 use mathlib.Core.Path.{_≡_, refl}
 use mathlib.Core.List.{map}
 use Rattle.words.specs.Word.{isWord, sameWord, natural}
@@ -15,6 +15,7 @@ use Rattle.language.specs.Meaning.{evaluate, perform}
 use Rattle.language.specs.Program.{Finished, programOf, runUnder, runProgram}
 use Rattle.language.specs.Rule.{Rule}
 use Rattle.language.specs.KernelRules.{kernelTable}
+use Rattle.language.specs.DeclarationRules.{declarationTable}
 use Rattle.language.specs.Rules.{table}
 
 -- What the run of a rule's rows comes to, by the definitions.
@@ -27,7 +28,8 @@ expected rule = rule .comes-to
 pub record RulesHold : Type 0 where
   pub source : map (runs Source) table ≡ map expected table
   pub kernel : map (runs Kernel) kernelTable ≡ map expected kernelTable
+  pub declarations : map (runs Source) declarationTable ≡ map expected declarationTable
 
 pub rules-hold : RulesHold
 unfolding isWord sameWord natural wordAt numberAt kinds kindIn kindOf kindAt layoutOf sum arrayLength arrayBase inWord isTrue bit truth logicalNot minus dividing remainderBy apply element run sameMark has expressionOf expressionBy expressionAt statementOf itemsOf armsOf treesOf treesBy statementAt itemsAt decode evaluate perform programOf runUnder runProgram
-rules-hold = record { source = refl; kernel = refl }
+rules-hold = record { source = refl; kernel = refl; declarations = refl }

@@ -1,6 +1,6 @@
 -- Sizes: the rows and the depth of a tree. "Row 0 has 1, a row has its owner's plus 1, items of one list share theirs."
 use Prim.Native.Nat.{ℕ, _+_, max}
-use Rattle.language.specs.Trees.{Expression, constant, read, minus, not, binary, and, or, comma, conditional, assign, compound, prefix, postfix, Place, variable, element, Part, absent, present, Statement, empty, express, block, ifThen, ifElse, while, doWhile, for, switch, break, continue, goto, guardedIf, guardedDo, abort, Arms, noArm, arm, Items, none, _then_, _here_}
+use Rattle.language.specs.Trees.{Expression, constant, read, minus, not, binary, and, or, comma, conditional, assign, compound, prefix, postfix, Place, variable, element, Part, absent, present, Statement, empty, express, block, ifThen, ifElse, while, doWhile, for, switch, break, continue, goto, guardedIf, guardedDo, abort, declare, Arms, noArm, arm, Items, none, _then_, _here_}
 
 unfoldable mutual
   pub expressionRows : Expression → ℕ
@@ -43,6 +43,7 @@ unfoldable mutual
   statementRows (guardedIf arms) = 1 + armsRows arms
   statementRows (guardedDo arms) = 1 + armsRows arms
   statementRows abort = 1
+  statementRows (declare word e) = 1 + expressionRows e
 
   pub armsRows : Arms → ℕ
   armsRows noArm = 0
@@ -94,6 +95,7 @@ unfoldable mutual
   statementDepth (guardedIf arms) = 1 + armsDepth arms
   statementDepth (guardedDo arms) = 1 + armsDepth arms
   statementDepth abort = 1
+  statementDepth (declare word e) = 1 + expressionDepth e
 
   -- Arms share their depth, as items do.
   pub armsDepth : Arms → ℕ

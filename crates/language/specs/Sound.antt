@@ -7,7 +7,7 @@ use Prim.Native.Nat.{ℕ, _<_, _≤_}
 use lib.IntN.{ℤ}
 use lib.ListN.{length}
 use Rattle.words.specs.Table.{rowCount, Whole, numberAt}
-use Rattle.words.specs.Kinds.{kindAt, unused, variable, array, place, optionalArm, isLink, isRequired, sortIn, isPlaceKind}
+use Rattle.words.specs.Kinds.{kindAt, unused, variable, array, declaredNumber, place, optionalArm, isLink, isRequired, sortIn, isPlaceKind}
 use Rattle.words.specs.Layout.{Layout, storeSize}
 use Rattle.words.specs.declared.Kind.the-variants.{OfMember, Other}
 use Rattle.words.specs.declared.MemberKind.the-variants.{Arm}
@@ -34,6 +34,7 @@ module _ (rows : List ℤ) (L : Layout) (words : ℕ) where
   pub record SoundField (row field sort : ℕ) : Type 0 where
     pub unused-zero : sort ≡ unused → numberAt rows row field ≡ 0
     pub names-word : sort ≡ variable → numberAt rows row field < words
+    pub declares-word : sort ≡ declaredNumber → numberAt rows row field < words
     pub names-array : sort ≡ array → numberAt rows row field < length (L .lengths)
     pub present : isRequired sort ≡ true → 0 < numberAt rows row field
     pub forward : isLink sort ≡ true → OptionalLink row field

@@ -4,7 +4,7 @@ use mathlib.Core.Bool.{Bool, true, false, _||_}
 use Prim.Native.Nat.{ℕ, _<_}
 use native.Mathlib.Omega.{arith}
 use Rattle.words.specs.Laws.{or-right}
-use Rattle.language.specs.Trees.{Mark, sameMark, has, Statement, empty, express, block, ifThen, ifElse, while, doWhile, for, switch, break, continue, goto, guardedIf, guardedDo, abort, Items, none, _then_, _here_, _⧺_}
+use Rattle.language.specs.Trees.{Mark, sameMark, has, Statement, empty, express, block, ifThen, ifElse, while, doWhile, for, switch, break, continue, goto, guardedIf, guardedDo, abort, declare, Items, none, _then_, _here_, _⧺_}
 use Rattle.language.specs.Sizes.{statementRows}
 
 -- ---- one list behind another
@@ -64,3 +64,4 @@ statement-some (goto l) = omega arith
 statement-some (guardedIf arms) = omega arith
 statement-some (guardedDo arms) = omega arith
 statement-some abort = omega arith
+statement-some (declare word e) = omega arith

@@ -37,7 +37,7 @@ pub data Mark : Type 0 where
   label : ℕ → Mark
 
 mutual
-  -- Kinds 40 to 57, without the marks and the arm.
+  -- Kinds 40 to 58, without the marks and the arm. A declaration names its object by its store word, as a variable.
   pub data Statement : Type 0 where
     empty : Statement
     express : Expression → Statement
@@ -52,6 +52,7 @@ mutual
     goto : ℕ → Statement
     guardedIf guardedDo : Arms → Statement
     abort : Statement
+    declare : ℕ → Expression → Statement
 
   -- Kind 56, and "next the next arm": a guard and a block each.
   pub data Arms : Type 0 where

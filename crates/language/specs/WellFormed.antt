@@ -5,7 +5,7 @@ use mathlib.Core.Bool.{Bool, true, false}
 use Prim.Native.Nat.{ℕ, _<_}
 use lib.ListN.{length}
 use Rattle.words.specs.Layout.{Layout}
-use Rattle.language.specs.Trees.{Expression, constant, read, minus, not, binary, and, or, comma, conditional, assign, compound, prefix, postfix, Place, variable, element, Part, absent, present, Mark, case, default, label, Statement, empty, express, block, ifThen, ifElse, while, doWhile, for, switch, break, continue, goto, guardedIf, guardedDo, abort, Arms, noArm, arm, Items, none, _then_, _here_}
+use Rattle.language.specs.Trees.{Expression, constant, read, minus, not, binary, and, or, comma, conditional, assign, compound, prefix, postfix, Place, variable, element, Part, absent, present, Mark, case, default, label, Statement, empty, express, block, ifThen, ifElse, while, doWhile, for, switch, break, continue, goto, guardedIf, guardedDo, abort, declare, Arms, noArm, arm, Items, none, _then_, _here_}
 
 -- Every variable that a tree names satisfies Names, and every array is below `arrays`.
 module _ (Names : ℕ → Type 0) (arrays : ℕ) where
@@ -50,6 +50,7 @@ module _ (Names : ℕ → Type 0) (arrays : ℕ) where
     NamedStatement (guardedIf arms) = NamedArms arms
     NamedStatement (guardedDo arms) = NamedArms arms
     NamedStatement abort = Unit {0}
+    NamedStatement (declare word e) = Names word × NamedExpression e
 
     pub NamedArms : Arms → Type 0
     NamedArms noArm = Unit {0}
@@ -85,6 +86,7 @@ unfoldable mutual
   Placed mayBreak mayContinue (guardedIf arms) = PlacedArms mayBreak mayContinue arms
   Placed mayBreak mayContinue (guardedDo arms) = PlacedArms mayBreak mayContinue arms
   Placed mayBreak mayContinue abort = ⊥
+  Placed mayBreak mayContinue (declare word e) = Unit {0}
 
   -- "Neither form counts as a loop for break and continue."
   pub PlacedArms : Bool → Bool → Arms → Type 0

@@ -9,7 +9,8 @@ use lib.ListN.{length, getD, set, take, drop, length-set, length-drop, drop-of-l
 use lib.Seq.{drop-cons, take-suc-set, set-split}
 use Rattle.words.specs.Word.{natural}
 use Rattle.words.specs.Laws.{back, HeaderFits, headerFits-facts}
-use Rattle.words.specs.Layout.{Layout, leading, layoutOf, sum, storeWords}
+use Rattle.words.specs.Layout.{Layout, leading, layoutOf, sum}
+use Rattle.words.specs.StoreLaws.{store-most, header-store-most}
 use Rattle.words.specs.declared.Form.{Form}
 use Rattle.words.proofs.Lengths.{Read, rest, sum-rest, part, size-is}
 use Rattle.computation.specs.Remaining.{spend}
@@ -98,8 +99,7 @@ module _ {form : Form} {header rows store : List ℤ} (r : Runnable form header 
   bounds-same = rw (part header first, e, q)
 
   few-words : length store < 65536
-  unfolding storeWords
-  few-words = omega (arith, r .words, fits .small-store, fits .few-temporaries)
+  few-words = omega (arith, r .words, store-most form header rows, r .few-rows, header-store-most form header (r .fits))
 
   layout-lent : layoutFrom (boundsFrom variables (map natural lent)) ≡ layoutOf form header
   layout-lent = ap layoutFrom bounds-same ∙ layout-again (layoutOf form header)

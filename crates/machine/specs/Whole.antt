@@ -54,5 +54,5 @@ pub record Startable (lengths : List ℤ) (variables : ℕ) (bounds : List ℕ) 
 pub record Runnable (form : Form) (header rows store : List ℤ) : Type 0 where
   pub fits : headerFits form header ≡ true
   pub sound : Sound rows (layoutOf form header) (length store)
-  pub words : length store ≡ storeWords form header
+  pub words : length store ≡ storeWords form header rows
   pub few-rows : rowCount rows ≤ 40980

@@ -295,6 +295,10 @@ module _ (table : List ℕ) where
   abbrev pub roundsMeasures : ℕ → StatementMeasures
   roundsMeasures arms = aroundArms (slotAt table arms armsRowsSlot) (guardedMeasures 6 2 arms)
 
+  -- `store` is how many rows store the value.
+  abbrev pub declareMeasures : ℕ → ℕ → StatementMeasures
+  declareMeasures store e = measures (limited (store + slotAt table e rowsSlot)) (slotAt table e storedLevelsSlot) 0
+
   -- ---- what the function that measures an arm gives; `next` is the row behind it
 
   abbrev pub armMeasures : ℕ → ℕ → ℕ → StatementMeasures

@@ -1,26 +1,30 @@
 -- A statement's and a list's measures, from those of the rows that their links lead to: shape by shape.
 use mathlib.Core.Path.{_≡_, refl, sym, ap, ap₂, subst, _∙_}
+use mathlib.Core.Bool.{Bool, true, false}
 use mathlib.Core.List.{List}
 use Prim.Native.Nat.{ℕ, zero, suc, _+_, _*_, _≤_, _<_, max}
 use native.Mathlib.Omega.{arith}
 use lib.IntN.{ℤ}
+use Rattle.words.specs.Word.{pick}
 use Rattle.language.specs.Trees.{Expression, absent, present, Statement, while, doWhile, for, guardedIf, guardedDo, Arms, noArm, arm, Items, none, _here_, Mark, case, default, label}
 use Rattle.language.specs.Decode.{expressionAt, statementAt, itemsAt, armsAt, listAt, armListAt, partAt}
 use Rattle.language.specs.DecodeLaws.{part-some}
+use Rattle.translation.specs.Uses.{direct}
 use Rattle.translation.specs.declared.Use.{Use}
-use Rattle.translation.specs.declared.Use.the-variants.{Dropped as dropped, Wanted as wanted}
+use Rattle.translation.specs.declared.Use.the-variants.{Dropped as dropped, Wanted as wanted, Stored as stored}
 use Rattle.translation.specs.Translate.{atomOf, taken, labels, armsLabels, itemsLabels, expressionLevels, operandLevels, statementLevels, armsLevels, itemsLevels}
 use Rattle.translation.specs.TranslateBounds.{taken-most}
 use Rattle.translation.specs.TranslateSize.{expressionSize, operandSize, testSize, statementSize, armsSize, itemsSize, cases}
-use Rattle.shapes.specs.Shapes.{statementTree, Onward, OptionalOnward, StatementAt, ItemAt, ArmAt}
+use Rattle.shapes.specs.Shapes.{statementTree, Onward, OptionalOnward, ItemAt, ArmAt}
+use Rattle.shapes.specs.Source.{StatementAt}
 use Rattle.shapes.specs.ShapeLaws.{optional}
 use Rattle.shapes.specs.declared.StatementShape.{StatementShape}
-use Rattle.shapes.specs.declared.StatementShape.the-variants.{Express, Block, If, While, Do, For, Switch, GuardedIf, GuardedDo}
+use Rattle.shapes.specs.declared.StatementShape.the-variants.{Express, Block, If, While, Do, For, Switch, GuardedIf, GuardedDo, Declare}
 use Rattle.shapes.specs.declared.MarkShape.the-variants.{Case, Default, Label}
 use Rattle.shapes.specs.declared.Item.the-variants as item
 use Rattle.shapes.specs.declared.ArmShape.{ArmShape}
 use Rattle.shapes.specs.declared.ArmShape.the-variants.{Arm, NoArm}
-use Rattle.measure_table.specs.Measures.{limited, pastLabels, defaultPlace, rowsSlot, levelsSlot, droppedRowsSlot, droppedLevelsSlot, rowsFor, levelsFor, statementRowsSlot, statementLevelsSlot, statementLabelsSlot, listRowsSlot, listLevelsSlot, listLabelsSlot, listCasesSlot, listDefaultSlot, armsRowsSlot, armsLevelsSlot, armsLabelsSlot, slotAt, testSlots, MeasuredFrom, StatementMeasured, ListMeasured, ArmsMeasured, markMeasures, statementMeasures, plainMeasures, noMeasures, aroundArms, expressMeasures, blockMeasures, ifMeasures, loopMeasures, switchMeasures, guardedMeasures, roundsMeasures, armMeasures}
+use Rattle.measure_table.specs.Measures.{limited, pastLabels, defaultPlace, rowsSlot, levelsSlot, droppedRowsSlot, droppedLevelsSlot, rowsFor, levelsFor, statementRowsSlot, statementLevelsSlot, statementLabelsSlot, listRowsSlot, listLevelsSlot, listLabelsSlot, listCasesSlot, listDefaultSlot, armsRowsSlot, armsLevelsSlot, armsLabelsSlot, slotAt, testSlots, MeasuredFrom, StatementMeasured, ListMeasured, ArmsMeasured, markMeasures, statementMeasures, plainMeasures, noMeasures, aroundArms, expressMeasures, blockMeasures, ifMeasures, loopMeasures, switchMeasures, guardedMeasures, roundsMeasures, declareMeasures, armMeasures}
 use Rattle.measure_table.specs.declared.StatementMeasures.{StatementMeasures}
 use Rattle.measure_table.specs.declared.ListMeasures.{ListMeasures}
 use Rattle.measure_table.specs.MeasureLaws.{part-rows, part-levels, list-rows, list-levels, list-labels, list-cases, list-default, arms-rows, arms-levels, arms-labels, body-rows, body-levels, body-labels}
@@ -29,6 +33,11 @@ use Rattle.expression_measures.proofs.ExpressionLaws.{limited-max, limited-twic
 small : (n : ℕ) → n ≤ 2 → n ≡ limited n
 unfolding limited
 small n h = omega arith
+
+-- the rows that store a value are few
+pub store-small : {n : ℕ} (straight : Bool) → n ≡ pick straight 0 4 → n ≤ 4
+store-small true e = omega arith
+store-small false e = omega arith
 
 sum : (x y a b : ℕ) → x ≡ limited a → y ≡ limited b → limited (x + y) ≡ limited (a + b)
 unfolding limited
@@ -197,6 +206,16 @@ module _ {rows : List ℤ} {table : List ℕ} {row : ℕ} (m : MeasuredFrom rows
   pub rounds-shape : {arms : ℕ} {r : StatementMeasures} → StatementAt rows row (GuardedDo arms) → r ≡ roundsMeasures table arms → StatementMeasured (statementAt rows row) r
   rounds-shape {arms} f h =
       by-shape f h (rounds-measured (armListAt rows arms) _ _ _ (arms-rows rows table m arms (f .onward)) (arms-levels rows table m arms (f .onward)) (arms-labels rows table m arms (f .onward)))
+
+  pub declare-measured : {i e store : ℕ} {r : StatementMeasures} → StatementAt rows row (Declare i e) → store ≡ pick (direct (expressionAt rows e)) 0 4 → r ≡ declareMeasures table store e → StatementMeasured (statementAt rows row) r
+  unfolding statementSize statementLevels labels
+  declare-measured {i} {e} {store} f p h =
+      let o = f .onward .1 in
+      by-shape f h (record {
+        rows-are = step store _ _ _ (ap limited p) (cut _ _ (some-rows (stored i) e o));
+        levels-are = some-levels (stored i) e o;
+        labels-are = small 0 (omega arith);
+      })
 
   -- ---- arms
 

@@ -1,4 +1,5 @@
 // The measures of a statement, by its shape, from those of the rows that its links lead to.
+use expression_measures::holders::store_rows;
 use expression_measures::holders::taken_at;
 use measure_table::ARMS_LABELS;
 use measure_table::ARMS_LEVELS;
@@ -14,6 +15,7 @@ use measure_table::ROWS;
 use measure_table::STATEMENT_LABELS;
 use measure_table::STATEMENT_LEVELS;
 use measure_table::STATEMENT_ROWS;
+use measure_table::STORED_LEVELS;
 use measure_table::StatementMeasures;
 use measure_table::table::larger;
 use measure_table::table::limited;
@@ -24,7 +26,7 @@ ghost use mathlib.Core.Path.{_≡_};
 ghost use Prim.Native.Nat.{_+_, _≤_, _<_};
 ghost use Rattle.words.specs.Table.{rowCount};
 ghost use Rattle.language.specs.Decode.{statementAt};
-ghost use Rattle.measure_table.specs.Measures.{plainMeasures, expressMeasures, blockMeasures, ifMeasures, loopMeasures, switchMeasures, guardedMeasures, roundsMeasures, LinkMeasured, TestIs, MeasuredFrom, StatementMeasured};
+ghost use Rattle.measure_table.specs.Measures.{plainMeasures, expressMeasures, blockMeasures, ifMeasures, loopMeasures, switchMeasures, guardedMeasures, roundsMeasures, declareMeasures, LinkMeasured, TestIs, MeasuredFrom, StatementMeasured};
 
 // The test of a loop takes 5 rows beside its code, where there is one.
 fn test_rows(table: &[usize], test: usize) -> usize
@@ -159,6 +161,18 @@ fn rounds_measures(table: &[usize], arms: usize) -> StatementMeasures
     guarded_measures(table, 6, 2, arms)
 }
 
+// A declaration; `store` is how many rows store its value.
+fn declare_measures(table: &[usize], store: usize, e: usize) -> StatementMeasures
+    requires { ⌜ LinkMeasured (now table) e × (store ≤ 4) ⌝ }
+    ensures { λ r. ⌜ r ≡ declareMeasures (now (table .entry)) store e ⌝ }
+{
+    StatementMeasures {
+        rows: limited(store + measure_at(table, e, ROWS)),
+        levels: measure_at(table, e, STORED_LEVELS),
+        labels: 0,
+    }
+}
+
 pub fn measured_statement(rows: &[i32], table: &[usize], row: usize) -> StatementMeasures
     requires { ⌜ MeasuredFrom (now rows) (now table) (row + 1) × (row < rowCount (now rows)) ⌝ }
     ensures { λ r. ⌜ StatementMeasured (statementAt (now (rows .entry)) row) r ⌝ }
@@ -183,5 +197,6 @@ pub fn measured_statement(rows: &[i32], table: &[usize], row: usize) -> Statemen
         StatementShape::GuardedIf(arms) => guarded_measures(table, 2, 1, arms),
         StatementShape::GuardedDo(arms) => rounds_measures(table, arms),
         StatementShape::Abort => plain_measures(),
+        StatementShape::Declare(_, e) => declare_measures(table, store_rows(rows, e), e),
     }
 }

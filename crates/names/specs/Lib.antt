@@ -10,8 +10,6 @@ pub mod Examples
 -- ---- laws
 -- Laws of tables made word by word.
 pub mod TableLaws
--- Laws of linking: the links of a declaration are b and next, those of another row are the table's.
-pub mod LinkingLaws
 -- Laws of scope: what a row's scope and a number's meaning are; a declaration's word is its own.
 pub mod ScopeLaws
 -- Laws of the resolved table: its length, kinds, sorts and links are the table's; only the names change.
@@ -20,3 +18,5 @@ pub mod ResolvedLaws
 pub mod MeaningLaws
 -- Laws of resolved names: a declaration names its own word, a name its declaration's word or the header's variable.
 pub mod ResolvedNames
+-- The resolved table is structured as the table is, over a store with D words behind the first S.
+pub mod ResolvedStructured

@@ -16,25 +16,25 @@ use Rattle.words.specs.Links.{link}
 use Rattle.structure.specs.Structured.{Leads, Tree}
 use Rattle.structure.specs.LinkLaws.{by-owner}
 use Rattle.structure.specs.NoteLaws.{note-root, note-link}
-use Rattle.names.specs.Names.{isDeclaration, linking, inScope, scopeAt, declarationsBefore, declarationCount, meantFrom, meantAt}
-use Rattle.names.specs.LinkingLaws.{linking-count}
+use Rattle.names.specs.Names.{inScope, scopeAt, meantFrom, meantAt}
+use Rattle.words.specs.Declarations.{isDeclaration, declarationsBefore, declarationCount}
 use Rattle.names.specs.Scope.{InScopeOf, next-item, along}
 use Rattle.names.specs.ScopeLaws.{scope-declared, scope-before, before-later}
 
-module _ (rows : List ℤ) (t : Tree (linking rows)) where
-  leads-inside : (row field : ℕ) → Leads (linking rows) row field → row < rowCount rows
-  leads-inside row field leads = let l = leads .later in let i = leads .inside in let same = linking-count rows in omega arith
+module _ (rows : List ℤ) (t : Tree rows) where
+  leads-inside : (row field : ℕ) → Leads rows row field → row < rowCount rows
+  leads-inside row field leads = let l = leads .later in let i = leads .inside in omega arith
 
-  scope-link : (row field : ℕ) → field < 6 → Leads (linking rows) row field → scopeAt rows (link (linking rows) row field) ≡ inScope rows row field (scopeAt rows row)
+  scope-link : (row field : ℕ) → field < 6 → Leads rows row field → scopeAt rows (link rows row field) ≡ inScope rows row field (scopeAt rows row)
   unfolding scopeAt
-  scope-link row field h leads = note-link (inScope rows) 0 (linking rows) t row field h leads
+  scope-link row field h leads = note-link (inScope rows) 0 rows t row field h leads
 
   -- A link to a declaration's next item, or another one.
   data Step (row field : ℕ) : Type 0 where
-    declares : isDeclaration rows row ≡ true → field ≡ 5 → scopeAt rows (link (linking rows) row field) ≡ row → Step row field
-    hands-on : scopeAt rows (link (linking rows) row field) ≡ scopeAt rows row → Step row field
+    declares : isDeclaration rows row ≡ true → field ≡ 5 → scopeAt rows (link rows row field) ≡ row → Step row field
+    hands-on : scopeAt rows (link rows row field) ≡ scopeAt rows row → Step row field
 
-  step-of : (row field : ℕ) → field < 6 → Leads (linking rows) row field → Step row field
+  step-of : (row field : ℕ) → field < 6 → Leads rows row field → Step row field
   unfolding inScope
   step-of row field h leads =
       let e = scope-link row field h leads in
@@ -46,27 +46,27 @@ module _ (rows : List ℤ) (t : Tree (linking rows)) where
 
   scope-root : scopeAt rows 0 ≡ 0
   unfolding scopeAt
-  scope-root = note-root (inScope rows) 0 (linking rows)
+  scope-root = note-root (inScope rows) 0 rows
 
-  scope-next : (row : ℕ) → isDeclaration rows row ≡ true → Leads (linking rows) row 5 → scopeAt rows (link (linking rows) row 5) ≡ row
+  scope-next : (row : ℕ) → isDeclaration rows row ≡ true → Leads rows row 5 → scopeAt rows (link rows row 5) ≡ row
   unfolding inScope
   scope-next row d leads = scope-link row 5 (omega arith) leads ∙ rw d
 
   -- a row stands in its scope's scope
   pub scope-holds : (row : ℕ) → row < rowCount rows → (scopeAt rows row ≡ 0 → ⊥) → InScopeOf rows (scopeAt rows row) row
   scope-holds row n =
-      by-owner (linking rows) t (λ (row : ℕ). (scopeAt rows row ≡ 0 → ⊥) → InScopeOf rows (scopeAt rows row) row) (λ some. absurd (some scope-root))
-      (λ owner field h leads above some. handed owner field h leads above some (step-of owner field h leads)) row (rw linking-count n)
+      by-owner rows t (λ (row : ℕ). (scopeAt rows row ≡ 0 → ⊥) → InScopeOf rows (scopeAt rows row) row) (λ some. absurd (some scope-root))
+      (λ owner field h leads above some. handed owner field h leads above some (step-of owner field h leads)) row n
     where
-      next-of : (owner field : ℕ) → Leads (linking rows) owner field → isDeclaration rows owner ≡ true → field ≡ 5 → InScopeOf rows owner (link (linking rows) owner field)
+      next-of : (owner field : ℕ) → Leads rows owner field → isDeclaration rows owner ≡ true → field ≡ 5 → InScopeOf rows owner (link rows owner field)
       next-of owner field leads d f =
-          subst (λ (x : ℕ). Leads (linking rows) owner x → InScopeOf rows owner (link (linking rows) owner x)) (sym f) (λ l. next-item d l) leads
+          subst (λ (x : ℕ). Leads rows owner x → InScopeOf rows owner (link rows owner x)) (sym f) (λ l. next-item d l) leads
 
-      handed : (owner field : ℕ) → field < 6 → Leads (linking rows) owner field → ((scopeAt rows owner ≡ 0 → ⊥) → InScopeOf rows (scopeAt rows owner) owner)
-          → (scopeAt rows (link (linking rows) owner field) ≡ 0 → ⊥) → Step owner field → InScopeOf rows (scopeAt rows (link (linking rows) owner field)) (link (linking rows) owner field)
-      handed owner field h leads above some (declares d f e) = subst (λ (x : ℕ). InScopeOf rows x (link (linking rows) owner field)) (sym e) (next-of owner field leads d f)
+      handed : (owner field : ℕ) → field < 6 → Leads rows owner field → ((scopeAt rows owner ≡ 0 → ⊥) → InScopeOf rows (scopeAt rows owner) owner)
+          → (scopeAt rows (link rows owner field) ≡ 0 → ⊥) → Step owner field → InScopeOf rows (scopeAt rows (link rows owner field)) (link rows owner field)
+      handed owner field h leads above some (declares d f e) = subst (λ (x : ℕ). InScopeOf rows x (link rows owner field)) (sym e) (next-of owner field leads d f)
       handed owner field h leads above some (hands-on e) =
-          subst (λ (x : ℕ). InScopeOf rows x (link (linking rows) owner field)) (sym e) (along h leads (above (λ z. some (e ∙ z))))
+          subst (λ (x : ℕ). InScopeOf rows x (link rows owner field)) (sym e) (along h leads (above (λ z. some (e ∙ z))))
 
   -- One declaration is another, or stands around it.
   abbrev IsOrAround : ℕ → ℕ → Type 0
@@ -77,7 +77,7 @@ module _ (rows : List ℤ) (t : Tree (linking rows)) where
   scope-nests {declaration} (next-item d leads) = inl (sym (scope-next declaration d leads))
   scope-nests {declaration} (along {row} {field} h leads i) = go (step-of row field h leads) (scope-nests i)
     where
-      go : Step row field → IsOrAround declaration (scopeAt rows row) → IsOrAround declaration (scopeAt rows (link (linking rows) row field))
+      go : Step row field → IsOrAround declaration (scopeAt rows row) → IsOrAround declaration (scopeAt rows (link rows row field))
       go (declares d f e) above = subst (IsOrAround declaration) (sym e) (inr i)
       go (hands-on e) above = subst (IsOrAround declaration) (sym e) above
 

@@ -1,42 +1,31 @@
 -- Names: Change 11, names inside a block. The store word that a number means at a row, and the table in which each name stands for its
 -- store word.
-use mathlib.Core.Bool.{Bool, _&&_, _||_}
+use mathlib.Core.Path.{_≡_}
+use mathlib.Core.Bool.{Bool, false, _&&_, _||_}
 use mathlib.Core.List.{List}
 use Prim.Native.Nat.{ℕ, zero, suc, _+_, _/_, _%_}
 use lib.Dec.{eqb}
 use lib.IntN.{ℤ, pos}
 use lib.ListN.{length}
 use Rattle.words.specs.Word.{pick}
-use Rattle.words.specs.Table.{rowCount, wordAt, numberAt}
+use Rattle.words.specs.Table.{wordAt, numberAt}
+use Rattle.words.specs.Declarations.{isDeclaration, declarationsBefore, declarationLimit}
 use Rattle.words.specs.Links.{note}
 use Rattle.grammar.specs.Grammar.{tabulate}
-use Rattle.structure.specs.Links.{one}
 
 -- The table of so many words that holds `word row field` in each field of each row.
 abbrev pub tableOf : (ℕ → ℕ → ℤ) → ℕ → List ℤ
 tableOf word words = tabulate (λ w. word (w / 6) (w % 6)) 0 words
 
--- ---- declarations
-
--- "Kind 58: a variable number below V, b initial expression." The number stands here alone.
-abbrev pub declarationKind : ℕ
-declarationKind = 58
-
-unfoldable pub isDeclaration : List ℤ → ℕ → Bool
-isDeclaration rows row = eqb (numberAt rows row 0) declarationKind
+-- ---- names and links
 
 -- A row that names a variable.
 unfoldable pub isName : List ℤ → ℕ → Bool
 isName rows row = eqb (numberAt rows row 0) 2
 
--- The table whose links are walked: "b initial expression", and next as any item. The table of kinds does not hold kind 58 yet, so a
--- declaration links as a do without a body does: b an expression, next an item. Once the kind is in that table, `linking rows` is `rows`.
-abbrev pub linkingWord : List ℤ → ℕ → ℕ → ℤ
-linkingWord rows row field =
-    pick (isDeclaration rows row) (pick (eqb field 0) (pos 45) (pick (eqb field 1) (pos 0) (wordAt rows row field))) (wordAt rows row field)
-
-unfoldable pub linking : List ℤ → List ℤ
-linking rows = tableOf (linkingWord rows) (length rows)
+-- No row is a declaration.
+abbrev pub NoDeclaration : List ℤ → Type 0
+NoDeclaration rows = (row : ℕ) → isDeclaration rows row ≡ false
 
 -- ---- scope
 
@@ -47,18 +36,9 @@ inScope rows owner field own = pick (eqb field 5 && isDeclaration rows owner) ow
 
 -- The innermost declaration in whose scope a row stands; 0 where there is none.
 unfoldable pub scopeAt : List ℤ → ℕ → ℕ
-scopeAt rows row = note (inScope rows) 0 (linking rows) row
+scopeAt rows row = note (inScope rows) 0 rows row
 
 -- ---- words
-
--- How many of the first `row` rows are declarations.
-unfoldable pub declarationsBefore : List ℤ → ℕ → ℕ
-declarationsBefore rows zero = 0
-declarationsBefore rows (suc row) = declarationsBefore rows row + one (isDeclaration rows row)
-
--- "There are D of them".
-unfoldable pub declarationCount : List ℤ → ℕ
-declarationCount rows = declarationsBefore rows (rowCount rows)
 
 -- "Each declaration has its own store word after the first S, in row order".
 unfoldable pub wordOf : ℕ → List ℤ → ℕ → ℕ
@@ -73,10 +53,6 @@ meantFrom zero rows declaration number = 0
 meantFrom (suc outward) rows declaration number =
     let rest = meantFrom outward rows (scopeAt rows declaration) number in
     pick (eqb declaration 0 || eqb (numberAt rows declaration 1) number) declaration rest
-
--- "At most 64."
-abbrev pub declarationLimit : ℕ
-declarationLimit = 64
 
 -- The declaration that a number means at a row; 0 where it means the header's variable.
 unfoldable pub meantAt : List ℤ → ℕ → ℕ → ℕ

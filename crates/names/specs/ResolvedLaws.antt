@@ -1,7 +1,7 @@
 -- Laws of the resolved table: its length, kinds, sorts and links are the table's; only the names change; a table without declarations is
 -- its own resolved table.
 use mathlib.Core.Path.{_≡_, refl, sym, ap, _∙_}
-use mathlib.Core.Bool.{Bool, true, false, _||_, true≢false, false≢true}
+use mathlib.Core.Bool.{Bool, true, false, true≢false}
 use mathlib.Core.List.{List}
 use Prim.Native.Nat.{ℕ, zero, suc, _+_, _*_, _/_, _%_, _<_}
 use native.Mathlib.Omega.{arith}
@@ -14,16 +14,16 @@ use Rattle.words.specs.Word.{pick, natural}
 use Rattle.words.specs.Table.{rowCount, wordAt, numberAt}
 use Rattle.words.specs.Laws.{by-cases, countFits-facts}
 use Rattle.words.specs.declared.Form.{Form}
-use Rattle.words.specs.declared.Form.the-variants.{Source, Kernel}
-use Rattle.words.specs.Kinds.{kinds, kindIn, kindOf, isLink, inLanguage, sortAt, sortOf, sortIn, kindRow, expressionFields}
+use Rattle.words.specs.Kinds.{kinds, kindIn, kindOf, isLink, inLanguage, sortAt, sortOf, sortIn, kindRow, expressionFields, statementFields}
+use Rattle.words.specs.KindLaws.{declaration-foreign}
 use Rattle.words.specs.Links.{link, target}
 use Rattle.structure.specs.Links.{linksAmong, linkCount}
 use Rattle.structure.specs.Structured.{Leads, Tree, Structured}
 use Rattle.row_fields.specs.declared.Bounds.{Bounds}
-use Rattle.names.specs.Names.{declarationKind, isDeclaration, isName, linking, variableWord, resolvedName, resolvedWord, resolved}
+use Rattle.names.specs.Names.{NoDeclaration, isName, variableWord, resolvedName, resolvedWord, resolved}
+use Rattle.words.specs.Declarations.{declarationKind, isDeclaration}
 use Rattle.names.specs.TableLaws.{table-length, table-word, table-all, word-beyond, made-of-itself}
-use Rattle.names.specs.LinkingLaws.{NoDeclaration, declaration-beyond, linking-length, linking-link}
-use Rattle.names.specs.ScopeLaws.{meant-none}
+use Rattle.names.specs.ScopeLaws.{declaration-beyond, meant-none}
 
 -- ---- two tables with the same links
 
@@ -84,7 +84,7 @@ module _ (S : ℕ) (rows : List ℤ) where
 
   -- field a of a declaration or a name is no link
   no-link : (kind field : ℕ) → field ≡ 1 → (kind ≡ declarationKind → isLink (sortOf kind field) ≡ false) × (kind ≡ 2 → isLink (sortOf kind field) ≡ false)
-  unfolding sortOf sortIn kindOf kindIn kinds kindRow expressionFields isLink
+  unfolding sortOf sortIn kindOf kindIn kinds kindRow expressionFields statementFields isLink
   no-link kind field e = (λ k. rw (k, e), λ k. rw (k, e))
 
   pub resolved-link : (row field : ℕ) → field < 6 → link (resolved S rows) row field ≡ link rows row field
@@ -106,21 +106,9 @@ module _ (S : ℕ) (rows : List ℤ) where
   unfolding isDeclaration
   resolved-declaration row = rw (resolved-kind row)
 
-  linking-same : (row field : ℕ) → field < 6 → link (linking (resolved S rows)) row field ≡ link (linking rows) row field
-  unfolding numberAt
-  linking-same row field h =
-      rw (linking-link (resolved S rows) row field h, linking-link rows row field h, resolved-declaration row, resolved-link row field h) (go (ℕ-discrete field 1))
-    where
-      go : Dec (field ≡ 1)
-          → _≡_ {A = ℕ} (pick (isDeclaration rows row) (pick (eqb field 2 || eqb field 5) (natural (wordAt (resolved S rows) row field)) 0) (link rows row field))
-          (pick (isDeclaration rows row) (pick (eqb field 2 || eqb field 5) (natural (wordAt rows row field)) 0) (link rows row field))
-      go (yes q) = rw q
-      go (no q) = rw (resolved-kept row field h q)
-
   -- the rows form the same tree
-  pub resolved-tree : Tree (linking rows) → Tree (linking (resolved S rows))
-  resolved-tree t =
-      same-tree (linking rows) (linking (resolved S rows)) (linking-length (resolved S rows) ∙ resolved-length ∙ sym (linking-length rows)) linking-same t
+  pub resolved-tree : Tree rows → Tree (resolved S rows)
+  resolved-tree t = same-tree rows (resolved S rows) resolved-length resolved-link t
 
   pub resolved-none : NoDeclaration rows → resolved S rows ≡ rows
   unfolding resolved resolvedWord resolvedName variableWord
@@ -140,16 +128,12 @@ module _ (S : ℕ) (rows : List ℤ) where
 
 -- No form has the kind yet, so an accepted table is its own resolved table.
 pub structured-none : (form : Form) (bounds : Bounds) (rows : List ℤ) → Structured form bounds rows → NoDeclaration rows
-unfolding isDeclaration inLanguage kindOf kindIn kinds kindRow
+unfolding isDeclaration
 structured-none form bounds rows s row =
     by-cases (isDeclaration rows row) (λ e. absurd (within e (decLt row (rowCount rows)))) (λ e. e)
   where
-    no-form : (form : Form) → inLanguage form declarationKind ≡ true → ⊥
-    no-form Source e = false≢true e
-    no-form Kernel e = false≢true e
-
     within : isDeclaration rows row ≡ true → Dec (row < rowCount rows) → ⊥
-    within e (yes b) = no-form form (rw (eqb-true (numberAt rows row 0) declarationKind e) at (s .known row b))
+    within e (yes b) = true≢false (sym (s .known row b) ∙ ap (inLanguage form) (eqb-true (numberAt rows row 0) declarationKind e) ∙ declaration-foreign form)
     within e (no b) = true≢false (sym e ∙ declaration-beyond rows row (let whole = countFits-facts form (length rows) (s .count-fits) .whole in omega (arith, b)))
 
 pub structured-resolved : (S : ℕ) (form : Form) (bounds : Bounds) (rows : List ℤ) → Structured form bounds rows → resolved S rows ≡ rows

@@ -12,8 +12,8 @@ use borrow.Author.Tests.{eq-eqb, ne-eqb}
 use Rattle.words.specs.Word.{natural}
 use Rattle.words.specs.Table.{rowCount, wordAt, numberAt}
 use Rattle.structure.specs.Structured.{Tree}
-use Rattle.names.specs.Names.{isDeclaration, isName, linking, declarationCount, wordOf, meantAt, variableWord, resolvedName, resolvedWord, resolved}
-use Rattle.names.specs.LinkingLaws.{linking-length}
+use Rattle.names.specs.Names.{isName, wordOf, meantAt, variableWord, resolvedName, resolvedWord, resolved}
+use Rattle.words.specs.Declarations.{isDeclaration, declarationCount}
 use Rattle.names.specs.ScopeLaws.{meant-declared, meant-inside, word-after, word-below}
 use Rattle.names.specs.ResolvedLaws.{resolved-word}
 
@@ -22,10 +22,10 @@ pub record DeclaredWord (S : ℕ) (rows : List ℤ) (word : ℕ) : Type 0 where
   pub least : S ≤ word
   pub most : word < S + declarationCount rows
 
-module _ (S : ℕ) (rows : List ℤ) (t : Tree (linking rows)) (row : ℕ) (n : row < rowCount rows) where
+module _ (S : ℕ) (rows : List ℤ) (t : Tree rows) (row : ℕ) (n : row < rowCount rows) where
   first-field : wordAt (resolved S rows) row 1 ≡ resolvedName S rows row
   unfolding resolvedWord
-  first-field = resolved-word S rows row 1 (omega arith) (let whole = t .whole in let same = linking-length rows in omega arith)
+  first-field = resolved-word S rows row 1 (omega arith) (let whole = t .whole in omega arith)
 
   pub declaration-resolved : isDeclaration rows row ≡ true → numberAt (resolved S rows) row 1 ≡ wordOf S rows row
   unfolding numberAt natural resolvedName

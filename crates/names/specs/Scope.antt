@@ -6,9 +6,9 @@ use Prim.Native.Nat.{ℕ, _<_}
 use lib.IntN.{ℤ}
 use Rattle.words.specs.Links.{link}
 use Rattle.structure.specs.Structured.{Leads}
-use Rattle.names.specs.Names.{isDeclaration, linking}
+use Rattle.words.specs.Declarations.{isDeclaration}
 
 -- "From its next item to the block's end": the next item, what stands below it, and the items behind it.
 pub data InScopeOf (rows : List ℤ) (declaration : ℕ) : ℕ → Type 0 where
-  next-item : isDeclaration rows declaration ≡ true → Leads (linking rows) declaration 5 → InScopeOf rows declaration (link (linking rows) declaration 5)
-  along : {row field : ℕ} → field < 6 → Leads (linking rows) row field → InScopeOf rows declaration row → InScopeOf rows declaration (link (linking rows) row field)
+  next-item : isDeclaration rows declaration ≡ true → Leads rows declaration 5 → InScopeOf rows declaration (link rows declaration 5)
+  along : {row field : ℕ} → field < 6 → Leads rows row field → InScopeOf rows declaration row → InScopeOf rows declaration (link rows row field)

@@ -3,24 +3,25 @@ use mathlib.Core.Path.{_≡_, refl}
 use mathlib.Core.Bool.{Bool, true, false, _&&_, _||_}
 use mathlib.Core.Logic.{_⊎_, inl, inr}
 use mathlib.Core.List.{List}
-use Prim.Native.Nat.{ℕ, zero, suc, _+_, _-_, _≤_, _<_}
+use Prim.Native.Nat.{ℕ, zero, suc, _+_, _*_, _-_, _≤_, _<_}
 use native.Mathlib.Nat.{add-zero, add-suc}
 use native.Mathlib.Omega.{arith}
 use lib.Dec.{eqb}
 use lib.IntN.{ℤ}
+use lib.ListN.{length}
 use borrow.Author.Tests.{eqb-true}
-use Rattle.words.specs.Word.{pick}
+use Rattle.words.specs.Word.{pick, natural}
 use Rattle.words.specs.Table.{rowCount, numberAt}
 use Rattle.words.specs.Laws.{by-cases, both}
 use Rattle.words.specs.Links.{linker, received, noteBy, note}
 use Rattle.words.specs.declared.Found.{Found}
 use Rattle.words.specs.declared.Found.the-variants.{At, Nothing}
-use Rattle.structure.specs.Links.{one}
 use Rattle.structure.specs.Structured.{Tree}
 use Rattle.structure.specs.LinkLaws.{by-owner}
 use Rattle.structure.specs.NoteLaws.{note-root, note-link}
-use Rattle.names.specs.Names.{isDeclaration, linking, inScope, scopeAt, declarationsBefore, declarationCount, wordOf, meantFrom, meantAt}
-use Rattle.names.specs.LinkingLaws.{NoDeclaration, linking-count}
+use Rattle.names.specs.Names.{NoDeclaration, inScope, scopeAt, wordOf, meantFrom, meantAt}
+use Rattle.names.specs.TableLaws.{word-beyond}
+use Rattle.words.specs.Declarations.{isDeclaration, declarationsBefore, declarationCount}
 
 -- ---- notes of any table
 
@@ -37,6 +38,10 @@ noted P hand first rows start on row = go row row
     go zero row = start
     go (suc links) row = handed (noteBy links hand first rows) (go links) (linker rows row)
 
+pub declaration-beyond : (rows : List ℤ) (row : ℕ) → length rows ≤ 6 * row → isDeclaration rows row ≡ false
+unfolding isDeclaration numberAt natural
+declaration-beyond rows row b = rw (word-beyond rows row 0 (omega arith))
+
 module _ (rows : List ℤ) where
   -- No declaration, or one.
   abbrev pub NoneOrDeclared : ℕ → Type 0
@@ -44,7 +49,7 @@ module _ (rows : List ℤ) where
 
   pub scope-declared : (row : ℕ) → NoneOrDeclared (scopeAt rows row)
   unfolding scopeAt inScope
-  scope-declared row = noted NoneOrDeclared (inScope rows) 0 (linking rows) (inl refl) (λ owner field own h. by-cases (eqb field 5 && isDeclaration rows owner) (λ e. rw e (inr (both (eqb field 5) (isDeclaration rows owner) e .1))) (λ e. rw e h)) row
+  scope-declared row = noted NoneOrDeclared (inScope rows) 0 rows (inl refl) (λ owner field own h. by-cases (eqb field 5 && isDeclaration rows owner) (λ e. rw e (inr (both (eqb field 5) (isDeclaration rows owner) e .1))) (λ e. rw e h)) row
 
   -- the declaration that a number means has that number
   pub meant-from : (outward declaration number : ℕ) → NoneOrDeclared declaration
@@ -90,22 +95,12 @@ module _ (rows : List ℤ) where
   unfolding wordOf
   word-later S declaration later e h = omega (arith, before-later declaration later e h)
 
-  -- a row has at most as many declarations before it as there are rows
-  pub before-few : (row : ℕ) → declarationsBefore rows row ≤ row
-  unfolding declarationsBefore
-  before-few zero = omega arith
-  before-few (suc row) = omega (arith, before-few row, at-most-one (isDeclaration rows row))
-    where
-      at-most-one : (b : Bool) → one b ≤ 1
-      at-most-one true = omega arith
-      at-most-one false = omega arith
-
   -- ---- without declarations
 
   module _ (none : NoDeclaration rows) where
     pub scope-none : (row : ℕ) → scopeAt rows row ≡ 0
     unfolding scopeAt inScope
-    scope-none row = noted (λ (n : ℕ). n ≡ 0) (inScope rows) 0 (linking rows) refl (λ owner field own h. rw (none owner) (own-kept (eqb field 5) own owner h)) row
+    scope-none row = noted (λ (n : ℕ). n ≡ 0) (inScope rows) 0 rows refl (λ owner field own h. rw (none owner) (own-kept (eqb field 5) own owner h)) row
       where
         own-kept : (b : Bool) (own owner : ℕ) → own ≡ 0 → pick (b && false) owner own ≡ 0
         own-kept true own owner h = h
@@ -117,15 +112,15 @@ module _ (rows : List ℤ) where
 
 -- ---- in a tree of rows
 
-module _ (rows : List ℤ) (t : Tree (linking rows)) where
+module _ (rows : List ℤ) (t : Tree rows) where
   -- a row stands in no scope, or in that of an earlier row, which is inside the table
   pub scope-before : (row : ℕ) → row < rowCount rows → scopeAt rows row ≤ row
   unfolding scopeAt inScope
   scope-before row n =
-      by-owner (linking rows) t (λ (row : ℕ). note (inScope rows) 0 (linking rows) row ≤ row)
-      (let z = note-root (inScope rows) 0 (linking rows) in omega arith)
-      (λ owner field h leads below. let e = note-link (inScope rows) 0 (linking rows) t owner field h leads in let l = leads .later in omega (arith, e, l, handed owner field _ below))
-      row (rw linking-count n)
+      by-owner rows t (λ (row : ℕ). note (inScope rows) 0 rows row ≤ row)
+      (let z = note-root (inScope rows) 0 rows in omega arith)
+      (λ owner field h leads below. let e = note-link (inScope rows) 0 rows t owner field h leads in let l = leads .later in omega (arith, e, l, handed owner field _ below))
+      row n
     where
       handed : (owner field own : ℕ) → own ≤ owner → inScope rows owner field own ≤ owner
       handed owner field own h = by-cases (eqb field 5 && isDeclaration rows owner) (λ e. rw e (omega arith)) (λ e. rw e h)

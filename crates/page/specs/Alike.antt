@@ -30,7 +30,7 @@ use Rattle.kernel_statements.specs.Statements.{isAtom, isBlock, isKernelIf, isK
 use Rattle.accepted.specs.Sorts.{sort-is, statement-kind, in-language, statementNumber, number-is}
 use Rattle.accepted.specs.Fields.{holds, noLink, MayLink, linked, may-link, next-link, link-none}
 use Rattle.accepted.specs.Expressions.{ExpressionRow, constant-row, variable-row, element-row, minus-row, not-row, binary-row, and-row, or-row, comma-row, conditional-row, assign-row, compound-row, prefix-row, postfix-row, whole-rows, read-place, expression-row, place-expression}
-use Rattle.accepted.specs.Statements.{StatementRow, empty-row, express-row, block-row, ifThen-row, ifElse-row, while-row, doWhile-row, for-row, switch-row, case-row, default-row, break-row, continue-row, goto-row, label-row, guardedIf-row, guardedDo-row, abort-row, statement-row}
+use Rattle.accepted.specs.Statements.{StatementRow, empty-row, express-row, block-row, ifThen-row, ifElse-row, while-row, doWhile-row, for-row, switch-row, case-row, default-row, break-row, continue-row, goto-row, label-row, guardedIf-row, guardedDo-row, abort-row, declare-row, statement-row}
 use Rattle.page.specs.TreeKinds.{expressionKind, expression-kind, statementKind, kind-of-statement}
 
 module _ (bounds : Bounds) (rows other : List ℤ) (s : Structured Kernel bounds rows) (t : Structured Kernel bounds other)
@@ -351,6 +351,7 @@ module _ (bounds : Bounds) (rows other : List ℤ) (s : Structured Kernel bounds
     statement-same (label-row k e) h o j q next = absurd (true≢false (sym o ∙ ap isStatementKind k))
     statement-same (guardedIf-row k e x) h o j q next = absurd (not-in-kernel rows s row n k refl)
     statement-same (guardedDo-row k e x) h o j q next = absurd (not-in-kernel rows s row n k refl)
+    statement-same (declare-row k p e x) h o j q next = absurd (not-in-kernel rows s row n k refl)
 
     -- ---- items
 

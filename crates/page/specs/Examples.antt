@@ -5,13 +5,14 @@ use mathlib.Core.Option.{none, some}
 use Prim.Native.String.{String}
 use lib.IntN.{pos, negsuc}
 use Rattle.words.specs.Word.{isWord}
-use Rattle.words.specs.Layout.{Layout}
+use Rattle.words.specs.Layout.{Layout, storeSize}
 use Rattle.words.specs.declared.Operator.the-variants.{Add, Subtract, LessOrEqual}
 use Rattle.text_numbers.specs.Number.{digits, digitsWithin, numberBytes, isDigit, decimal, natural, word, positive, negative, numberOf}
 use Rattle.text_lines.specs.Line.{together, linesOf}
 use Rattle.language.specs.Trees.{Expression, constant, read, minus, binary, assign, compound, postfix, Place, variable, element, label, Statement, empty, express, block, ifElse, while, goto, abort, Items, none as noItem, _then_, _here_}
 use Rattle.translation.specs.Translate.{translate}
 use Rattle.translation.specs.WorkedExamples.{worked-translation}
+use Rattle.page.specs.declared.Sizes.{Sizes}
 use Rattle.page.specs.Lines.{closes, indented, statementLines, readBefore, readLines}
 use Rattle.page.specs.Page.{ended, name, blanks, parted, rightSet, padded, lineBytes, linesBytes, pageBytes}
 use Rattle.page.specs.Reading.{same, pieces, filled, without, readOperator, readName, readAtom, readPlace, pageLines, readPage}
@@ -21,6 +22,9 @@ abbrev set : Place → Expression → Statement
 set p e = express (assign p e)
 
 -- ---- document 01's program in kernel form: one variable and one array of 3, so S = 4
+
+abbrev four : Sizes
+four = record { store = 4; declared = 0 }
 
 abbrev worked : Items
 worked =
@@ -39,7 +43,7 @@ workedLines =
     "    4 v0 = v0 - 1;                                                              " ∷
     "    5 a0[v0] = t0;                                                              " ∷ []
 
-pub worked-page : pageBytes 4 worked ≡ quoted workedLines
+pub worked-page : pageBytes four worked ≡ quoted workedLines
 unfolding quoted bytesOf digits digitsWithin numberBytes statementLines ended name blanks parted rightSet padded lineBytes linesBytes pageBytes
 worked-page = refl
 
@@ -50,18 +54,22 @@ layout = record { variables = 1; lengths = 3 ∷ [] }
 abbrev source : Items
 source = set (variable 0) (constant (pos 2)) then set (element 0 (compound Subtract (variable 0) (constant (pos 1)))) (postfix Add (variable 0)) then noItem
 
-pub worked-translated : pageBytes 4 (translate layout source) ≡ quoted workedLines
-worked-translated = ap (pageBytes 4) worked-translation ∙ worked-page
+pub worked-translated : pageBytes four (translate (storeSize layout) source) ≡ quoted workedLines
+worked-translated = ap (pageBytes four) worked-translation ∙ worked-page
 
--- ---- every statement: two variables and one array of 3, so S = 5
+-- ---- every statement: two variables and one array of 3, so S = 5, and two declared words
+
+abbrev five : Sizes
+five = record { store = 5; declared = 2 }
 
 abbrev every : Items
 every =
-    set (variable 8196) (binary LessOrEqual (constant (negsuc 2147483647)) (constant (negsuc 2147483647))) then
+    set (variable 8198) (binary LessOrEqual (constant (negsuc 2147483647)) (constant (negsuc 2147483647))) then
     while (constant (pos 1)) (block
-    (set (variable 5) (minus (constant (negsuc 4))) then
-    ifElse (read (variable 5)) (block noItem) (block (goto 1 then noItem)) then
-    set (element 0 (read (variable 6))) (read (variable 1)) then
+    (set (variable 7) (minus (constant (negsuc 4))) then
+    ifElse (read (variable 7)) (block noItem) (block (goto 1 then noItem)) then
+    set (element 0 (read (variable 8))) (read (variable 1)) then
+    set (variable 6) (read (variable 5)) then
     set (variable 0) (read (element 0 (constant (pos 2)))) then
     empty then
     block (abort then noItem) then
@@ -78,20 +86,21 @@ everyLines =
     "    6     goto L1;                                                              " ∷
     "    7   }                                                                       " ∷
     "    8   a0[t1] = v1;                                                            " ∷
-    "    9   v0 = a0[2];                                                             " ∷
-    "   10   ;                                                                       " ∷
-    "   11   {                                                                       " ∷
-    "   12     abort();                                                              " ∷
-    "   13   }                                                                       " ∷
-    "   14   L2:;                                                                    " ∷
-    "   15 }                                                                         " ∷
-    "   16 L1:;                                                                      " ∷ []
+    "    9   l1 = l0;                                                                " ∷
+    "   10   v0 = a0[2];                                                             " ∷
+    "   11   ;                                                                       " ∷
+    "   12   {                                                                       " ∷
+    "   13     abort();                                                              " ∷
+    "   14   }                                                                       " ∷
+    "   15   L2:;                                                                    " ∷
+    "   16 }                                                                         " ∷
+    "   17 L1:;                                                                      " ∷ []
 
-pub every-page : pageBytes 5 every ≡ quoted everyLines
+pub every-page : pageBytes five every ≡ quoted everyLines
 unfolding quoted bytesOf digits digitsWithin numberBytes statementLines ended name blanks parted rightSet padded lineBytes linesBytes pageBytes
 every-page = refl
 
-pub every-read : readPage 5 (quoted everyLines) ≡ some every
+pub every-read : readPage five (quoted everyLines) ≡ some every
 unfolding quoted bytesOf digits digitsWithin numberBytes isDigit decimal natural word positive negative numberOf isWord together linesOf statementLines readBefore readLines ended name blanks parted rightSet padded lineBytes linesBytes pageBytes same pieces filled without readOperator readName readAtom readPlace pageLines readPage
 every-read = refl
 
@@ -100,7 +109,7 @@ every-read = refl
 abbrev deepLine : List String
 deepLine = "40980                                     }                                     " ∷ []
 
-pub deep-line : lineBytes 5 40980 (indented 500 closes) ≡ quoted deepLine
+pub deep-line : lineBytes five 40980 (indented 500 closes) ≡ quoted deepLine
 unfolding quoted bytesOf digits digitsWithin blanks parted rightSet padded lineBytes
 deep-line = refl
 
@@ -112,10 +121,10 @@ shifted = "    1  v0 = 2;                                                       
 abbrev unclosed : List String
 unclosed = "    1 {                                                                         " ∷ []
 
-pub shifted-refused : readPage 4 (quoted shifted) ≡ none
+pub shifted-refused : readPage four (quoted shifted) ≡ none
 unfolding quoted bytesOf digits digitsWithin numberBytes isDigit decimal natural word positive negative numberOf isWord together linesOf statementLines readBefore readLines ended name blanks parted rightSet padded lineBytes linesBytes pageBytes same pieces filled without readOperator readName readAtom readPlace pageLines readPage
 shifted-refused = refl
 
-pub unclosed-refused : readPage 4 (quoted unclosed) ≡ none
+pub unclosed-refused : readPage four (quoted unclosed) ≡ none
 unfolding quoted bytesOf isDigit decimal natural together linesOf readBefore readLines same pieces filled without readPlace pageLines readPage
 unclosed-refused = refl

@@ -2,7 +2,7 @@
 use mathlib.Core.List.{List, [], _∷_, _++_}
 use mathlib.Core.Option.{Option, none, some}
 use Prim.Native.Nat.{ℕ, _+_}
-use Rattle.language.specs.Trees.{Expression, Mark, Statement, empty, express, block, ifThen, ifElse, while, doWhile, for, switch, break, continue, goto, guardedIf, guardedDo, abort, Items, none as noItem, _then_, _here_}
+use Rattle.language.specs.Trees.{Expression, Mark, Statement, empty, express, block, ifThen, ifElse, while, doWhile, for, switch, break, continue, goto, guardedIf, guardedDo, abort, declare, Items, none as noItem, _then_, _here_}
 
 -- What a line says. Blocks end in a line of their own, so that their ends do not hang on the indent.
 pub data Line : Type 0 where
@@ -38,6 +38,7 @@ unfoldable mutual
   statementLines level continue = []
   statementLines level (guardedIf arms) = []
   statementLines level (guardedDo arms) = []
+  statementLines level (declare word e) = []
 
   -- A branch or body is a block: its items stand between the lines of its owner.
   pub branchLines : ℕ → Statement → List Indented
@@ -56,6 +57,7 @@ unfoldable mutual
   branchLines level (guardedIf arms) = []
   branchLines level (guardedDo arms) = []
   branchLines level abort = []
+  branchLines level (declare word e) = []
 
   pub itemsLines : ℕ → Items → List Indented
   itemsLines level noItem = []

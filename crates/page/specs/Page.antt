@@ -9,7 +9,8 @@ use Rattle.words.specs.declared.Operator.{Operator}
 use Rattle.words.specs.declared.Operator.the-variants.{Add, Subtract, Multiply, Divide, Remainder, Less, Greater, LessOrEqual, GreaterOrEqual, Equal, NotEqual}
 use Rattle.text_numbers.specs.Number.{digits, numberBytes}
 use Rattle.text_lines.specs.Line.{newline}
-use Rattle.language.specs.Trees.{Expression, constant, read, minus, not, binary, and, or, comma, conditional, assign, compound, prefix, postfix, Place, variable, element, Mark, case, default, label, Statement, empty, express, block, ifThen, ifElse, while, doWhile, for, switch, break, continue, goto, guardedIf, guardedDo, abort, Items}
+use Rattle.language.specs.Trees.{Expression, constant, read, minus, not, binary, and, or, comma, conditional, assign, compound, prefix, postfix, Place, variable, element, Mark, case, default, label, Statement, empty, express, block, ifThen, ifElse, while, doWhile, for, switch, break, continue, goto, guardedIf, guardedDo, abort, declare, Items}
+use Rattle.page.specs.declared.Sizes.{Sizes}
 use Rattle.page.specs.Lines.{Line, single, mark, opens, opensWhile, opensIf, turns, closes, Indented, indented, itemsLines}
 
 -- ---- bytes and words that are always the same
@@ -36,12 +37,15 @@ openingParenthesis = 40
 abbrev pub closingParenthesis : ℕ
 closingParenthesis = 41
 
--- "Names are v, a and t with a number"; a label's begins with L.
+-- "Names are v, a and t with a number"; "pages name these words l"; a label's begins with L.
 abbrev pub variableLetter : ℕ
 variableLetter = 118
 
 abbrev pub arrayLetter : ℕ
 arrayLetter = 97
+
+abbrev pub declaredLetter : ℕ
+declaredLetter = 108
 
 abbrev pub temporaryLetter : ℕ
 temporaryLetter = 116
@@ -110,11 +114,16 @@ ended (word ∷ (second ∷ words)) = word ∷ ended (second ∷ words)
 abbrev pub labelWord : ℕ → List ℕ
 labelWord l = labelLetter ∷ digits l
 
--- S is the number of store words: variable numbers from S on are the temporaries, "t from 0".
-module _ (S : ℕ) where
-  -- `v7`, `t7`
+-- S and D: variable numbers from S on are the declared words, "l, from 0", and from S+D on the temporaries, "t from 0".
+module _ (sizes : Sizes) where
+  abbrev pub firstTemporary : ℕ
+  firstTemporary = sizes .store + sizes .declared
+
+  -- `v7`, `l7`, `t7`
   unfoldable pub name : ℕ → List ℕ
-  name i = pick (ltb i S) (variableLetter ∷ digits i) (temporaryLetter ∷ digits (i - S))
+  name i =
+      pick (ltb i (sizes .store)) (variableLetter ∷ digits i)
+      (pick (ltb i firstTemporary) (declaredLetter ∷ digits (i - sizes .store)) (temporaryLetter ∷ digits (i - firstTemporary)))
 
   -- An atom: a name, or a constant in decimal; "a negative constant" has no blank after its sign.
   abbrev pub atomWord : Expression → List ℕ
@@ -186,6 +195,7 @@ module _ (S : ℕ) where
   singleWords continue = []
   singleWords (guardedIf arms) = []
   singleWords (guardedDo arms) = []
+  singleWords (declare word e) = []
 
   -- `L7:;`
   abbrev pub markWords : Mark → List (List ℕ)
@@ -228,9 +238,9 @@ padded columns bytes = bytes ++ blanks (columns - length bytes)
 abbrev pub indent : ℕ → ℕ
 indent level = min (2 * level) 36
 
-module _ (S : ℕ) where
+module _ (sizes : Sizes) where
   unfoldable pub lineBytes : ℕ → Indented → List ℕ
-  lineBytes number (indented level line) = padded 80 (rightSet 5 (digits number) ++ (blank ∷ (blanks (indent level) ++ parted (lineWords S line)))) ++ (newline ∷ [])
+  lineBytes number (indented level line) = padded 80 (rightSet 5 (digits number) ++ (blank ∷ (blanks (indent level) ++ parted (lineWords sizes line)))) ++ (newline ∷ [])
 
   -- Lines, the first with this number.
   unfoldable pub linesBytes : ℕ → List Indented → List ℕ

@@ -16,6 +16,7 @@ use Rattle.text_lines.specs.Line.{newline, together, linesOf}
 use Rattle.text_lines.specs.LineLaws.{lines-ended}
 use Rattle.language.specs.Trees.{Expression, constant, read, minus, binary, assign, Place, variable, element, label, empty, express, goto, abort, Items, none as noItem}
 use Rattle.translation.specs.KernelForm.{KernelItems}
+use Rattle.page.specs.declared.Sizes.{Sizes}
 use Rattle.page.specs.Lines.{Line, single, mark, opens, opensWhile, opensIf, turns, closes, Indented, indented, itemsLines, plain, readLines}
 use Rattle.page.specs.LinesLaws.{lines-read-back}
 use Rattle.page.specs.Page.{blank, equalsWord, minusWord, ifWord, elseWord, whileWord, gotoWord, abortWord, emptyWord, openingWord, closingWord, endedBy, ended, labelWord, name, atomWord, placeWord, valueWords, lineWords, blanks, parted, rightSet, padded, indent, lineBytes, linesBytes, pageBytes}
@@ -23,10 +24,10 @@ use Rattle.page.specs.Reading.{same, wordsOf, bind, readAtom, readPlace,
 use Rattle.page.specs.Fits.{AtomFits, fits-constant, fits-variable, ValueFits, value-atom, value-element, value-minus, value-binary, LineFits, fits-empty, fits-abort, fits-goto, fits-label, fits-store, fits-put, fits-opens, fits-while, fits-if, fits-turns, fits-closes, AllFit, all-none, all-more}
 use Rattle.page.specs.WordLaws.{between-free, digits-between, number-between, name-free, pieces-more, pieces-last, IsWord, AreWords, digits-word, number-word, name-word, inside, spelt, operator-word, led-word, joined-word, ended-word, label-word, line-words, without-last, number-no-name, number-no-place, name-shows, variable-shows, operator-shows}
 
-assigned : (S : ℕ) (w : List ℕ) (words : List (List ℕ)) {p : Place} {e : Expression} → readPlace S w ≡ some p → readValue S words ≡ some e → lineOf S (w ∷ (equalsWord ∷ words)) ≡ some (single (express (assign p e)))
+assigned : (sizes : Sizes) (w : List ℕ) (words : List (List ℕ)) {p : Place} {e : Expression} → readPlace sizes w ≡ some p → readValue sizes words ≡ some e → lineOf sizes (w ∷ (equalsWord ∷ words)) ≡ some (single (express (assign p e)))
 unfolding same
-assigned S w [] q r = not-some r
-assigned S w (y ∷ ys) q r = rw (q, r)
+assigned sizes w [] q r = not-some r
+assigned sizes w (y ∷ ys) q r = rw (q, r)
 
 blanks-free : (n : ℕ) → Free 10 (blanks n)
 unfolding blanks Free
@@ -61,109 +62,109 @@ same-equal (x ∷ xs) (y ∷ ys) e =
     by-cases (eqb x y) (λ t. ap₂ (λ z zs. z ∷ zs) (eqb-true x y t) (same-equal xs ys (rw t at e))) (λ f. absurd (let g : false ≡ true = rw f at e in let z : _≡_ {A = ℕ} 0 1 = cc in omega arith))
 
 -- Only pages are read: what a page was read as, printed again, gives the same bytes.
-pub read-prints : (S : ℕ) (page : List ℕ) (contents : Items) → readPage S page ≡ some contents → pageBytes S contents ≡ page
+pub read-prints : (sizes : Sizes) (page : List ℕ) (contents : Items) → readPage sizes page ≡ some contents → pageBytes sizes contents ≡ page
 unfolding readPage
-read-prints S page contents = from-lines (pageLines S (linesOf page))
+read-prints sizes page contents = from-lines (pageLines sizes (linesOf page))
   where
-    from-items : (items : Option Items) → bind items (printedAgain S page) ≡ some contents → pageBytes S contents ≡ page
+    from-items : (items : Option Items) → bind items (printedAgain sizes page) ≡ some contents → pageBytes sizes contents ≡ page
     from-items none e = not-some e
     from-items (some is) e =
-        by-cases (same (pageBytes S is) page)
-        (λ t. let found : some is ≡ some contents = rw t at e in let equal : is ≡ contents = cc in rw (← equal) (same-equal (pageBytes S is) page t))
+        by-cases (same (pageBytes sizes is) page)
+        (λ t. let found : some is ≡ some contents = rw t at e in let equal : is ≡ contents = cc in rw (← equal) (same-equal (pageBytes sizes is) page t))
         (λ f. not-some (rw f at e))
 
-    from-lines : (lines : Option (List Line)) → bind lines (λ found. bind (readLines found) (printedAgain S page)) ≡ some contents → pageBytes S contents ≡ page
+    from-lines : (lines : Option (List Line)) → bind lines (λ found. bind (readLines found) (printedAgain sizes page)) ≡ some contents → pageBytes sizes contents ≡ page
     from-lines none e = not-some e
     from-lines (some lines) e = from-items (readLines lines) e
 
 -- A line without its newline.
-abbrev body : ℕ → ℕ → ℕ → Line → List ℕ
-body S number level line = padded 80 (rightSet 5 (digits number) ++ (blank ∷ (blanks (indent level) ++ parted (lineWords S line))))
+abbrev body : Sizes → ℕ → ℕ → Line → List ℕ
+body sizes number level line = padded 80 (rightSet 5 (digits number) ++ (blank ∷ (blanks (indent level) ++ parted (lineWords sizes line))))
 
-module _ {Names : ℕ → Type 0} {arrays : ℕ} (S : ℕ) where
+module _ {Names : ℕ → Type 0} {arrays : ℕ} (sizes : Sizes) where
   -- ---- atoms, elements, values
 
-  atom-shows : (e : Expression) → AtomFits Names arrays e → readAtom S (atomWord S e) ≡ some e
+  atom-shows : (e : Expression) → AtomFits Names arrays e → readAtom sizes (atomWord sizes e) ≡ some e
   unfolding readAtom
-  atom-shows (constant v) (fits-constant h) = rw (number-no-name S (numberBytes v) (number-between v), number-shows v h)
-  atom-shows (read (variable i)) (fits-variable n) = rw (name-shows S i)
+  atom-shows (constant v) (fits-constant h) = rw (number-no-name sizes (numberBytes v) (number-between v), number-shows v h)
+  atom-shows (read (variable i)) (fits-variable n) = rw (name-shows sizes i)
 
-  atom-word : (e : Expression) → AtomFits Names arrays e → IsWord (atomWord S e)
+  atom-word : (e : Expression) → AtomFits Names arrays e → IsWord (atomWord sizes e)
   atom-word (constant v) (fits-constant h) = number-word v
-  atom-word (read (variable i)) (fits-variable n) = name-word S i
+  atom-word (read (variable i)) (fits-variable n) = name-word sizes i
 
-  atom-free : (e : Expression) → AtomFits Names arrays e → Free 91 (atomWord S e)
+  atom-free : (e : Expression) → AtomFits Names arrays e → Free 91 (atomWord sizes e)
   atom-free (constant v) (fits-constant h) = between-free 45 57 91 (numberBytes v) (inr (omega arith)) (number-between v)
-  atom-free (read (variable i)) (fits-variable n) = name-free S i
+  atom-free (read (variable i)) (fits-variable n) = name-free sizes i
 
-  element-shows : (array : ℕ) (e : Expression) → AtomFits Names arrays e → readPlace S (placeWord S (element array e)) ≡ some (element array e)
+  element-shows : (array : ℕ) (e : Expression) → AtomFits Names arrays e → readPlace sizes (placeWord sizes (element array e)) ≡ some (element array e)
   unfolding readPlace Free
   element-shows array e h =
       rw (
-        pieces-more 91 (digits array) (endedBy 93 (atomWord S e)) (between-free 48 57 91 (digits array) (inr (omega arith)) (digits-between array)),
-        pieces-last 91 (endedBy 93 (atomWord S e)) (free-append 91 (atomWord S e) (93 ∷ []) (atom-free e h) (λ q. omega arith, tt)),
+        pieces-more 91 (digits array) (endedBy 93 (atomWord sizes e)) (between-free 48 57 91 (digits array) (inr (omega arith)) (digits-between array)),
+        pieces-last 91 (endedBy 93 (atomWord sizes e)) (free-append 91 (atomWord sizes e) (93 ∷ []) (atom-free e h) (λ q. omega arith, tt)),
         natural-shows array,
-        without-last 93 (atomWord S e),
+        without-last 93 (atomWord sizes e),
         atom-shows e h,
       )
 
-  element-word : (array : ℕ) (e : Expression) → AtomFits Names arrays e → IsWord (placeWord S (element array e))
+  element-word : (array : ℕ) (e : Expression) → AtomFits Names arrays e → IsWord (placeWord sizes (element array e))
   element-word array e h =
-      led-word 97 (digits array ++ (91 ∷ endedBy 93 (atomWord S e))) (omega arith)
-      (joined-word (digits array) (91 ∷ endedBy 93 (atomWord S e)) (digits-word array) (led-word 91 (endedBy 93 (atomWord S e)) (omega arith) (ended-word 93 (atomWord S e) (omega arith) (atom-word e h))))
+      led-word 97 (digits array ++ (91 ∷ endedBy 93 (atomWord sizes e))) (omega arith)
+      (joined-word (digits array) (91 ∷ endedBy 93 (atomWord sizes e)) (digits-word array) (led-word 91 (endedBy 93 (atomWord sizes e)) (omega arith) (ended-word 93 (atomWord sizes e) (omega arith) (atom-word e h))))
 
-  ended-shows : (e : Expression) → AtomFits Names arrays e → readValue S (ended (valueWords S e)) ≡ some e
+  ended-shows : (e : Expression) → AtomFits Names arrays e → readValue sizes (ended (valueWords sizes e)) ≡ some e
   unfolding ended readAtom
   ended-shows (constant v) (fits-constant h) =
-      rw (without-last 59 (numberBytes v), number-no-place S (numberBytes v) (number-between v), number-no-name S (numberBytes v) (number-between v), number-shows v h)
-  ended-shows (read (variable i)) (fits-variable n) = rw (without-last 59 (name S i), variable-shows S i)
+      rw (without-last 59 (numberBytes v), number-no-place sizes (numberBytes v) (number-between v), number-no-name sizes (numberBytes v) (number-between v), number-shows v h)
+  ended-shows (read (variable i)) (fits-variable n) = rw (without-last 59 (name sizes i), variable-shows sizes i)
 
-  value-shows : (e : Expression) → ValueFits Names arrays e → readValue S (ended (valueWords S e)) ≡ some e
+  value-shows : (e : Expression) → ValueFits Names arrays e → readValue sizes (ended (valueWords sizes e)) ≡ some e
   unfolding ended same
   value-shows e (value-atom h) = ended-shows e h
-  value-shows (read (element array e)) (value-element b h) = rw (without-last 59 (placeWord S (element array e)), element-shows array e h)
-  value-shows (minus e) (value-minus h) = rw (without-last 59 (atomWord S e), atom-shows e h)
-  value-shows (binary o a b) (value-binary h k) = rw (atom-shows a h, operator-shows o, without-last 59 (atomWord S b), atom-shows b k)
+  value-shows (read (element array e)) (value-element b h) = rw (without-last 59 (placeWord sizes (element array e)), element-shows array e h)
+  value-shows (minus e) (value-minus h) = rw (without-last 59 (atomWord sizes e), atom-shows e h)
+  value-shows (binary o a b) (value-binary h k) = rw (atom-shows a h, operator-shows o, without-last 59 (atomWord sizes b), atom-shows b k)
 
-  ended-words : (e : Expression) → AtomFits Names arrays e → AreWords (ended (valueWords S e))
+  ended-words : (e : Expression) → AtomFits Names arrays e → AreWords (ended (valueWords sizes e))
   unfolding AreWords ended
   ended-words (constant v) (fits-constant h) = (ended-word 59 (numberBytes v) (omega arith) (number-word v), tt)
-  ended-words (read (variable i)) (fits-variable n) = (ended-word 59 (name S i) (omega arith) (name-word S i), tt)
+  ended-words (read (variable i)) (fits-variable n) = (ended-word 59 (name sizes i) (omega arith) (name-word sizes i), tt)
 
-  value-words : (e : Expression) → ValueFits Names arrays e → AreWords (ended (valueWords S e))
+  value-words : (e : Expression) → ValueFits Names arrays e → AreWords (ended (valueWords sizes e))
   unfolding AreWords ended inside
   value-words e (value-atom h) = ended-words e h
-  value-words (read (element array e)) (value-element b h) = (ended-word 59 (placeWord S (element array e)) (omega arith) (element-word array e h), tt)
-  value-words (minus e) (value-minus h) = (spelt minusWord (omega arith) refl, (ended-word 59 (atomWord S e) (omega arith) (atom-word e h), tt))
-  value-words (binary o a b) (value-binary h k) = (atom-word a h, (operator-word o, (ended-word 59 (atomWord S b) (omega arith) (atom-word b k), tt)))
+  value-words (read (element array e)) (value-element b h) = (ended-word 59 (placeWord sizes (element array e)) (omega arith) (element-word array e h), tt)
+  value-words (minus e) (value-minus h) = (spelt minusWord (omega arith) refl, (ended-word 59 (atomWord sizes e) (omega arith) (atom-word e h), tt))
+  value-words (binary o a b) (value-binary h k) = (atom-word a h, (operator-word o, (ended-word 59 (atomWord sizes b) (omega arith) (atom-word b k), tt)))
 
   -- ---- lines
 
-  line-shows : (line : Line) → LineFits Names arrays line → lineOf S (lineWords S line) ≡ some line
+  line-shows : (line : Line) → LineFits Names arrays line → lineOf sizes (lineWords sizes line) ≡ some line
   unfolding same
   line-shows (single empty) fits-empty = refl
   line-shows (single abort) fits-abort = refl
   line-shows (single (goto l)) (fits-goto b) = rw (without-last 59 (labelWord l), natural-shows l)
   line-shows (mark (label l)) (fits-label b) = rw (without-last 59 (endedBy 58 (labelWord l)), without-last 58 (labelWord l), natural-shows l)
-  line-shows (single (express (assign (variable i) e))) (fits-store n h) = assigned S (name S i) (ended (valueWords S e)) (variable-shows S i) (value-shows e h)
+  line-shows (single (express (assign (variable i) e))) (fits-store n h) = assigned sizes (name sizes i) (ended (valueWords sizes e)) (variable-shows sizes i) (value-shows e h)
   line-shows (single (express (assign (element array index) e))) (fits-put b h k) =
-      assigned S (placeWord S (element array index)) (ended (valueWords S e)) (element-shows array index h) (value-shows e (value-atom k))
+      assigned sizes (placeWord sizes (element array index)) (ended (valueWords sizes e)) (element-shows array index h) (value-shows e (value-atom k))
   line-shows opens fits-opens = refl
-  line-shows (opensWhile e) (fits-while h) = rw (without-last 41 (atomWord S e), atom-shows e h)
-  line-shows (opensIf e) (fits-if h) = rw (without-last 41 (atomWord S e), atom-shows e h)
+  line-shows (opensWhile e) (fits-while h) = rw (without-last 41 (atomWord sizes e), atom-shows e h)
+  line-shows (opensIf e) (fits-if h) = rw (without-last 41 (atomWord sizes e), atom-shows e h)
   line-shows turns fits-turns = refl
   line-shows closes fits-closes = refl
 
-  test-word : (e : Expression) → AtomFits Names arrays e → IsWord (40 ∷ endedBy 41 (atomWord S e))
-  test-word e h = led-word 40 (endedBy 41 (atomWord S e)) (omega arith) (ended-word 41 (atomWord S e) (omega arith) (atom-word e h))
+  test-word : (e : Expression) → AtomFits Names arrays e → IsWord (40 ∷ endedBy 41 (atomWord sizes e))
+  test-word e h = led-word 40 (endedBy 41 (atomWord sizes e)) (omega arith) (ended-word 41 (atomWord sizes e) (omega arith) (atom-word e h))
 
-  line-has-words : (line : Line) → LineFits Names arrays line → AreWords (lineWords S line)
+  line-has-words : (line : Line) → LineFits Names arrays line → AreWords (lineWords sizes line)
   unfolding AreWords inside
   line-has-words (single empty) fits-empty = (spelt emptyWord (omega arith) refl, tt)
   line-has-words (single abort) fits-abort = (spelt abortWord (omega arith) refl, tt)
   line-has-words (single (goto l)) (fits-goto b) = (spelt gotoWord (omega arith) refl, (ended-word 59 (labelWord l) (omega arith) (label-word l), tt))
   line-has-words (mark (label l)) (fits-label b) = (ended-word 59 (endedBy 58 (labelWord l)) (omega arith) (ended-word 58 (labelWord l) (omega arith) (label-word l)), tt)
-  line-has-words (single (express (assign (variable i) e))) (fits-store n h) = (name-word S i, (spelt equalsWord (omega arith) refl, value-words e h))
+  line-has-words (single (express (assign (variable i) e))) (fits-store n h) = (name-word sizes i, (spelt equalsWord (omega arith) refl, value-words e h))
   line-has-words (single (express (assign (element array index) e))) (fits-put b h k) = (element-word array index h, (spelt equalsWord (omega arith) refl, value-words e (value-atom k)))
   line-has-words opens fits-opens = (spelt openingWord (omega arith) refl, tt)
   line-has-words (opensWhile e) (fits-while h) = (spelt whileWord (omega arith) refl, (test-word e h, (spelt openingWord (omega arith) refl, tt)))
@@ -173,32 +174,32 @@ module _ {Names : ℕ → Type 0} {arrays : ℕ} (S : ℕ) where
 
   -- ---- pages
 
-  body-free : (number level : ℕ) (line : Line) → LineFits Names arrays line → Free 10 (body S number level line)
+  body-free : (number level : ℕ) (line : Line) → LineFits Names arrays line → Free 10 (body sizes number level line)
   unfolding Free
   body-free number level line h =
-      padded-free 80 (rightSet 5 (digits number) ++ (blank ∷ (blanks (indent level) ++ parted (lineWords S line))))
-      (free-append 10 (rightSet 5 (digits number)) (blank ∷ (blanks (indent level) ++ parted (lineWords S line))) (set-free 5 (digits number) (digits-word number .no-newline))
-      (λ e. omega arith, free-append 10 (blanks (indent level)) (parted (lineWords S line)) (blanks-free (indent level)) (parted-free (lineWords S line) (line-has-words line h))))
+      padded-free 80 (rightSet 5 (digits number) ++ (blank ∷ (blanks (indent level) ++ parted (lineWords sizes line))))
+      (free-append 10 (rightSet 5 (digits number)) (blank ∷ (blanks (indent level) ++ parted (lineWords sizes line))) (set-free 5 (digits number) (digits-word number .no-newline))
+      (λ e. omega arith, free-append 10 (blanks (indent level)) (parted (lineWords sizes line)) (blanks-free (indent level)) (parted-free (lineWords sizes line) (line-has-words line h))))
 
-  body-shows : (number level : ℕ) (line : Line) → LineFits Names arrays line → numbered S (wordsOf (body S number level line)) ≡ some line
+  body-shows : (number level : ℕ) (line : Line) → LineFits Names arrays line → numbered sizes (wordsOf (body sizes number level line)) ≡ some line
   unfolding padded rightSet
-  body-shows number level line h = ap (numbered S) (line-words _ _ _ number (lineWords S line) (line-has-words line h)) ∙ line-shows line h
+  body-shows number level line h = ap (numbered sizes) (line-words _ _ _ number (lineWords sizes line) (line-has-words line h)) ∙ line-shows line h
 
-  lines-shown : (number : ℕ) (lines : List Indented) → AllFit Names arrays lines → pageLines S (linesOf (linesBytes S number lines)) ≡ some (plain lines)
+  lines-shown : (number : ℕ) (lines : List Indented) → AllFit Names arrays lines → pageLines sizes (linesOf (linesBytes sizes number lines)) ≡ some (plain lines)
   unfolding linesBytes lineBytes plain linesOf pageLines together
   lines-shown number [] all-none = refl
   lines-shown number (indented level line ∷ lines) (all-more f h) =
-      ap (λ bytes. pageLines S (linesOf bytes)) (append-assoc (body S number level line) (newline ∷ []) (linesBytes S (number + 1) lines))
-      ∙ ap (pageLines S) (lines-ended (body S number level line) (linesBytes S (number + 1) lines) (body-free number level line f))
+      ap (λ bytes. pageLines sizes (linesOf bytes)) (append-assoc (body sizes number level line) (newline ∷ []) (linesBytes sizes (number + 1) lines))
+      ∙ ap (pageLines sizes) (lines-ended (body sizes number level line) (linesBytes sizes (number + 1) lines) (body-free number level line f))
       ∙ ap₂ together (body-shows number level line f) (lines-shown (number + 1) lines h)
 
   -- The bytes of lines that fit are read as the program whose page they are.
-  pub lines-read-page : (lines : List Indented) (contents : Items) → AllFit Names arrays lines → readLines (plain lines) ≡ some contents → pageBytes S contents ≡ linesBytes S 1 lines
-      → readPage S (linesBytes S 1 lines) ≡ some contents
+  pub lines-read-page : (lines : List Indented) (contents : Items) → AllFit Names arrays lines → readLines (plain lines) ≡ some contents → pageBytes sizes contents ≡ linesBytes sizes 1 lines
+      → readPage sizes (linesBytes sizes 1 lines) ≡ some contents
   unfolding readPage
-  lines-read-page lines contents h r p = rw (lines-shown 1 lines h, r, p, same-all (linesBytes S 1 lines))
+  lines-read-page lines contents h r p = rw (lines-shown 1 lines h, r, p, same-all (linesBytes sizes 1 lines))
 
   -- "Read with the header by docs/, the lines give back" the program, of which the names and constants are within any bounds.
-  pub page-read-back : {contents : Items} → KernelItems noItem contents → AllFit Names arrays (itemsLines 0 contents) → readPage S (pageBytes S contents) ≡ some contents
+  pub page-read-back : {contents : Items} → KernelItems noItem contents → AllFit Names arrays (itemsLines 0 contents) → readPage sizes (pageBytes sizes contents) ≡ some contents
   unfolding pageBytes
   page-read-back {contents} k h = lines-read-page (itemsLines 0 contents) contents h (lines-read-back k 0) refl

@@ -11,8 +11,9 @@ use Rattle.words.specs.declared.Operator.the-variants.{Add, Subtract, Multiply,
 use Rattle.text_numbers.specs.Number.{natural, numberOf}
 use Rattle.text_lines.specs.Line.{together, linesOf, Line as TextLine, ended, unended}
 use Rattle.language.specs.Trees.{Expression, constant, read, minus, binary, assign, Place, variable, element, label, empty, express, goto, abort, Items}
+use Rattle.page.specs.declared.Sizes.{Sizes}
 use Rattle.page.specs.Lines.{Line, single, mark, opens, opensWhile, opensIf, turns, closes, readLines}
-use Rattle.page.specs.Page.{blank, semicolon, colon, openingBracket, closingBracket, openingParenthesis, closingParenthesis, variableLetter, arrayLetter, temporaryLetter, labelLetter, emptyWord, openingWord, closingWord, equalsWord, minusWord, ifWord, whileWord, gotoWord, abortWord, operatorWord, pageBytes}
+use Rattle.page.specs.Page.{blank, semicolon, colon, openingBracket, closingBracket, openingParenthesis, closingParenthesis, variableLetter, arrayLetter, declaredLetter, temporaryLetter, labelLetter, emptyWord, openingWord, closingWord, equalsWord, minusWord, ifWord, whileWord, gotoWord, abortWord, operatorWord, firstTemporary, pageBytes}
 
 -- ---- words
 
@@ -70,11 +71,14 @@ abbrev pub orElse : {A : Type 0} → Option A → Option A → Option A
 orElse (some a) other = some a
 orElse none other = other
 
-module _ (S : ℕ) where
+module _ (sizes : Sizes) where
   -- The number of a variable.
   unfoldable pub readName : List ℕ → Option ℕ
   readName [] = none
-  readName (byte ∷ bytes) = pick (eqb byte variableLetter) (natural bytes) (pick (eqb byte temporaryLetter) (bind (natural bytes) (λ n. some (S + n))) none)
+  readName (byte ∷ bytes) =
+      pick (eqb byte variableLetter) (natural bytes)
+      (pick (eqb byte declaredLetter) (bind (natural bytes) (λ n. some (sizes .store + n)))
+      (pick (eqb byte temporaryLetter) (bind (natural bytes) (λ n. some (firstTemporary sizes + n))) none))
 
   unfoldable pub readAtom : List ℕ → Option Expression
   readAtom word = orElse (bind (readName word) (λ i. some (read (variable i)))) (bind (numberOf word) (λ v. some (constant v)))
@@ -131,7 +135,7 @@ module _ (S : ℕ) where
   pageLines (unended line ∷ lines) = none
 
   abbrev pub printedAgain : List ℕ → Items → Option Items
-  printedAgain page contents = pick (same (pageBytes S contents) page) (some contents) none
+  printedAgain page contents = pick (same (pageBytes sizes contents) page) (some contents) none
 
   -- The items of the program whose page this is.
   unfoldable pub readPage : List ℕ → Option Items

@@ -11,7 +11,7 @@ use lib.IntN.{ℤ, pos}
 use lib.Signed.{mag}
 use lib.ListN.{length, getD}
 use Rattle.words.specs.Table.{rowCount}
-use Rattle.words.specs.Layout.{Layout, layoutOf, storeWords, temporariesOf, headerFits}
+use Rattle.words.specs.Layout.{Layout, layoutOf, storeSize, headerStore, behindOf, headerFits}
 use Rattle.words.specs.Laws.{headerFits-facts, countFits-facts}
 use Rattle.words.specs.declared.Form.the-variants.{Source, Kernel}
 use Rattle.language.specs.Trees.{block, Items}
@@ -41,8 +41,8 @@ use Rattle.page.specs.Page.{name, pageBytes}
 use Rattle.page.specs.LinesLaws.{lines-few}
 use Rattle.page.specs.Fits.{AllFit, items-fit}
 use Rattle.page.specs.ReadBack.{page-read-back}
-use Rattle.page.specs.Widths.{variable-width, temporary-width, lines-columns}
-use Rattle.page.specs.Tables.{storeOf, tableLines, tablePage, readTable, GivenBack}
+use Rattle.page.specs.Widths.{variable-width, behind-width, lines-columns}
+use Rattle.page.specs.Tables.{sizesOf, tableLines, tablePage, readTable, GivenBack}
 use Rattle.page.specs.Renumbering.{renumbered}
 
 -- ---- every legal table
@@ -62,11 +62,11 @@ module _ (header rows : List ℤ) (legal : Legal header rows) (words : (i : ℕ)
       (named-contents Kernel bounds rows (legal .structured) (NamesVariable bounds) (λ number n. n)) valued
 
   -- "Variable .. number outside" is refused: a name has at most five columns.
-  pub name-width : (i : ℕ) → NamesVariable bounds i → length (name (storeOf header) i) ≤ 5
-  unfolding boundsOf storeWords
+  pub name-width : (i : ℕ) → NamesVariable bounds i → length (name (sizesOf header) i) ≤ 5
+  unfolding boundsOf headerStore
   name-width i =
       let f = headerFits-facts Kernel header (legal .header-fits) in
-      ⊎-elim (λ v. variable-width (storeOf header) i (omega (arith, f .few-variables))) (λ t. temporary-width (storeOf header) i (t .0) (omega (arith, t .1, f .few-temporaries)))
+      ⊎-elim (λ v. variable-width (sizesOf header) i (omega (arith, f .few-variables))) (λ t. behind-width (sizesOf header) i (t .0) (omega (arith, t .1, f .few-declared, f .few-temporaries)))
 
   pub few-arrays : bounds .arrays ≤ 32
   unfolding boundsOf
@@ -81,31 +81,31 @@ module _ (header rows : List ℤ) (legal : Legal header rows) (words : (i : ℕ)
   unfolding tablePage pageBytes
   page-columns =
       let few = countFits-facts Kernel (length rows) (legal .structured .count-fits) .most in
-      lines-columns (storeOf header) name-width few-arrays 1 (tableLines rows) (omega (arith, lines-of-rows)) lines-fit
+      lines-columns (sizesOf header) name-width few-arrays 1 (tableLines rows) (omega (arith, lines-of-rows)) lines-fit
 
   page-gives : readTable header (tablePage header rows) ≡ some (emit (block (contents rows)))
   unfolding readTable tablePage
-  page-gives = rw (page-read-back (storeOf header) (legal-form header rows legal) lines-fit)
+  page-gives = rw (page-read-back (sizesOf header) (legal-form header rows legal) lines-fit)
 
   -- the rows read are a structured table too
-  kernel-name : (i : ℕ) → NamesVariable bounds i → KernelName (layoutOf Kernel header) (temporariesOf Kernel header) i
-  unfolding boundsOf storeWords
+  kernel-name : (i : ℕ) → NamesVariable bounds i → KernelName (layoutOf Kernel header) (behindOf Kernel header) i
+  unfolding boundsOf headerStore
   kernel-name i =
-      let S = storeOf header in
+      let S = storeSize (layoutOf Kernel header) in
       ⊎-elim (λ v. name-variable v)
       (λ n.
       let h = n .0 in
       let k = n .1 in
       let back : S + (i - S) ≡ i = omega arith in
-      let few : i - S < temporariesOf Kernel header = omega arith in
-      subst (KernelName (layoutOf Kernel header) (temporariesOf Kernel header)) back (name-temporary few))
+      let few : i - S < behindOf Kernel header = omega arith in
+      subst (KernelName (layoutOf Kernel header) (behindOf Kernel header)) back (name-temporary few))
 
   structured-back : Structured Kernel bounds (emit (block (contents rows)))
   unfolding boundsOf
   structured-back =
       let few = countFits-facts Kernel (length rows) (legal .structured .count-fits) .most in
       emitted-structured header (omega (arith, legal-rows header rows legal)) (legal-form header rows legal)
-      (named-contents Kernel bounds rows (legal .structured) (KernelName (layoutOf Kernel header) (temporariesOf Kernel header)) kernel-name)
+      (named-contents Kernel bounds rows (legal .structured) (KernelName (layoutOf Kernel header) (behindOf Kernel header)) kernel-name)
 
   decodes-back : decode (emit (block (contents rows))) ≡ decode rows
   decodes-back = decode-emit (a-block (items-kinds (legal-form header rows legal))) ∙ sym (legal-block header rows legal)
@@ -133,15 +133,15 @@ emitted-gives-back header program legal decodes words =
 
 -- So does every translation: its header and its table, where the check has found the program's limits and its tree well formed.
 module _ (header : List ℤ) (program : Items) (fit : headerFits Source header ≡ true) (source : SourceTree (layoutOf Source header) program)
-    (few : statementRows (block program) ≤ 2048) (shallow : statementDepth (block program) ≤ 64) where
+    (few : statementRows (block program) ≤ 2048) (shallow : statementDepth (block program) ≤ 64) (D : ℕ) (declared : D ≤ 64) where
   abbrev layout : Layout
   layout = layoutOf Source header
 
   abbrev kernelRows : List ℤ
-  kernelRows = emit (block (translate layout program))
+  kernelRows = emit (block (translate (storeSize layout + D) program))
 
   abbrev headerOfKernel : List ℤ
-  headerOfKernel = kernelHeader layout (temporaries program)
+  headerOfKernel = kernelHeader layout D (temporaries program)
 
   pub translation-gives-back : ((i : ℕ) → mag (getD kernelRows i (pos 0)) < 2 ^ 31) → readTable headerOfKernel (tablePage headerOfKernel kernelRows) ≡ some kernelRows
-  translation-gives-back = emitted-gives-back headerOfKernel (translate layout program) (translated-legal header program fit source few shallow) (translated-decodes header program fit source few shallow)
+  translation-gives-back = emitted-gives-back headerOfKernel (translate (storeSize layout + D) program) (translated-legal header program fit source few shallow D declared) (translated-decodes header program fit source few shallow D declared)

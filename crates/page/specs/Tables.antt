@@ -9,30 +9,31 @@ use Rattle.words.specs.Table.{rowCount, wordAt, numberAt}
 use Rattle.words.specs.Kinds.{isLink, sortAt}
 use Rattle.words.specs.Links.{link}
 use Rattle.structure.specs.Structured.{EachField}
-use Rattle.words.specs.Layout.{layoutOf, storeSize}
+use Rattle.words.specs.Layout.{layoutOf, storeSize, declaredOf}
 use Rattle.words.specs.declared.Form.the-variants.{Kernel}
 use Rattle.language.specs.Trees.{block}
 use Rattle.language.specs.Decode.{decode}
 use Rattle.language.specs.Program.{contents}
 use Rattle.emission.specs.Emission.{emit}
+use Rattle.page.specs.declared.Sizes.{Sizes}
 use Rattle.page.specs.Lines.{Indented, itemsLines}
 use Rattle.page.specs.Page.{pageBytes}
 use Rattle.page.specs.Reading.{bind, readPage}
 
--- S of a kernel header.
-abbrev pub storeOf : List ℤ → ℕ
-storeOf header = storeSize (layoutOf Kernel header)
+-- S and D of a kernel header.
+abbrev pub sizesOf : List ℤ → Sizes
+sizesOf header = record { store = storeSize (layoutOf Kernel header); declared = declaredOf Kernel header }
 
 -- The lines of a table, in any numbering of its rows: they follow the links.
 abbrev pub tableLines : List ℤ → List Indented
 tableLines rows = itemsLines 0 (contents rows)
 
 unfoldable pub tablePage : List ℤ → List ℤ → List ℕ
-tablePage header rows = pageBytes (storeOf header) (contents rows)
+tablePage header rows = pageBytes (sizesOf header) (contents rows)
 
 -- The rows are numbered in the order of the page: each statement's row, then those of its parts.
 unfoldable pub readTable : List ℤ → List ℕ → Option (List ℤ)
-readTable header page = bind (readPage (storeOf header) page) (λ items. some (emit (block items)))
+readTable header page = bind (readPage (sizesOf header) page) (λ items. some (emit (block items)))
 
 -- "The same rows, up to numbering", twice: the same tree, in as many rows;
 pub record SameProgram (rows other : List ℤ) : Type 0 where

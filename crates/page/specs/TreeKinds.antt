@@ -13,13 +13,13 @@ use Rattle.words.specs.declared.Kind.{Kind}
 use Rattle.words.specs.declared.Kind.the-variants.{OfExpression, OfStatement, OfMark, OfMember, Other}
 use Rattle.words.specs.declared.ExpressionKind.{ExpressionKind}
 use Rattle.words.specs.declared.ExpressionKind.the-variants.{Constant, Variable, Element, Minus, Not, Binary, And, Or, Conditional, Comma, Assign, Compound, Prefix, Postfix}
-use Rattle.words.specs.declared.StatementKind.the-variants.{Empty, Express, Block, If, While, Do, For, Switch, Break, Continue, Goto, GuardedIf, GuardedDo, Abort}
-use Rattle.language.specs.Trees.{Expression, constant, read, minus, not, binary, and, or, comma, conditional, assign, compound, prefix, postfix, variable, element, Statement, empty, express, block, ifThen, ifElse, while, doWhile, for, switch, break, continue, goto, guardedIf, guardedDo, abort}
+use Rattle.words.specs.declared.StatementKind.the-variants.{Empty, Express, Block, If, While, Do, For, Switch, Break, Continue, Goto, GuardedIf, GuardedDo, Abort, Declare}
+use Rattle.language.specs.Trees.{Expression, constant, read, minus, not, binary, and, or, comma, conditional, assign, compound, prefix, postfix, variable, element, Statement, empty, express, block, ifThen, ifElse, while, doWhile, for, switch, break, continue, goto, guardedIf, guardedDo, abort, declare}
 use Rattle.language.specs.Decode.{expressionAt, statementAt}
 use Rattle.emission.specs.Emission.{operatorNumber}
 use Rattle.accepted.specs.Sorts.{statementNumber}
 use Rattle.accepted.specs.Expressions.{ExpressionRow, constant-row, variable-row, element-row, minus-row, not-row, binary-row, and-row, or-row, comma-row, conditional-row, assign-row, compound-row, prefix-row, postfix-row}
-use Rattle.accepted.specs.Statements.{StatementRow, empty-row, express-row, block-row, ifThen-row, ifElse-row, while-row, doWhile-row, for-row, switch-row, case-row, default-row, break-row, continue-row, goto-row, label-row, guardedIf-row, guardedDo-row, abort-row}
+use Rattle.accepted.specs.Statements.{StatementRow, empty-row, express-row, block-row, ifThen-row, ifElse-row, while-row, doWhile-row, for-row, switch-row, case-row, default-row, break-row, continue-row, goto-row, label-row, guardedIf-row, guardedDo-row, abort-row, declare-row}
 
 abbrev pub expressionKind : Expression → Kind
 expressionKind (constant v) = OfExpression Constant
@@ -53,6 +53,7 @@ statementKind (goto l) = OfStatement Goto
 statementKind (guardedIf arms) = OfStatement GuardedIf
 statementKind (guardedDo arms) = OfStatement GuardedDo
 statementKind abort = OfStatement Abort
+statementKind (declare word e) = OfStatement Declare
 
 module _ (rows : List ℤ) where
   pub expression-kind : {row : ℕ} → ExpressionRow rows row → kindAt rows row ≡ expressionKind (expressionAt rows row)
@@ -91,6 +92,7 @@ module _ (rows : List ℤ) where
   kind-of-statement (guardedIf-row k e x) t = k ∙ sym (ap statementKind e)
   kind-of-statement (guardedDo-row k e x) t = k ∙ sym (ap statementKind e)
   kind-of-statement (abort-row k e) t = k ∙ sym (ap statementKind e)
+  kind-of-statement (declare-row k p e x) t = k ∙ sym (ap statementKind e)
 
 -- ---- the number of a kind
 

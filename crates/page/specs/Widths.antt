@@ -4,18 +4,17 @@ use mathlib.Core.Path.{_≡_, refl, ap, _∙_}
 use mathlib.Core.List.{List, [], _∷_, _++_}
 use Prim.Native.Nat.{ℕ, zero, suc, _+_, _*_, _-_, _≤_, _<_}
 use native.Mathlib.Omega.{arith}
-use lib.Dec.{ltb}
 use lib.ListN.{length, length-append}
-use Rattle.words.specs.Laws.{by-cases}
-use borrow.Author.Tests.{ltb-true}
 use Rattle.words.specs.declared.Operator.{Operator}
 use Rattle.words.specs.declared.Operator.the-variants.{Add, Subtract, Multiply, Divide, Remainder, Less, Greater, LessOrEqual, GreaterOrEqual, Equal, NotEqual}
 use Rattle.text_numbers.specs.Number.{digits, numberBytes}
 use Rattle.text_lines.specs.Line.{newline}
 use Rattle.text_numbers.specs.PutLaws.{digits-within, number-eleven}
 use Rattle.language.specs.Trees.{Expression, constant, read, minus, binary, assign, variable, element, label, empty, express, goto, abort}
+use Rattle.page.specs.declared.Sizes.{Sizes}
+use Rattle.page.specs.WordLaws.{each-name}
 use Rattle.page.specs.Lines.{Line, single, mark, opens, opensWhile, opensIf, turns, closes, Indented, indented}
-use Rattle.page.specs.Page.{blank, equalsWord, openingWord, operatorWord, endedBy, ended, labelWord, name, atomWord, placeWord, valueWords, lineWords, blanks, parted, rightSet, padded, indent, lineBytes, linesBytes}
+use Rattle.page.specs.Page.{blank, equalsWord, openingWord, operatorWord, endedBy, ended, labelWord, firstTemporary, name, atomWord, placeWord, valueWords, lineWords, blanks, parted, rightSet, padded, indent, lineBytes, linesBytes}
 use Rattle.page.specs.Fits.{AtomFits, fits-constant, fits-variable, ValueFits, value-atom, value-element, value-minus, value-binary, LineFits, fits-empty, fits-abort, fits-goto, fits-label, fits-store, fits-put, fits-opens, fits-while, fits-if, fits-turns, fits-closes, AllFit, all-none, all-more}
 
 pub length-blanks : (n : ℕ) → length (blanks n) ≡ n
@@ -42,14 +41,18 @@ operator-width GreaterOrEqual = omega arith
 operator-width Equal = omega arith
 operator-width NotEqual = omega arith
 
--- "V variables (0 to 256)", "T temporaries (0 to 8,192), which are variable numbers S to S+T−1".
-pub variable-width : (S i : ℕ) → i < 256 → length (name S i) ≤ 5
-unfolding name
-variable-width S i h = by-cases (ltb i S) (λ e. rw e (omega (arith, digits-within 2 i (omega arith)))) (λ e. rw e (omega (arith, digits-within 2 (i - S) (omega arith))))
+-- "V variables (0 to 256)"; D at most 64 and T at most 8,192 behind the first S words.
+pub variable-width : (sizes : Sizes) (i : ℕ) → i < 256 → length (name sizes i) ≤ 5
+variable-width sizes i h = each-name (λ word. length word ≤ 5) sizes i
+    (λ e. omega (arith, digits-within 2 i (omega arith)))
+    (λ e. omega (arith, digits-within 2 (i - sizes .store) (omega arith)))
+    (λ e. omega (arith, digits-within 2 (i - firstTemporary sizes) (omega arith)))
 
-pub temporary-width : (S i : ℕ) → S ≤ i → i < S + 8192 → length (name S i) ≤ 5
-unfolding name
-temporary-width S i h k = by-cases (ltb i S) (λ e. absurd (omega (arith, ltb-true i S e))) (λ e. rw e (omega (arith, digits-within 3 (i - S) (omega arith))))
+pub behind-width : (sizes : Sizes) (i : ℕ) → sizes .store ≤ i → i < sizes .store + 8256 → length (name sizes i) ≤ 5
+behind-width sizes i h k = each-name (λ word. length word ≤ 5) sizes i
+    (λ e. absurd (omega arith))
+    (λ e. omega (arith, digits-within 3 (i - sizes .store) (omega arith)))
+    (λ e. omega (arith, digits-within 3 (i - firstTemporary sizes) (omega arith)))
 
 -- Two and three words, with their blanks.
 parted-two : (x y : List ℕ) → length (parted (x ∷ (y ∷ []))) ≡ length x + 1 + length y
@@ -73,67 +76,67 @@ length-padded : (columns : ℕ) (xs : List ℕ) → length xs ≤ columns → le
 unfolding padded
 length-padded columns xs h = omega (arith, length-append xs (blanks (columns - length xs)), length-blanks (columns - length xs))
 
-module _ {Names : ℕ → Type 0} {arrays : ℕ} (S : ℕ) (names : (i : ℕ) → Names i → length (name S i) ≤ 5) (few : arrays ≤ 32) where
-  atom-width : (e : Expression) → AtomFits Names arrays e → length (atomWord S e) ≤ 11
+module _ {Names : ℕ → Type 0} {arrays : ℕ} (sizes : Sizes) (names : (i : ℕ) → Names i → length (name sizes i) ≤ 5) (few : arrays ≤ 32) where
+  atom-width : (e : Expression) → AtomFits Names arrays e → length (atomWord sizes e) ≤ 11
   atom-width (constant v) (fits-constant h) = number-eleven v h
   atom-width (read (variable i)) (fits-variable n) = omega (arith, names i n)
 
   -- `a31[-2147483648]`
-  element-width : (array : ℕ) (e : Expression) → array < arrays → AtomFits Names arrays e → length (placeWord S (element array e)) ≤ 16
+  element-width : (array : ℕ) (e : Expression) → array < arrays → AtomFits Names arrays e → length (placeWord sizes (element array e)) ≤ 16
   element-width array e b h =
-      omega (arith, length-append (digits array) (91 ∷ endedBy 93 (atomWord S e)), length-ended 93 (atomWord S e), digits-within 1 array (omega arith), atom-width e h)
+      omega (arith, length-append (digits array) (91 ∷ endedBy 93 (atomWord sizes e)), length-ended 93 (atomWord sizes e), digits-within 1 array (omega arith), atom-width e h)
 
   -- `-2147483648;`
-  assigned-atom : (e : Expression) → AtomFits Names arrays e → length (parted (ended (valueWords S e))) ≤ 12
+  assigned-atom : (e : Expression) → AtomFits Names arrays e → length (parted (ended (valueWords sizes e))) ≤ 12
   unfolding ended parted
   assigned-atom (constant v) (fits-constant h) = omega (arith, length-ended 59 (numberBytes v), number-eleven v h)
-  assigned-atom (read (variable i)) (fits-variable n) = omega (arith, length-ended 59 (name S i), names i n)
+  assigned-atom (read (variable i)) (fits-variable n) = omega (arith, length-ended 59 (name sizes i), names i n)
 
   -- `-2147483648 <= -2147483648;`
-  value-width : (e : Expression) → ValueFits Names arrays e → length (parted (ended (valueWords S e))) ≤ 27
+  value-width : (e : Expression) → ValueFits Names arrays e → length (parted (ended (valueWords sizes e))) ≤ 27
   unfolding ended parted
   value-width e (value-atom h) = omega (arith, assigned-atom e h)
-  value-width (read (element array e)) (value-element b h) = omega (arith, length-ended 59 (placeWord S (element array e)), element-width array e b h)
-  value-width (minus e) (value-minus h) = omega (arith, length-ended 59 (atomWord S e), atom-width e h)
+  value-width (read (element array e)) (value-element b h) = omega (arith, length-ended 59 (placeWord sizes (element array e)), element-width array e b h)
+  value-width (minus e) (value-minus h) = omega (arith, length-ended 59 (atomWord sizes e), atom-width e h)
   value-width (binary o a b) (value-binary h k) =
       omega (
         arith,
-        parted-more (atomWord S a) (operatorWord o) (endedBy 59 (atomWord S b) ∷ []),
-        parted-two (operatorWord o) (endedBy 59 (atomWord S b)),
-        length-ended 59 (atomWord S b),
+        parted-more (atomWord sizes a) (operatorWord o) (endedBy 59 (atomWord sizes b) ∷ []),
+        parted-two (operatorWord o) (endedBy 59 (atomWord sizes b)),
+        length-ended 59 (atomWord sizes b),
         atom-width a h,
         operator-width o,
         atom-width b k,
       )
 
-  pub line-width : (line : Line) → LineFits Names arrays line → length (parted (lineWords S line)) ≤ 35
+  pub line-width : (line : Line) → LineFits Names arrays line → length (parted (lineWords sizes line)) ≤ 35
   unfolding parted
   line-width (single empty) fits-empty = omega arith
   line-width (single abort) fits-abort = omega arith
   line-width (single (goto l)) (fits-goto b) = omega (arith, length-ended 59 (labelWord l), label-width l b)
   line-width (mark (label l)) (fits-label b) = omega (arith, length-ended 59 (endedBy 58 (labelWord l)), length-ended 58 (labelWord l), label-width l b)
-  line-width (single (express (assign (variable i) e))) (fits-store n h) = omega (arith, parted-assigned (name S i) (ended (valueWords S e)), names i n, value-width e h)
+  line-width (single (express (assign (variable i) e))) (fits-store n h) = omega (arith, parted-assigned (name sizes i) (ended (valueWords sizes e)), names i n, value-width e h)
   line-width (single (express (assign (element array index) e))) (fits-put b h k) =
-      omega (arith, parted-assigned (placeWord S (element array index)) (ended (valueWords S e)), element-width array index b h, assigned-atom e k)
+      omega (arith, parted-assigned (placeWord sizes (element array index)) (ended (valueWords sizes e)), element-width array index b h, assigned-atom e k)
   line-width opens fits-opens = omega arith
-  line-width (opensWhile e) (fits-while h) = omega (arith, length-append (40 ∷ endedBy 41 (atomWord S e)) (blank ∷ openingWord), length-ended 41 (atomWord S e), atom-width e h)
-  line-width (opensIf e) (fits-if h) = omega (arith, length-append (40 ∷ endedBy 41 (atomWord S e)) (blank ∷ openingWord), length-ended 41 (atomWord S e), atom-width e h)
+  line-width (opensWhile e) (fits-while h) = omega (arith, length-append (40 ∷ endedBy 41 (atomWord sizes e)) (blank ∷ openingWord), length-ended 41 (atomWord sizes e), atom-width e h)
+  line-width (opensIf e) (fits-if h) = omega (arith, length-append (40 ∷ endedBy 41 (atomWord sizes e)) (blank ∷ openingWord), length-ended 41 (atomWord sizes e), atom-width e h)
   line-width turns fits-turns = omega arith
   line-width closes fits-closes = omega arith
 
   -- "Lines of 80 columns plus a newline": five columns hold every number below 100,000.
-  pub line-columns : (number level : ℕ) (line : Line) → number < 100000 → LineFits Names arrays line → length (lineBytes S number (indented level line)) ≡ 81
+  pub line-columns : (number level : ℕ) (line : Line) → number < 100000 → LineFits Names arrays line → length (lineBytes sizes number (indented level line)) ≡ 81
   unfolding lineBytes
   line-columns number level line b h =
       let before = rightSet 5 (digits number) in
-      let behind = blanks (indent level) ++ parted (lineWords S line) in
+      let behind = blanks (indent level) ++ parted (lineWords sizes line) in
       let five : length before ≡ 5 = length-set 5 (digits number) (digits-within 4 number (omega arith)) in
       let fits : length (before ++ (blank ∷ behind)) ≤ 80 =
-      omega (arith, length-append before (blank ∷ behind), length-append (blanks (indent level)) (parted (lineWords S line)), length-blanks (indent level), line-width line h) in
+      omega (arith, length-append before (blank ∷ behind), length-append (blanks (indent level)) (parted (lineWords sizes line)), length-blanks (indent level), line-width line h) in
       length-append (padded 80 (before ++ (blank ∷ behind))) (newline ∷ []) ∙ ap (λ (n : ℕ). n + 1) (length-padded 80 (before ++ (blank ∷ behind)) fits)
 
-  pub lines-columns : (number : ℕ) (lines : List Indented) → number + length lines ≤ 100000 → AllFit Names arrays lines → length (linesBytes S number lines) ≡ 81 * length lines
+  pub lines-columns : (number : ℕ) (lines : List Indented) → number + length lines ≤ 100000 → AllFit Names arrays lines → length (linesBytes sizes number lines) ≡ 81 * length lines
   unfolding linesBytes
   lines-columns number [] b all-none = refl
   lines-columns number (indented level line ∷ lines) b (all-more f h) =
-      omega (arith, length-append (lineBytes S number (indented level line)) (linesBytes S (number + 1) lines), line-columns number level line (omega arith) f, lines-columns (number + 1) lines (omega arith) h)
+      omega (arith, length-append (lineBytes sizes number (indented level line)) (linesBytes sizes (number + 1) lines), line-columns number level line (omega arith) f, lines-columns (number + 1) lines (omega arith) h)

@@ -17,7 +17,8 @@ use Rattle.words.specs.declared.Operator.the-variants.{Add, Subtract, Multiply,
 use Rattle.text_numbers.specs.Number.{digits, digitsWithin, numberBytes}
 use Rattle.text_numbers.specs.NumberLaws.{Free, free-append, natural-shows, length-some}
 use Rattle.language.specs.Trees.{variable}
-use Rattle.page.specs.Page.{blank, operatorWord, endedBy, labelWord, name, blanks, parted}
+use Rattle.page.specs.declared.Sizes.{Sizes}
+use Rattle.page.specs.Page.{blank, operatorWord, endedBy, labelWord, firstTemporary, name, blanks, parted}
 use Rattle.page.specs.Reading.{same, pieces, filled, wordsOf, without, readName, readPlace, readOperator}
 
 -- ---- bytes in a range
@@ -61,19 +62,31 @@ unfolding numberBytes Between
 number-between (pos n) = wider 48 57 45 57 (digits n) (omega arith) (omega arith) (digits-between n)
 number-between (negsuc n) = (omega arith, omega arith, wider 48 57 45 57 (digits (suc n)) (omega arith) (omega arith) (digits-between (suc n)))
 
--- Digits and the letters t and v.
-pub name-between : (S i : ℕ) → Between 45 118 (name S i)
-unfolding name Between
-name-between S i = by-cases (ltb i S)
-    (λ e. rw e (omega arith, omega arith, wider 48 57 45 118 (digits i) (omega arith) (omega arith) (digits-between i)))
-    (λ e. rw e (omega arith, omega arith, wider 48 57 45 118 (digits (i - S)) (omega arith) (omega arith) (digits-between (i - S))))
+-- What holds of the names of each sort holds of every name.
+pub each-name : (P : List ℕ → Type 0) (sizes : Sizes) (i : ℕ) → (i < sizes .store → P (118 ∷ digits i)) → (sizes .store ≤ i → P (108 ∷ digits (i - sizes .store)))
+    → (firstTemporary sizes ≤ i → P (116 ∷ digits (i - firstTemporary sizes))) → P (name sizes i)
+unfolding name
+each-name P sizes i v l t = by-cases (ltb i (sizes .store))
+    (λ e. rw e (v (ltb-true i (sizes .store) e)))
+    (λ e. by-cases (ltb i (firstTemporary sizes))
+    (λ d. rw (e, d) (l (ltb-false i (sizes .store) e)))
+    (λ d. rw (e, d) (t (ltb-false i (firstTemporary sizes) d))))
+
+-- Digits and the letters l, t and v.
+pub name-between : (sizes : Sizes) (i : ℕ) → Between 45 118 (name sizes i)
+unfolding Between
+name-between sizes i = each-name (Between 45 118) sizes i (λ h. (omega arith, omega arith, digited i)) (λ h. (omega arith, omega arith, digited _)) (λ h. (omega arith, omega arith, digited _))
+  where
+    digited : (n : ℕ) → Between 45 118 (digits n)
+    digited n = wider 48 57 45 118 (digits n) (omega arith) (omega arith) (digits-between n)
 
 -- No name has a bracket.
-pub name-free : (S i : ℕ) → Free 91 (name S i)
-unfolding name Free
-name-free S i = by-cases (ltb i S)
-    (λ e. rw e (λ q. omega arith, between-free 48 57 91 (digits i) (inr (omega arith)) (digits-between i)))
-    (λ e. rw e (λ q. omega arith, between-free 48 57 91 (digits (i - S)) (inr (omega arith)) (digits-between (i - S))))
+pub name-free : (sizes : Sizes) (i : ℕ) → Free 91 (name sizes i)
+unfolding Free
+name-free sizes i = each-name (Free 91) sizes i (λ h. (λ q. omega arith, digited i)) (λ h. (λ q. omega arith, digited _)) (λ h. (λ q. omega arith, digited _))
+  where
+    digited : (n : ℕ) → Free 91 (digits n)
+    digited n = between-free 48 57 91 (digits n) (inr (omega arith)) (digits-between n)
 
 -- ---- pieces
 
@@ -116,12 +129,11 @@ number-some (negsuc n) = omega arith
 pub number-word : (z : ℤ) → IsWord (numberBytes z)
 number-word z = word-of (numberBytes z) (number-some z) (wider 45 57 33 125 (numberBytes z) (omega arith) (omega arith) (number-between z))
 
-name-some : (S i : ℕ) → 1 ≤ length (name S i)
-unfolding name
-name-some S i = by-cases (ltb i S) (λ e. rw e (omega arith)) (λ e. rw e (omega arith))
+name-some : (sizes : Sizes) (i : ℕ) → 1 ≤ length (name sizes i)
+name-some sizes i = each-name (λ word. 1 ≤ length word) sizes i (λ h. omega arith) (λ h. omega arith) (λ h. omega arith)
 
-pub name-word : (S i : ℕ) → IsWord (name S i)
-name-word S i = word-of (name S i) (name-some S i) (wider 45 118 33 125 (name S i) (omega arith) (omega arith) (name-between S i))
+pub name-word : (sizes : Sizes) (i : ℕ) → IsWord (name sizes i)
+name-word sizes i = word-of (name sizes i) (name-some sizes i) (wider 45 118 33 125 (name sizes i) (omega arith) (omega arith) (name-between sizes i))
 
 -- A word that is written out.
 unfoldable pub inside : List ℕ → Bool
@@ -222,32 +234,34 @@ without-last last [] = rw (eq-eqb last last refl)
 without-last last (byte ∷ []) = rw (eq-eqb last last refl)
 without-last last (byte ∷ (second ∷ bytes)) = rw (without-last last (second ∷ bytes))
 
-not-name : (S first : ℕ) (bytes : List ℕ) → first ≤ 57 → readName S (first ∷ bytes) ≡ none
+not-name : (sizes : Sizes) (first : ℕ) (bytes : List ℕ) → first ≤ 57 → readName sizes (first ∷ bytes) ≡ none
 unfolding readName
-not-name S first bytes h = rw (ne-eqb first 118 (λ e. omega arith), ne-eqb first 116 (λ e. omega arith))
+not-name sizes first bytes h = rw (ne-eqb first 118 (λ e. omega arith), ne-eqb first 108 (λ e. omega arith), ne-eqb first 116 (λ e. omega arith))
 
-pub number-no-name : (S : ℕ) (bytes : List ℕ) → Between 45 57 bytes → readName S bytes ≡ none
+pub number-no-name : (sizes : Sizes) (bytes : List ℕ) → Between 45 57 bytes → readName sizes bytes ≡ none
 unfolding Between readName
-number-no-name S [] h = refl
-number-no-name S (byte ∷ bytes) h = not-name S byte bytes (h .1)
+number-no-name sizes [] h = refl
+number-no-name sizes (byte ∷ bytes) h = not-name sizes byte bytes (h .1)
 
-pub number-no-place : (S : ℕ) (bytes : List ℕ) → Between 45 57 bytes → readPlace S bytes ≡ none
+pub number-no-place : (sizes : Sizes) (bytes : List ℕ) → Between 45 57 bytes → readPlace sizes bytes ≡ none
 unfolding Between readPlace
-number-no-place S [] h = refl
-number-no-place S (byte ∷ bytes) h = rw (ne-eqb byte 97 (λ e. omega (arith, h .1)), not-name S byte bytes (h .1))
+number-no-place sizes [] h = refl
+number-no-place sizes (byte ∷ bytes) h = rw (ne-eqb byte 97 (λ e. omega (arith, h .1)), not-name sizes byte bytes (h .1))
 
-pub name-shows : (S i : ℕ) → readName S (name S i) ≡ some i
-unfolding name readName
-name-shows S i = by-cases (ltb i S)
-    (λ e. rw e (natural-shows i))
-    (λ e. let b : S ≤ i = ltb-false i S e in let back : S + (i - S) ≡ i = omega arith in rw (e, natural-shows (i - S), back))
+pub name-shows : (sizes : Sizes) (i : ℕ) → readName sizes (name sizes i) ≡ some i
+unfolding readName
+name-shows sizes i = each-name (λ word. readName sizes word ≡ some i) sizes i
+    (λ h. natural-shows i)
+    (λ h. let back : sizes .store + (i - sizes .store) ≡ i = omega arith in rw (natural-shows (i - sizes .store), back))
+    (λ h. let back : firstTemporary sizes + (i - firstTemporary sizes) ≡ i = omega arith in rw (natural-shows (i - firstTemporary sizes), back))
 
 -- A name is no element.
-pub variable-shows : (S i : ℕ) → readPlace S (name S i) ≡ some (variable i)
-unfolding name readName readPlace
-variable-shows S i = by-cases (ltb i S)
-    (λ e. rw (e, natural-shows i))
-    (λ e. let b : S ≤ i = ltb-false i S e in let back : S + (i - S) ≡ i = omega arith in rw (e, natural-shows (i - S), back))
+pub variable-shows : (sizes : Sizes) (i : ℕ) → readPlace sizes (name sizes i) ≡ some (variable i)
+unfolding readName readPlace
+variable-shows sizes i = each-name (λ word. readPlace sizes word ≡ some (variable i)) sizes i
+    (λ h. rw (natural-shows i))
+    (λ h. let back : sizes .store + (i - sizes .store) ≡ i = omega arith in rw (natural-shows (i - sizes .store), back))
+    (λ h. let back : firstTemporary sizes + (i - firstTemporary sizes) ≡ i = omega arith in rw (natural-shows (i - firstTemporary sizes), back))
 
 pub operator-shows : (o : Operator) → readOperator (operatorWord o) ≡ some o
 unfolding readOperator same

@@ -10,6 +10,7 @@ use native.Mathlib.Numerals.{add-one}
 use lib.ListN.{length}
 use Rattle.text_numbers.specs.NumberLaws.{not-some}
 use Rattle.language.specs.Trees.{Items, none as noItem, _then_, _here_, block, while, ifElse}
+use Rattle.page.specs.declared.Sizes.{Sizes}
 use Rattle.page.specs.Lines.{Indented, indented, turns, closes, statementLines, itemsLines, Waiting, outermost, closed, Reading, reading, malformed, readLine, readBefore, whole, readLines}
 use Rattle.page.specs.Lines.{turned as elseWaiting}
 use Rattle.page_words.specs.Trees.{lineTree}
@@ -46,62 +47,62 @@ fitsAfter none r = false
 fitsAfter (some around) r = fits around r
 
 -- One line: the blocks fit before it as they do behind it.
-line-fits : (S : ℕ) (line : Line) (around : Open) (r : Reading) → fitsAfter (behind line around) r ≡ fits around (readLine (lineTree S line) r)
+line-fits : (sizes : Sizes) (line : Line) (around : Open) (r : Reading) → fitsAfter (behind line around) r ≡ fits around (readLine (lineTree sizes line) r)
 unfolding fits fitsAfter matches
-line-fits S Empty around (reading is waiting) = refl
-line-fits S Empty around malformed = refl
-line-fits S Abort around (reading is waiting) = refl
-line-fits S Abort around malformed = refl
-line-fits S (Goto l) around (reading is waiting) = refl
-line-fits S (Goto l) around malformed = refl
-line-fits S (Label l) around (reading is waiting) = refl
-line-fits S (Label l) around malformed = refl
-line-fits S (Store a v) around (reading is waiting) = refl
-line-fits S (Store a v) around malformed = refl
-line-fits S (Put array index a) around (reading is waiting) = refl
-line-fits S (Put array index a) around malformed = refl
-line-fits S Opens around (reading is outermost) = refl
-line-fits S Opens around (reading is (closed later waiting)) = refl
-line-fits S Opens around (reading is (elseWaiting onFalse waiting)) = refl
-line-fits S Opens around malformed = refl
-line-fits S (While a) around (reading is outermost) = refl
-line-fits S (While a) around (reading is (closed later waiting)) = refl
-line-fits S (While a) around (reading is (elseWaiting onFalse waiting)) = refl
-line-fits S (While a) around malformed = refl
-line-fits S (If a) around (reading is outermost) = refl
-line-fits S (If a) around (reading is (closed later waiting)) = refl
-line-fits S (If a) around (reading is (elseWaiting onFalse outermost)) = refl
-line-fits S (If a) around (reading is (elseWaiting onFalse (closed later waiting))) = refl
-line-fits S (If a) around (reading is (elseWaiting onFalse (elseWaiting other waiting))) = refl
-line-fits S (If a) around malformed = refl
-line-fits S Turns [] (reading is waiting) = refl
-line-fits S Turns (false ∷ around) (reading is waiting) = refl
-line-fits S Turns (true ∷ around) (reading is outermost) = refl
-line-fits S Turns (true ∷ around) (reading is (closed later waiting)) = refl
-line-fits S Turns (true ∷ around) (reading is (elseWaiting onFalse waiting)) = refl
-line-fits S Turns [] malformed = refl
-line-fits S Turns (false ∷ around) malformed = refl
-line-fits S Turns (true ∷ around) malformed = refl
-line-fits S Closes [] (reading is waiting) = refl
-line-fits S Closes (false ∷ around) (reading is waiting) = refl
-line-fits S Closes (true ∷ around) (reading is waiting) = refl
-line-fits S Closes [] malformed = refl
-line-fits S Closes (false ∷ around) malformed = refl
-line-fits S Closes (true ∷ around) malformed = refl
+line-fits sizes Empty around (reading is waiting) = refl
+line-fits sizes Empty around malformed = refl
+line-fits sizes Abort around (reading is waiting) = refl
+line-fits sizes Abort around malformed = refl
+line-fits sizes (Goto l) around (reading is waiting) = refl
+line-fits sizes (Goto l) around malformed = refl
+line-fits sizes (Label l) around (reading is waiting) = refl
+line-fits sizes (Label l) around malformed = refl
+line-fits sizes (Store a v) around (reading is waiting) = refl
+line-fits sizes (Store a v) around malformed = refl
+line-fits sizes (Put array index a) around (reading is waiting) = refl
+line-fits sizes (Put array index a) around malformed = refl
+line-fits sizes Opens around (reading is outermost) = refl
+line-fits sizes Opens around (reading is (closed later waiting)) = refl
+line-fits sizes Opens around (reading is (elseWaiting onFalse waiting)) = refl
+line-fits sizes Opens around malformed = refl
+line-fits sizes (While a) around (reading is outermost) = refl
+line-fits sizes (While a) around (reading is (closed later waiting)) = refl
+line-fits sizes (While a) around (reading is (elseWaiting onFalse waiting)) = refl
+line-fits sizes (While a) around malformed = refl
+line-fits sizes (If a) around (reading is outermost) = refl
+line-fits sizes (If a) around (reading is (closed later waiting)) = refl
+line-fits sizes (If a) around (reading is (elseWaiting onFalse outermost)) = refl
+line-fits sizes (If a) around (reading is (elseWaiting onFalse (closed later waiting))) = refl
+line-fits sizes (If a) around (reading is (elseWaiting onFalse (elseWaiting other waiting))) = refl
+line-fits sizes (If a) around malformed = refl
+line-fits sizes Turns [] (reading is waiting) = refl
+line-fits sizes Turns (false ∷ around) (reading is waiting) = refl
+line-fits sizes Turns (true ∷ around) (reading is outermost) = refl
+line-fits sizes Turns (true ∷ around) (reading is (closed later waiting)) = refl
+line-fits sizes Turns (true ∷ around) (reading is (elseWaiting onFalse waiting)) = refl
+line-fits sizes Turns [] malformed = refl
+line-fits sizes Turns (false ∷ around) malformed = refl
+line-fits sizes Turns (true ∷ around) malformed = refl
+line-fits sizes Closes [] (reading is waiting) = refl
+line-fits sizes Closes (false ∷ around) (reading is waiting) = refl
+line-fits sizes Closes (true ∷ around) (reading is waiting) = refl
+line-fits sizes Closes [] malformed = refl
+line-fits sizes Closes (false ∷ around) malformed = refl
+line-fits sizes Closes (true ∷ around) malformed = refl
 
 abbrev start : Reading
 start = reading noItem outermost
 
 -- Lines are balanced where what they are read as fits.
-balanced-fits : (S : ℕ) (lines : List Line) (around : Open) → balanced lines around ≡ fits around (readBefore (trees S lines) start)
+balanced-fits : (sizes : Sizes) (lines : List Line) (around : Open) → balanced lines around ≡ fits around (readBefore (trees sizes lines) start)
 unfolding balanced fits fitsAfter matches readBefore
-balanced-fits S [] [] = refl
-balanced-fits S [] (false ∷ around) = refl
-balanced-fits S [] (true ∷ around) = refl
-balanced-fits S (line ∷ lines) around = after (λ a. balanced-fits S lines a) (behind line around) ∙ line-fits S line around (readBefore (trees S lines) start)
+balanced-fits sizes [] [] = refl
+balanced-fits sizes [] (false ∷ around) = refl
+balanced-fits sizes [] (true ∷ around) = refl
+balanced-fits sizes (line ∷ lines) around = after (λ a. balanced-fits sizes lines a) (behind line around) ∙ line-fits sizes line around (readBefore (trees sizes lines) start)
   where
-    after : ((a : Open) → balanced lines a ≡ fits a (readBefore (trees S lines) start)) → (b : Option Open)
-        → onward false (λ a. balanced lines a) b ≡ fitsAfter b (readBefore (trees S lines) start)
+    after : ((a : Open) → balanced lines a ≡ fits a (readBefore (trees sizes lines) start)) → (b : Option Open)
+        → onward false (λ a. balanced lines a) b ≡ fitsAfter b (readBefore (trees sizes lines) start)
     after ih none = refl
     after ih (some a) = ih a
 
@@ -140,32 +141,32 @@ turning is turn others close later rest =
     ∙ sym (append-assoc (is ++ (turn ∷ (others ++ (close ∷ [])))) later rest ∙ append-assoc is (turn ∷ (others ++ (close ∷ []))) (later ++ rest))
 
 -- One line before others.
-module _ (S : ℕ) (rest : List Indented) where
+module _ (sizes : Sizes) (rest : List Indented) where
   line-lined : (line : Line) (around : Open) (r : Reading) → LinedAfter (behind line around) r rest
-      → Lined around (readLine (lineTree S line) r) (indented (levelOf (length around) line) (lineTree S line) ∷ rest)
+      → Lined around (readLine (lineTree sizes line) r) (indented (levelOf (length around) line) (lineTree sizes line) ∷ rest)
   unfolding Lined LinedAfter matches waitingLines statementLines
-  line-lined Empty around (reading is waiting) h = λ m. ap (λ l. indented (length around) (lineTree S Empty) ∷ l) (h m)
+  line-lined Empty around (reading is waiting) h = λ m. ap (λ l. indented (length around) (lineTree sizes Empty) ∷ l) (h m)
   line-lined Empty around malformed h = tt
-  line-lined Abort around (reading is waiting) h = λ m. ap (λ l. indented (length around) (lineTree S Abort) ∷ l) (h m)
+  line-lined Abort around (reading is waiting) h = λ m. ap (λ l. indented (length around) (lineTree sizes Abort) ∷ l) (h m)
   line-lined Abort around malformed h = tt
-  line-lined (Goto n) around (reading is waiting) h = λ m. ap (λ l. indented (length around) (lineTree S (Goto n)) ∷ l) (h m)
+  line-lined (Goto n) around (reading is waiting) h = λ m. ap (λ l. indented (length around) (lineTree sizes (Goto n)) ∷ l) (h m)
   line-lined (Goto n) around malformed h = tt
-  line-lined (Label n) around (reading is waiting) h = λ m. ap (λ l. indented (length around) (lineTree S (Label n)) ∷ l) (h m)
+  line-lined (Label n) around (reading is waiting) h = λ m. ap (λ l. indented (length around) (lineTree sizes (Label n)) ∷ l) (h m)
   line-lined (Label n) around malformed h = tt
-  line-lined (Store a v) around (reading is waiting) h = λ m. ap (λ l. indented (length around) (lineTree S (Store a v)) ∷ l) (h m)
+  line-lined (Store a v) around (reading is waiting) h = λ m. ap (λ l. indented (length around) (lineTree sizes (Store a v)) ∷ l) (h m)
   line-lined (Store a v) around malformed h = tt
-  line-lined (Put array index a) around (reading is waiting) h = λ m. ap (λ l. indented (length around) (lineTree S (Put array index a)) ∷ l) (h m)
+  line-lined (Put array index a) around (reading is waiting) h = λ m. ap (λ l. indented (length around) (lineTree sizes (Put array index a)) ∷ l) (h m)
   line-lined (Put array index a) around malformed h = tt
   line-lined Opens around (reading is outermost) h = tt
   line-lined Opens around (reading is (closed later waiting)) h =
-      λ m. ap (λ l. indented (length around) (lineTree S Opens) ∷ l)
+      λ m. ap (λ l. indented (length around) (lineTree sizes Opens) ∷ l)
       (h m ∙ ap (λ n. itemsLines n is ++ (indented (length around) closes ∷ (itemsLines (length around) later ++ waitingLines around waiting))) (sym (add-one (length around)))
       ∙ closing (itemsLines (length around + 1) is) (indented (length around) closes) (itemsLines (length around) later) (waitingLines around waiting))
   line-lined Opens around (reading is (elseWaiting onFalse waiting)) h = tt
   line-lined Opens around malformed h = tt
   line-lined (While a) around (reading is outermost) h = tt
   line-lined (While a) around (reading is (closed later waiting)) h =
-      λ m. ap (λ l. indented (length around) (lineTree S (While a)) ∷ l)
+      λ m. ap (λ l. indented (length around) (lineTree sizes (While a)) ∷ l)
       (h m ∙ ap (λ n. itemsLines n is ++ (indented (length around) closes ∷ (itemsLines (length around) later ++ waitingLines around waiting))) (sym (add-one (length around)))
       ∙ closing (itemsLines (length around + 1) is) (indented (length around) closes) (itemsLines (length around) later) (waitingLines around waiting))
   line-lined (While a) around (reading is (elseWaiting onFalse waiting)) h = tt
@@ -174,7 +175,7 @@ module _ (S : ℕ) (rest : List Indented) where
   line-lined (If a) around (reading is (closed later waiting)) h = tt
   line-lined (If a) around (reading is (elseWaiting onFalse outermost)) h = tt
   line-lined (If a) around (reading is (elseWaiting onFalse (closed later waiting))) h =
-      λ m. ap (λ l. indented (length around) (lineTree S (If a)) ∷ l)
+      λ m. ap (λ l. indented (length around) (lineTree sizes (If a)) ∷ l)
       (h m
       ∙ ap
       (λ n. itemsLines n is ++ (indented (length around) turns ∷ (itemsLines (length around + 1) onFalse ++ (indented (length around) closes ∷ (itemsLines (length around) later ++ waitingLines around waiting)))))
@@ -203,41 +204,41 @@ module _ (S : ℕ) (rest : List Indented) where
   line-lined Closes (false ∷ around) malformed h = tt
   line-lined Closes (true ∷ around) malformed h = tt
 
-levels-lined : (S : ℕ) (lines : List Line) (around : Open) → Lined around (readBefore (trees S lines) start) (levels S lines around)
+levels-lined : (sizes : Sizes) (lines : List Line) (around : Open) → Lined around (readBefore (trees sizes lines) start) (levels sizes lines around)
 unfolding Lined LinedAfter matches waitingLines statementLines readBefore levels
-levels-lined S [] [] = λ m. refl
-levels-lined S [] (false ∷ around) = λ m. never m
-levels-lined S [] (true ∷ around) = λ m. never m
-levels-lined S (line ∷ lines) around =
-    line-lined S (onward [] (λ a. levels S lines a) (behind line around)) line around (readBefore (trees S lines) start) (after (λ a. levels-lined S lines a) (behind line around))
+levels-lined sizes [] [] = λ m. refl
+levels-lined sizes [] (false ∷ around) = λ m. never m
+levels-lined sizes [] (true ∷ around) = λ m. never m
+levels-lined sizes (line ∷ lines) around =
+    line-lined sizes (onward [] (λ a. levels sizes lines a) (behind line around)) line around (readBefore (trees sizes lines) start) (after (λ a. levels-lined sizes lines a) (behind line around))
   where
-    after : ((a : Open) → Lined a (readBefore (trees S lines) start) (levels S lines a)) → (b : Option Open) → LinedAfter b (readBefore (trees S lines) start) (onward [] (λ a. levels S lines a) b)
+    after : ((a : Open) → Lined a (readBefore (trees sizes lines) start) (levels sizes lines a)) → (b : Option Open) → LinedAfter b (readBefore (trees sizes lines) start) (onward [] (λ a. levels sizes lines a) b)
     after ih none = tt
     after ih (some a) = ih a
 
 -- ---- the program
 
 -- What balanced lines are: items, read from them by page/Lines, whose lines they are.
-pub record IsProgram (S : ℕ) (lines : List Line) : Type 0 where
+pub record IsProgram (sizes : Sizes) (lines : List Line) : Type 0 where
   pub items : Items
-  pub read : readLines (trees S lines) ≡ some items
-  pub printed : levels S lines [] ≡ itemsLines 0 items
+  pub read : readLines (trees sizes lines) ≡ some items
+  pub printed : levels sizes lines [] ≡ itemsLines 0 items
 
-pub balanced-program : (S : ℕ) (lines : List Line) → balanced lines [] ≡ true → IsProgram S lines
+pub balanced-program : (sizes : Sizes) (lines : List Line) → balanced lines [] ≡ true → IsProgram sizes lines
 unfolding readLines fits Lined matches waitingLines
-balanced-program S lines e =
-    from (readBefore (trees S lines) start) (levels S lines []) (sym (balanced-fits S lines []) ∙ e) (levels-lined S lines []) refl refl
+balanced-program sizes lines e =
+    from (readBefore (trees sizes lines) start) (levels sizes lines []) (sym (balanced-fits sizes lines []) ∙ e) (levels-lined sizes lines []) refl refl
   where
-    from : (r : Reading) (all : List Indented) → fits [] r ≡ true → Lined [] r all → readBefore (trees S lines) start ≡ r → levels S lines [] ≡ all → IsProgram S lines
+    from : (r : Reading) (all : List Indented) → fits [] r ≡ true → Lined [] r all → readBefore (trees sizes lines) start ≡ r → levels sizes lines [] ≡ all → IsProgram sizes lines
     from malformed all f l q p = never f
     from (reading is outermost) all f l q p = record { items = is; read = rw q; printed = p ∙ l f ∙ append-nil (itemsLines 0 is) }
     from (reading is (closed later waiting)) all f l q p = never f
     from (reading is (elseWaiting onFalse waiting)) all f l q p = never f
 
 -- Lines that are read are balanced.
-pub read-balanced : (S : ℕ) (lines : List Line) (items : Items) → readLines (trees S lines) ≡ some items → balanced lines [] ≡ true
+pub read-balanced : (sizes : Sizes) (lines : List Line) (items : Items) → readLines (trees sizes lines) ≡ some items → balanced lines [] ≡ true
 unfolding readLines fits matches
-read-balanced S lines items e = balanced-fits S lines [] ∙ from (readBefore (trees S lines) start) e
+read-balanced sizes lines items e = balanced-fits sizes lines [] ∙ from (readBefore (trees sizes lines) start) e
   where
     from : (r : Reading) → whole r ≡ some items → fits [] r ≡ true
     from malformed q = not-some q

@@ -5,6 +5,7 @@ use mathlib.Core.List.{List, [], _∷_, map}
 use mathlib.Core.Option.{Option, none, some}
 use Prim.Native.Nat.{ℕ}
 use lib.ListN.{length}
+use Rattle.page.specs.declared.Sizes.{Sizes}
 use Rattle.page.specs.Lines.{Line as PageLine, Indented, indented}
 use Rattle.page_words.specs.Trees.{lineTree}
 use Rattle.page_words.specs.declared.Line.{Line}
@@ -50,11 +51,11 @@ balanced [] [] = true
 balanced [] (flag ∷ around) = false
 balanced (line ∷ lines) around = onward false (λ a. balanced lines a) (behind line around)
 
--- The lines of a page, with S store words.
-abbrev pub trees : ℕ → List Line → List PageLine
-trees S lines = map (lineTree S) lines
+-- The lines of a page, with S and D.
+abbrev pub trees : Sizes → List Line → List PageLine
+trees sizes lines = map (lineTree sizes) lines
 
 -- The lines with their levels.
-unfoldable pub levels : ℕ → List Line → Open → List Indented
-levels S [] around = []
-levels S (line ∷ lines) around = indented (levelOf (length around) line) (lineTree S line) ∷ onward [] (λ a. levels S lines a) (behind line around)
+unfoldable pub levels : Sizes → List Line → Open → List Indented
+levels sizes [] around = []
+levels sizes (line ∷ lines) around = indented (levelOf (length around) line) (lineTree sizes line) ∷ onward [] (λ a. levels sizes lines a) (behind line around)

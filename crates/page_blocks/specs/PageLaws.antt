@@ -6,13 +6,14 @@ use mathlib.Core.Option.{Option, none, some}
 use Prim.Native.Nat.{ℕ, _+_, _≤_}
 use native.Mathlib.Omega.{arith}
 use Rattle.language.specs.Trees.{Items}
+use Rattle.page.specs.declared.Sizes.{Sizes}
 use Rattle.page.specs.Lines.{Line as PageLine, Indented, indented, plain, readLines}
 use Rattle.page.specs.Page.{linesBytes}
 use Rattle.page.specs.Reading.{readPage}
 use Rattle.page.specs.ReadBack.{lines-read-page}
 use Rattle.page.specs.Fits.{all-none, all-more}
 use Rattle.page.specs.Fits as page-fits
-use Rattle.page_words.specs.Trees.{lineTree, Named, line-fits}
+use Rattle.page_words.specs.Trees.{Within, lineTree, Named, line-fits}
 use Rattle.page_words.specs.declared.Names.{Names}
 use Rattle.page_words.specs.declared.Line.{Line}
 use Rattle.page_frame.specs.Frames.{levelOf}
@@ -26,44 +27,44 @@ never : {G : Type 0} → false ≡ true → G
 never e = absurd (let z : _≡_ {A = ℕ} 0 1 = cc in omega arith)
 
 -- The lines of balanced lines with their levels, without these.
-plain-levels : (S : ℕ) (lines : List Line) (around : Open) → balanced lines around ≡ true → plain (levels S lines around) ≡ trees S lines
+plain-levels : (sizes : Sizes) (lines : List Line) (around : Open) → balanced lines around ≡ true → plain (levels sizes lines around) ≡ trees sizes lines
 unfolding balanced levels plain
-plain-levels S [] around b = refl
-plain-levels S (line ∷ lines) around b = after (λ a. plain-levels S lines a) (behind line around) b
+plain-levels sizes [] around b = refl
+plain-levels sizes (line ∷ lines) around b = after (λ a. plain-levels sizes lines a) (behind line around) b
   where
-    after : ((a : Open) → balanced lines a ≡ true → plain (levels S lines a) ≡ trees S lines) → (o : Option Open) → onward false (λ a. balanced lines a) o ≡ true
-        → lineTree S line ∷ plain (onward [] (λ a. levels S lines a) o) ≡ lineTree S line ∷ trees S lines
+    after : ((a : Open) → balanced lines a ≡ true → plain (levels sizes lines a) ≡ trees sizes lines) → (o : Option Open) → onward false (λ a. balanced lines a) o ≡ true
+        → lineTree sizes line ∷ plain (onward [] (λ a. levels sizes lines a) o) ≡ lineTree sizes line ∷ trees sizes lines
     after ih none q = never q
-    after ih (some a) q = ap (λ (l : List PageLine). lineTree S line ∷ l) (ih a q)
+    after ih (some a) q = ap (λ (l : List PageLine). lineTree sizes line ∷ l) (ih a q)
 
-module _ (names : Names) (few-variables : names .variables ≤ 256) (few-temporaries : names .temporaries ≤ 8192) (few-arrays : names .arrays ≤ 32) (S : ℕ) (within : names .variables ≤ S) where
-  levels-fit : (lines : List Line) (around : Open) → AllFit names lines → page-fits.AllFit (Named S names within) (names .arrays) (levels S lines around)
+module _ (names : Names) (few-variables : names .variables ≤ 256) (few-behind : names .declared + names .temporaries ≤ 8256) (few-arrays : names .arrays ≤ 32) (sizes : Sizes) (within : Within sizes names) where
+  levels-fit : (lines : List Line) (around : Open) → AllFit names lines → page-fits.AllFit (Named sizes names within) (names .arrays) (levels sizes lines around)
   unfolding AllFit levels
   levels-fit [] around h = all-none
-  levels-fit (line ∷ lines) around h = all-more (line-fits S names within line (h .0)) (after (λ a. levels-fit lines a (h .1)) (behind line around))
+  levels-fit (line ∷ lines) around h = all-more (line-fits sizes names within line (h .0)) (after (λ a. levels-fit lines a (h .1)) (behind line around))
     where
-      after : ((a : Open) → page-fits.AllFit (Named S names within) (names .arrays) (levels S lines a)) → (o : Option Open)
-          → page-fits.AllFit (Named S names within) (names .arrays) (onward [] (λ a. levels S lines a) o)
+      after : ((a : Open) → page-fits.AllFit (Named sizes names within) (names .arrays) (levels sizes lines a)) → (o : Option Open)
+          → page-fits.AllFit (Named sizes names within) (names .arrays) (onward [] (λ a. levels sizes lines a) o)
       after ih none = all-none
       after ih (some a) = ih a
 
   -- What page/Reading and page/Lines read, and the rows that were counted.
   pub record ReadsAs (page : List ℕ) (total : ℕ) : Type 0 where
     pub items : Items
-    pub page-read : readPage S page ≡ some items
-    pub lines-read : readLines (trees S (linesIn names page)) ≡ some items
+    pub page-read : readPage sizes page ≡ some items
+    pub lines-read : readLines (trees sizes (linesIn names page)) ≡ some items
     pub fit : AllFit names (linesIn names page)
     pub counted : total ≡ 1 + linesRows (linesIn names page)
 
   pub scan-reads : (page : List ℕ) (total : ℕ) → scan names page ≡ Whole total → ReadsAs page total
   scan-reads page total e =
-      let p = scan-sound names few-variables few-temporaries few-arrays S within page total e in
+      let p = scan-sound names few-variables few-behind few-arrays sizes within page total e in
       let lines = p .lines in
-      let read = lines-read-page {Names = Named S names within} {arrays = names .arrays} S (levels S lines []) (p .items) (levels-fit lines [] (p .fit))
-      (ap readLines (plain-levels S lines [] (p .balances)) ∙ p .read) (p .printed ∙ p .bytes) in
+      let read = lines-read-page {Names = Named sizes names within} {arrays = names .arrays} sizes (levels sizes lines []) (p .items) (levels-fit lines [] (p .fit))
+      (ap readLines (plain-levels sizes lines [] (p .balances)) ∙ p .read) (p .printed ∙ p .bytes) in
       record {
         items = p .items;
-        page-read = ap (readPage S) (p .bytes) ∙ read;
+        page-read = ap (readPage sizes) (p .bytes) ∙ read;
         lines-read = rw (p .statements) at (p .read);
         fit = rw (p .statements) at (p .fit);
         counted = rw (p .statements) at (p .counted);

@@ -8,11 +8,12 @@ use native.Mathlib.Omega.{arith}
 use Rattle.text_numbers.specs.NumberLaws.{not-some}
 use Rattle.language.specs.Trees.{Items, none as noItem, _then_, _here_, block}
 use Rattle.language.specs.Sizes.{expressionRows, placeRows, statementRows, itemsRows}
+use Rattle.page.specs.declared.Sizes.{Sizes}
 use Rattle.page.specs.Lines.{Waiting, outermost, closed, Reading, reading, malformed, readLine, readBefore, whole, readLines}
 use Rattle.page.specs.Lines.{turned as elseWaiting}
 use Rattle.page_words.specs.Trees.{atomTree, valueTree, lineTree}
 use Rattle.page_words.specs.declared.Atom.{Atom}
-use Rattle.page_words.specs.declared.Atom.the-variants.{Constant, Variable, Temporary}
+use Rattle.page_words.specs.declared.Atom.the-variants.{Constant, Variable, Declared, Temporary}
 use Rattle.page_words.specs.declared.Value.{Value}
 use Rattle.page_words.specs.declared.Value.the-variants.{Single, Element, Minus, Binary}
 use Rattle.page_words.specs.declared.Line.{Line}
@@ -21,14 +22,15 @@ use Rattle.page_blocks.specs.Blocks.{trees}
 use Rattle.page_blocks.specs.Scans.{valueRows, lineRows}
 use Rattle.page_blocks.specs.ScanLaws.{linesRows}
 
-module _ (S : ℕ) where
-  pub atom-rows : (a : Atom) → expressionRows (atomTree S a) ≡ 1
+module _ (sizes : Sizes) where
+  pub atom-rows : (a : Atom) → expressionRows (atomTree sizes a) ≡ 1
   unfolding expressionRows
   atom-rows (Constant v) = refl
   atom-rows (Variable n) = refl
+  atom-rows (Declared n) = refl
   atom-rows (Temporary n) = refl
 
-  pub value-rows : (v : Value) → expressionRows (valueTree S v) ≡ valueRows v
+  pub value-rows : (v : Value) → expressionRows (valueTree sizes v) ≡ valueRows v
   unfolding expressionRows
   value-rows (Single a) = atom-rows a
   value-rows (Element array index) = omega (arith, atom-rows index)
@@ -46,8 +48,8 @@ unfoldable Rowed : Reading → ℕ → Type 0
 Rowed malformed rows = Unit
 Rowed (reading is waiting) rows = itemsRows is + waitingRows waiting ≡ rows
 
-module _ (S : ℕ) where
-  line-rows : (line : Line) (r : Reading) (rows : ℕ) → Rowed r rows → Rowed (readLine (lineTree S line) r) (lineRows line + rows)
+module _ (sizes : Sizes) where
+  line-rows : (line : Line) (r : Reading) (rows : ℕ) → Rowed r rows → Rowed (readLine (lineTree sizes line) r) (lineRows line + rows)
   unfolding Rowed waitingRows statementRows expressionRows
   line-rows Empty malformed rows h = tt
   line-rows Empty (reading is waiting) rows h = omega arith
@@ -58,39 +60,40 @@ module _ (S : ℕ) where
   line-rows (Label l) malformed rows h = tt
   line-rows (Label l) (reading is waiting) rows h = omega arith
   line-rows (Store a v) malformed rows h = tt
-  line-rows (Store (Constant c) v) (reading is waiting) rows h = omega (arith, value-rows S v)
-  line-rows (Store (Variable n) v) (reading is waiting) rows h = omega (arith, value-rows S v)
-  line-rows (Store (Temporary n) v) (reading is waiting) rows h = omega (arith, value-rows S v)
+  line-rows (Store (Constant c) v) (reading is waiting) rows h = omega (arith, value-rows sizes v)
+  line-rows (Store (Variable n) v) (reading is waiting) rows h = omega (arith, value-rows sizes v)
+  line-rows (Store (Declared n) v) (reading is waiting) rows h = omega (arith, value-rows sizes v)
+  line-rows (Store (Temporary n) v) (reading is waiting) rows h = omega (arith, value-rows sizes v)
   line-rows (Put array index a) malformed rows h = tt
-  line-rows (Put array index a) (reading is waiting) rows h = omega (arith, atom-rows S index, atom-rows S a)
+  line-rows (Put array index a) (reading is waiting) rows h = omega (arith, atom-rows sizes index, atom-rows sizes a)
   line-rows Opens malformed rows h = tt
   line-rows Opens (reading is outermost) rows h = tt
   line-rows Opens (reading is (closed later waiting)) rows h = omega arith
   line-rows Opens (reading is (elseWaiting onFalse waiting)) rows h = tt
   line-rows (While a) malformed rows h = tt
   line-rows (While a) (reading is outermost) rows h = tt
-  line-rows (While a) (reading is (closed later waiting)) rows h = omega (arith, atom-rows S a)
+  line-rows (While a) (reading is (closed later waiting)) rows h = omega (arith, atom-rows sizes a)
   line-rows (While a) (reading is (elseWaiting onFalse waiting)) rows h = tt
   line-rows (If a) malformed rows h = tt
   line-rows (If a) (reading is outermost) rows h = tt
   line-rows (If a) (reading is (closed later waiting)) rows h = tt
   line-rows (If a) (reading is (elseWaiting onFalse outermost)) rows h = tt
-  line-rows (If a) (reading is (elseWaiting onFalse (closed later waiting))) rows h = omega (arith, atom-rows S a)
+  line-rows (If a) (reading is (elseWaiting onFalse (closed later waiting))) rows h = omega (arith, atom-rows sizes a)
   line-rows (If a) (reading is (elseWaiting onFalse (elseWaiting other waiting))) rows h = tt
   line-rows Turns malformed rows h = tt
   line-rows Turns (reading is waiting) rows h = omega arith
   line-rows Closes malformed rows h = tt
   line-rows Closes (reading is waiting) rows h = omega arith
 
-  lines-rows : (lines : List Line) → Rowed (readBefore (trees S lines) (reading noItem outermost)) (linesRows lines)
+  lines-rows : (lines : List Line) → Rowed (readBefore (trees sizes lines) (reading noItem outermost)) (linesRows lines)
   unfolding Rowed waitingRows statementRows readBefore
   lines-rows [] = refl
-  lines-rows (line ∷ lines) = line-rows line (readBefore (trees S lines) (reading noItem outermost)) (linesRows lines) (lines-rows lines)
+  lines-rows (line ∷ lines) = line-rows line (readBefore (trees sizes lines) (reading noItem outermost)) (linesRows lines) (lines-rows lines)
 
   -- The rows of a program are those counted, and row 0.
-  pub program-rows : (lines : List Line) (items : Items) → readLines (trees S lines) ≡ some items → statementRows (block items) ≡ 1 + linesRows lines
+  pub program-rows : (lines : List Line) (items : Items) → readLines (trees sizes lines) ≡ some items → statementRows (block items) ≡ 1 + linesRows lines
   unfolding readLines Rowed waitingRows statementRows
-  program-rows lines items e = from (readBefore (trees S lines) (reading noItem outermost)) (lines-rows lines) e
+  program-rows lines items e = from (readBefore (trees sizes lines) (reading noItem outermost)) (lines-rows lines) e
     where
       from : (r : Reading) → Rowed r (linesRows lines) → whole r ≡ some items → 1 + itemsRows items ≡ 1 + linesRows lines
       from malformed h q = not-some q

@@ -11,11 +11,12 @@ use lib.Dec.{eqb}
 use lib.ListN.{length, take, drop, length-append}
 use lib.Seq.{take-at, drop-at, drop-drop}
 use borrow.Author.Tests.{eq-eqb}
+use Rattle.page.specs.declared.Sizes.{Sizes}
 use Rattle.page.specs.Lines.{indented}
 use Rattle.page.specs.Page.{name, lineBytes, linesBytes}
-use Rattle.page.specs.Widths.{variable-width, temporary-width, line-columns}
+use Rattle.page.specs.Widths.{variable-width, behind-width, line-columns}
 use Rattle.page_words.specs.Texts.{LineFits}
-use Rattle.page_words.specs.Trees.{lineTree, Named, line-fits}
+use Rattle.page_words.specs.Trees.{Within, lineTree, Named, line-fits}
 use Rattle.page_words.specs.declared.Names.{Names}
 use Rattle.page_words.specs.declared.Line.{Line}
 use Rattle.page_words.specs.declared.LineRead.{LineRead}
@@ -31,16 +32,16 @@ use Rattle.page_blocks.specs.declared.Scan.the-variants.{Whole, Wrong}
 never : {G : Type 0} → false ≡ true → G
 never e = absurd (let z : _≡_ {A = ℕ} 0 1 = cc in omega arith)
 
-module _ (names : Names) (few-variables : names .variables ≤ 256) (few-temporaries : names .temporaries ≤ 8192) (few-arrays : names .arrays ≤ 32) (S : ℕ) (within : names .variables ≤ S) (page : List ℕ) where
-  name-width : (i : ℕ) → Named S names within i → length (name S i) ≤ 5
-  name-width i = ⊎-elim (λ v. variable-width S i (omega arith)) (λ t. temporary-width S i (t .0) (omega (arith, t .1)))
+module _ (names : Names) (few-variables : names .variables ≤ 256) (few-behind : names .declared + names .temporaries ≤ 8256) (few-arrays : names .arrays ≤ 32) (sizes : Sizes) (within : Within sizes names) (page : List ℕ) where
+  name-width : (i : ℕ) → Named sizes names within i → length (name sizes i) ≤ 5
+  name-width i = ⊎-elim (λ v. variable-width sizes i (omega arith)) (λ t. behind-width sizes i (t .0) (omega (arith, t .1)))
 
-  line-long : (number level : ℕ) (line : Line) → number < 100000 → LineFits names line → length (lineBytes S number (indented level (lineTree S line))) ≡ 81
-  line-long number level line few h = line-columns {Names = Named S names within} {arrays = names .arrays} S name-width few-arrays number level (lineTree S line) few (line-fits S names within line h)
+  line-long : (number level : ℕ) (line : Line) → number < 100000 → LineFits names line → length (lineBytes sizes number (indented level (lineTree sizes line))) ≡ 81
+  line-long number level line few h = line-columns {Names = Named sizes names within} {arrays = names .arrays} sizes name-width few-arrays number level (lineTree sizes line) few (line-fits sizes names within line h)
 
   -- The rest of a page from a line on.
   rest-complete : (lines : List Line) (done : ℕ) (around : Open) (rows : ℕ) → done + length lines ≤ 81958 → AllFit names lines → balanced lines around ≡ true
-      → drop (81 * done) page ≡ linesBytes S (done + 1) (levels S lines around) → length page ≡ 81 * (done + length lines) → scanFrom names page (length lines) done around rows ≡ Whole (rows + linesRows lines)
+      → drop (81 * done) page ≡ linesBytes sizes (done + 1) (levels sizes lines around) → length page ≡ 81 * (done + length lines) → scanFrom names page (length lines) done around rows ≡ Whole (rows + linesRows lines)
   unfolding scanFrom balanced levels linesBytes AllFit
   rest-complete [] done [] rows few h b e long =
       let all : 81 * done ≡ length page = omega arith in
@@ -51,21 +52,21 @@ module _ (names : Names) (few-variables : names .variables ≤ 256) (few-tempora
       from (λ a r. rest-complete lines (done + 1) a r (omega arith) (h .1)) (behind line around) refl b e
     where
       first : List ℕ
-      first = lineBytes S (done + 1) (indented (levelOf (length around) line) (lineTree S line))
+      first = lineBytes sizes (done + 1) (indented (levelOf (length around) line) (lineTree sizes line))
 
       size : length first ≡ 81
       size = line-long (done + 1) (levelOf (length around) line) line (omega arith) (h .0)
 
-      from : ((a : Open) (r : ℕ) → balanced lines a ≡ true → drop (81 * (done + 1)) page ≡ linesBytes S (done + 1 + 1) (levels S lines a) → length page ≡ 81 * (done + 1 + length lines)
+      from : ((a : Open) (r : ℕ) → balanced lines a ≡ true → drop (81 * (done + 1)) page ≡ linesBytes sizes (done + 1 + 1) (levels sizes lines a) → length page ≡ 81 * (done + 1 + length lines)
           → scanFrom names page (length lines) (done + 1) a r ≡ Whole (r + linesRows lines))
-          → (b : Option Open) → behind line around ≡ b → onward false (λ a. balanced lines a) b ≡ true → drop (81 * done) page ≡ first ++ linesBytes S (done + 1 + 1) (onward [] (λ a. levels S lines a) b)
+          → (b : Option Open) → behind line around ≡ b → onward false (λ a. balanced lines a) b ≡ true → drop (81 * done) page ≡ first ++ linesBytes sizes (done + 1 + 1) (onward [] (λ a. levels sizes lines a) b)
           → stepped (lineIn names (done + 1) (length around) (take 81 (drop (81 * done) page))) (done + 1) around (λ line a. scanFrom names page (length lines) (done + 1) a (rows + lineRows line)) ≡ Whole (rows + (lineRows line + linesRows lines))
       from ih none q balances bytes = never balances
       from ih (some a) q balances bytes =
-          let rest = linesBytes S (done + 1 + 1) (levels S lines a) in
+          let rest = linesBytes sizes (done + 1 + 1) (levels sizes lines a) in
           let here : take 81 (drop (81 * done) page) ≡ first = ap (take 81) bytes ∙ take-at first rest 81 size in
           let read : lineIn names (done + 1) (length around) (take 81 (drop (81 * done) page)) ≡ line-cases.Read line =
-          ap (lineIn names (done + 1) (length around)) here ∙ line-in-complete names few-variables few-temporaries few-arrays S within (done + 1) (length around) line (omega arith) (h .0) in
+          ap (lineIn names (done + 1) (length around)) here ∙ line-in-complete names few-variables few-behind few-arrays sizes within (done + 1) (length around) line (omega arith) (h .0) in
           let next : 81 * done + 81 ≡ 81 * (done + 1) = omega arith in
           let behind-it : drop (81 * (done + 1)) page ≡ rest = ap (λ (n : ℕ). drop n page) (sym next) ∙ sym (drop-drop 81 (81 * done) page) ∙ ap (drop 81) bytes ∙ drop-at first rest 81 size in
           let sum : rows + lineRows line + linesRows lines ≡ rows + (lineRows line + linesRows lines) = omega arith in
@@ -74,7 +75,7 @@ module _ (names : Names) (few-variables : names .variables ≤ 256) (few-tempora
           ∙ ih a (rows + lineRows line) balances behind-it (omega arith) ∙ ap Whole sum
 
   -- The bytes of balanced lines that fit, few enough, are scanned to their end, and their rows are counted.
-  pub scan-complete : (lines : List Line) → length lines ≤ 81958 → AllFit names lines → balanced lines [] ≡ true → page ≡ linesBytes S 1 (levels S lines []) → length page ≡ 81 * length lines
+  pub scan-complete : (lines : List Line) → length lines ≤ 81958 → AllFit names lines → balanced lines [] ≡ true → page ≡ linesBytes sizes 1 (levels sizes lines []) → length page ≡ 81 * length lines
       → scan names page ≡ Whole (1 + linesRows lines)
   unfolding scan
   scan-complete lines few h b e long =

@@ -12,10 +12,11 @@ use lib.Seq.{drop-drop}
 use borrow.Author.Tests.{eqb-true}
 use Rattle.words.specs.Laws.{by-cases}
 use Rattle.language.specs.Trees.{Items}
+use Rattle.page.specs.declared.Sizes.{Sizes}
 use Rattle.page.specs.Lines.{itemsLines, readLines}
 use Rattle.page.specs.Page.{lineBytes, linesBytes, pageBytes}
 use Rattle.page_words.specs.Texts.{LineFits}
-use Rattle.page_words.specs.Trees.{lineTree}
+use Rattle.page_words.specs.Trees.{Within, lineTree}
 use Rattle.page_words.specs.declared.Names.{Names}
 use Rattle.page_words.specs.declared.Line.{Line}
 use Rattle.page_words.specs.declared.LineRead.{LineRead}
@@ -37,19 +38,19 @@ AllFit names [] = Unit
 AllFit names (line ∷ lines) = LineFits names line × AllFit names lines
 
 -- The rest of a page: its lines, whose blocks close, whose bytes it is, and whose rows are counted.
-pub record IsRest (names : Names) (S : ℕ) (rest : List ℕ) (number : ℕ) (around : Open) (rows total : ℕ) (statements : List Line) : Type 0 where
+pub record IsRest (names : Names) (sizes : Sizes) (rest : List ℕ) (number : ℕ) (around : Open) (rows total : ℕ) (statements : List Line) : Type 0 where
   pub lines : List Line
   pub read : lines ≡ statements
   pub fit : AllFit names lines
   pub balances : balanced lines around ≡ true
-  pub bytes : rest ≡ linesBytes S number (levels S lines around)
+  pub bytes : rest ≡ linesBytes sizes number (levels sizes lines around)
   pub counted : total ≡ rows + linesRows lines
 
-module _ (names : Names) (few-variables : names .variables ≤ 256) (few-temporaries : names .temporaries ≤ 8192) (few-arrays : names .arrays ≤ 32) (S : ℕ) (within : names .variables ≤ S) (page : List ℕ) where
+module _ (names : Names) (few-variables : names .variables ≤ 256) (few-behind : names .declared + names .temporaries ≤ 8256) (few-arrays : names .arrays ≤ 32) (sizes : Sizes) (within : Within sizes names) (page : List ℕ) where
   wrong : {G : Type 0} (n total : ℕ) → Wrong n ≡ Whole total → G
   wrong n total e = absurd (let z : _≡_ {A = ℕ} 0 1 = cc in omega arith)
 
-  end-sound : (done : ℕ) (around : Open) (rows total : ℕ) → ended (eqb (81 * done) (length page)) around rows (done + 1) ≡ Whole total → IsRest names S (drop (81 * done) page) (done + 1) around rows total []
+  end-sound : (done : ℕ) (around : Open) (rows total : ℕ) → ended (eqb (81 * done) (length page)) around rows (done + 1) ≡ Whole total → IsRest names sizes (drop (81 * done) page) (done + 1) around rows total []
   unfolding balanced levels linesBytes AllFit
   end-sound done [] rows total e =
       by-cases (eqb (81 * done) (length page))
@@ -64,12 +65,12 @@ module _ (names : Names) (few-variables : names .variables ≤ 256) (few-tempora
   -- One line before the rest.
   line-sound : (done : ℕ) (around a : Open) (rows total : ℕ) (line : Line) (statements : List Line) → done < 99999 → 81 * (done + 1) ≤ length page
       → lineIn names (done + 1) (length around) (take 81 (drop (81 * done) page)) ≡ line-cases.Read line → behind line around ≡ some a
-      → IsRest names S (drop (81 * (done + 1)) page) (done + 1 + 1) a (rows + lineRows line) total statements
-      → IsRest names S (drop (81 * done) page) (done + 1) around rows total (withLine (statementIn names (take 81 (drop (81 * done) page))) statements)
+      → IsRest names sizes (drop (81 * (done + 1)) page) (done + 1 + 1) a (rows + lineRows line) total statements
+      → IsRest names sizes (drop (81 * done) page) (done + 1) around rows total (withLine (statementIn names (take 81 (drop (81 * done) page))) statements)
   unfolding balanced levels linesBytes AllFit
   line-sound done around a rows total line statements few long e q r =
       let size : length (take 81 (drop (81 * done) page)) ≡ 81 = length-take 81 (drop (81 * done) page) ∙ omega (arith, length-drop (81 * done) page) in
-      let s = line-in-sound names few-variables few-temporaries few-arrays S within (done + 1) (length around) (take 81 (drop (81 * done) page)) line (omega arith) size e in
+      let s = line-in-sound names few-variables few-behind few-arrays sizes within (done + 1) (length around) (take 81 (drop (81 * done) page)) line (omega arith) size e in
       let next : 81 * done + 81 ≡ 81 * (done + 1) = omega arith in
       record {
         lines = line ∷ r .lines;
@@ -83,22 +84,22 @@ module _ (names : Names) (few-variables : names .variables ≤ 256) (few-tempora
       }
 
   rest-sound : (left done : ℕ) (around : Open) (rows total : ℕ) → done + left < 99999 → 81 * (done + left) ≤ length page → scanFrom names page left done around rows ≡ Whole total
-      → IsRest names S (drop (81 * done) page) (done + 1) around rows total (linesFrom names page left done)
+      → IsRest names sizes (drop (81 * done) page) (done + 1) around rows total (linesFrom names page left done)
   unfolding scanFrom linesFrom
   rest-sound zero done around rows total few long e = end-sound done around rows total e
   rest-sound (suc left) done around rows total few long e =
       from (λ a r. rest-sound left (done + 1) a r total (omega arith) (omega arith)) (lineIn names (done + 1) (length around) (take 81 (drop (81 * done) page))) refl e
     where
-      after : ((a : Open) (r : ℕ) → scanFrom names page left (done + 1) a r ≡ Whole total → IsRest names S (drop (81 * (done + 1)) page) (done + 1 + 1) a r total (linesFrom names page left (done + 1))) → (line : Line)
+      after : ((a : Open) (r : ℕ) → scanFrom names page left (done + 1) a r ≡ Whole total → IsRest names sizes (drop (81 * (done + 1)) page) (done + 1 + 1) a r total (linesFrom names page left (done + 1))) → (line : Line)
           → lineIn names (done + 1) (length around) (take 81 (drop (81 * done) page)) ≡ line-cases.Read line → (b : Option Open) → behind line around ≡ b
           → onward (Wrong (done + 1)) (λ a. scanFrom names page left (done + 1) a (rows + lineRows line)) b ≡ Whole total
-          → IsRest names S (drop (81 * done) page) (done + 1) around rows total (linesFrom names page (suc left) done)
+          → IsRest names sizes (drop (81 * done) page) (done + 1) around rows total (linesFrom names page (suc left) done)
       after ih line p none q t = wrong (done + 1) total t
       after ih line p (some a) q t = line-sound done around a rows total line (linesFrom names page left (done + 1)) (omega arith) (omega arith) p q (ih a (rows + lineRows line) t)
 
-      from : ((a : Open) (r : ℕ) → scanFrom names page left (done + 1) a r ≡ Whole total → IsRest names S (drop (81 * (done + 1)) page) (done + 1 + 1) a r total (linesFrom names page left (done + 1))) → (r : LineRead)
+      from : ((a : Open) (r : ℕ) → scanFrom names page left (done + 1) a r ≡ Whole total → IsRest names sizes (drop (81 * (done + 1)) page) (done + 1 + 1) a r total (linesFrom names page left (done + 1))) → (r : LineRead)
           → lineIn names (done + 1) (length around) (take 81 (drop (81 * done) page)) ≡ r → stepped r (done + 1) around (λ line a. scanFrom names page left (done + 1) a (rows + lineRows line)) ≡ Whole total
-          → IsRest names S (drop (81 * done) page) (done + 1) around rows total (linesFrom names page (suc left) done)
+          → IsRest names sizes (drop (81 * done) page) (done + 1) around rows total (linesFrom names page (suc left) done)
       from ih line-cases.Malformed p t = wrong (done + 1) total t
       from ih (line-cases.Read line) p t = after ih line p (behind line around) refl t
 
@@ -108,10 +109,10 @@ module _ (names : Names) (few-variables : names .variables ≤ 256) (few-tempora
     pub statements : lines ≡ linesIn names page
     pub fit : AllFit names lines
     pub balances : balanced lines [] ≡ true
-    pub bytes : page ≡ linesBytes S 1 (levels S lines [])
+    pub bytes : page ≡ linesBytes sizes 1 (levels sizes lines [])
     pub items : Items
-    pub read : readLines (trees S lines) ≡ some items
-    pub printed : pageBytes S items ≡ page
+    pub read : readLines (trees sizes lines) ≡ some items
+    pub printed : pageBytes sizes items ≡ page
     pub counted : total ≡ 1 + linesRows lines
 
   pub scan-sound : (total : ℕ) → scan names page ≡ Whole total → IsPage total
@@ -119,7 +120,7 @@ module _ (names : Names) (few-variables : names .variables ≤ 256) (few-tempora
   scan-sound total e =
       let left = min (length page / 81) 81958 in
       let r = rest-sound left 0 [] 1 total (omega arith) (omega arith) e in
-      let p = balanced-program S (r .lines) (r .balances) in
+      let p = balanced-program sizes (r .lines) (r .balances) in
       record {
         lines = r .lines;
         statements = r .read;
@@ -128,6 +129,6 @@ module _ (names : Names) (few-variables : names .variables ≤ 256) (few-tempora
         bytes = r .bytes;
         items = p .items;
         read = p .read;
-        printed = sym (r .bytes ∙ ap (linesBytes S 1) (p .printed));
+        printed = sym (r .bytes ∙ ap (linesBytes sizes 1) (p .printed));
         counted = r .counted;
       }

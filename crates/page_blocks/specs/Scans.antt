@@ -7,7 +7,7 @@ use Prim.Native.Nat.{ℕ, zero, suc, _+_, _*_, _/_, min}
 use lib.Dec.{eqb}
 use lib.IntN.{ℤ}
 use lib.ListN.{length, take, drop}
-use Rattle.words.specs.Layout.{temporariesOf}
+use Rattle.words.specs.Layout.{declaredOf, temporariesOf}
 use Rattle.words.specs.declared.Form.the-variants.{Kernel}
 use Rattle.row_fields.specs.Fields.{boundsOf}
 use Rattle.page_words.specs.declared.Names.{Names}
@@ -82,4 +82,4 @@ module _ (names : Names) (page : List ℕ) where
 
 -- The names that a kernel header gives.
 unfoldable pub namesOf : List ℤ → Names
-namesOf header = record { variables = boundsOf Kernel header .variables; temporaries = temporariesOf Kernel header; arrays = boundsOf Kernel header .arrays }
+namesOf header = record { variables = boundsOf Kernel header .variables; declared = declaredOf Kernel header; temporaries = temporariesOf Kernel header; arrays = boundsOf Kernel header .arrays }

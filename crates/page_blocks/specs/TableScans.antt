@@ -6,12 +6,14 @@ use mathlib.Core.Option.{some}
 use mathlib.Core.Logic.{_⊎_, inl, inr, ⊎-elim}
 use Prim.Native.Nat.{ℕ, suc, _+_, _*_, _-_, _^_, _≤_, _<_}
 use native.Mathlib.Omega.{arith}
+use lib.Dec.{ltb}
 use lib.IntN.{ℤ, pos}
 use lib.Signed.{mag}
 use lib.ListN.{length, getD}
 use Rattle.words.specs.Table.{rowCount}
-use Rattle.words.specs.Layout.{layoutOf, storeSize, storeWords, temporariesOf}
-use Rattle.words.specs.Laws.{headerFits-facts, countFits-facts}
+use Rattle.words.specs.Layout.{layoutOf, storeSize, headerStore, declaredOf, temporariesOf}
+use borrow.Author.Tests.{ltb-true, ltb-false}
+use Rattle.words.specs.Laws.{by-cases, headerFits-facts, countFits-facts}
 use Rattle.words.specs.declared.Form.the-variants.{Kernel}
 use Rattle.language.specs.Trees.{Expression, constant, read, minus, binary, variable, element, Items}
 use Rattle.language.specs.Program.{contents}
@@ -19,18 +21,19 @@ use Rattle.row_fields.specs.Fields.{boundsOf}
 use Rattle.kernel_check.specs.Legal.{Legal}
 use Rattle.accepted.specs.Fields.{NamesVariable}
 use Rattle.accepted_kernel.specs.Kernel.{legal-form, legal-rows}
+use Rattle.page.specs.declared.Sizes.{Sizes}
 use Rattle.page.specs.Lines.{Line as PageLine, Indented, indented, itemsLines, plain, readLines}
 use Rattle.page.specs.LinesLaws.{lines-read-back}
-use Rattle.page.specs.Page.{linesBytes, pageBytes}
+use Rattle.page.specs.Page.{firstTemporary, linesBytes, pageBytes}
 use Rattle.page.specs.Fits.{fits-constant, fits-variable, value-atom, value-element, value-minus, value-binary, fits-empty, fits-abort, fits-goto, fits-label, fits-store, fits-put, fits-opens, fits-while, fits-if, fits-turns, fits-closes, all-none, all-more}
 use Rattle.page.specs.Fits as page-fits
-use Rattle.page.specs.Tables.{storeOf, tableLines, tablePage}
+use Rattle.page.specs.Tables.{sizesOf, tableLines, tablePage}
 use Rattle.page.specs.TableLaws.{lines-fit, lines-of-rows, page-columns}
 use Rattle.page_words.specs.Texts.{AtomFits, NameFits, ValueFits, LineFits}
-use Rattle.page_words.specs.Trees.{placeTree, atomTree, valueTree, lineTree}
+use Rattle.page_words.specs.Trees.{Within, placeTree, atomTree, valueTree, lineTree}
 use Rattle.page_words.specs.declared.Names.{Names}
 use Rattle.page_words.specs.declared.Atom.{Atom}
-use Rattle.page_words.specs.declared.Atom.the-variants.{Constant, Variable, Temporary}
+use Rattle.page_words.specs.declared.Atom.the-variants.{Constant, Variable, Declared, Temporary}
 use Rattle.page_words.specs.declared.Value.{Value}
 use Rattle.page_words.specs.declared.Value.the-variants.{Single, Element, Minus, Binary}
 use Rattle.page_words.specs.declared.Line.{Line}
@@ -45,20 +48,20 @@ use Rattle.page_blocks.specs.declared.Scan.the-variants.{Whole}
 
 -- ---- the line that a line of the page is
 
-module _ (names : Names) (S : ℕ) where
-  -- The variables, and the temporaries behind the store.
+module _ (names : Names) (sizes : Sizes) (within : Within sizes names) where
+  -- The variables, and the declared words and temporaries behind the store.
   abbrev Named : ℕ → Type 0
-  Named i = (i < names .variables) ⊎ ((S ≤ i) × (i < S + names .temporaries))
+  Named i = (i < names .variables) ⊎ ((sizes .store ≤ i) × (i < sizes .store + (names .declared + names .temporaries)))
 
   record IsAtom (e : Expression) : Type 0 where
     found : Atom
-    tree : atomTree S found ≡ e
+    tree : atomTree sizes found ≡ e
     fits : AtomFits names found
 
   record IsName (i : ℕ) : Type 0 where
     found : Atom
-    tree : placeTree S found ≡ variable i
-    reads : atomTree S found ≡ read (variable i)
+    tree : placeTree sizes found ≡ variable i
+    reads : atomTree sizes found ≡ read (variable i)
     fits : NameFits names found
     atom-fits : AtomFits names found
 
@@ -67,9 +70,17 @@ module _ (names : Names) (S : ℕ) where
   name-of i (inr h) =
       let low = h .0 in
       let high = h .1 in
-      let back : S + (i - S) ≡ i = omega arith in
-      let less : i - S < names .temporaries = omega arith in
-      record { found = Temporary (i - S); tree = ap variable back; reads = ap (λ n. read (variable n)) back; fits = less; atom-fits = less }
+      by-cases (ltb i (firstTemporary sizes))
+      (λ t.
+      let below : i < firstTemporary sizes = ltb-true i (firstTemporary sizes) t in
+      let back : sizes .store + (i - sizes .store) ≡ i = omega arith in
+      let less : i - sizes .store < names .declared = omega (arith, within .same-declared) in
+      record { found = Declared (i - sizes .store); tree = ap variable back; reads = ap (λ n. read (variable n)) back; fits = less; atom-fits = less })
+      (λ t.
+      let first : firstTemporary sizes ≤ i = ltb-false i (firstTemporary sizes) t in
+      let back : firstTemporary sizes + (i - firstTemporary sizes) ≡ i = omega arith in
+      let less : i - firstTemporary sizes < names .temporaries = omega (arith, within .same-declared) in
+      record { found = Temporary (i - firstTemporary sizes); tree = ap variable back; reads = ap (λ n. read (variable n)) back; fits = less; atom-fits = less })
 
   atom-of : (e : Expression) → page-fits.AtomFits Named (names .arrays) e → IsAtom e
   atom-of (constant v) (fits-constant h) = record { found = Constant v; tree = refl; fits = h }
@@ -77,7 +88,7 @@ module _ (names : Names) (S : ℕ) where
 
   record IsValue (e : Expression) : Type 0 where
     found : Value
-    tree : valueTree S found ≡ e
+    tree : valueTree sizes found ≡ e
     fits : ValueFits names found
 
   value-of : (e : Expression) → page-fits.ValueFits Named (names .arrays) e → IsValue e
@@ -91,7 +102,7 @@ module _ (names : Names) (S : ℕ) where
 
   record IsLine (line : PageLine) : Type 0 where
     found : Line
-    tree : lineTree S found ≡ line
+    tree : lineTree sizes found ≡ line
     fits : LineFits names found
 
   line-of : (line : PageLine) → page-fits.LineFits Named (names .arrays) line → IsLine line
@@ -115,7 +126,7 @@ module _ (names : Names) (S : ℕ) where
 
   record AreLines (lines : List Indented) : Type 0 where
     found : List Line
-    tree : trees S found ≡ plain lines
+    tree : trees sizes found ≡ plain lines
     fits : AllFit names found
     many : length found ≡ length lines
 
@@ -132,21 +143,21 @@ module _ (names : Names) (S : ℕ) where
 module _ (header rows : List ℤ) (legal : Legal header rows) (words : (i : ℕ) → mag (getD rows i (pos 0)) < 2 ^ 31) where
   -- No page of a legal kernel table has a wrong line.
   pub table-scans : scan (namesOf header) (tablePage header rows) ≡ Whole (rowCount rows)
-  unfolding namesOf boundsOf storeWords storeSize tablePage pageBytes
+  unfolding namesOf boundsOf headerStore storeSize tablePage pageBytes
   table-scans =
       let names = namesOf header in
-      let S = storeOf header in
+      let sizes = sizesOf header in
       let f = headerFits-facts Kernel header (legal .header-fits) in
       let few = countFits-facts Kernel (length rows) (legal .structured .count-fits) .most in
-      let l = lines-of names S (tableLines rows) (lines-fit header rows legal words) in
-      let back : readLines (trees S (l .found)) ≡ some (contents rows) = ap readLines (l .tree) ∙ lines-read-back (legal-form header rows legal) 0 in
-      let balances = read-balanced S (l .found) (contents rows) back in
-      let p = balanced-program S (l .found) balances in
+      let within : Within sizes names = record { variables-inside = omega arith; same-declared = refl } in
+      let l = lines-of names sizes within (tableLines rows) (lines-fit header rows legal words) in
+      let back : readLines (trees sizes (l .found)) ≡ some (contents rows) = ap readLines (l .tree) ∙ lines-read-back (legal-form header rows legal) 0 in
+      let balances = read-balanced sizes (l .found) (contents rows) back in
+      let p = balanced-program sizes (l .found) balances in
       let again : some (p .items) ≡ some (contents rows) = sym (p .read) ∙ back in
       let same : p .items ≡ contents rows = cc in
-      let printed : levels S (l .found) [] ≡ tableLines rows = p .printed ∙ ap (itemsLines 0) same in
+      let printed : levels sizes (l .found) [] ≡ tableLines rows = p .printed ∙ ap (itemsLines 0) same in
       let long : length (tablePage header rows) ≡ 81 * length (l .found) = page-columns header rows legal words ∙ ap (λ (n : ℕ). 81 * n) (sym (l .many)) in
-      let within : names .variables ≤ S = omega arith in
-      scan-complete names (f .few-variables) (f .few-temporaries) (f .few-arrays) S within (tablePage header rows) (l .found)
-      (omega (arith, l .many, lines-of-rows header rows legal words)) (l .fits) balances (ap (linesBytes S 1) (sym printed)) long
-      ∙ ap Whole (sym (program-rows S (l .found) (contents rows) back) ∙ legal-rows header rows legal)
+      scan-complete names (f .few-variables) (omega (arith, f .few-declared, f .few-temporaries)) (f .few-arrays) sizes within (tablePage header rows) (l .found)
+      (omega (arith, l .many, lines-of-rows header rows legal words)) (l .fits) balances (ap (linesBytes sizes 1) (sym printed)) long
+      ∙ ap Whole (sym (program-rows sizes (l .found) (contents rows) back) ∙ legal-rows header rows legal)

@@ -10,15 +10,17 @@ use borrow.Author.Tests.{eq-eqb, le-ltb}
 use Rattle.text_numbers.specs.Number.{digits}
 use Rattle.text_numbers.specs.NumberLaws.{length-some}
 use Rattle.text_numbers.specs.PutLaws.{digits-within}
+use Rattle.page.specs.declared.Sizes.{Sizes}
 use Rattle.page.specs.Page.{blanks, rightSet, indent}
 use Rattle.page.specs.WordLaws.{Between, digits-between}
 use Rattle.page.specs.Widths.{length-blanks, length-set}
+use Rattle.page_words.specs.Trees.{Within}
 use Rattle.page_words.specs.Texts.{atomText, valueText, elementText, lineText, LineFits}
 use Rattle.page_words.specs.Reads.{numberRead, lineRead}
 use Rattle.page_words.specs.Complete.{number-complete, line-complete}
 use Rattle.page_words.specs.declared.Names.{Names}
 use Rattle.page_words.specs.declared.LineRead.the-variants as line-cases
-use Rattle.page_words.specs.declared.Atom.the-variants.{Constant, Variable, Temporary}
+use Rattle.page_words.specs.declared.Atom.the-variants.{Constant, Variable, Declared, Temporary}
 use Rattle.page_words.specs.declared.Line.{Line}
 use Rattle.page_words.specs.declared.Line.the-variants.{Empty, Abort, Goto, Label, Store, Put, Opens, While, If, Turns, Closes}
 use Rattle.page_frame.specs.Frames.{leadingBlanks, filledSize, levelOf, isNumber, isNumbered, levelled, statementRead, bodyRead, lineIn}
@@ -42,6 +44,7 @@ begins-line names (Goto l) h = λ e. omega arith
 begins-line names (Label l) h = λ e. omega arith
 begins-line names (Store (Constant v) value) h = absurd (h .0)
 begins-line names (Store (Variable n) v) h = λ e. omega arith
+begins-line names (Store (Declared n) v) h = λ e. omega arith
 begins-line names (Store (Temporary n) v) h = λ e. omega arith
 begins-line names (Put array index a) h = λ e. omega arith
 begins-line names Opens h = λ e. omega arith
@@ -84,7 +87,7 @@ numbered-complete number h =
     let rest : drop (leadingBlanks columns) columns ≡ digits number = ap (λ (m : ℕ). drop m columns) lead ∙ drop-at (blanks n) (digits number) n (length-blanks n) in
     ap (λ (l : List ℕ). isNumber number (numberRead 100000 l)) rest ∙ ap (isNumber number) (number-complete 100000 number h) ∙ eq-eqb number number refl
 
-module _ (names : Names) (few-variables : names .variables ≤ 256) (few-temporaries : names .temporaries ≤ 8192) (few-arrays : names .arrays ≤ 32) where
+module _ (names : Names) (few-variables : names .variables ≤ 256) (few-behind : names .declared + names .temporaries ≤ 8256) (few-arrays : names .arrays ≤ 32) where
   body-complete : (depth : ℕ) (line : Line) (tail : ℕ) → LineFits names line → bodyRead names depth (blanks (indent (levelOf depth line)) ++ (lineText line ++ blanks tail)) ≡ line-cases.Read line
   unfolding bodyRead statementRead levelled
   body-complete depth line tail h =
@@ -100,7 +103,7 @@ module _ (names : Names) (few-variables : names .variables ≤ 256) (few-tempora
       ap (take (n + length text - n)) (drop-at (blanks n) (text ++ blanks tail) n (length-blanks n)) ∙ take-at text (blanks tail) (n + length text - n) between in
       rw (lead, full, le-ltb (n + length text) n (omega arith), said, line-complete names line h, eq-eqb n n refl)
 
-  module _ (S : ℕ) (within : names .variables ≤ S) where
+  module _ (sizes : Sizes) (within : Within sizes names) where
     line-parts : (number depth : ℕ) (line : Line) (columns body : List ℕ) → length columns ≡ 5 → length body ≡ 74 → isNumbered number columns ≡ true
         → bodyRead names depth body ≡ line-cases.Read line → lineIn names number depth (framed columns body) ≡ line-cases.Read line
     unfolding lineIn framed
@@ -116,7 +119,7 @@ module _ (names : Names) (few-variables : names .variables ≤ 256) (few-tempora
 
     -- The bytes of a line are read as it.
     pub line-in-complete : (number depth : ℕ) (line : Line) → number < 100000 → LineFits names line
-        → lineIn names number depth (printed names few-variables few-temporaries few-arrays S within number (levelOf depth line) line) ≡ line-cases.Read line
+        → lineIn names number depth (printed names few-variables few-behind few-arrays sizes within number (levelOf depth line) line) ≡ line-cases.Read line
     line-in-complete number depth line few h =
         let n = indent (levelOf depth line) in
         let text = lineText line in
@@ -124,8 +127,8 @@ module _ (names : Names) (few-variables : names .variables ≤ 256) (few-tempora
         let body = blanks n ++ (text ++ blanks tail) in
         let columns = rightSet 5 (digits number) in
         let five : length columns ≡ 5 = length-set 5 (digits number) (digits-within 4 number (omega arith)) in
-        let wide : length text ≤ 35 = width names few-variables few-temporaries few-arrays S within line h in
+        let wide : length text ≤ 35 = width names few-variables few-behind few-arrays sizes within line h in
         let long : length body ≡ 74 =
         length-append (blanks n) (text ++ blanks tail) ∙ omega (arith, length-append text (blanks tail), length-blanks n, length-blanks tail) in
-        ap (lineIn names number depth) (printed-is names few-variables few-temporaries few-arrays S within number (levelOf depth line) line h few)
+        ap (lineIn names number depth) (printed-is names few-variables few-behind few-arrays sizes within number (levelOf depth line) line h few)
         ∙ line-parts number depth line columns body five long (numbered-complete number few) (body-complete depth line tail h)

@@ -13,22 +13,23 @@ use Rattle.words.specs.Laws.{by-cases}
 use Rattle.text_numbers.specs.Number.{digits}
 use Rattle.text_numbers.specs.NumberLaws.{length-some}
 use Rattle.text_numbers.specs.PutLaws.{digits-within}
+use Rattle.page.specs.declared.Sizes.{Sizes}
 use Rattle.page.specs.Lines.{indented}
 use Rattle.page.specs.Page.{blanks, rightSet, padded, parted, lineWords, indent, name, lineBytes}
 use Rattle.page.specs.WordLaws.{Between, digits-between}
-use Rattle.page.specs.Widths.{length-blanks, length-set, variable-width, temporary-width, line-width}
+use Rattle.page.specs.Widths.{length-blanks, length-set, variable-width, behind-width, line-width}
 use Rattle.page_words.specs.Texts.{lineText, LineFits}
 use Rattle.page_words.specs.Reads.{numberRead, lineRead}
 use Rattle.page_words.specs.Sound.{below-sound, line-sound}
 use Rattle.page_words.specs.Complete.{number-complete, line-complete}
 use Rattle.page_words.specs.CompareLaws.{never}
-use Rattle.page_words.specs.Trees.{lineTree, line-words, Named, line-fits}
+use Rattle.page_words.specs.Trees.{Within, lineTree, line-words, Named, line-fits}
 use Rattle.page_words.specs.declared.Names.{Names}
 use Rattle.page_words.specs.declared.NumberRead.{NumberRead}
 use Rattle.page_words.specs.declared.NumberRead.the-variants as number-cases
 use Rattle.page_words.specs.declared.LineRead.{LineRead}
 use Rattle.page_words.specs.declared.LineRead.the-variants as line-cases
-use Rattle.page_words.specs.declared.Atom.the-variants.{Constant, Variable, Temporary}
+use Rattle.page_words.specs.declared.Atom.the-variants.{Constant, Variable, Declared, Temporary}
 use Rattle.page_words.specs.declared.Line.{Line}
 use Rattle.page_words.specs.declared.Line.the-variants.{Empty, Abort, Goto, Label, Store, Put, Opens, While, If, Turns, Closes}
 use Rattle.page_frame.specs.Frames.{leadingBlanks, filledSize, levelOf, isNumber, isNumbered, levelled, statementRead, bodyRead, lineIn, statementIn}
@@ -99,7 +100,7 @@ statement-in names number depth bytes line e =
     let body = take 74 (drop 6 bytes) in
     level-sound depth (leadingBlanks body) (statementRead names body) line (in-frame names number depth bytes line e .body) .0
 
-module _ (names : Names) (few-variables : names .variables ≤ 256) (few-temporaries : names .temporaries ≤ 8192) (few-arrays : names .arrays ≤ 32) where
+module _ (names : Names) (few-variables : names .variables ≤ 256) (few-behind : names .declared + names .temporaries ≤ 8256) (few-arrays : names .arrays ≤ 32) where
   -- what a body that is read as a line is: indent, statement, blanks
   pub record IsBody (depth : ℕ) (body : List ℕ) (line : Line) : Type 0 where
     pub fits : LineFits names line
@@ -117,7 +118,7 @@ module _ (names : Names) (few-variables : names .variables ≤ 256) (few-tempora
       let full = filledSize body in
       let order : lead ≤ full = ltb-false full lead t in
       let text = take (full - lead) (drop lead body) in
-      let s = line-sound names few-variables few-temporaries few-arrays text line (rw t at (l .0)) in
+      let s = line-sound names few-variables few-behind few-arrays text line (rw t at (l .0)) in
       let behind : drop (full - lead) (drop lead body) ≡ blanks (length body - full) =
       drop-drop (full - lead) lead body ∙ ap (λ (n : ℕ). drop n body) (sum lead full order) ∙ filled-splits body in
       record {
@@ -138,17 +139,17 @@ module _ (names : Names) (few-variables : names .variables ≤ 256) (few-tempora
       ∙ ap (λ (l : List ℕ). take 5 line ++ l)
       (drop-cons line 5 0 (omega arith) ∙ ap (λ (l : List ℕ). getD line 5 0 ∷ l) (sym (take-append-drop 74 (drop 6 line)) ∙ ap (λ (l : List ℕ). take 74 (drop 6 line) ++ l) last))
 
-  module _ (S : ℕ) (within : names .variables ≤ S) where
+  module _ (sizes : Sizes) (within : Within sizes names) where
     abbrev pub printed : ℕ → ℕ → Line → List ℕ
-    printed number level line = lineBytes S number (indented level (lineTree S line))
+    printed number level line = lineBytes sizes number (indented level (lineTree sizes line))
 
-    name-width : (i : ℕ) → Named S names within i → length (name S i) ≤ 5
-    name-width i = ⊎-elim (λ v. variable-width S i (omega arith)) (λ t. temporary-width S i (t .0) (omega (arith, t .1)))
+    name-width : (i : ℕ) → Named sizes names within i → length (name sizes i) ≤ 5
+    name-width i = ⊎-elim (λ v. variable-width sizes i (omega arith)) (λ t. behind-width sizes i (t .0) (omega (arith, t .1)))
 
     pub width : (line : Line) → LineFits names line → length (lineText line) ≤ 35
     width line h =
-        let f = line-width {Names = Named S names within} {arrays = names .arrays} S name-width few-arrays (lineTree S line) (line-fits S names within line h) in
-        rw (line-words S names within line h) at f
+        let f = line-width {Names = Named sizes names within} {arrays = names .arrays} sizes name-width few-arrays (lineTree sizes line) (line-fits sizes names within line h) in
+        rw (line-words sizes names within line h) at f
 
     -- A printed line by its parts.
     pub printed-is : (number level : ℕ) (line : Line) → LineFits names line → number < 100000
@@ -162,7 +163,7 @@ module _ (names : Names) (few-variables : names .variables ≤ 256) (few-tempora
         let size : length (columns ++ (32 ∷ (before ++ text))) ≡ 6 + indent level + length text =
         omega (arith, length-append columns (32 ∷ (before ++ text)), length-append before text, length-blanks (indent level)) in
         let spare : 80 - length (columns ++ (32 ∷ (before ++ text))) ≡ 74 - indent level - length text = omega (arith, size) in
-        ap (λ (said : List ℕ). ((columns ++ (32 ∷ (before ++ said))) ++ blanks (80 - length (columns ++ (32 ∷ (before ++ said))))) ++ (10 ∷ [])) (line-words S names within line h)
+        ap (λ (said : List ℕ). ((columns ++ (32 ∷ (before ++ said))) ++ blanks (80 - length (columns ++ (32 ∷ (before ++ said))))) ++ (10 ∷ [])) (line-words sizes names within line h)
         ∙ ap (λ (n : ℕ). ((columns ++ (32 ∷ (before ++ text))) ++ blanks n) ++ (10 ∷ [])) spare
         ∙ regrouped columns before text (blanks (74 - indent level - length text))
 

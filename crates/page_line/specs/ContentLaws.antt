@@ -16,19 +16,26 @@ use Rattle.shapes.specs.declared.OperationShape.{OperationShape}
 use Rattle.shapes.specs.declared.OperationShape.the-variants as operation
 use Rattle.shapes.specs.declared.ChoiceShape.{ChoiceShape}
 use Rattle.shapes.specs.declared.ChoiceShape.the-variants as choice
+use Rattle.page.specs.declared.Sizes.{Sizes}
 use Rattle.page.specs.Lines.{opensWhile, opensIf, single, mark}
-use Rattle.page.specs.Page.{blank, equalsWord, operatorWord, endedBy, labelWord, name, atomWord, placeWord, ended, valueWords, assignmentWords, lineWords, markWords, parted}
+use Rattle.page.specs.Page.{blank, equalsWord, operatorWord, endedBy, labelWord, firstTemporary, name, atomWord, placeWord, ended, valueWords, assignmentWords, lineWords, markWords, parted}
 use Rattle.page_line.specs.Contents.{led, operatorByte, isTwoBytes, gotoBytes, labelBytes, testBytes}
 
 -- ---- names
 
-pub name-variable : (S i : ℕ) → i < S → name S i ≡ 118 ∷ digits i
+pub name-variable : (sizes : Sizes) (i : ℕ) → i < sizes .store → name sizes i ≡ 118 ∷ digits i
 unfolding name
-name-variable S i h = rw (lt-ltb i S h)
+name-variable sizes i h = rw (lt-ltb i (sizes .store) h)
 
-pub name-temporary : (S i : ℕ) → S ≤ i → name S i ≡ 116 ∷ digits (i - S)
+pub name-declared : (sizes : Sizes) (i : ℕ) → sizes .store ≤ i → i - sizes .store < sizes .declared → name sizes i ≡ 108 ∷ digits (i - sizes .store)
 unfolding name
-name-temporary S i h = rw (le-ltb i S h)
+name-declared sizes i h k = rw (le-ltb i (sizes .store) h, lt-ltb i (firstTemporary sizes) (omega arith))
+
+pub name-temporary : (sizes : Sizes) (i : ℕ) → sizes .store ≤ i → sizes .declared ≤ i - sizes .store → name sizes i ≡ 116 ∷ digits (i - sizes .store - sizes .declared)
+unfolding name
+name-temporary sizes i h k =
+    let behind : i - firstTemporary sizes ≡ i - sizes .store - sizes .declared = omega arith in
+    rw (le-ltb i (sizes .store) h, le-ltb i (firstTemporary sizes) (omega arith), behind)
 
 -- ---- piece by piece
 
@@ -37,17 +44,17 @@ unfolding parted
 parted-led word [] = sym (append-nil word)
 parted-led word (second ∷ words) = refl
 
-module _ (S : ℕ) where
-  pub stored-bytes : (p : Place) (e : Expression) → placeWord S p ++ ((32 ∷ 61 ∷ []) ++ led (ended (valueWords S e))) ≡ parted (assignmentWords S (assign p e))
+module _ (sizes : Sizes) where
+  pub stored-bytes : (p : Place) (e : Expression) → placeWord sizes p ++ ((32 ∷ 61 ∷ []) ++ led (ended (valueWords sizes e))) ≡ parted (assignmentWords sizes (assign p e))
   unfolding parted
-  stored-bytes p e = ap (λ (l : List ℕ). placeWord S p ++ (blank ∷ l)) (sym (parted-led equalsWord (ended (valueWords S e))))
+  stored-bytes p e = ap (λ (l : List ℕ). placeWord sizes p ++ (blank ∷ l)) (sym (parted-led equalsWord (ended (valueWords sizes e))))
 
   pub binary-bytes : (o : Operator) (a b : Expression)
-      → (32 ∷ []) ++ (atomWord S a ++ ((32 ∷ []) ++ (operatorWord o ++ ((32 ∷ []) ++ (atomWord S b ++ (59 ∷ [])))))) ≡ led (ended (valueWords S (binary o a b)))
+      → (32 ∷ []) ++ (atomWord sizes a ++ ((32 ∷ []) ++ (operatorWord o ++ ((32 ∷ []) ++ (atomWord sizes b ++ (59 ∷ [])))))) ≡ led (ended (valueWords sizes (binary o a b)))
   unfolding parted ended
   binary-bytes o a b = refl
 
-  pub minus-bytes : (e : Expression) → (32 ∷ 45 ∷ 32 ∷ []) ++ (atomWord S e ++ (59 ∷ [])) ≡ led (ended (valueWords S (minus e)))
+  pub minus-bytes : (e : Expression) → (32 ∷ 45 ∷ 32 ∷ []) ++ (atomWord sizes e ++ (59 ∷ [])) ≡ led (ended (valueWords sizes (minus e)))
   unfolding parted ended
   minus-bytes e = refl
 
@@ -55,19 +62,19 @@ module _ (S : ℕ) where
   unfolding parted ended
   word-bytes word = refl
 
-  pub while-bytes : (e : Expression) → (119 ∷ 104 ∷ 105 ∷ 108 ∷ 101 ∷ 32 ∷ 40 ∷ []) ++ testBytes S e ≡ parted (lineWords S (opensWhile e))
+  pub while-bytes : (e : Expression) → (119 ∷ 104 ∷ 105 ∷ 108 ∷ 101 ∷ 32 ∷ 40 ∷ []) ++ testBytes sizes e ≡ parted (lineWords sizes (opensWhile e))
   unfolding parted
-  while-bytes e = ap (λ (l : List ℕ). 119 ∷ 104 ∷ 105 ∷ 108 ∷ 101 ∷ 32 ∷ 40 ∷ l) (sym (append-assoc (atomWord S e) (41 ∷ []) (32 ∷ 123 ∷ [])))
+  while-bytes e = ap (λ (l : List ℕ). 119 ∷ 104 ∷ 105 ∷ 108 ∷ 101 ∷ 32 ∷ 40 ∷ l) (sym (append-assoc (atomWord sizes e) (41 ∷ []) (32 ∷ 123 ∷ [])))
 
-  pub if-bytes : (e : Expression) → (105 ∷ 102 ∷ 32 ∷ 40 ∷ []) ++ testBytes S e ≡ parted (lineWords S (opensIf e))
+  pub if-bytes : (e : Expression) → (105 ∷ 102 ∷ 32 ∷ 40 ∷ []) ++ testBytes sizes e ≡ parted (lineWords sizes (opensIf e))
   unfolding parted
-  if-bytes e = ap (λ (l : List ℕ). 105 ∷ 102 ∷ 32 ∷ 40 ∷ l) (sym (append-assoc (atomWord S e) (41 ∷ []) (32 ∷ 123 ∷ [])))
+  if-bytes e = ap (λ (l : List ℕ). 105 ∷ 102 ∷ 32 ∷ 40 ∷ l) (sym (append-assoc (atomWord sizes e) (41 ∷ []) (32 ∷ 123 ∷ [])))
 
-  pub goto-bytes : (l : ℕ) → gotoBytes l ≡ parted (lineWords S (single (goto l)))
+  pub goto-bytes : (l : ℕ) → gotoBytes l ≡ parted (lineWords sizes (single (goto l)))
   unfolding parted
   goto-bytes l = refl
 
-  pub label-bytes : (l : ℕ) → labelBytes l ≡ parted (markWords S (label l))
+  pub label-bytes : (l : ℕ) → labelBytes l ≡ parted (markWords sizes (label l))
   unfolding parted
   label-bytes l = sym (append-assoc (labelWord l) (58 ∷ []) (59 ∷ []))
 
@@ -112,8 +119,8 @@ operator-some NotEqual = omega arith
 
 -- ---- what the kernel does not have
 
-module _ (S : ℕ) (rows : List ℤ) where
-  pub no-atom : (o : OperationShape) → atomWord S (operationTree rows o) ≡ []
+module _ (sizes : Sizes) (rows : List ℤ) where
+  pub no-atom : (o : OperationShape) → atomWord sizes (operationTree rows o) ≡ []
   no-atom (operation.Minus a) = refl
   no-atom (operation.Not a) = refl
   no-atom (operation.Binary o a b) = refl
@@ -123,18 +130,18 @@ module _ (S : ℕ) (rows : List ℤ) where
   no-atom (operation.Prefix o p) = refl
   no-atom (operation.Postfix o p) = refl
 
-  pub no-atom-chosen : (c : ChoiceShape) → atomWord S (choiceTree rows c) ≡ []
+  pub no-atom-chosen : (c : ChoiceShape) → atomWord sizes (choiceTree rows c) ≡ []
   no-atom-chosen (choice.And a b) = refl
   no-atom-chosen (choice.Or a b) = refl
   no-atom-chosen (choice.Conditional c a b) = refl
 
-  pub no-value-chosen : (c : ChoiceShape) → led (ended (valueWords S (choiceTree rows c))) ≡ []
+  pub no-value-chosen : (c : ChoiceShape) → led (ended (valueWords sizes (choiceTree rows c))) ≡ []
   unfolding ended
   no-value-chosen (choice.And a b) = refl
   no-value-chosen (choice.Or a b) = refl
   no-value-chosen (choice.Conditional c a b) = refl
 
-  pub no-assignment-chosen : (c : ChoiceShape) → parted (assignmentWords S (choiceTree rows c)) ≡ []
+  pub no-assignment-chosen : (c : ChoiceShape) → parted (assignmentWords sizes (choiceTree rows c)) ≡ []
   unfolding parted
   no-assignment-chosen (choice.And a b) = refl
   no-assignment-chosen (choice.Or a b) = refl

@@ -8,6 +8,7 @@ use Rattle.words.specs.declared.Operator.the-variants.{Add, Subtract, Multiply,
 use Rattle.language.specs.Trees.{Expression, empty, express, goto, abort}
 use Rattle.language.specs.Decode.{expressionAt}
 use Rattle.shapes.specs.Shapes.{markTree}
+use Rattle.page.specs.declared.Sizes.{Sizes}
 use Rattle.page.specs.Lines.{Line as PageLine, single, mark, opens, opensWhile, opensIf, turns, closes}
 use Rattle.page.specs.Page.{blank, labelWord, atomWord, parted}
 use Rattle.page_line.specs.declared.Line.{Line}
@@ -53,8 +54,8 @@ abbrev pub labelBytes : ℕ → List ℕ
 labelBytes l = labelWord l ++ (58 ∷ 59 ∷ [])
 
 -- `X) {`
-abbrev pub testBytes : ℕ → Expression → List ℕ
-testBytes S e = atomWord S e ++ (41 ∷ 32 ∷ 123 ∷ [])
+abbrev pub testBytes : Sizes → Expression → List ℕ
+testBytes sizes e = atomWord sizes e ++ (41 ∷ 32 ∷ 123 ∷ [])
 
 -- An operator's first byte, and whether `=` stands behind it.
 abbrev pub operatorByte : Operator → ℕ

@@ -1,4 +1,5 @@
 // Bytes, blanks, numbers and names. Each function lays its bytes into `text` from `at` on, and answers the place behind them.
+use page::Sizes;
 use report::field::put_bytes;
 use text_numbers::digits::put_digits;
 use text_numbers::digits::put_number;
@@ -61,15 +62,19 @@ pub fn lay_lettered(letter: u8, number: usize, at: usize, text: &mut [u8]) -> us
     lay_digits(number, lettered, text)
 }
 
-// The name of a variable: `v7`; from `store` on they are temporaries, "t from 0".
-pub fn lay_name(store: usize, number: usize, at: usize, text: &mut [u8]) -> usize
-    requires { ⌜ at + length (name store number) ≤ length (now text) ⌝ }
-    ensures { λ r. ⌜ Laid (name store number) (now (text .entry)) at r (now (text .exit)) ⌝ }
+// The name of a variable: `v7`; from S on they are declared words, "l, from 0", and from S+D on temporaries, "t from 0".
+pub fn lay_name(sizes: Sizes, number: usize, at: usize, text: &mut [u8]) -> usize
+    requires { ⌜ at + length (name sizes number) ≤ length (now text) ⌝ }
+    ensures { λ r. ⌜ Laid (name sizes number) (now (text .entry)) at r (now (text .exit)) ⌝ }
 {
-    if number < store {
+    if number < sizes.store {
         return lay_lettered(b'v', number, at, text);
     }
-    lay_lettered(b't', number - store, at, text)
+    let behind = number - sizes.store;
+    if behind < sizes.declared {
+        return lay_lettered(b'l', behind, at, text);
+    }
+    lay_lettered(b't', behind - sizes.declared, at, text)
 }
 
 // How many digits a line's number has.

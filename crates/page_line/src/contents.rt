@@ -5,6 +5,7 @@ use super::bytes::lay_bytes;
 use super::bytes::lay_lettered;
 use super::expressions::lay_assignment;
 use super::expressions::lay_atom;
+use page::Sizes;
 use shapes::MarkShape;
 ghost use mathlib.Core.List.{[], _++_};
 ghost use Prim.Native.Nat.{_+_, _≤_, _<_};
@@ -36,9 +37,9 @@ fn lay_label(number: usize, at: usize, text: &mut [u8]) -> usize
     lay_bytes(b":;", end, text)
 }
 
-fn lay_mark(store: usize, mark: MarkShape, at: usize, text: &mut [u8]) -> usize
-    requires { ⌜ at + length (parted (markWords store (markTree [] mark))) ≤ length (now text) ⌝ }
-    ensures { λ r. ⌜ Laid (parted (markWords store (markTree [] mark))) (now (text .entry)) at r (now (text .exit)) ⌝ }
+fn lay_mark(sizes: Sizes, mark: MarkShape, at: usize, text: &mut [u8]) -> usize
+    requires { ⌜ at + length (parted (markWords sizes (markTree [] mark))) ≤ length (now text) ⌝ }
+    ensures { λ r. ⌜ Laid (parted (markWords sizes (markTree [] mark))) (now (text .entry)) at r (now (text .exit)) ⌝ }
 {
     match mark {
         MarkShape::Case(_) => at,
@@ -50,36 +51,36 @@ fn lay_mark(store: usize, mark: MarkShape, at: usize, text: &mut [u8]) -> usize
 // `while (X) {`, `if (X) {`
 fn lay_test(
     opening: &[u8],
-    store: usize,
+    sizes: Sizes,
     rows: &[i32],
     row: usize,
     at: usize,
     text: &mut [u8],
 ) -> usize
     requires { ⌜ Readable (now rows) × (row < rowCount (now rows)) ⌝ }
-    requires { ⌜ at + length (now opening ++ testBytes store (expressionAt (now rows) row)) ≤ length (now text) ⌝ }
-    ensures { λ r. ⌜ Laid (now (opening .entry) ++ testBytes store (expressionAt (now (rows .entry)) row)) (now (text .entry)) at r (now (text .exit)) ⌝ }
+    requires { ⌜ at + length (now opening ++ testBytes sizes (expressionAt (now rows) row)) ≤ length (now text) ⌝ }
+    ensures { λ r. ⌜ Laid (now (opening .entry) ++ testBytes sizes (expressionAt (now (rows .entry)) row)) (now (text .entry)) at r (now (text .exit)) ⌝ }
 {
     let start = lay_bytes(opening, at, text);
-    let end = lay_atom(store, rows, row, start, text);
+    let end = lay_atom(sizes, rows, row, start, text);
     lay_bytes(b") {", end, text)
 }
 
 // What a line says, its words parted by blanks.
-pub fn lay_content(store: usize, rows: &[i32], line: Line, at: usize, text: &mut [u8]) -> usize
+pub fn lay_content(sizes: Sizes, rows: &[i32], line: Line, at: usize, text: &mut [u8]) -> usize
     requires { ⌜ Readable (now rows) × LineInside (rowCount (now rows)) line ⌝ }
-    requires { ⌜ at + length (parted (lineWords store (lineTree (now rows) line))) ≤ length (now text) ⌝ }
-    ensures { λ r. ⌜ Laid (parted (lineWords store (lineTree (now (rows .entry)) line))) (now (text .entry)) at r (now (text .exit)) ⌝ }
+    requires { ⌜ at + length (parted (lineWords sizes (lineTree (now rows) line))) ≤ length (now text) ⌝ }
+    ensures { λ r. ⌜ Laid (parted (lineWords sizes (lineTree (now (rows .entry)) line))) (now (text .entry)) at r (now (text .exit)) ⌝ }
 {
     match line {
         Line::Empty => lay_byte(b';', at, text),
-        Line::Express(row) => lay_assignment(store, rows, row, at, text),
+        Line::Express(row) => lay_assignment(sizes, rows, row, at, text),
         Line::Goto(number) => lay_goto(number, at, text),
         Line::Abort => lay_bytes(b"abort();", at, text),
-        Line::Mark(mark) => lay_mark(store, mark, at, text),
+        Line::Mark(mark) => lay_mark(sizes, mark, at, text),
         Line::Opens => lay_byte(b'{', at, text),
-        Line::While(row) => lay_test(b"while (", store, rows, row, at, text),
-        Line::If(row) => lay_test(b"if (", store, rows, row, at, text),
+        Line::While(row) => lay_test(b"while (", sizes, rows, row, at, text),
+        Line::If(row) => lay_test(b"if (", sizes, rows, row, at, text),
         Line::Turns => lay_bytes(b"} else {", at, text),
         Line::Closes => lay_byte(b'}', at, text),
     }

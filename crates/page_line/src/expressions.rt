@@ -6,6 +6,7 @@ use super::bytes::lay_lettered;
 use super::bytes::lay_name;
 use super::shapes_at::expression_at;
 use super::shapes_at::place_at;
+use page::Sizes;
 use shapes::ExpressionShape;
 use shapes::OperationShape;
 use shapes::PlaceShape;
@@ -24,16 +25,16 @@ ghost use Rattle.page_line.specs.Laid.{Laid};
 ghost use Rattle.page_line.specs.Reads.{Readable, PlaceInside, OperationInside};
 ghost use Rattle.page_line.specs.Contents.{led, operatorByte, isTwoBytes};
 
-pub fn lay_atom(store: usize, rows: &[i32], row: usize, at: usize, text: &mut [u8]) -> usize
+pub fn lay_atom(sizes: Sizes, rows: &[i32], row: usize, at: usize, text: &mut [u8]) -> usize
     requires { ⌜ Readable (now rows) × (row < rowCount (now rows)) ⌝ }
-    requires { ⌜ at + length (atomWord store (expressionAt (now rows) row)) ≤ length (now text) ⌝ }
-    ensures { λ r. ⌜ Laid (atomWord store (expressionAt (now (rows .entry)) row)) (now (text .entry)) at r (now (text .exit)) ⌝ }
+    requires { ⌜ at + length (atomWord sizes (expressionAt (now rows) row)) ≤ length (now text) ⌝ }
+    ensures { λ r. ⌜ Laid (atomWord sizes (expressionAt (now (rows .entry)) row)) (now (text .entry)) at r (now (text .exit)) ⌝ }
 {
     let shape = expression_at(rows, row);
     match shape {
         ExpressionShape::Number(value) => lay_constant(value, at, text),
         ExpressionShape::Read(place) => match place {
-            PlaceShape::Variable(number) => lay_name(store, number, at, text),
+            PlaceShape::Variable(number) => lay_name(sizes, number, at, text),
             PlaceShape::Element(_, _) => at,
         },
         ExpressionShape::Operation(_) => at,
@@ -43,7 +44,7 @@ pub fn lay_atom(store: usize, rows: &[i32], row: usize, at: usize, text: &mut [u
 
 // `a7[X]`
 fn lay_element(
-    store: usize,
+    sizes: Sizes,
     rows: &[i32],
     array: usize,
     index: usize,
@@ -51,24 +52,24 @@ fn lay_element(
     text: &mut [u8],
 ) -> usize
     requires { ⌜ Readable (now rows) × (index < rowCount (now rows)) ⌝ }
-    requires { ⌜ at + length (placeWord store (element array (expressionAt (now rows) index))) ≤ length (now text) ⌝ }
-    ensures { λ r. ⌜ Laid (placeWord store (element array (expressionAt (now (rows .entry)) index))) (now (text .entry)) at r (now (text .exit)) ⌝ }
+    requires { ⌜ at + length (placeWord sizes (element array (expressionAt (now rows) index))) ≤ length (now text) ⌝ }
+    ensures { λ r. ⌜ Laid (placeWord sizes (element array (expressionAt (now (rows .entry)) index))) (now (text .entry)) at r (now (text .exit)) ⌝ }
 {
     let named = lay_lettered(b'a', array, at, text);
     let opened = lay_byte(b'[', named, text);
-    let indexed = lay_atom(store, rows, index, opened, text);
+    let indexed = lay_atom(sizes, rows, index, opened, text);
     lay_byte(b']', indexed, text)
 }
 
 // A place, as it is read.
-fn lay_read(store: usize, rows: &[i32], place: PlaceShape, at: usize, text: &mut [u8]) -> usize
+fn lay_read(sizes: Sizes, rows: &[i32], place: PlaceShape, at: usize, text: &mut [u8]) -> usize
     requires { ⌜ Readable (now rows) × PlaceInside (rowCount (now rows)) place ⌝ }
-    requires { ⌜ at + length (placeWord store (placeTree (now rows) place)) ≤ length (now text) ⌝ }
-    ensures { λ r. ⌜ Laid (placeWord store (placeTree (now (rows .entry)) place)) (now (text .entry)) at r (now (text .exit)) ⌝ }
+    requires { ⌜ at + length (placeWord sizes (placeTree (now rows) place)) ≤ length (now text) ⌝ }
+    ensures { λ r. ⌜ Laid (placeWord sizes (placeTree (now (rows .entry)) place)) (now (text .entry)) at r (now (text .exit)) ⌝ }
 {
     match place {
-        PlaceShape::Variable(number) => lay_name(store, number, at, text),
-        PlaceShape::Element(array, index) => lay_element(store, rows, array, index, at, text),
+        PlaceShape::Variable(number) => lay_name(sizes, number, at, text),
+        PlaceShape::Element(array, index) => lay_element(sizes, rows, array, index, at, text),
     }
 }
 
@@ -123,7 +124,7 @@ fn lay_operator(operator: Operator, at: usize, text: &mut [u8]) -> usize
 
 // ` X op Y;`
 fn lay_binary(
-    store: usize,
+    sizes: Sizes,
     rows: &[i32],
     operator: Operator,
     left: usize,
@@ -132,44 +133,44 @@ fn lay_binary(
     text: &mut [u8],
 ) -> usize
     requires { ⌜ Readable (now rows) × (left < rowCount (now rows)) × (right < rowCount (now rows)) ⌝ }
-    requires { ⌜ at + length (led (ended (valueWords store (binary operator (expressionAt (now rows) left) (expressionAt (now rows) right))))) ≤ length (now text) ⌝ }
-    ensures { λ r. ⌜ Laid (led (ended (valueWords store (binary operator (expressionAt (now (rows .entry)) left) (expressionAt (now (rows .entry)) right))))) (now (text .entry)) at r (now (text .exit)) ⌝ }
+    requires { ⌜ at + length (led (ended (valueWords sizes (binary operator (expressionAt (now rows) left) (expressionAt (now rows) right))))) ≤ length (now text) ⌝ }
+    ensures { λ r. ⌜ Laid (led (ended (valueWords sizes (binary operator (expressionAt (now (rows .entry)) left) (expressionAt (now (rows .entry)) right))))) (now (text .entry)) at r (now (text .exit)) ⌝ }
 {
     let start = lay_byte(b' ', at, text);
-    let first = lay_atom(store, rows, left, start, text);
+    let first = lay_atom(sizes, rows, left, start, text);
     let parted = lay_byte(b' ', first, text);
     let operated = lay_operator(operator, parted, text);
     let behind = lay_byte(b' ', operated, text);
-    let second = lay_atom(store, rows, right, behind, text);
+    let second = lay_atom(sizes, rows, right, behind, text);
     lay_byte(b';', second, text)
 }
 
 // ` - X;`
-fn lay_minus(store: usize, rows: &[i32], operand: usize, at: usize, text: &mut [u8]) -> usize
+fn lay_minus(sizes: Sizes, rows: &[i32], operand: usize, at: usize, text: &mut [u8]) -> usize
     requires { ⌜ Readable (now rows) × (operand < rowCount (now rows)) ⌝ }
-    requires { ⌜ at + length (led (ended (valueWords store (minus (expressionAt (now rows) operand))))) ≤ length (now text) ⌝ }
-    ensures { λ r. ⌜ Laid (led (ended (valueWords store (minus (expressionAt (now (rows .entry)) operand))))) (now (text .entry)) at r (now (text .exit)) ⌝ }
+    requires { ⌜ at + length (led (ended (valueWords sizes (minus (expressionAt (now rows) operand))))) ≤ length (now text) ⌝ }
+    ensures { λ r. ⌜ Laid (led (ended (valueWords sizes (minus (expressionAt (now (rows .entry)) operand))))) (now (text .entry)) at r (now (text .exit)) ⌝ }
 {
     let start = lay_bytes(b" - ", at, text);
-    let end = lay_atom(store, rows, operand, start, text);
+    let end = lay_atom(sizes, rows, operand, start, text);
     lay_byte(b';', end, text)
 }
 
 fn lay_operation(
-    store: usize,
+    sizes: Sizes,
     rows: &[i32],
     operation: OperationShape,
     at: usize,
     text: &mut [u8],
 ) -> usize
     requires { ⌜ Readable (now rows) × OperationInside (rowCount (now rows)) operation ⌝ }
-    requires { ⌜ at + length (led (ended (valueWords store (operationTree (now rows) operation)))) ≤ length (now text) ⌝ }
-    ensures { λ r. ⌜ Laid (led (ended (valueWords store (operationTree (now (rows .entry)) operation)))) (now (text .entry)) at r (now (text .exit)) ⌝ }
+    requires { ⌜ at + length (led (ended (valueWords sizes (operationTree (now rows) operation)))) ≤ length (now text) ⌝ }
+    ensures { λ r. ⌜ Laid (led (ended (valueWords sizes (operationTree (now (rows .entry)) operation)))) (now (text .entry)) at r (now (text .exit)) ⌝ }
 {
     match operation {
-        OperationShape::Minus(operand) => lay_minus(store, rows, operand, at, text),
+        OperationShape::Minus(operand) => lay_minus(sizes, rows, operand, at, text),
         OperationShape::Binary(operator, left, right) => {
-            lay_binary(store, rows, operator, left, right, at, text)
+            lay_binary(sizes, rows, operator, left, right, at, text)
         }
         OperationShape::Not(_) => at,
         OperationShape::Comma(_, _) => at,
@@ -192,39 +193,39 @@ fn lay_constant_value(value: i32, at: usize, text: &mut [u8]) -> usize
 
 // ` P;` of a place.
 fn lay_read_value(
-    store: usize,
+    sizes: Sizes,
     rows: &[i32],
     place: PlaceShape,
     at: usize,
     text: &mut [u8],
 ) -> usize
     requires { ⌜ Readable (now rows) × PlaceInside (rowCount (now rows)) place ⌝ }
-    requires { ⌜ at + length (blank ∷ endedBy semicolon (placeWord store (placeTree (now rows) place))) ≤ length (now text) ⌝ }
-    ensures { λ r. ⌜ Laid (blank ∷ endedBy semicolon (placeWord store (placeTree (now (rows .entry)) place))) (now (text .entry)) at r (now (text .exit)) ⌝ }
+    requires { ⌜ at + length (blank ∷ endedBy semicolon (placeWord sizes (placeTree (now rows) place))) ≤ length (now text) ⌝ }
+    ensures { λ r. ⌜ Laid (blank ∷ endedBy semicolon (placeWord sizes (placeTree (now (rows .entry)) place))) (now (text .entry)) at r (now (text .exit)) ⌝ }
 {
     let start = lay_byte(b' ', at, text);
-    let end = lay_read(store, rows, place, start, text);
+    let end = lay_read(sizes, rows, place, start, text);
     lay_byte(b';', end, text)
 }
 
 // What is assigned, with the blank before it and the semicolon behind it.
-fn lay_value(store: usize, rows: &[i32], row: usize, at: usize, text: &mut [u8]) -> usize
+fn lay_value(sizes: Sizes, rows: &[i32], row: usize, at: usize, text: &mut [u8]) -> usize
     requires { ⌜ Readable (now rows) × (row < rowCount (now rows)) ⌝ }
-    requires { ⌜ at + length (led (ended (valueWords store (expressionAt (now rows) row)))) ≤ length (now text) ⌝ }
-    ensures { λ r. ⌜ Laid (led (ended (valueWords store (expressionAt (now (rows .entry)) row)))) (now (text .entry)) at r (now (text .exit)) ⌝ }
+    requires { ⌜ at + length (led (ended (valueWords sizes (expressionAt (now rows) row)))) ≤ length (now text) ⌝ }
+    ensures { λ r. ⌜ Laid (led (ended (valueWords sizes (expressionAt (now (rows .entry)) row)))) (now (text .entry)) at r (now (text .exit)) ⌝ }
 {
     let shape = expression_at(rows, row);
     match shape {
         ExpressionShape::Number(value) => lay_constant_value(value, at, text),
-        ExpressionShape::Read(place) => lay_read_value(store, rows, place, at, text),
-        ExpressionShape::Operation(operation) => lay_operation(store, rows, operation, at, text),
+        ExpressionShape::Read(place) => lay_read_value(sizes, rows, place, at, text),
+        ExpressionShape::Operation(operation) => lay_operation(sizes, rows, operation, at, text),
         ExpressionShape::Choice(_) => at,
     }
 }
 
 // `P = X;`
 fn lay_stored(
-    store: usize,
+    sizes: Sizes,
     rows: &[i32],
     place: usize,
     value: usize,
@@ -232,28 +233,28 @@ fn lay_stored(
     text: &mut [u8],
 ) -> usize
     requires { ⌜ Readable (now rows) × (place < rowCount (now rows)) × (value < rowCount (now rows)) ⌝ }
-    requires { ⌜ at + length (parted (assignmentWords store (assign (placeOf (expressionAt (now rows) place)) (expressionAt (now rows) value)))) ≤ length (now text) ⌝ }
-    ensures { λ r. ⌜ Laid (parted (assignmentWords store (assign (placeOf (expressionAt (now (rows .entry)) place)) (expressionAt (now (rows .entry)) value)))) (now (text .entry)) at r (now (text .exit)) ⌝ }
+    requires { ⌜ at + length (parted (assignmentWords sizes (assign (placeOf (expressionAt (now rows) place)) (expressionAt (now rows) value)))) ≤ length (now text) ⌝ }
+    ensures { λ r. ⌜ Laid (parted (assignmentWords sizes (assign (placeOf (expressionAt (now (rows .entry)) place)) (expressionAt (now (rows .entry)) value)))) (now (text .entry)) at r (now (text .exit)) ⌝ }
 {
-    let named = lay_read(store, rows, place_at(rows, place), at, text);
+    let named = lay_read(sizes, rows, place_at(rows, place), at, text);
     let equals = lay_bytes(b" =", named, text);
-    lay_value(store, rows, value, equals, text)
+    lay_value(sizes, rows, value, equals, text)
 }
 
 // An operation as a statement.
 fn lay_operated(
-    store: usize,
+    sizes: Sizes,
     rows: &[i32],
     operation: OperationShape,
     at: usize,
     text: &mut [u8],
 ) -> usize
     requires { ⌜ Readable (now rows) × OperationInside (rowCount (now rows)) operation ⌝ }
-    requires { ⌜ at + length (parted (assignmentWords store (operationTree (now rows) operation))) ≤ length (now text) ⌝ }
-    ensures { λ r. ⌜ Laid (parted (assignmentWords store (operationTree (now (rows .entry)) operation))) (now (text .entry)) at r (now (text .exit)) ⌝ }
+    requires { ⌜ at + length (parted (assignmentWords sizes (operationTree (now rows) operation))) ≤ length (now text) ⌝ }
+    ensures { λ r. ⌜ Laid (parted (assignmentWords sizes (operationTree (now (rows .entry)) operation))) (now (text .entry)) at r (now (text .exit)) ⌝ }
 {
     match operation {
-        OperationShape::Assign(place, value) => lay_stored(store, rows, place, value, at, text),
+        OperationShape::Assign(place, value) => lay_stored(sizes, rows, place, value, at, text),
         OperationShape::Minus(_) => at,
         OperationShape::Not(_) => at,
         OperationShape::Binary(_, _, _) => at,
@@ -265,16 +266,16 @@ fn lay_operated(
 }
 
 // An expression statement's line.
-pub fn lay_assignment(store: usize, rows: &[i32], row: usize, at: usize, text: &mut [u8]) -> usize
+pub fn lay_assignment(sizes: Sizes, rows: &[i32], row: usize, at: usize, text: &mut [u8]) -> usize
     requires { ⌜ Readable (now rows) × (row < rowCount (now rows)) ⌝ }
-    requires { ⌜ at + length (parted (assignmentWords store (expressionAt (now rows) row))) ≤ length (now text) ⌝ }
-    ensures { λ r. ⌜ Laid (parted (assignmentWords store (expressionAt (now (rows .entry)) row))) (now (text .entry)) at r (now (text .exit)) ⌝ }
+    requires { ⌜ at + length (parted (assignmentWords sizes (expressionAt (now rows) row))) ≤ length (now text) ⌝ }
+    ensures { λ r. ⌜ Laid (parted (assignmentWords sizes (expressionAt (now (rows .entry)) row))) (now (text .entry)) at r (now (text .exit)) ⌝ }
 {
     let shape = expression_at(rows, row);
     match shape {
         ExpressionShape::Number(_) => at,
         ExpressionShape::Read(_) => at,
-        ExpressionShape::Operation(operation) => lay_operated(store, rows, operation, at, text),
+        ExpressionShape::Operation(operation) => lay_operated(sizes, rows, operation, at, text),
         ExpressionShape::Choice(_) => at,
     }
 }

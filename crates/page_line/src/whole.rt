@@ -4,6 +4,7 @@ use super::bytes::lay_blanks;
 use super::bytes::lay_byte;
 use super::bytes::lay_line_number;
 use super::contents::lay_content;
+use page::Sizes;
 ghost use mathlib.Core.Path.{_≡_};
 ghost use mathlib.Core.List.{[], _∷_};
 ghost use Rattle.page.specs.Lines.{indented};
@@ -23,21 +24,21 @@ fn indent_of(level: usize) -> usize
 
 // Prints a line behind as many as are `done`, and answers how many are done then.
 pub fn print_line(
-    store: usize,
+    sizes: Sizes,
     rows: &[i32],
     line: Line,
     level: usize,
     done: usize,
     page: &mut [u8],
 ) -> usize
-    requires { ⌜ LineRoom store (now rows) line done (now page) ⌝ }
-    ensures { λ r. ⌜ Printed store (indented level (lineTree (now (rows .entry)) line) ∷ []) (now (page .entry)) done r (now (page .exit)) ⌝ }
+    requires { ⌜ LineRoom sizes (now rows) line done (now page) ⌝ }
+    ensures { λ r. ⌜ Printed sizes (indented level (lineTree (now (rows .entry)) line) ∷ []) (now (page .entry)) done r (now (page .exit)) ⌝ }
 {
     let at = 81 * done;
     let end = at + 80;
     let numbered = lay_line_number(done + 1, at, page);
     let start = lay_blanks(indent_of(level) + 1, numbered, page);
-    let said = lay_content(store, rows, line, start, page);
+    let said = lay_content(sizes, rows, line, start, page);
     let filled = lay_blanks(end - said, said, page);
     lay_byte(b'\n', filled, page);
     done + 1

@@ -4,7 +4,7 @@ use mathlib.Core.List.{[], _∷_, _++_}
 use Prim.Native.Nat.{ℕ, _+_}
 use native.Mathlib.Omega.{arith}
 use lib.ListN.{length, length-append}
-use Rattle.language.specs.Trees.{Statement, empty, express, block, ifThen, ifElse, while, doWhile, for, switch, break, continue, goto, guardedIf, guardedDo, abort, Items, none, _then_, _here_}
+use Rattle.language.specs.Trees.{Statement, empty, express, block, ifThen, ifElse, while, doWhile, for, switch, break, continue, goto, guardedIf, guardedDo, abort, declare, Items, none, _then_, _here_}
 use Rattle.page.specs.Lines.{indented, closes, turns, statementLines, branchLines, itemsLines}
 
 mutual
@@ -37,6 +37,7 @@ mutual
   statement-level l k (guardedIf arms) = refl
   statement-level l k (guardedDo arms) = refl
   statement-level l k abort = refl
+  statement-level l k (declare word e) = refl
 
   pub branch-level : (l k : ℕ) (s : Statement) → length (branchLines l s) ≡ length (branchLines k s)
   branch-level l k empty = refl
@@ -54,6 +55,7 @@ mutual
   branch-level l k (guardedIf arms) = refl
   branch-level l k (guardedDo arms) = refl
   branch-level l k abort = refl
+  branch-level l k (declare word e) = refl
 
   pub items-level : (l k : ℕ) (is : Items) → length (itemsLines l is) ≡ length (itemsLines k is)
   items-level l k none = refl

@@ -1,13 +1,13 @@
 -- Laws of outlines: an item's lines are those of its outline, and its blocks are rows of the table.
 use mathlib.Core.Path.{_≡_, refl, sym, ap, subst, _∙_}
 use mathlib.Core.List.{List, [], _∷_, _++_}
-use Prim.Native.Nat.{ℕ, zero, suc, _<_}
+use Prim.Native.Nat.{ℕ, zero, suc, _+_, _<_}
 use native.Mathlib.Omega.{arith}
 use lib.IntN.{ℤ}
 use Rattle.words.specs.Table.{rowCount, numberAt}
 use Rattle.language.specs.Trees.{Statement, Items, _then_}
 use Rattle.language.specs.Decode.{statementAt, itemsAt, listAt}
-use Rattle.shapes.specs.Shapes.{shapeAt, statementIn, itemIn, Onward, statementTree, markTree, StatementOnward, StatementAt, ItemAt}
+use Rattle.shapes.specs.Shapes.{shapeAt, statementIn, itemIn, Onward, statementTree, markTree, StatementOnward, StatementWithin, ItemAt}
 use Rattle.shapes.specs.ShapeLaws.{statement-found, item-found, stated, itemed}
 use Rattle.shapes.specs.declared.Shape.{Shape}
 use Rattle.shapes.specs.declared.Shape.the-variants.{OfExpression, OfStatement, OfMark, OfArm, Other}
@@ -29,8 +29,12 @@ mark-same rows Default = refl
 mark-same rows (Label l) = refl
 
 module _ {rows : List ℤ} (readable : Readable rows) {row : ℕ} (inside : row < rowCount rows) where
-  at-statement : (s : Shape) → shapeAt rows row ≡ s → StatementAt rows row (statementIn s)
-  at-statement s e = stated (statement-found (readable .sound) inside) (ap statementIn e)
+  -- more than a declaration's number
+  abbrev variables : ℕ
+  variables = numberAt rows row 1 + 1
+
+  at-statement : (s : Shape) → shapeAt rows row ≡ s → StatementWithin rows row variables (statementIn s)
+  at-statement s e = stated (statement-found (readable .sound) inside (λ k. omega arith)) (ap statementIn e)
 
   -- ---- lines
 
@@ -51,6 +55,7 @@ module _ {rows : List ℤ} (readable : Readable rows) {row : ℕ} (inside : row 
   statement-outlined level (statement.GuardedIf a) e = refl
   statement-outlined level (statement.GuardedDo a) e = refl
   statement-outlined level statement.Abort e = refl
+  statement-outlined level (statement.Declare a b) e = refl
 
   module _ (level : ℕ) where
     abbrev behind : List Indented
@@ -94,6 +99,7 @@ module _ {rows : List ℤ} (readable : Readable rows) {row : ℕ} (inside : row 
     list-lines (statement.GuardedIf a) = refl
     list-lines (statement.GuardedDo a) = refl
     list-lines statement.Abort = refl
+    list-lines (statement.Declare a b) = refl
 
     pub block-lines : branchLines level (statementAt rows row) ≡ itemsLines level (listAt rows (blockList rows row))
     unfolding blockList
@@ -118,7 +124,7 @@ module _ {rows : List ℤ} (readable : Readable rows) {row : ℕ} (inside : row 
   pub next-later : 0 < numberAt rows row 5 → row < numberAt rows row 5
   next-later h = item-found (readable .sound) inside .onward h .later
 
-  statement-inside : (s : StatementShape) → StatementOnward rows row s → OutlineInside (rowCount rows) (statementOutline row s)
+  statement-inside : (s : StatementShape) → StatementOnward rows row variables s → OutlineInside (rowCount rows) (statementOutline row s)
   statement-inside statement.Empty o = tt
   statement-inside (statement.Express a) o = o .inside
   statement-inside (statement.Block list) o = (tt, inside)
@@ -134,6 +140,7 @@ module _ {rows : List ℤ} (readable : Readable rows) {row : ℕ} (inside : row 
   statement-inside (statement.GuardedIf a) o = tt
   statement-inside (statement.GuardedDo a) o = tt
   statement-inside statement.Abort o = tt
+  statement-inside (statement.Declare a b) o = tt
 
   pub outline-inside : OutlineInside (rowCount rows) (outlineAt rows row)
   unfolding outlineAt
@@ -146,7 +153,7 @@ module _ {rows : List ℤ} (readable : Readable rows) {row : ℕ} (inside : row 
       go (OfArm guard body) e = tt
       go Other e = tt
 
-  list-inside : (s : StatementShape) → StatementOnward rows row s → listOf s < rowCount rows
+  list-inside : (s : StatementShape) → StatementOnward rows row variables s → listOf s < rowCount rows
   list-inside statement.Empty o = omega arith
   list-inside (statement.Express a) o = omega arith
   list-inside (statement.Block list) o = optional-inside list o
@@ -161,6 +168,7 @@ module _ {rows : List ℤ} (readable : Readable rows) {row : ℕ} (inside : row 
   list-inside (statement.GuardedIf a) o = omega arith
   list-inside (statement.GuardedDo a) o = omega arith
   list-inside statement.Abort o = omega arith
+  list-inside (statement.Declare a b) o = omega arith
 
   pub block-inside : blockList rows row < rowCount rows
   unfolding blockList

@@ -37,6 +37,7 @@ statementOutline row (statement.Goto l) = Single (Goto l)
 statementOutline row (statement.GuardedIf arms) = Nothing
 statementOutline row (statement.GuardedDo arms) = Nothing
 statementOutline row statement.Abort = Single Abort
+statementOutline row (statement.Declare word e) = Nothing
 
 abbrev pub outlineOf : ℕ → Shape → Outline
 outlineOf row (OfExpression e) = Single Empty
@@ -65,6 +66,7 @@ listOf (statement.Goto l) = 0
 listOf (statement.GuardedIf arms) = 0
 listOf (statement.GuardedDo arms) = 0
 listOf statement.Abort = 0
+listOf (statement.Declare word e) = 0
 
 abbrev pub listIn : Shape → ℕ
 listIn (OfExpression e) = 0

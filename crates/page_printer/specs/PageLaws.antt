@@ -10,7 +10,7 @@ use lib.Signed.{mag}
 use lib.ListN.{length, getD, take, List·getD-eq-default}
 use borrow.Author.Tests.{le-leb, lt-leb, ltb-true, ltb-false}
 use Rattle.words.specs.Table.{rowCount}
-use Rattle.words.specs.Layout.{layoutOf, storeWords}
+use Rattle.words.specs.Layout.{layoutOf, headerStore}
 use Rattle.words.specs.Laws.{countFits-facts, by-cases}
 use Rattle.words.specs.Over.{over}
 use Rattle.words.specs.OverLaws.{take-over}
@@ -24,11 +24,12 @@ use Rattle.language.specs.Program.{contents}
 use Rattle.kernel_check.specs.Legal.{Legal}
 use Rattle.accepted.specs.Sound.{header-sound}
 use Rattle.accepted_kernel.specs.Kernel.{legal-block}
+use Rattle.page.specs.declared.Sizes.{Sizes}
 use Rattle.page.specs.Lines.{Indented, indented, branchLines, itemsLines, statementLines}
 use Rattle.page.specs.Page.{name, pageBytes, linesBytes}
 use Rattle.page.specs.Fits.{AllFit, all-none, all-more}
 use Rattle.page.specs.Widths.{line-width}
-use Rattle.page.specs.Tables.{storeOf, tableLines, tablePage, GivenBack}
+use Rattle.page.specs.Tables.{sizesOf, tableLines, tablePage, GivenBack}
 use Rattle.page.specs.TableLaws.{lines-fit, name-width, few-arrays, lines-of-rows, page-columns, gives-back}
 use Rattle.page_line.specs.Reads.{Readable}
 use Rattle.page_line.specs.Printed.{Printed}
@@ -59,14 +60,14 @@ passed-all words i p h = record {
 -- ---- tables
 
 -- lines of kernel form are narrow
-narrow-fit : {Names : ℕ → Type 0} {arrays : ℕ} (S : ℕ) → ((i : ℕ) → Names i → length (name S i) ≤ 5) → arrays ≤ 32 → (lines : List Indented) → AllFit Names arrays lines → Narrow S lines
+narrow-fit : {Names : ℕ → Type 0} {arrays : ℕ} (sizes : Sizes) → ((i : ℕ) → Names i → length (name sizes i) ≤ 5) → arrays ≤ 32 → (lines : List Indented) → AllFit Names arrays lines → Narrow sizes lines
 unfolding Narrow
-narrow-fit S names few [] all-none = tt
-narrow-fit S names few (indented level line ∷ lines) (all-more f h) = (omega (arith, line-width S names few line f), narrow-fit S names few lines h)
+narrow-fit sizes names few [] all-none = tt
+narrow-fit sizes names few (indented level line ∷ lines) (all-more f h) = (omega (arith, line-width sizes names few line f), narrow-fit sizes names few lines h)
 
 module _ (header rows : List ℤ) (legal : Legal header rows) (words : (i : ℕ) → mag (getD rows i (pos 0)) < 2 ^ 31) where
   readable : Readable rows
-  readable = record { layout = layoutOf Kernel header; words = storeWords Kernel header; sound = header-sound Kernel header rows (legal .structured) }
+  readable = record { layout = layoutOf Kernel header; words = headerStore Kernel header; sound = header-sound Kernel header rows (legal .structured) }
 
   some-rows : 0 < rowCount rows
   some-rows = omega (arith, lines-of-rows header rows legal words)
@@ -94,11 +95,11 @@ module _ (header rows : List ℤ) (legal : Legal header rows) (words : (i : ℕ)
   pub table-sized : Sized rows lines first
   table-sized = record { readable = readable; inside = block-inside readable some-rows; few = few }
 
-  pub table-ready : (page : List ℕ) → 81 * length lines ≤ length page → Ready (storeOf header) rows lines 0 0 page × (first < rowCount rows)
+  pub table-ready : (page : List ℕ) → 81 * length lines ≤ length page → Ready (sizesOf header) rows lines 0 0 page × (first < rowCount rows)
   table-ready page h = (
     record {
       readable = readable;
-      narrow = subst (λ (ls : List Indented). Narrow (storeOf header) ls) (sym table-lines) (narrow-fit (storeOf header) (name-width header rows legal words) (few-arrays header rows legal words) (tableLines rows) (lines-fit header rows legal words));
+      narrow = subst (λ (ls : List Indented). Narrow (sizesOf header) ls) (sym table-lines) (narrow-fit (sizesOf header) (name-width header rows legal words) (few-arrays header rows legal words) (tableLines rows) (lines-fit header rows legal words));
       few = omega (arith, few);
       shallow = omega (arith, few);
       room = omega (arith, h);
@@ -118,11 +119,11 @@ module _ (header rows : List ℤ) (legal : Legal header rows) (words : (i : ℕ)
   unfolding printAccepted writeBytes unless
   short-page page h = let t : leb (length bytes) (length page) ≡ false = lt-leb (length bytes) (length page) (omega (arith, size)) in record { outcome = rw t; text-left = rw t }
 
-  printed-bytes : (page left : List ℕ) (next : ℕ) → Printed (storeOf header) lines page 0 next left → left ≡ over bytes page
+  printed-bytes : (page left : List ℕ) (next : ℕ) → Printed (sizesOf header) lines page 0 next left → left ≡ over bytes page
   unfolding tablePage pageBytes
   printed-bytes page left next p = rw (← table-lines) (p .laid .written)
 
-  pub whole-page : (page left : List ℕ) (next : ℕ) → 81 * length lines ≤ length page → Printed (storeOf header) lines page 0 next left → Writes (printAccepted header rows page) (Written (81 * length lines)) left
+  pub whole-page : (page left : List ℕ) (next : ℕ) → 81 * length lines ≤ length page → Printed (sizesOf header) lines page 0 next left → Writes (printAccepted header rows page) (Written (81 * length lines)) left
   unfolding printAccepted writeBytes unless
   whole-page page left next h p =
       let t : leb (length bytes) (length page) ≡ true = le-leb (length bytes) (length page) (omega (arith, size)) in
@@ -130,7 +131,7 @@ module _ (header rows : List ℤ) (legal : Legal header rows) (words : (i : ℕ)
 
   -- ---- what was printed is read back
 
-  pub whole-reads : (page left : List ℕ) (next : ℕ) → Printed (storeOf header) lines page 0 next left → PageReads header rows (Written (81 * length lines)) left
+  pub whole-reads : (page left : List ℕ) (next : ℕ) → Printed (sizesOf header) lines page 0 next left → PageReads header rows (Written (81 * length lines)) left
   whole-reads page left next p = record {
     columns = λ total e. same total e ∙ ap (λ (ls : List Indented). 81 * length ls) table-lines;
     gives-back = λ total e. subst (λ (l : List ℕ). GivenBack header rows l) (sym (first-bytes total (same total e))) (gives-back header rows legal words);

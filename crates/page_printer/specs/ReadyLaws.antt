@@ -6,6 +6,7 @@ use native.Mathlib.Omega.{arith}
 use lib.IntN.{ℤ}
 use lib.ListN.{length, length-append}
 use Rattle.words.specs.Table.{rowCount}
+use Rattle.page.specs.declared.Sizes.{Sizes}
 use Rattle.page.specs.Lines.{Indented, indented}
 use Rattle.page_line.specs.declared.Line.{Line}
 use Rattle.page_line.specs.Contents.{lineTree, LineInside}
@@ -13,43 +14,43 @@ use Rattle.page_line.specs.LaidLaws.{laid-length}
 use Rattle.page_line.specs.Printed.{LineRoom, Printed}
 use Rattle.page_printer.specs.Ready.{Narrow, Ready}
 
-narrow-first : (S : ℕ) (xs ys : List Indented) → Narrow S (xs ++ ys) → Narrow S xs
+narrow-first : (sizes : Sizes) (xs ys : List Indented) → Narrow sizes (xs ++ ys) → Narrow sizes xs
 unfolding Narrow
-narrow-first S [] ys n = tt
-narrow-first S (indented level line ∷ xs) ys n = (n .0, narrow-first S xs ys (n .1))
+narrow-first sizes [] ys n = tt
+narrow-first sizes (indented level line ∷ xs) ys n = (n .0, narrow-first sizes xs ys (n .1))
 
-narrow-behind : (S : ℕ) (xs ys : List Indented) → Narrow S (xs ++ ys) → Narrow S ys
+narrow-behind : (sizes : Sizes) (xs ys : List Indented) → Narrow sizes (xs ++ ys) → Narrow sizes ys
 unfolding Narrow
-narrow-behind S [] ys n = n
-narrow-behind S (indented level line ∷ xs) ys n = narrow-behind S xs ys (n .1)
+narrow-behind sizes [] ys n = n
+narrow-behind sizes (indented level line ∷ xs) ys n = narrow-behind sizes xs ys (n .1)
 
-module _ {S : ℕ} {rows : List ℤ} {level done : ℕ} {page : List ℕ} where
-  pub ready-first : (xs ys : List Indented) → Ready S rows (xs ++ ys) level done page → Ready S rows xs level done page
+module _ {sizes : Sizes} {rows : List ℤ} {level done : ℕ} {page : List ℕ} where
+  pub ready-first : (xs ys : List Indented) → Ready sizes rows (xs ++ ys) level done page → Ready sizes rows xs level done page
   ready-first xs ys r = record {
     readable = r .readable;
-    narrow = narrow-first S xs ys (r .narrow);
+    narrow = narrow-first sizes xs ys (r .narrow);
     few = omega (arith, r .few, length-append xs ys);
     shallow = omega (arith, r .shallow, length-append xs ys);
     room = omega (arith, r .room, length-append xs ys);
   }
 
   -- behind lines that were printed
-  pub ready-behind : (xs ys : List Indented) {next : ℕ} {left : List ℕ} → Ready S rows (xs ++ ys) level done page → Printed S xs page done next left → Ready S rows ys level next left
+  pub ready-behind : (xs ys : List Indented) {next : ℕ} {left : List ℕ} → Ready sizes rows (xs ++ ys) level done page → Printed sizes xs page done next left → Ready sizes rows ys level next left
   ready-behind xs ys r p = record {
     readable = r .readable;
-    narrow = narrow-behind S xs ys (r .narrow);
+    narrow = narrow-behind sizes xs ys (r .narrow);
     few = omega (arith, r .few, length-append xs ys, p .count);
     shallow = omega (arith, r .shallow, length-append xs ys);
     room = omega (arith, r .room, length-append xs ys, p .count, laid-length (p .laid));
   }
 
   -- the lines of a block behind the line before it stand a level deeper
-  pub ready-deeper : (x : Indented) (ys : List Indented) {next : ℕ} {left : List ℕ} → Ready S rows (x ∷ ys) level done page → Printed S (x ∷ []) page done next left → Ready S rows ys (level + 1) next left
+  pub ready-deeper : (x : Indented) (ys : List Indented) {next : ℕ} {left : List ℕ} → Ready sizes rows (x ∷ ys) level done page → Printed sizes (x ∷ []) page done next left → Ready sizes rows ys (level + 1) next left
   ready-deeper x ys r p =
       let behind = ready-behind (x ∷ []) ys r p in
       record { readable = behind .readable; narrow = behind .narrow; few = behind .few; shallow = omega (arith, r .shallow); room = behind .room }
 
-  pub ready-line : (line : Line) → Ready S rows (indented level (lineTree rows line) ∷ []) level done page → LineInside (rowCount rows) line → LineRoom S rows line done page
+  pub ready-line : (line : Line) → Ready sizes rows (indented level (lineTree rows line) ∷ []) level done page → LineInside (rowCount rows) line → LineRoom sizes rows line done page
   unfolding Narrow
   ready-line line r inside = record {
     readable = r .readable;

@@ -36,6 +36,7 @@ fn statement_outline(row: usize, statement: StatementShape) -> Outline
         StatementShape::GuardedIf(_) => Outline::Nothing,
         StatementShape::GuardedDo(_) => Outline::Nothing,
         StatementShape::Abort => Outline::Single(Line::Abort),
+        StatementShape::Declare(_, _) => Outline::Nothing,
     }
 }
 
@@ -72,6 +73,7 @@ fn list_of(statement: StatementShape) -> usize
         StatementShape::GuardedIf(_) => 0,
         StatementShape::GuardedDo(_) => 0,
         StatementShape::Abort => 0,
+        StatementShape::Declare(_, _) => 0,
     }
 }
 

@@ -3,6 +3,7 @@
 use super::Outline;
 use super::items::block_list;
 use super::items::outline_at;
+use page::Sizes;
 use page_line::Line;
 use page_line::whole::print_line;
 use words::table::number_at;
@@ -17,20 +18,20 @@ ghost use Rattle.page_printer.specs.Ready.{Ready};
 
 // The list from a first item on; 0 is the empty list.
 pub fn print_list(
-    store: usize,
+    sizes: Sizes,
     rows: &[i32],
     first: usize,
     level: usize,
     done: usize,
     page: &mut [u8],
 ) -> usize
-    requires { ⌜ Ready store (now rows) (itemsLines level (listAt (now rows) first)) level done (now page) × (first < rowCount (now rows)) ⌝ }
-    ensures { λ r. ⌜ Printed store (itemsLines level (listAt (now (rows .entry)) first)) (now (page .entry)) done r (now (page .exit)) ⌝ }
+    requires { ⌜ Ready sizes (now rows) (itemsLines level (listAt (now rows) first)) level done (now page) × (first < rowCount (now rows)) ⌝ }
+    ensures { λ r. ⌜ Printed sizes (itemsLines level (listAt (now (rows .entry)) first)) (now (page .entry)) done r (now (page .exit)) ⌝ }
 {
     let mut row = first;
     let mut lines = done;
     while row != 0 {
-        lines = print_item(store, &*rows, row, level, lines, page);
+        lines = print_item(sizes, &*rows, row, level, lines, page);
         row = number_at(rows, row, 5);
     }
     lines
@@ -38,27 +39,27 @@ pub fn print_list(
 
 // An item.
 fn print_item(
-    store: usize,
+    sizes: Sizes,
     rows: &[i32],
     row: usize,
     level: usize,
     done: usize,
     page: &mut [u8],
 ) -> usize
-    requires { ⌜ Ready store (now rows) (outlined (now rows) level (outlineAt (now rows) row)) level done (now page) × (row < rowCount (now rows)) ⌝ }
-    ensures { λ r. ⌜ Printed store (outlined (now (rows .entry)) level (outlineAt (now (rows .entry)) row)) (now (page .entry)) done r (now (page .exit)) ⌝ }
+    requires { ⌜ Ready sizes (now rows) (outlined (now rows) level (outlineAt (now rows) row)) level done (now page) × (row < rowCount (now rows)) ⌝ }
+    ensures { λ r. ⌜ Printed sizes (outlined (now (rows .entry)) level (outlineAt (now (rows .entry)) row)) (now (page .entry)) done r (now (page .exit)) ⌝ }
 {
     let outline = outline_at(rows, row);
     match outline {
-        Outline::Single(line) => print_line(store, rows, line, level, done, page),
+        Outline::Single(line) => print_line(sizes, rows, line, level, done, page),
         Outline::Enclosed(line, block) => {
-            let inside = print_enclosed(store, &*rows, line, block, level, done, page);
-            print_line(store, rows, Line::Closes, level, inside, page)
+            let inside = print_enclosed(sizes, &*rows, line, block, level, done, page);
+            print_line(sizes, rows, Line::Closes, level, inside, page)
         }
         Outline::Split(line, first, second) => {
-            let turn = print_enclosed(store, &*rows, line, first, level, done, page);
-            let inside = print_enclosed(store, &*rows, Line::Turns, second, level, turn, page);
-            print_line(store, rows, Line::Closes, level, inside, page)
+            let turn = print_enclosed(sizes, &*rows, line, first, level, done, page);
+            let inside = print_enclosed(sizes, &*rows, Line::Turns, second, level, turn, page);
+            print_line(sizes, rows, Line::Closes, level, inside, page)
         }
         Outline::Nothing => done,
     }
@@ -66,7 +67,7 @@ fn print_item(
 
 // A line, and the list of a block a level deeper.
 fn print_enclosed(
-    store: usize,
+    sizes: Sizes,
     rows: &[i32],
     line: Line,
     block: usize,
@@ -74,10 +75,10 @@ fn print_enclosed(
     done: usize,
     page: &mut [u8],
 ) -> usize
-    requires { ⌜ Ready store (now rows) (enclosed (now rows) level line block) level done (now page) × LineInside (rowCount (now rows)) line × (block < rowCount (now rows)) ⌝ }
-    ensures { λ r. ⌜ Printed store (enclosed (now (rows .entry)) level line block) (now (page .entry)) done r (now (page .exit)) ⌝ }
+    requires { ⌜ Ready sizes (now rows) (enclosed (now rows) level line block) level done (now page) × LineInside (rowCount (now rows)) line × (block < rowCount (now rows)) ⌝ }
+    ensures { λ r. ⌜ Printed sizes (enclosed (now (rows .entry)) level line block) (now (page .entry)) done r (now (page .exit)) ⌝ }
 {
-    let opened = print_line(store, rows, line, level, done, page);
+    let opened = print_line(sizes, rows, line, level, done, page);
     let list = block_list(rows, block);
-    print_list(store, &*rows, list, level + 1, opened, page)
+    print_list(sizes, &*rows, list, level + 1, opened, page)
 }

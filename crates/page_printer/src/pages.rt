@@ -2,10 +2,9 @@
 use super::items::block_list;
 use super::lists::print_list;
 use super::sizes::count_list;
+use page::sizes_of;
 use text_form::WriteAnswer;
-use words::Form;
 use words::Refusal;
-use words::layout::store_size;
 ghost use Rattle.text_form.specs.Answers.{Writes};
 ghost use Rattle.kernel_check.specs.Legal.{Legal};
 ghost use Rattle.page_printer.specs.Pages.{Worded, printAccepted, PageReads};
@@ -39,7 +38,7 @@ pub fn print_accepted(header: &[i32], rows: &[i32], page: &mut [u8]) -> WriteAns
             place: 0,
         });
     }
-    let store = store_size(Form::Kernel, header);
-    print_list(store, rows, first, 0, 0, page);
+    let sizes = sizes_of(header);
+    print_list(sizes, rows, first, 0, 0, page);
     WriteAnswer::Written(size)
 }

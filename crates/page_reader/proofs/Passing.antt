@@ -10,6 +10,7 @@ use lib.Seq.{drop-at}
 use Rattle.words.specs.Over.{over}
 use Rattle.words.specs.OverLaws.{part, back-in, part-is, length-over, over-next}
 use Rattle.leaves.specs.Room.{Room}
+use Rattle.page.specs.declared.Sizes.{Sizes}
 use Rattle.page_words.specs.Texts.{LineFits}
 use Rattle.page_words.specs.declared.Names.{Names}
 use Rattle.page_words.specs.declared.Line.{Line}
@@ -42,24 +43,24 @@ back-long k v l m h e fits =
     let same : l ≡ over (take k l) l = sym (take-append-drop k l) ∙ ap (λ (n : ℕ). take k l ++ drop n l) (sym first) in
     length-over (take k l ++ v) l _ (over-next (take k l) v l l m k (sym first) same e) (omega (arith, length-append (take k l) v, first))
 
-pub record Passing (names : Names) (store : ℕ) (page : List ℕ) (total : ℕ) (old : List ℤ) (rows : List ℤ) (waiting : List ℕ) (depth : ℕ) (follows : Bool) (base k : ℕ) : Type 0 where
-  pub counted : Counted names store page total old
+pub record Passing (names : Names) (sizes : Sizes) (page : List ℕ) (total : ℕ) (old : List ℤ) (rows : List ℤ) (waiting : List ℕ) (depth : ℕ) (follows : Bool) (base k : ℕ) : Type 0 where
+  pub counted : Counted names sizes page total old
   pub count : ℕ
   pub all : count ≡ min (length page / 81) 81958
   pub inside : k ≤ count
   pub deep : depth + k ≤ count
   pub placed : base + linesRows (linesFrom names page (count - k) k) ≡ total
   pub left : record { follows = follows; waiting = stackOf depth waiting } ≡ leftBy (linesFrom names page (count - k) k) base
-  pub words : drop (6 * base) rows ≡ linesTable store (linesFrom names page (count - k) k) base ++ drop (6 * total) old
+  pub words : drop (6 * base) rows ≡ linesTable sizes (linesFrom names page (count - k) k) base ++ drop (6 * total) old
   pub long : length rows ≡ length old
 
 pub slice-long : (page : List ℕ) (k : ℕ) → 81 * k + 81 ≤ length page → length (take (81 * k + 81 - 81 * k) (drop (81 * k) page)) ≡ 81
 slice-long page k h = length-take (81 * k + 81 - 81 * k) (drop (81 * k) page) ∙ omega (arith, length-drop (81 * k) page)
 
-pub passing-start : (names : Names) (store : ℕ) (page : List ℕ) (total : ℕ) (old : List ℤ) (waiting : List ℕ) (k : ℕ) → Counted names store page total old → k ≡ min (length page / 81) 81958
-    → Passing names store page total old old waiting 0 false total k
+pub passing-start : (names : Names) (sizes : Sizes) (page : List ℕ) (total : ℕ) (old : List ℤ) (waiting : List ℕ) (k : ℕ) → Counted names sizes page total old → k ≡ min (length page / 81) 81958
+    → Passing names sizes page total old old waiting 0 false total k
 unfolding linesFrom leftBy linesTable stackOf
-passing-start names store page total old waiting k c e =
+passing-start names sizes page total old waiting k c e =
     let none-left : k - k ≡ 0 = omega arith in
     record {
       counted = c;
@@ -73,8 +74,8 @@ passing-start names store page total old waiting k c e =
       long = refl;
     }
 
-module _ {names : Names} {store : ℕ} {page : List ℕ} {total : ℕ} {old rows : List ℤ} {waiting : List ℕ} {depth : ℕ} {follows : Bool} {base k : ℕ}
-    (p : Passing names store page total old rows waiting depth follows base k) where
+module _ {names : Names} {sizes : Sizes} {page : List ℕ} {total : ℕ} {old rows : List ℤ} {waiting : List ℕ} {depth : ℕ} {follows : Bool} {base k : ℕ}
+    (p : Passing names sizes page total old rows waiting depth follows base k) where
   abbrev rest : List Line
   rest = linesFrom names page (p .count - k) k
 
@@ -87,7 +88,7 @@ module _ {names : Names} {store : ℕ} {page : List ℕ} {total : ℕ} {old rows
   pub passing-room : k ≡ 0 → Room 1 0 (length rows)
   passing-room e = record { inside = omega (arith, p .long, p .counted .room, p .counted .all); low = omega arith }
 
-  pub passing-end : k ≡ 0 → (m : List ℤ) → m ≡ over (blockRow 0 follows 0) rows → m ≡ over (pageTable store (linesIn names page)) old
+  pub passing-end : k ≡ 0 → (m : List ℤ) → m ≡ over (blockRow 0 follows 0) rows → m ≡ over (pageTable sizes (linesIn names page)) old
   unfolding over pageTable
   passing-end e m h =
       let none-done : p .count - k ≡ p .count = omega arith in
@@ -96,9 +97,9 @@ module _ {names : Names} {store : ℕ} {page : List ℕ} {total : ℕ} {old rows
       let first : base ≡ 1 = omega (arith, p .counted .all) in
       let left : record { follows = follows; waiting = stackOf depth waiting } ≡ leftBy (linesIn names page) 1 = rw (lines, first) at (p .left) in
       let goes : follows ≡ leftBy (linesIn names page) 1 .follows = ap (λ (l : Left). l .follows) left in
-      let words : drop 6 rows ≡ linesTable store (linesIn names page) 1 ++ drop (6 * total) old = rw (lines, first) at (p .words) in
-      let size : 6 * total ≡ length (pageTable store (linesIn names page)) = ap (λ (n : ℕ). 6 * n) (p .counted .all) ∙ sym (length-page store (linesIn names page)) in
-      h ∙ ap₂ (λ (f : Bool) (l : List ℤ). blockRow 0 f 0 ++ l) goes (words ∙ ap (λ (n : ℕ). linesTable store (linesIn names page) 1 ++ drop n old) size)
+      let words : drop 6 rows ≡ linesTable sizes (linesIn names page) 1 ++ drop (6 * total) old = rw (lines, first) at (p .words) in
+      let size : 6 * total ≡ length (pageTable sizes (linesIn names page)) = ap (λ (n : ℕ). 6 * n) (p .counted .all) ∙ sym (length-page sizes (linesIn names page)) in
+      h ∙ ap₂ (λ (f : Bool) (l : List ℤ). blockRow 0 f 0 ++ l) goes (words ∙ ap (λ (n : ℕ). linesTable sizes (linesIn names page) 1 ++ drop n old) size)
 
   -- ---- one line before those that are done
 
@@ -119,7 +120,7 @@ module _ {names : Names} {store : ℕ} {page : List ℕ} {total : ℕ} {old rows
           ∙ ap₂ (λ (r : LineRead) (n : ℕ). withLine r (linesFrom names page (p .count - k) n)) (sym (e ∙ ap (λ (n : ℕ). statementIn names (take n (drop (81 * (k - 1)) page))) size)) next
 
       -- No line.
-      pub passing-skip : read ≡ Malformed → Passing names store page total old rows waiting depth follows base (k - 1)
+      pub passing-skip : read ≡ Malformed → Passing names sizes page total old rows waiting depth follows base (k - 1)
       passing-skip q =
           let same : linesFrom names page (p .count - (k - 1)) (k - 1) ≡ rest = lines-are ∙ ap (λ (r : LineRead). withLine r rest) q in
           record {
@@ -153,7 +154,7 @@ module _ {names : Names} {store : ℕ} {page : List ℕ} {total : ℕ} {old rows
         line-fits =
             let whole : AllFit names (linesFrom names page (p .count - (k - 1) + (k - 1)) 0) = rw (all-lines, everything) (p .counted .fit) in
             let own : AllFit names (line ∷ rest) = rw begins at (fit-within names page (k - 1) (p .count - (k - 1)) whole) in
-            line-fits-most names (p .counted .few-variables) (p .counted .few-temporaries) (p .counted .few-arrays) line (own .0)
+            line-fits-most names (p .counted .few-variables) (p .counted .few-behind) (p .counted .few-arrays) line (own .0)
 
         module _ (n : ℕ) (counted : n ≡ lineRows line) where
           pub row-low : base - n < 65536
@@ -169,21 +170,21 @@ module _ {names : Names} {store : ℕ} {page : List ℕ} {total : ℕ} {old rows
           }
 
           pub passing-next : (out : List ℤ) (first second : ℕ) (others : List ℕ) (deeper : ℕ) (goes : Bool)
-              → out ≡ over (lineTable store line (base - n) (record { follows = follows; waiting = first ∷ second ∷ [] })) (part (6 * (base - n)) rows)
+              → out ≡ over (lineTable sizes line (base - n) (record { follows = follows; waiting = first ∷ second ∷ [] })) (part (6 * (base - n)) rows)
               → first ≡ getD (stackOf depth waiting) 0 0 → second ≡ getD (stackOf depth waiting) 1 0
               → record { follows = goes; waiting = stackOf deeper others } ≡ leftBefore line (base - n) (record { follows = follows; waiting = stackOf depth waiting }) → deeper ≤ depth + 1
-              → Passing names store page total old (back-in (6 * (base - n)) rows out) others deeper goes (base - n) (k - 1)
+              → Passing names sizes page total old (back-in (6 * (base - n)) rows out) others deeper goes (base - n) (k - 1)
           unfolding leftBy linesTable
           passing-next out first second others deeper goes w f s l d =
               let now : Left = record { follows = follows; waiting = stackOf depth waiting } in
               let behind : base - n + lineRows line ≡ base = omega (arith, rows-left) in
               let held : now ≡ leftBy rest (base - n + lineRows line) = p .left ∙ ap (leftBy rest) (sym behind) in
-              let own = lineTable store line (base - n) (leftBy rest (base - n + lineRows line)) in
-              let said : lineTable store line (base - n) (record { follows = follows; waiting = first ∷ second ∷ [] }) ≡ own =
-              ap₂ (λ (x y : ℕ). lineTable store line (base - n) (record { follows = follows; waiting = x ∷ y ∷ [] })) f s ∙ by-two store line (base - n) follows (stackOf depth waiting)
-              ∙ ap (lineTable store line (base - n)) held in
+              let own = lineTable sizes line (base - n) (leftBy rest (base - n + lineRows line)) in
+              let said : lineTable sizes line (base - n) (record { follows = follows; waiting = first ∷ second ∷ [] }) ≡ own =
+              ap₂ (λ (x y : ℕ). lineTable sizes line (base - n) (record { follows = follows; waiting = x ∷ y ∷ [] })) f s ∙ by-two sizes line (base - n) follows (stackOf depth waiting)
+              ∙ ap (lineTable sizes line (base - n)) held in
               let own-words : out ≡ over own (part (6 * (base - n)) rows) = w ∙ ap (λ (t : List ℤ). over t (part (6 * (base - n)) rows)) said in
-              let size : length own ≡ 6 * lineRows line = length-line store line (base - n) (leftBy rest (base - n + lineRows line)) in
+              let size : length own ≡ 6 * lineRows line = length-line sizes line (base - n) (leftBy rest (base - n + lineRows line)) in
               let end : 6 * (base - n) + length own ≡ 6 * base = omega (arith, size, behind) in
               let room = line-room .inside in
               let span : length (part (6 * (base - n)) rows) ≡ length rows - 6 * (base - n) = ap length (part-is (6 * (base - n)) rows) ∙ length-drop (6 * (base - n)) rows in
@@ -197,7 +198,7 @@ module _ {names : Names} {store : ℕ} {page : List ℕ} {total : ℕ} {old rows
                 left = rw begins (l ∙ ap (leftBefore line (base - n)) held);
                 words = rw begins
                     (put-behind (6 * (base - n)) own rows out row-inside own-words ∙ ap (λ (m : ℕ). own ++ drop m rows) end
-                    ∙ ap (λ (t : List ℤ). own ++ t) (p .words ∙ ap (λ (b : ℕ). linesTable store rest b ++ drop (6 * total) old) (sym behind))
-                    ∙ sym (append-assoc own (linesTable store rest (base - n + lineRows line)) (drop (6 * total) old)));
+                    ∙ ap (λ (t : List ℤ). own ++ t) (p .words ∙ ap (λ (b : ℕ). linesTable sizes rest b ++ drop (6 * total) old) (sym behind))
+                    ∙ sym (append-assoc own (linesTable sizes rest (base - n + lineRows line)) (drop (6 * total) old)));
                 long = back-long (6 * (base - n)) own rows out row-inside own-words (omega (arith, size, room, span)) ∙ p .long;
               }

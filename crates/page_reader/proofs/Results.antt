@@ -8,7 +8,8 @@ use lib.ListN.{length}
 use Rattle.words.specs.Layout.{headerFits}
 use Rattle.words.specs.Over.{over}
 use Rattle.words.specs.declared.Form.the-variants.{Kernel}
-use Rattle.page.specs.Tables.{storeOf}
+use Rattle.page.specs.declared.Sizes.{Sizes}
+use Rattle.page.specs.Tables.{sizesOf}
 use Rattle.page_words.specs.declared.Names.{Names}
 use Rattle.page_blocks.specs.Scans.{scan, linesIn, namesOf}
 use Rattle.page_blocks.specs.declared.Scan.{Scan}
@@ -32,13 +33,13 @@ module _ (header : List ℤ) (fits : headerFits Kernel header ≡ true) (names :
   pub short-refused : (r : PageAnswer) → r ≡ refusedAs 10 0 → count ≤ 40980 → length rows < 6 * count → (answerAndRows r rows ≡ readScanned (Whole count) header page rows) × GivesRows header page r rows
   short-refused r e few h = rw e (too-short header fits page count scanned rows few h, tt)
 
-  module _ (store : ℕ) (e : store ≡ storeOf header) (few : count ≤ 40980) (room : 6 * count ≤ length rows) where
-    pub rows-counted : Counted names store page count rows
+  module _ (sizes : Sizes) (e : sizes ≡ sizesOf header) (few : count ≤ 40980) (room : 6 * count ≤ length rows) where
+    pub rows-counted : Counted names sizes page count rows
     rows-counted = rw (n, e) (counted header fits page count scanned rows few room)
 
-    pub whole-read : (left : List ℤ) → left ≡ over (pageTable store (linesIn names page)) rows → (answerAndRows (Read (6 * count)) left ≡ readScanned (Whole count) header page rows) × GaveRows header page (6 * count) left
+    pub whole-read : (left : List ℤ) → left ≡ over (pageTable sizes (linesIn names page)) rows → (answerAndRows (Read (6 * count)) left ≡ readScanned (Whole count) header page rows) × GaveRows header page (6 * count) left
     whole-read left w =
-        let written : left ≡ over (pageTable (storeOf header) (linesIn (namesOf header) page)) rows = rw (n, e) at w in
+        let written : left ≡ over (pageTable (sizesOf header) (linesIn (namesOf header) page)) rows = rw (n, e) at w in
         (all-read header fits page count scanned rows left few room written, gave header fits page count scanned rows left few room written)
 
 -- ---- all pages

@@ -15,7 +15,8 @@ use Rattle.words.specs.Over.{over}
 use Rattle.words.specs.OverLaws.{length-over, take-over}
 use Rattle.words.specs.declared.Form.the-variants.{Kernel}
 use Rattle.row_fields.specs.Fields.{boundsOf}
-use Rattle.page.specs.Tables.{storeOf, readTable}
+use Rattle.page.specs.Tables.{sizesOf, readTable}
+use Rattle.page_words.specs.Trees.{Within}
 use Rattle.page_words.specs.declared.Names.{Names}
 use Rattle.page_blocks.specs.Scans.{scan, linesIn, namesOf}
 use Rattle.page_blocks.specs.ScanLaws.{linesRows}
@@ -34,39 +35,39 @@ module _ (header : List ℤ) (fits : headerFits Kernel header ≡ true) where
   unfolding namesOf boundsOf
   few-variables = headerFits-facts Kernel header fits .few-variables
 
-  few-temporaries : namesOf header .temporaries ≤ 8192
+  few-behind : namesOf header .declared + namesOf header .temporaries ≤ 8256
   unfolding namesOf
-  few-temporaries = headerFits-facts Kernel header fits .few-temporaries
+  few-behind = let f = headerFits-facts Kernel header fits in omega (arith, f .few-declared, f .few-temporaries)
 
   few-arrays : namesOf header .arrays ≤ 32
   unfolding namesOf boundsOf
   few-arrays = headerFits-facts Kernel header fits .few-arrays
 
-  within : namesOf header .variables ≤ storeOf header
+  within : Within (sizesOf header) (namesOf header)
   unfolding namesOf boundsOf storeSize
-  within = omega arith
+  within = record { variables-inside = omega arith; same-declared = refl }
 
 module _ (header : List ℤ) (fits : headerFits Kernel header ≡ true) (page : List ℕ) (count : ℕ) (e : scan (namesOf header) page ≡ Whole count) where
   abbrev lines-table : List ℤ
-  lines-table = pageTable (storeOf header) (linesIn (namesOf header) page)
+  lines-table = pageTable (sizesOf header) (linesIn (namesOf header) page)
 
-  reads : ReadsAs (namesOf header) (few-variables header fits) (few-temporaries header fits) (few-arrays header fits) (storeOf header) (within header fits) page count
-  reads = scan-reads (namesOf header) (few-variables header fits) (few-temporaries header fits) (few-arrays header fits) (storeOf header) (within header fits) page count e
+  reads : ReadsAs (namesOf header) (few-variables header fits) (few-behind header fits) (few-arrays header fits) (sizesOf header) (within header fits) page count
+  reads = scan-reads (namesOf header) (few-variables header fits) (few-behind header fits) (few-arrays header fits) (sizesOf header) (within header fits) page count e
 
   -- The rows that page/Tables reads are those of the lines.
-  pub table-read : readTable header page ≡ some (pageTable (storeOf header) (linesIn (namesOf header) page))
+  pub table-read : readTable header page ≡ some (pageTable (sizesOf header) (linesIn (namesOf header) page))
   unfolding readTable
-  table-read = rw (reads .page-read) (ap some (sym (table-of-page (storeOf header) (linesIn (namesOf header) page) (reads .items) (reads .lines-read))))
+  table-read = rw (reads .page-read) (ap some (sym (table-of-page (sizesOf header) (linesIn (namesOf header) page) (reads .items) (reads .lines-read))))
 
   table-long : length lines-table ≡ 6 * count
-  table-long = length-page (storeOf header) (linesIn (namesOf header) page) ∙ ap (λ (n : ℕ). 6 * n) (sym (reads .counted))
+  table-long = length-page (sizesOf header) (linesIn (namesOf header) page) ∙ ap (λ (n : ℕ). 6 * n) (sym (reads .counted))
 
-  pub counted : (rows : List ℤ) → count ≤ 40980 → 6 * count ≤ length rows → Counted (namesOf header) (storeOf header) page count rows
+  pub counted : (rows : List ℤ) → count ≤ 40980 → 6 * count ≤ length rows → Counted (namesOf header) (sizesOf header) page count rows
   counted rows few room = record {
     few-variables = few-variables header fits;
-    few-temporaries = few-temporaries header fits;
+    few-behind = few-behind header fits;
     few-arrays = few-arrays header fits;
-    small-store = headerFits-facts Kernel header fits .small-store;
+    small-sizes = record { small-store = headerFits-facts Kernel header fits .small-store; few-declared = headerFits-facts Kernel header fits .few-declared };
     fit = reads .fit;
     all = reads .counted;
     few = few;
@@ -81,7 +82,7 @@ module _ (header : List ℤ) (fits : headerFits Kernel header ≡ true) (page : 
   pub too-short : (rows : List ℤ) → count ≤ 40980 → length rows < 6 * count → answerAndRows (refusedAs 10 0) rows ≡ readScanned (Whole count) header page rows
   too-short rows few h = rw (le-leb count 40980 few, lt-leb (6 * count) (length rows) h)
 
-  module _ (rows left : List ℤ) (few : count ≤ 40980) (room : 6 * count ≤ length rows) (written : left ≡ over (pageTable (storeOf header) (linesIn (namesOf header) page)) rows) where
+  module _ (rows left : List ℤ) (few : count ≤ 40980) (room : 6 * count ≤ length rows) (written : left ≡ over (pageTable (sizesOf header) (linesIn (namesOf header) page)) rows) where
     pub all-read : answerAndRows (Read (6 * count)) left ≡ readScanned (Whole count) header page rows
     all-read = rw (le-leb count 40980 few, le-leb (6 * count) (length rows) room, table-read) (ap (answerAndRows (Read (6 * count))) written)
 

@@ -6,13 +6,13 @@ pub mod waiting; // waiting.rt: the rows that wait for the lines that open their
 
 use self::names::names_of;
 use self::rows::write_rows;
+use page::sizes_of;
 use page_blocks::Scan;
 use page_scan::scan;
 use page_words::Names;
 use words::Form;
 use words::Refusal;
 use words::layout::header_fits;
-use words::layout::store_size;
 ghost use mathlib.Core.Path.{_≡_};
 ghost use mathlib.Core.Bool.{true};
 ghost use Rattle.words.specs.Layout.{headerFits};
@@ -55,8 +55,8 @@ fn read_whole(
     if words > rows.len() {
         return refused(10, 0);
     }
-    let store = store_size(Form::Kernel, header);
-    write_rows(names, store, page, count, rows);
+    let sizes = sizes_of(header);
+    write_rows(names, sizes, page, count, rows);
     PageAnswer::Read(words)
 }
 

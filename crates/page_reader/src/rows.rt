@@ -1,6 +1,7 @@
 // The pass that writes the rows of a page, from its last line to its first.
 use super::waiting::left_before;
 use super::waiting::waiting_row;
+use page::Sizes;
 use page_frame::statement_in;
 use page_rows::lines::put_block_row;
 use page_rows::lines::put_line;
@@ -15,9 +16,9 @@ ghost use Rattle.page_rows.specs.Rows.{pageTable};
 ghost use Rattle.page_reader.specs.Stacks.{Counted};
 
 // Writes the rows of a page, of which `total` were counted, at the start of the table.
-pub fn write_rows(names: Names, store: usize, page: &[u8], total: usize, rows: &mut [i32])
-    requires { ⌜ Counted names store (now page) total (now rows) ⌝ }
-    ensures { λ _. ⌜ now (rows .exit) ≡ over (pageTable store (linesIn names (now (page .entry)))) (now (rows .entry)) ⌝ }
+pub fn write_rows(names: Names, sizes: Sizes, page: &[u8], total: usize, rows: &mut [i32])
+    requires { ⌜ Counted names sizes (now page) total (now rows) ⌝ }
+    ensures { λ _. ⌜ now (rows .exit) ≡ over (pageTable sizes (linesIn names (now (page .entry)))) (now (rows .entry)) ⌝ }
 {
     let mut waiting = [0u16; 81958];
     let mut depth: usize = 0;
@@ -36,7 +37,7 @@ pub fn write_rows(names: Names, store: usize, page: &[u8], total: usize, rows: &
         let first = waiting_row(0, depth, &waiting);
         let second = waiting_row(1, depth, &waiting);
         let at = 6 * base;
-        put_line(store, line, base, follows, first, second, &mut rows[at..]);
+        put_line(sizes, line, base, follows, first, second, &mut rows[at..]);
         let left = left_before(line, base, follows, depth, &mut waiting);
         follows = left.follows;
         depth = left.depth;

@@ -15,16 +15,18 @@ use Rattle.leaves.specs.Room.{Room}
 use Rattle.leaves.specs.Chain.{Put}
 use Rattle.leaves.specs.declared.Atom.{Atom as KernelAtom}
 use Rattle.leaves.specs.declared.Atom.the-variants as kernel-cases
+use Rattle.page.specs.declared.Sizes.{Sizes}
+use Rattle.page.specs.Page.{firstTemporary}
 use Rattle.page_words.specs.Texts.{AtomFits, NameFits, ElementFits, ValueFits, LineFits}
 use Rattle.page_words.specs.Trees.{placeTree, atomTree}
 use Rattle.page_words.specs.declared.Atom.{Atom}
-use Rattle.page_words.specs.declared.Atom.the-variants.{Variable, Temporary}
+use Rattle.page_words.specs.declared.Atom.the-variants.{Variable, Declared, Temporary}
 use Rattle.page_words.specs.declared.Value.{Value}
 use Rattle.page_words.specs.declared.Line.{Line}
 use Rattle.page_words.specs.declared.Line.the-variants.{While, If}
 use Rattle.page_blocks.specs.Scans.{valueRows, lineRows}
 use Rattle.page_rows.specs.Rows.{blockRow, lineTable}
-use Rattle.page_rows.specs.Fits.{mostNames}
+use Rattle.page_rows.specs.Fits.{mostNames, SmallSizes}
 
 pub pick-most : (b : Bool) (n : ℕ) → pick b n 0 ≤ n
 pick-most true n = omega arith
@@ -32,18 +34,24 @@ pick-most false n = omega arith
 
 -- ---- numbers
 
-module _ (store : ℕ) (few : store ≤ 8192) (a : Atom) (n : ℕ) where
-  pub variable-atom : a ≡ Variable n → AtomFits mostNames a → (read (variable n) ≡ atomTree store a) × (n < 65536)
-  variable-atom e h = let small : n < 256 = rw e at h in (ap (atomTree store) (sym e), omega arith)
+module _ (sizes : Sizes) (few : SmallSizes sizes) (a : Atom) (n : ℕ) where
+  pub variable-atom : a ≡ Variable n → AtomFits mostNames a → (read (variable n) ≡ atomTree sizes a) × (n < 65536)
+  variable-atom e h = let small : n < 256 = rw e at h in (ap (atomTree sizes) (sym e), omega arith)
 
-  pub temporary-atom : a ≡ Temporary n → AtomFits mostNames a → (read (variable (store + n)) ≡ atomTree store a) × (store + n < 65536)
-  temporary-atom e h = let small : n < 8192 = rw e at h in (ap (atomTree store) (sym e), omega arith)
+  pub declared-atom : a ≡ Declared n → AtomFits mostNames a → (read (variable (sizes .store + n)) ≡ atomTree sizes a) × (sizes .store + n < 65536)
+  declared-atom e h = let small : n < 8256 = rw e at h in (ap (atomTree sizes) (sym e), omega (arith, few .small-store))
 
-  pub variable-name : a ≡ Variable n → NameFits mostNames a → (placeTree store a ≡ variable n) × (n < 65536)
-  variable-name e h = let small : n < 256 = rw e at h in (ap (placeTree store) e, omega arith)
+  pub temporary-atom : a ≡ Temporary n → AtomFits mostNames a → (read (variable (firstTemporary sizes + n)) ≡ atomTree sizes a) × (firstTemporary sizes + n < 65536)
+  temporary-atom e h = let small : n < 8256 = rw e at h in (ap (atomTree sizes) (sym e), omega (arith, few .small-store, few .few-declared))
 
-  pub temporary-name : a ≡ Temporary n → NameFits mostNames a → (placeTree store a ≡ variable (store + n)) × (store + n < 65536)
-  temporary-name e h = let small : n < 8192 = rw e at h in (ap (placeTree store) e, omega arith)
+  pub variable-name : a ≡ Variable n → NameFits mostNames a → (placeTree sizes a ≡ variable n) × (n < 65536)
+  variable-name e h = let small : n < 256 = rw e at h in (ap (placeTree sizes) e, omega arith)
+
+  pub declared-name : a ≡ Declared n → NameFits mostNames a → (placeTree sizes a ≡ variable (sizes .store + n)) × (sizes .store + n < 65536)
+  declared-name e h = let small : n < 8256 = rw e at h in (ap (placeTree sizes) e, omega (arith, few .small-store))
+
+  pub temporary-name : a ≡ Temporary n → NameFits mostNames a → (placeTree sizes a ≡ variable (firstTemporary sizes + n)) × (firstTemporary sizes + n < 65536)
+  temporary-name e h = let small : n < 8256 = rw e at h in (ap (placeTree sizes) e, omega (arith, few .small-store, few .few-declared))
 
 -- ---- what is known of a value and of a line, by its sort
 
@@ -83,15 +91,15 @@ module _ (l m : List ℤ) where
   if-written (kernel-cases.Variable n) base second next e = record { table = e; size = refl }
 
   -- A line that opens a block, by the kernel's atom of its test.
-  module _ (store base : ℕ) (follows : Bool) (first second : ℕ) (line : Line) (a : Atom) (x : KernelAtom) (t : kernelTree x ≡ atomTree store a) where
+  module _ (sizes : Sizes) (base : ℕ) (follows : Bool) (first second : ℕ) (line : Line) (a : Atom) (x : KernelAtom) (t : kernelTree x ≡ atomTree sizes a) where
     pub while-line : line ≡ While a → m ≡ over ((rowOf 44 (pos (base + 1)) (base + 2) 0 0 first ++ emitExpression (kernelTree x) (base + 1)) ++ blockRow (base + 2) follows 0) l
-        → m ≡ over (lineTable store line base (record { follows = follows; waiting = first ∷ second ∷ [] })) l
+        → m ≡ over (lineTable sizes line base (record { follows = follows; waiting = first ∷ second ∷ [] })) l
     while-line e h =
         h ∙ ap (λ z. over ((rowOf 44 (pos (base + 1)) (base + 2) 0 0 first ++ emitExpression z (base + 1)) ++ blockRow (base + 2) follows 0) l) t
-        ∙ ap (λ n. over (lineTable store n base (record { follows = follows; waiting = first ∷ second ∷ [] })) l) (sym e)
+        ∙ ap (λ n. over (lineTable sizes n base (record { follows = follows; waiting = first ∷ second ∷ [] })) l) (sym e)
 
     pub if-line : line ≡ If a → m ≡ over ((rowOf 43 (pos (base + 1)) (base + 2) first 0 second ++ emitExpression (kernelTree x) (base + 1)) ++ blockRow (base + 2) follows 0) l
-        → m ≡ over (lineTable store line base (record { follows = follows; waiting = first ∷ second ∷ [] })) l
+        → m ≡ over (lineTable sizes line base (record { follows = follows; waiting = first ∷ second ∷ [] })) l
     if-line e h =
         h ∙ ap (λ z. over ((rowOf 43 (pos (base + 1)) (base + 2) first 0 second ++ emitExpression z (base + 1)) ++ blockRow (base + 2) follows 0) l) t
-        ∙ ap (λ n. over (lineTable store n base (record { follows = follows; waiting = first ∷ second ∷ [] })) l) (sym e)
+        ∙ ap (λ n. over (lineTable sizes n base (record { follows = follows; waiting = first ∷ second ∷ [] })) l) (sym e)

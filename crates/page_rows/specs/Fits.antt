@@ -1,28 +1,35 @@
 -- Fits: the most names that any header gives. A line that fits a header fits these, so its numbers are small.
-use Prim.Native.Nat.{ℕ, _≤_, _<_}
+use Prim.Native.Nat.{ℕ, _+_, _≤_, _<_}
 use native.Mathlib.Omega.{arith}
+use Rattle.page.specs.declared.Sizes.{Sizes}
 use Rattle.page_words.specs.Texts.{AtomFits, NameFits, ValueFits, LineFits}
 use Rattle.page_words.specs.declared.Names.{Names}
 use Rattle.page_words.specs.declared.Atom.{Atom}
-use Rattle.page_words.specs.declared.Atom.the-variants.{Constant, Variable, Temporary}
+use Rattle.page_words.specs.declared.Atom.the-variants.{Constant, Variable, Declared, Temporary}
 use Rattle.page_words.specs.declared.Value.{Value}
 use Rattle.page_words.specs.declared.Value.the-variants.{Single, Element, Minus, Binary}
 use Rattle.page_words.specs.declared.Line.{Line}
 use Rattle.page_words.specs.declared.Line.the-variants.{Empty, Abort, Goto, Label, Store, Put, Opens, While, If, Turns, Closes}
 
--- "V variables (0 to 256) and up to 32 array lengths"; "T temporaries (0 to 8,192)".
-abbrev pub mostNames : Names
-mostNames = record { variables = 256; temporaries = 8192; arrays = 32 }
+-- "V variables (0 to 256) and up to 32 array lengths"; D at most 64 and "T temporaries (0 to 8,192)".
+pub record SmallSizes (sizes : Sizes) : Type 0 where
+  pub small-store : sizes .store ≤ 8192
+  pub few-declared : sizes .declared ≤ 64
 
-module _ (names : Names) (few-variables : names .variables ≤ 256) (few-temporaries : names .temporaries ≤ 8192) (few-arrays : names .arrays ≤ 32) where
+abbrev pub mostNames : Names
+mostNames = record { variables = 256; declared = 8256; temporaries = 8256; arrays = 32 }
+
+module _ (names : Names) (few-variables : names .variables ≤ 256) (few-behind : names .declared + names .temporaries ≤ 8256) (few-arrays : names .arrays ≤ 32) where
   atom-fits-most : (a : Atom) → AtomFits names a → AtomFits mostNames a
   atom-fits-most (Constant v) h = h
   atom-fits-most (Variable n) h = omega arith
+  atom-fits-most (Declared n) h = omega arith
   atom-fits-most (Temporary n) h = omega arith
 
   name-fits-most : (a : Atom) → NameFits names a → NameFits mostNames a
   name-fits-most (Constant v) h = h
   name-fits-most (Variable n) h = omega arith
+  name-fits-most (Declared n) h = omega arith
   name-fits-most (Temporary n) h = omega arith
 
   value-fits-most : (v : Value) → ValueFits names v → ValueFits mostNames v

@@ -8,6 +8,7 @@ use lib.ListN.{getD, drop}
 use Rattle.words.specs.Word.{pick}
 use Rattle.language.specs.Trees.{assign, element, label, empty, express, goto, abort, Items, none, _then_, _here_}
 use Rattle.emission.specs.Emission.{rowOf, emitExpression, emitItems}
+use Rattle.page.specs.declared.Sizes.{Sizes}
 use Rattle.page_words.specs.Trees.{placeTree, atomTree, valueTree}
 use Rattle.page_words.specs.declared.Line.{Line}
 use Rattle.page_words.specs.declared.Line.the-variants.{Empty, Abort, Goto, Label, Store, Put, Opens, While, If, Turns, Closes}
@@ -39,38 +40,38 @@ leftBefore Turns base left = record { follows = false; waiting = base ∷ left .
 leftBefore Closes base left = record { follows = false; waiting = pick (left .follows) base 0 ∷ left .waiting }
 
 -- The item that a line is by itself; a line that opens, turns or closes is none.
-abbrev pub lineItem : ℕ → Line → Items
-lineItem S Empty = empty then none
-lineItem S Abort = abort then none
-lineItem S (Goto l) = goto l then none
-lineItem S (Label l) = label l here none
-lineItem S (Store a v) = express (assign (placeTree S a) (valueTree S v)) then none
-lineItem S (Put array index a) = express (assign (element array (atomTree S index)) (atomTree S a)) then none
-lineItem S Opens = none
-lineItem S (While a) = none
-lineItem S (If a) = none
-lineItem S Turns = none
-lineItem S Closes = none
+abbrev pub lineItem : Sizes → Line → Items
+lineItem sizes Empty = empty then none
+lineItem sizes Abort = abort then none
+lineItem sizes (Goto l) = goto l then none
+lineItem sizes (Label l) = label l here none
+lineItem sizes (Store a v) = express (assign (placeTree sizes a) (valueTree sizes v)) then none
+lineItem sizes (Put array index a) = express (assign (element array (atomTree sizes index)) (atomTree sizes a)) then none
+lineItem sizes Opens = none
+lineItem sizes (While a) = none
+lineItem sizes (If a) = none
+lineItem sizes Turns = none
+lineItem sizes Closes = none
 
 -- The row of a block whose items begin at the row behind it, if it has any.
 abbrev pub blockRow : ℕ → (follows : Bool) → (next : ℕ) → List ℤ
 blockRow base follows next = rowOf 42 (pos (pick follows (base + 1) 0)) 0 0 0 next
 
 -- The rows of a line, from `base` on. Those of a while and of an if: the statement, its atom, and the block that it opens.
-abbrev pub lineTable : ℕ → Line → ℕ → Left → List ℤ
-lineTable S Empty base left = emitItems (left .follows) (lineItem S Empty) base
-lineTable S Abort base left = emitItems (left .follows) (lineItem S Abort) base
-lineTable S (Goto l) base left = emitItems (left .follows) (lineItem S (Goto l)) base
-lineTable S (Label l) base left = emitItems (left .follows) (lineItem S (Label l)) base
-lineTable S (Store a v) base left = emitItems (left .follows) (lineItem S (Store a v)) base
-lineTable S (Put array index a) base left = emitItems (left .follows) (lineItem S (Put array index a)) base
-lineTable S Opens base left = blockRow base (left .follows) (getD (left .waiting) 0 0)
-lineTable S (While a) base left =
-    (rowOf 44 (pos (base + 1)) (base + 2) 0 0 (getD (left .waiting) 0 0) ++ emitExpression (atomTree S a) (base + 1)) ++ blockRow (base + 2) (left .follows) 0
-lineTable S (If a) base left =
-    (rowOf 43 (pos (base + 1)) (base + 2) (getD (left .waiting) 0 0) 0 (getD (left .waiting) 1 0) ++ emitExpression (atomTree S a) (base + 1)) ++ blockRow (base + 2) (left .follows) 0
-lineTable S Turns base left = blockRow base (left .follows) 0
-lineTable S Closes base left = []
+abbrev pub lineTable : Sizes → Line → ℕ → Left → List ℤ
+lineTable sizes Empty base left = emitItems (left .follows) (lineItem sizes Empty) base
+lineTable sizes Abort base left = emitItems (left .follows) (lineItem sizes Abort) base
+lineTable sizes (Goto l) base left = emitItems (left .follows) (lineItem sizes (Goto l)) base
+lineTable sizes (Label l) base left = emitItems (left .follows) (lineItem sizes (Label l)) base
+lineTable sizes (Store a v) base left = emitItems (left .follows) (lineItem sizes (Store a v)) base
+lineTable sizes (Put array index a) base left = emitItems (left .follows) (lineItem sizes (Put array index a)) base
+lineTable sizes Opens base left = blockRow base (left .follows) (getD (left .waiting) 0 0)
+lineTable sizes (While a) base left =
+    (rowOf 44 (pos (base + 1)) (base + 2) 0 0 (getD (left .waiting) 0 0) ++ emitExpression (atomTree sizes a) (base + 1)) ++ blockRow (base + 2) (left .follows) 0
+lineTable sizes (If a) base left =
+    (rowOf 43 (pos (base + 1)) (base + 2) (getD (left .waiting) 0 0) 0 (getD (left .waiting) 1 0) ++ emitExpression (atomTree sizes a) (base + 1)) ++ blockRow (base + 2) (left .follows) 0
+lineTable sizes Turns base left = blockRow base (left .follows) 0
+lineTable sizes Closes base left = []
 
 -- ---- all lines
 
@@ -78,10 +79,10 @@ unfoldable pub leftBy : List Line → ℕ → Left
 leftBy [] base = nothing
 leftBy (line ∷ lines) base = leftBefore line base (leftBy lines (base + lineRows line))
 
-unfoldable pub linesTable : ℕ → List Line → ℕ → List ℤ
-linesTable S [] base = []
-linesTable S (line ∷ lines) base = lineTable S line base (leftBy lines (base + lineRows line)) ++ linesTable S lines (base + lineRows line)
+unfoldable pub linesTable : Sizes → List Line → ℕ → List ℤ
+linesTable sizes [] base = []
+linesTable sizes (line ∷ lines) base = lineTable sizes line base (leftBy lines (base + lineRows line)) ++ linesTable sizes lines (base + lineRows line)
 
 -- Row 0, then the rows of the lines.
-unfoldable pub pageTable : ℕ → List Line → List ℤ
-pageTable S lines = blockRow 0 (leftBy lines 1 .follows) 0 ++ linesTable S lines 1
+unfoldable pub pageTable : Sizes → List Line → List ℤ
+pageTable sizes lines = blockRow 0 (leftBy lines 1 .follows) 0 ++ linesTable sizes lines 1

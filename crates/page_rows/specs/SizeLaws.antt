@@ -9,9 +9,10 @@ use lib.ListN.{length, getD, length-append}
 use Rattle.language.specs.Sizes.{expressionRows, itemsRows}
 use Rattle.emission.specs.Emission.{rowOf, emitExpression}
 use Rattle.emission.specs.EmissionLaws.{length-items}
+use Rattle.page.specs.declared.Sizes.{Sizes}
 use Rattle.page_words.specs.Trees.{atomTree}
 use Rattle.page_words.specs.declared.Atom.{Atom}
-use Rattle.page_words.specs.declared.Atom.the-variants.{Constant, Variable, Temporary}
+use Rattle.page_words.specs.declared.Atom.the-variants.{Constant, Variable, Declared, Temporary}
 use Rattle.page_words.specs.declared.Line.{Line}
 use Rattle.page_words.specs.declared.Line.the-variants.{Empty, Abort, Goto, Label, Store, Put, Opens, While, If, Turns, Closes}
 use Rattle.page_blocks.specs.Scans.{lineRows}
@@ -19,10 +20,10 @@ use Rattle.page_blocks.specs.ScanLaws.{linesRows}
 use Rattle.page_blocks.specs.RowLaws.{atom-rows, value-rows}
 use Rattle.page_rows.specs.Rows.{Left, lineItem, blockRow, lineTable, leftBy, linesTable, pageTable}
 
-module _ (S : ℕ) where
+module _ (sizes : Sizes) where
   -- The rows of a line by the two innermost rows that wait.
   pub by-two : (line : Line) (base : ℕ) (follows : Bool) (waiting : List ℕ)
-      → lineTable S line base (record { follows = follows; waiting = getD waiting 0 0 ∷ getD waiting 1 0 ∷ [] }) ≡ lineTable S line base (record { follows = follows; waiting = waiting })
+      → lineTable sizes line base (record { follows = follows; waiting = getD waiting 0 0 ∷ getD waiting 1 0 ∷ [] }) ≡ lineTable sizes line base (record { follows = follows; waiting = waiting })
   by-two Empty base follows waiting = refl
   by-two Abort base follows waiting = refl
   by-two (Goto l) base follows waiting = refl
@@ -37,35 +38,37 @@ module _ (S : ℕ) where
 
   -- An atom between a row and a block's row.
   opening-size : (kind c next : ℕ) (base : ℕ) (follows : Bool) (a : Atom)
-      → length ((rowOf kind (pos (base + 1)) (base + 2) c 0 next ++ emitExpression (atomTree S a) (base + 1)) ++ blockRow (base + 2) follows 0) ≡ 18
+      → length ((rowOf kind (pos (base + 1)) (base + 2) c 0 next ++ emitExpression (atomTree sizes a) (base + 1)) ++ blockRow (base + 2) follows 0) ≡ 18
   unfolding emitExpression
   opening-size kind c next base follows (Constant v) = refl
   opening-size kind c next base follows (Variable n) = refl
+  opening-size kind c next base follows (Declared n) = refl
   opening-size kind c next base follows (Temporary n) = refl
 
-  pub length-line : (line : Line) (base : ℕ) (left : Left) → length (lineTable S line base left) ≡ 6 * lineRows line
+  pub length-line : (line : Line) (base : ℕ) (left : Left) → length (lineTable sizes line base left) ≡ 6 * lineRows line
   unfolding itemsRows expressionRows
-  length-line Empty base left = length-items (left .follows) (lineItem S Empty) base
-  length-line Abort base left = length-items (left .follows) (lineItem S Abort) base
-  length-line (Goto l) base left = length-items (left .follows) (lineItem S (Goto l)) base
-  length-line (Label l) base left = length-items (left .follows) (lineItem S (Label l)) base
-  length-line (Store (Constant c) v) base left = length-items (left .follows) (lineItem S (Store (Constant c) v)) base ∙ omega (arith, value-rows S v)
-  length-line (Store (Variable n) v) base left = length-items (left .follows) (lineItem S (Store (Variable n) v)) base ∙ omega (arith, value-rows S v)
-  length-line (Store (Temporary n) v) base left = length-items (left .follows) (lineItem S (Store (Temporary n) v)) base ∙ omega (arith, value-rows S v)
-  length-line (Put array index a) base left = length-items (left .follows) (lineItem S (Put array index a)) base ∙ omega (arith, atom-rows S index, atom-rows S a)
+  length-line Empty base left = length-items (left .follows) (lineItem sizes Empty) base
+  length-line Abort base left = length-items (left .follows) (lineItem sizes Abort) base
+  length-line (Goto l) base left = length-items (left .follows) (lineItem sizes (Goto l)) base
+  length-line (Label l) base left = length-items (left .follows) (lineItem sizes (Label l)) base
+  length-line (Store (Constant c) v) base left = length-items (left .follows) (lineItem sizes (Store (Constant c) v)) base ∙ omega (arith, value-rows sizes v)
+  length-line (Store (Variable n) v) base left = length-items (left .follows) (lineItem sizes (Store (Variable n) v)) base ∙ omega (arith, value-rows sizes v)
+  length-line (Store (Declared n) v) base left = length-items (left .follows) (lineItem sizes (Store (Declared n) v)) base ∙ omega (arith, value-rows sizes v)
+  length-line (Store (Temporary n) v) base left = length-items (left .follows) (lineItem sizes (Store (Temporary n) v)) base ∙ omega (arith, value-rows sizes v)
+  length-line (Put array index a) base left = length-items (left .follows) (lineItem sizes (Put array index a)) base ∙ omega (arith, atom-rows sizes index, atom-rows sizes a)
   length-line Opens base left = refl
   length-line (While a) base left = opening-size 44 0 (getD (left .waiting) 0 0) base (left .follows) a
   length-line (If a) base left = opening-size 43 (getD (left .waiting) 0 0) (getD (left .waiting) 1 0) base (left .follows) a
   length-line Turns base left = refl
   length-line Closes base left = refl
 
-  length-lines : (lines : List Line) (base : ℕ) → length (linesTable S lines base) ≡ 6 * linesRows lines
+  length-lines : (lines : List Line) (base : ℕ) → length (linesTable sizes lines base) ≡ 6 * linesRows lines
   unfolding linesTable
   length-lines [] base = refl
   length-lines (line ∷ lines) base =
-      length-append (lineTable S line base (leftBy lines (base + lineRows line))) (linesTable S lines (base + lineRows line))
+      length-append (lineTable sizes line base (leftBy lines (base + lineRows line))) (linesTable sizes lines (base + lineRows line))
       ∙ omega (arith, length-line line base (leftBy lines (base + lineRows line)), length-lines lines (base + lineRows line))
 
-  pub length-page : (lines : List Line) → length (pageTable S lines) ≡ 6 * (1 + linesRows lines)
+  pub length-page : (lines : List Line) → length (pageTable sizes lines) ≡ 6 * (1 + linesRows lines)
   unfolding pageTable
   length-page lines = omega (arith, length-lines lines 1)

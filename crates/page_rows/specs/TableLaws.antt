@@ -14,11 +14,12 @@ use Rattle.language.specs.Trees.{Expression, Statement, Items, none as noItem, 
 use Rattle.language.specs.Sizes.{expressionRows, statementRows, itemsRows}
 use Rattle.emission.specs.Emission.{rowOf, listLink, emitExpression, emitStatement, emitItems, emit}
 use Rattle.emission.specs.EmissionLaws.{orMore, emit-append}
+use Rattle.page.specs.declared.Sizes.{Sizes}
 use Rattle.page.specs.Lines.{Waiting, outermost, closed, Reading, reading, malformed, readLine, readBefore, whole, readLines}
 use Rattle.page.specs.Lines.{turned as elseWaiting}
 use Rattle.page_words.specs.Trees.{atomTree, valueTree, lineTree}
 use Rattle.page_words.specs.declared.Atom.{Atom}
-use Rattle.page_words.specs.declared.Atom.the-variants.{Constant, Variable, Temporary}
+use Rattle.page_words.specs.declared.Atom.the-variants.{Constant, Variable, Declared, Temporary}
 use Rattle.page_words.specs.declared.Line.{Line}
 use Rattle.page_words.specs.declared.Line.the-variants.{Empty, Abort, Goto, Label, Store, Put, Opens, While, If, Turns, Closes}
 use Rattle.page_blocks.specs.Blocks.{trees}
@@ -177,28 +178,30 @@ module _ (is : Items) (waiting : Waiting) (base : ℕ) (left : Left) (table : Li
             ∙ ap₂ (λ (l m : List ℤ). l ++ m) (block-words is base (left .follows) (r .follows) 0) (ap (waitingTable waiting) behind));
       }
 
-module _ (S : ℕ) where
+module _ (sizes : Sizes) where
   line-read : (line : Line) (r : Reading) (base : ℕ) (left : Left) (table : List ℤ) → Read r (base + lineRows line) left table
-      → Read (readLine (lineTree S line) r) base (leftBefore line base left) (lineTable S line base left ++ table)
+      → Read (readLine (lineTree sizes line) r) base (leftBefore line base left) (lineTable sizes line base left ++ table)
   unfolding Read statementRows expressionRows _⧺_
   line-read Empty malformed base left table h = tt
-  line-read Empty (reading is waiting) base left table h = item-read (lineItem S Empty) is waiting base 1 left table refl refl refl h
+  line-read Empty (reading is waiting) base left table h = item-read (lineItem sizes Empty) is waiting base 1 left table refl refl refl h
   line-read Abort malformed base left table h = tt
-  line-read Abort (reading is waiting) base left table h = item-read (lineItem S Abort) is waiting base 1 left table refl refl refl h
+  line-read Abort (reading is waiting) base left table h = item-read (lineItem sizes Abort) is waiting base 1 left table refl refl refl h
   line-read (Goto l) malformed base left table h = tt
-  line-read (Goto l) (reading is waiting) base left table h = item-read (lineItem S (Goto l)) is waiting base 1 left table refl refl refl h
+  line-read (Goto l) (reading is waiting) base left table h = item-read (lineItem sizes (Goto l)) is waiting base 1 left table refl refl refl h
   line-read (Label l) malformed base left table h = tt
-  line-read (Label l) (reading is waiting) base left table h = item-read (lineItem S (Label l)) is waiting base 1 left table refl refl refl h
+  line-read (Label l) (reading is waiting) base left table h = item-read (lineItem sizes (Label l)) is waiting base 1 left table refl refl refl h
   line-read (Store a v) malformed base left table h = tt
   line-read (Store (Constant c) v) (reading is waiting) base left table h =
-      item-read (lineItem S (Store (Constant c) v)) is waiting base (lineRows (Store (Constant c) v)) left table (omega (arith, value-rows S v)) refl (omega (arith, value-rows S v)) h
+      item-read (lineItem sizes (Store (Constant c) v)) is waiting base (lineRows (Store (Constant c) v)) left table (omega (arith, value-rows sizes v)) refl (omega (arith, value-rows sizes v)) h
   line-read (Store (Variable n) v) (reading is waiting) base left table h =
-      item-read (lineItem S (Store (Variable n) v)) is waiting base (lineRows (Store (Variable n) v)) left table (omega (arith, value-rows S v)) refl (omega (arith, value-rows S v)) h
+      item-read (lineItem sizes (Store (Variable n) v)) is waiting base (lineRows (Store (Variable n) v)) left table (omega (arith, value-rows sizes v)) refl (omega (arith, value-rows sizes v)) h
+  line-read (Store (Declared n) v) (reading is waiting) base left table h =
+      item-read (lineItem sizes (Store (Declared n) v)) is waiting base (lineRows (Store (Declared n) v)) left table (omega (arith, value-rows sizes v)) refl (omega (arith, value-rows sizes v)) h
   line-read (Store (Temporary n) v) (reading is waiting) base left table h =
-      item-read (lineItem S (Store (Temporary n) v)) is waiting base (lineRows (Store (Temporary n) v)) left table (omega (arith, value-rows S v)) refl (omega (arith, value-rows S v)) h
+      item-read (lineItem sizes (Store (Temporary n) v)) is waiting base (lineRows (Store (Temporary n) v)) left table (omega (arith, value-rows sizes v)) refl (omega (arith, value-rows sizes v)) h
   line-read (Put array index a) malformed base left table h = tt
   line-read (Put array index a) (reading is waiting) base left table h =
-      item-read (lineItem S (Put array index a)) is waiting base 5 left table (omega (arith, atom-rows S index, atom-rows S a)) refl (omega (arith, atom-rows S index, atom-rows S a)) h
+      item-read (lineItem sizes (Put array index a)) is waiting base 5 left table (omega (arith, atom-rows sizes index, atom-rows sizes a)) refl (omega (arith, atom-rows sizes index, atom-rows sizes a)) h
   line-read Opens malformed base left table h = tt
   line-read Opens (reading is outermost) base left table h = tt
   line-read Opens (reading is (closed later waiting)) base left table h =
@@ -207,36 +210,36 @@ module _ (S : ℕ) where
   line-read (While a) malformed base left table h = tt
   line-read (While a) (reading is outermost) base left table h = tt
   line-read (While a) (reading is (closed later waiting)) base left table h =
-      opened-read (while (atomTree S a) (block is)) is later waiting base 3 left table
-      (λ next. (rowOf 44 (pos (base + 1)) (base + 2) 0 0 next ++ emitExpression (atomTree S a) (base + 1)) ++ blockRow (base + 2) (left .follows) 0) (omega (arith, atom-rows S a))
-      (while-words (atomTree S a) (atom-rows S a) is base (left .follows) (h .follows)) h
+      opened-read (while (atomTree sizes a) (block is)) is later waiting base 3 left table
+      (λ next. (rowOf 44 (pos (base + 1)) (base + 2) 0 0 next ++ emitExpression (atomTree sizes a) (base + 1)) ++ blockRow (base + 2) (left .follows) 0) (omega (arith, atom-rows sizes a))
+      (while-words (atomTree sizes a) (atom-rows sizes a) is base (left .follows) (h .follows)) h
   line-read (While a) (reading is (elseWaiting onFalse waiting)) base left table h = tt
   line-read (If a) malformed base left table h = tt
   line-read (If a) (reading is outermost) base left table h = tt
   line-read (If a) (reading is (closed later waiting)) base left table h = tt
   line-read (If a) (reading is (elseWaiting onFalse outermost)) base left table h = tt
   line-read (If a) (reading is (elseWaiting onFalse (closed later waiting))) base left table h =
-      branched-read (ifElse (atomTree S a) (block is) (block onFalse)) is onFalse later waiting base 3 left table
-      (λ second next. (rowOf 43 (pos (base + 1)) (base + 2) second 0 next ++ emitExpression (atomTree S a) (base + 1)) ++ blockRow (base + 2) (left .follows) 0) (omega (arith, atom-rows S a))
-      (if-words (atomTree S a) (atom-rows S a) is base (left .follows) (h .follows) onFalse) h
+      branched-read (ifElse (atomTree sizes a) (block is) (block onFalse)) is onFalse later waiting base 3 left table
+      (λ second next. (rowOf 43 (pos (base + 1)) (base + 2) second 0 next ++ emitExpression (atomTree sizes a) (base + 1)) ++ blockRow (base + 2) (left .follows) 0) (omega (arith, atom-rows sizes a))
+      (if-words (atomTree sizes a) (atom-rows sizes a) is base (left .follows) (h .follows) onFalse) h
   line-read (If a) (reading is (elseWaiting onFalse (elseWaiting other waiting))) base left table h = tt
   line-read Turns malformed base left table h = tt
   line-read Turns (reading is waiting) base left table h = turned-read is waiting base left table h
   line-read Closes malformed base left table h = tt
   line-read Closes (reading is waiting) base left table h = closed-read is waiting base left table h
 
-  lines-read : (lines : List Line) (base : ℕ) → Read (readBefore (trees S lines) (reading noItem outermost)) base (leftBy lines base) (linesTable S lines base)
+  lines-read : (lines : List Line) (base : ℕ) → Read (readBefore (trees sizes lines) (reading noItem outermost)) base (leftBy lines base) (linesTable sizes lines base)
   unfolding Read readBefore leftBy linesTable waitingRows waitingTable emitItems itemsRows
   lines-read [] base = record { follows = refl; rows = refl; words = refl }
   lines-read (line ∷ lines) base =
-      line-read line (readBefore (trees S lines) (reading noItem outermost)) base (leftBy lines (base + lineRows line)) (linesTable S lines (base + lineRows line)) (lines-read lines (base + lineRows line))
+      line-read line (readBefore (trees sizes lines) (reading noItem outermost)) base (leftBy lines (base + lineRows line)) (linesTable sizes lines (base + lineRows line)) (lines-read lines (base + lineRows line))
 
   -- The rows of the lines are those of the program that they are read as.
-  pub table-of-page : (lines : List Line) (items : Items) → readLines (trees S lines) ≡ some items → pageTable S lines ≡ emit (block items)
+  pub table-of-page : (lines : List Line) (items : Items) → readLines (trees sizes lines) ≡ some items → pageTable sizes lines ≡ emit (block items)
   unfolding readLines Read pageTable emit waitingTable
-  table-of-page lines items e = from (readBefore (trees S lines) (reading noItem outermost)) (lines-read lines 1) e
+  table-of-page lines items e = from (readBefore (trees sizes lines) (reading noItem outermost)) (lines-read lines 1) e
     where
-      from : (r : Reading) → Read r 1 (leftBy lines 1) (linesTable S lines 1) → whole r ≡ some items → blockRow 0 (leftBy lines 1 .follows) 0 ++ linesTable S lines 1 ≡ emitStatement (block items) 0 0
+      from : (r : Reading) → Read r 1 (leftBy lines 1) (linesTable sizes lines 1) → whole r ≡ some items → blockRow 0 (leftBy lines 1 .follows) 0 ++ linesTable sizes lines 1 ≡ emitStatement (block items) 0 0
       from malformed h q = not-some q
       from (reading is outermost) h q =
           let same : is ≡ items = cc in

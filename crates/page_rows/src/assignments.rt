@@ -6,6 +6,7 @@ use leaves::assignments::put_copy;
 use leaves::assignments::put_fetch;
 use leaves::assignments::put_minus;
 use leaves::assignments::put_store;
+use page::Sizes;
 use page_words::Atom;
 use page_words::Value;
 ghost use mathlib.Core.Path.{_≡_};
@@ -20,29 +21,29 @@ ghost use Rattle.page_words.specs.Trees.{valueTree};
 ghost use Rattle.page_words.specs.declared.Line.the-variants.{Store, Put};
 ghost use Rattle.page_blocks.specs.Scans.{valueRows};
 ghost use Rattle.page_rows.specs.Rows.{lineItem};
-ghost use Rattle.page_rows.specs.Fits.{mostNames};
+ghost use Rattle.page_rows.specs.Fits.{mostNames, SmallSizes};
 
 // A value assigned to the variable of this number.
-fn put_value(store: usize, number: usize, value: Value, base: usize, follows: bool, out: &mut [i32])
-    requires { ⌜ Room (3 + valueRows value) base (length (now out)) × (store ≤ 8192) × (number < 65536) × ValueFits mostNames value ⌝ }
-    ensures { λ _. ⌜ now (out .exit) ≡ over (emitItems follows (express (assign (variable number) (valueTree store value)) then none) base) (now (out .entry)) ⌝ }
+fn put_value(sizes: Sizes, number: usize, value: Value, base: usize, follows: bool, out: &mut [i32])
+    requires { ⌜ Room (3 + valueRows value) base (length (now out)) × SmallSizes sizes × (number < 65536) × ValueFits mostNames value ⌝ }
+    ensures { λ _. ⌜ now (out .exit) ≡ over (emitItems follows (express (assign (variable number) (valueTree sizes value)) then none) base) (now (out .entry)) ⌝ }
 {
     match value {
-        Value::Single(atom) => put_copy(number, kernel_atom(store, atom), base, follows, out),
+        Value::Single(atom) => put_copy(number, kernel_atom(sizes, atom), base, follows, out),
         Value::Element(array, index) => put_fetch(
             number,
             array as usize,
-            kernel_atom(store, index),
+            kernel_atom(sizes, index),
             base,
             follows,
             out,
         ),
-        Value::Minus(atom) => put_minus(number, kernel_atom(store, atom), base, follows, out),
+        Value::Minus(atom) => put_minus(number, kernel_atom(sizes, atom), base, follows, out),
         Value::Binary(operator, left, right) => put_binary(
             number,
             operator,
-            kernel_atom(store, left),
-            kernel_atom(store, right),
+            kernel_atom(sizes, left),
+            kernel_atom(sizes, right),
             base,
             follows,
             out,
@@ -52,19 +53,19 @@ fn put_value(store: usize, number: usize, value: Value, base: usize, follows: bo
 
 // A value assigned to a name.
 pub fn put_named(
-    store: usize,
+    sizes: Sizes,
     name: Atom,
     value: Value,
     base: usize,
     follows: bool,
     out: &mut [i32],
 )
-    requires { ⌜ Room (3 + valueRows value) base (length (now out)) × (store ≤ 8192) × NameFits mostNames name × ValueFits mostNames value ⌝ }
-    ensures { λ _. ⌜ now (out .exit) ≡ over (emitItems follows (lineItem store (Store name value)) base) (now (out .entry)) ⌝ }
+    requires { ⌜ Room (3 + valueRows value) base (length (now out)) × SmallSizes sizes × NameFits mostNames name × ValueFits mostNames value ⌝ }
+    ensures { λ _. ⌜ now (out .exit) ≡ over (emitItems follows (lineItem sizes (Store name value)) base) (now (out .entry)) ⌝ }
 {
     put_value(
-        store,
-        variable_number(store, name),
+        sizes,
+        variable_number(sizes, name),
         value,
         base,
         follows,
@@ -74,7 +75,7 @@ pub fn put_named(
 
 // An atom assigned to an element.
 pub fn put_element(
-    store: usize,
+    sizes: Sizes,
     array: u32,
     index: Atom,
     atom: Atom,
@@ -82,13 +83,13 @@ pub fn put_element(
     follows: bool,
     out: &mut [i32],
 )
-    requires { ⌜ Room 5 base (length (now out)) × (store ≤ 8192) × ElementFits mostNames array index × AtomFits mostNames atom ⌝ }
-    ensures { λ _. ⌜ now (out .exit) ≡ over (emitItems follows (lineItem store (Put array index atom)) base) (now (out .entry)) ⌝ }
+    requires { ⌜ Room 5 base (length (now out)) × SmallSizes sizes × ElementFits mostNames array index × AtomFits mostNames atom ⌝ }
+    ensures { λ _. ⌜ now (out .exit) ≡ over (emitItems follows (lineItem sizes (Put array index atom)) base) (now (out .entry)) ⌝ }
 {
     put_store(
         array as usize,
-        kernel_atom(store, index),
-        kernel_atom(store, atom),
+        kernel_atom(sizes, index),
+        kernel_atom(sizes, atom),
         base,
         follows,
         out,

@@ -11,6 +11,7 @@ use leaves::control::put_label;
 use leaves::rows::behind;
 use leaves::rows::put_atom;
 use leaves::rows::put_row;
+use page::Sizes;
 use page_words::Line;
 ghost use mathlib.Core.Path.{_≡_};
 ghost use mathlib.Core.List.{[], _∷_, _++_};
@@ -24,7 +25,7 @@ ghost use Rattle.leaves.specs.Room.{Room};
 ghost use Rattle.page_words.specs.Texts.{LineFits};
 ghost use Rattle.page_blocks.specs.Scans.{lineRows};
 ghost use Rattle.page_rows.specs.Rows.{blockRow, lineTable};
-ghost use Rattle.page_rows.specs.Fits.{mostNames};
+ghost use Rattle.page_rows.specs.Fits.{mostNames, SmallSizes};
 
 // The row of a block whose items begin at the row behind it, if it has any.
 pub fn put_block_row(base: usize, follows: bool, next: usize, out: &mut [i32])
@@ -62,7 +63,7 @@ fn put_branch(
 
 // The rows of a line, from the start of the table on, which is row `base`; the two innermost rows that wait.
 pub fn put_line(
-    store: usize,
+    sizes: Sizes,
     line: Line,
     base: usize,
     follows: bool,
@@ -70,19 +71,19 @@ pub fn put_line(
     second: usize,
     out: &mut [i32],
 )
-    requires { ⌜ Room (lineRows line) base (length (now out)) × (store ≤ 8192) × (first < 65536) × (second < 65536) × LineFits mostNames line ⌝ }
-    ensures { λ _. ⌜ now (out .exit) ≡ over (lineTable store line base (record { follows = follows; waiting = first ∷ second ∷ [] })) (now (out .entry)) ⌝ }
+    requires { ⌜ Room (lineRows line) base (length (now out)) × SmallSizes sizes × (first < 65536) × (second < 65536) × LineFits mostNames line ⌝ }
+    ensures { λ _. ⌜ now (out .exit) ≡ over (lineTable sizes line base (record { follows = follows; waiting = first ∷ second ∷ [] })) (now (out .entry)) ⌝ }
 {
     match line {
         Line::Empty => put_empty(base, follows, out),
         Line::Abort => put_abort(base, follows, out),
         Line::Goto(label) => put_goto(label as usize, base, follows, out),
         Line::Label(label) => put_label(label as usize, base, follows, out),
-        Line::Store(name, value) => put_named(store, name, value, base, follows, out),
-        Line::Put(array, index, atom) => put_element(store, array, index, atom, base, follows, out),
+        Line::Store(name, value) => put_named(sizes, name, value, base, follows, out),
+        Line::Put(array, index, atom) => put_element(sizes, array, index, atom, base, follows, out),
         Line::Opens => put_block_row(base, follows, first, out),
-        Line::While(atom) => put_while(kernel_atom(store, atom), base, follows, first, out),
-        Line::If(atom) => put_branch(kernel_atom(store, atom), base, follows, first, second, out),
+        Line::While(atom) => put_while(kernel_atom(sizes, atom), base, follows, first, out),
+        Line::If(atom) => put_branch(kernel_atom(sizes, atom), base, follows, first, second, out),
         Line::Turns => put_block_row(base, follows, 0, out),
         Line::Closes => {}
     }

@@ -11,7 +11,7 @@ use Rattle.words.specs.Laws.{by-cases}
 use Rattle.text_numbers.specs.Number.{numberOf}
 use Rattle.text_numbers.specs.NumberLaws.{not-some}
 use Rattle.text_numbers.specs.Reader.{atMost}
-use Rattle.page_words.specs.Reads.{belowOf, numberRead, variableOf, temporaryOf, constantOf, atomRead, operatorOfOne, operatorOfTwo, operatorRead}
+use Rattle.page_words.specs.Reads.{belowOf, numberRead, variableOf, declaredWordOf, temporaryOf, constantOf, atomRead, operatorOfOne, operatorOfTwo, operatorRead}
 use Rattle.page_words.specs.declared.Names.{Names}
 use Rattle.page_words.specs.declared.NumberRead.the-variants.{Number, Malformed}
 use Rattle.page_words.specs.declared.AtomRead.the-variants as atom-cases
@@ -46,15 +46,20 @@ module _ (names : Names) where
   atom-variable [] f h = absurd (f refl)
   atom-variable (first ∷ others) f h = rw (eq-eqb first 118 h)
 
+  pub atom-declared : (word : List ℕ) → (length word ≡ 0 → ⊥) → getD word 0 0 ≡ 108 → declaredWordOf (numberRead (names .declared) (drop 1 word)) ≡ atomRead names word
+  unfolding atomRead
+  atom-declared [] f h = absurd (f refl)
+  atom-declared (first ∷ others) f h = rw (ne-eqb first 118 (λ e. omega arith), eq-eqb first 108 h)
+
   pub atom-temporary : (word : List ℕ) → (length word ≡ 0 → ⊥) → getD word 0 0 ≡ 116 → temporaryOf (numberRead (names .temporaries) (drop 1 word)) ≡ atomRead names word
   unfolding atomRead
   atom-temporary [] f h = absurd (f refl)
-  atom-temporary (first ∷ others) f h = rw (ne-eqb first 118 (λ e. omega arith), eq-eqb first 116 h)
+  atom-temporary (first ∷ others) f h = rw (ne-eqb first 118 (λ e. omega arith), ne-eqb first 108 (λ e. omega arith), eq-eqb first 116 h)
 
-  pub atom-constant : (word : List ℕ) → (length word ≡ 0 → ⊥) → (getD word 0 0 ≡ 118 → ⊥) → (getD word 0 0 ≡ 116 → ⊥) → constantOf (numberOf word) ≡ atomRead names word
+  pub atom-constant : (word : List ℕ) → (length word ≡ 0 → ⊥) → (getD word 0 0 ≡ 118 → ⊥) → (getD word 0 0 ≡ 108 → ⊥) → (getD word 0 0 ≡ 116 → ⊥) → constantOf (numberOf word) ≡ atomRead names word
   unfolding atomRead
-  atom-constant [] f h k = absurd (f refl)
-  atom-constant (first ∷ others) f h k = rw (ne-eqb first 118 h, ne-eqb first 116 k)
+  atom-constant [] f h d k = absurd (f refl)
+  atom-constant (first ∷ others) f h d k = rw (ne-eqb first 118 h, ne-eqb first 108 d, ne-eqb first 116 k)
 
 -- ---- operators
 

@@ -21,10 +21,10 @@ use Rattle.page.specs.WordLaws.{Between, between-free, wider, digits-between, n
 use Rattle.page_words.specs.Compare.{isPrefix, isWord, isFramed, middle}
 use Rattle.page_words.specs.CompareLaws.{framed-complete, middle-complete, piece-all, piece-at, piece-first, piece-rest, piece-behind, piece-inside}
 use Rattle.page_words.specs.Texts.{atomText, elementText, valueText, assignmentText, lineText, AtomFits, NameFits, ElementFits, ValueFits, LineFits}
-use Rattle.page_words.specs.Reads.{belowOf, numberRead, variableOf, temporaryOf, constantOf, atomRead, nameOf, elementOf, elementIn, elementRead, operatorOfOne, operatorOfTwo, operatorRead, singleOf, minusOf, binaryOf, binaryRead, severalRead, valueRead, gotoOf, labelOf, ifOf, whileOf, storeOf, putOf, assignedOf, assignmentOf, assignmentRead, testRead, jumpRead, lineRead}
+use Rattle.page_words.specs.Reads.{belowOf, numberRead, variableOf, declaredWordOf, temporaryOf, constantOf, atomRead, nameOf, elementOf, elementIn, elementRead, operatorOfOne, operatorOfTwo, operatorRead, singleOf, minusOf, binaryOf, binaryRead, severalRead, valueRead, gotoOf, labelOf, ifOf, whileOf, storeOf, putOf, assignedOf, assignmentOf, assignmentRead, testRead, jumpRead, lineRead}
 use Rattle.page_words.specs.declared.Names.{Names}
 use Rattle.page_words.specs.declared.Atom.{Atom}
-use Rattle.page_words.specs.declared.Atom.the-variants.{Constant, Variable, Temporary}
+use Rattle.page_words.specs.declared.Atom.the-variants.{Constant, Variable, Declared, Temporary}
 use Rattle.page_words.specs.declared.Value.{Value}
 use Rattle.page_words.specs.declared.Value.the-variants.{Single, Element, Minus, Binary}
 use Rattle.page_words.specs.declared.Line.{Line}
@@ -83,12 +83,14 @@ digits-free : (separator n : ℕ) → (separator < 48) ⊎ (57 < separator) → 
 digits-free separator n o = between-free 48 57 separator (digits n) o (digits-between n)
 
 -- An atom has neither blanks nor brackets.
-atom-free : (separator : ℕ) (a : Atom) → (separator < 45) ⊎ ((57 < separator) × (separator < 116)) → Free separator (atomText a)
+atom-free : (separator : ℕ) (a : Atom) → (separator < 45) ⊎ ((57 < separator) × (separator < 108)) → Free separator (atomText a)
 unfolding Free
 atom-free separator (Constant v) (inl h) = between-free 45 57 separator (numberBytes v) (inl h) (number-between v)
 atom-free separator (Constant v) (inr h) = between-free 45 57 separator (numberBytes v) (inr (h .0)) (number-between v)
 atom-free separator (Variable n) (inl h) = (λ e. omega arith, digits-free separator n (inl (omega arith)))
 atom-free separator (Variable n) (inr h) = (λ e. omega (arith, h .1), digits-free separator n (inr (h .0)))
+atom-free separator (Declared n) (inl h) = (λ e. omega arith, digits-free separator n (inl (omega arith)))
+atom-free separator (Declared n) (inr h) = (λ e. omega (arith, h .1), digits-free separator n (inr (h .0)))
 atom-free separator (Temporary n) (inl h) = (λ e. omega arith, digits-free separator n (inl (omega arith)))
 atom-free separator (Temporary n) (inr h) = (λ e. omega (arith, h .1), digits-free separator n (inr (h .0)))
 
@@ -100,12 +102,13 @@ no-array : (a : Atom) (ys : List ℕ) → isPrefix (97 ∷ []) (atomText a ++ ys
 unfolding isPrefix
 no-array (Constant v) ys = first-other 97 45 57 [] (numberBytes v) ys (number-word v .some-byte) (number-between v) (inr (omega arith))
 no-array (Variable n) ys = refl
+no-array (Declared n) ys = refl
 no-array (Temporary n) ys = refl
 
 constant-read : (names : Names) (word : List ℕ) → 1 ≤ length word → Between 45 57 word → atomRead names word ≡ constantOf (numberOf word)
 unfolding atomRead Between
 constant-read names [] h b = absurd (omega arith)
-constant-read names (first ∷ others) h b = rw (ne-eqb first 118 (λ e. omega (arith, b .1)), ne-eqb first 116 (λ e. omega (arith, b .1)))
+constant-read names (first ∷ others) h b = rw (ne-eqb first 118 (λ e. omega (arith, b .1)), ne-eqb first 108 (λ e. omega (arith, b .1)), ne-eqb first 116 (λ e. omega (arith, b .1)))
 
 -- No atom is a sign alone.
 no-sign : (a : Atom) → isWord (45 ∷ []) (atomText a) ≡ false
@@ -114,6 +117,7 @@ no-sign (Constant (pos n)) =
     not-word (45 ∷ []) (digits n) (ap (isPrefix (45 ∷ [])) (sym (append-nil (digits n))) ∙ first-other 45 48 57 [] (digits n) [] (length-some n) (digits-between n) (inl (omega arith)))
 no-sign (Constant (negsuc n)) = rw (ne-eqb (length (45 ∷ digits (suc n))) 1 (λ e. omega (arith, length-some (suc n))))
 no-sign (Variable n) = not-word (45 ∷ []) (118 ∷ digits n) refl
+no-sign (Declared n) = not-word (45 ∷ []) (108 ∷ digits n) refl
 no-sign (Temporary n) = not-word (45 ∷ []) (116 ∷ digits n) refl
 
 module _ (names : Names) where
@@ -121,11 +125,13 @@ module _ (names : Names) where
   unfolding atomRead
   atom-complete (Constant v) h = constant-read names (numberBytes v) (number-word v .some-byte) (number-between v) ∙ ap constantOf (number-shows v h)
   atom-complete (Variable n) h = ap variableOf (number-complete (names .variables) n h)
+  atom-complete (Declared n) h = ap declaredWordOf (number-complete (names .declared) n h)
   atom-complete (Temporary n) h = ap temporaryOf (number-complete (names .temporaries) n h)
 
   name-complete : (a : Atom) → NameFits names a → nameOf (atomRead names (atomText a)) ≡ atom-cases.Read a
   name-complete (Constant v) h = absurd h
   name-complete (Variable n) h = ap nameOf (atom-complete (Variable n) h)
+  name-complete (Declared n) h = ap nameOf (atom-complete (Declared n) h)
   name-complete (Temporary n) h = ap nameOf (atom-complete (Temporary n) h)
 
   -- ---- elements
@@ -288,6 +294,9 @@ module _ (names : Names) where
   line-complete (Store (Variable n) v) h =
       let text = lineText (Store (Variable n) v) in
       plain-line text refl refl refl refl ∙ no-jump text refl refl ∙ no-test text refl refl ∙ store-complete (Variable n) v (h .0) (h .1)
+  line-complete (Store (Declared n) v) h =
+      let text = lineText (Store (Declared n) v) in
+      plain-line text refl refl refl refl ∙ no-jump text refl refl ∙ no-test text refl refl ∙ store-complete (Declared n) v (h .0) (h .1)
   line-complete (Store (Temporary n) v) h =
       let text = lineText (Store (Temporary n) v) in
       plain-line text refl refl refl refl ∙ no-jump text refl refl ∙ no-test text refl refl ∙ store-complete (Temporary n) v (h .0) (h .1)

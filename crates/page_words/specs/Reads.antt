@@ -13,7 +13,7 @@ use Rattle.text_lines.specs.Reader.{pieceEnd}
 use Rattle.page_words.specs.Compare.{isWord, isFramed, middle}
 use Rattle.page_words.specs.declared.Names.{Names}
 use Rattle.page_words.specs.declared.Atom.{Atom}
-use Rattle.page_words.specs.declared.Atom.the-variants.{Constant, Variable, Temporary}
+use Rattle.page_words.specs.declared.Atom.the-variants.{Constant, Variable, Declared, Temporary}
 use Rattle.page_words.specs.declared.Value.{Value}
 use Rattle.page_words.specs.declared.Value.the-variants.{Single, Element, Minus, Binary}
 use Rattle.page_words.specs.declared.Line.{Line}
@@ -45,6 +45,10 @@ abbrev pub variableOf : NumberRead → AtomRead
 variableOf (number-cases.Number n) = atom-cases.Read (Variable n)
 variableOf number-cases.Malformed = atom-cases.Malformed
 
+abbrev pub declaredWordOf : NumberRead → AtomRead
+declaredWordOf (number-cases.Number n) = atom-cases.Read (Declared n)
+declaredWordOf number-cases.Malformed = atom-cases.Malformed
+
 abbrev pub temporaryOf : NumberRead → AtomRead
 temporaryOf (number-cases.Number n) = atom-cases.Read (Temporary n)
 temporaryOf number-cases.Malformed = atom-cases.Malformed
@@ -57,6 +61,7 @@ abbrev pub nameOf : AtomRead → AtomRead
 nameOf atom-cases.Malformed = atom-cases.Malformed
 nameOf (atom-cases.Read (Constant v)) = atom-cases.Malformed
 nameOf (atom-cases.Read (Variable n)) = atom-cases.Read (Variable n)
+nameOf (atom-cases.Read (Declared n)) = atom-cases.Read (Declared n)
 nameOf (atom-cases.Read (Temporary n)) = atom-cases.Read (Temporary n)
 
 abbrev pub elementOf : NumberRead → AtomRead → ElementRead
@@ -137,12 +142,13 @@ assignedOf (element-cases.Read array index) name value = putOf array index value
 assignedOf element-cases.Malformed name value = storeOf name value
 
 module _ (names : Names) where
-  -- `v7`, `t7`, `-7`
+  -- `v7`, `l7`, `t7`, `-7`
   unfoldable pub atomRead : List ℕ → AtomRead
   atomRead [] = atom-cases.Malformed
   atomRead (first ∷ others) =
       pick (eqb first 118) (variableOf (numberRead (names .variables) others))
-      (pick (eqb first 116) (temporaryOf (numberRead (names .temporaries) others)) (constantOf (numberOf (first ∷ others))))
+      (pick (eqb first 108) (declaredWordOf (numberRead (names .declared) others))
+      (pick (eqb first 116) (temporaryOf (numberRead (names .temporaries) others)) (constantOf (numberOf (first ∷ others)))))
 
   -- An element without its letter and its last bracket, told by where its first bracket stands.
   unfoldable pub elementIn : List ℕ → ElementRead

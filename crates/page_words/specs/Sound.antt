@@ -20,10 +20,10 @@ use Rattle.page.specs.Page.{operatorWord}
 use Rattle.page_words.specs.Compare.{isWord, isFramed, middle}
 use Rattle.page_words.specs.CompareLaws.{never, word-sound, framed-sound, piece-splits, piece-halves}
 use Rattle.page_words.specs.Texts.{atomText, elementText, valueText, assignmentText, lineText, AtomFits, NameFits, ElementFits, ValueFits, LineFits}
-use Rattle.page_words.specs.Reads.{belowOf, numberRead, variableOf, temporaryOf, constantOf, atomRead, nameOf, elementOf, elementIn, elementRead, operatorOfOne, operatorOfTwo, operatorRead, singleOf, minusOf, binaryOf, binaryRead, severalRead, valueRead, gotoOf, labelOf, ifOf, whileOf, storeOf, putOf, assignedOf, assignmentRead, testRead, jumpRead, lineRead}
+use Rattle.page_words.specs.Reads.{belowOf, numberRead, variableOf, declaredWordOf, temporaryOf, constantOf, atomRead, nameOf, elementOf, elementIn, elementRead, operatorOfOne, operatorOfTwo, operatorRead, singleOf, minusOf, binaryOf, binaryRead, severalRead, valueRead, gotoOf, labelOf, ifOf, whileOf, storeOf, putOf, assignedOf, assignmentRead, testRead, jumpRead, lineRead}
 use Rattle.page_words.specs.declared.Names.{Names}
 use Rattle.page_words.specs.declared.Atom.{Atom}
-use Rattle.page_words.specs.declared.Atom.the-variants.{Constant, Variable, Temporary}
+use Rattle.page_words.specs.declared.Atom.the-variants.{Constant, Variable, Declared, Temporary}
 use Rattle.page_words.specs.declared.Value.{Value}
 use Rattle.page_words.specs.declared.Value.the-variants.{Single, Element, Minus, Binary}
 use Rattle.page_words.specs.declared.Line.{Line}
@@ -125,7 +125,7 @@ operator-sound (first ∷ (second ∷ [])) o e =
     by-cases (eqb second 61) (λ t. rw (eqb-true second 61 t) (two-sound first o (rw t at e))) (λ t. no-operator o (rw t at e))
 operator-sound (first ∷ (second ∷ (third ∷ others))) o e = no-operator o e
 
-module _ (names : Names) (few-variables : names .variables ≤ 256) (few-temporaries : names .temporaries ≤ 8192) (few-arrays : names .arrays ≤ 32) where
+module _ (names : Names) (few-variables : names .variables ≤ 256) (few-behind : names .declared + names .temporaries ≤ 8256) (few-arrays : names .arrays ≤ 32) where
   -- ---- atoms
 
   variable-sound : (others : List ℕ) (r : NumberRead) (a : Atom) → numberRead (names .variables) others ≡ r → variableOf r ≡ atom-cases.Read a → (118 ∷ others ≡ atomText a) × AtomFits names a
@@ -134,6 +134,13 @@ module _ (names : Names) (few-variables : names .variables ≤ 256) (few-tempora
       let f = below-sound (names .variables) others n (omega arith) q in
       let same : Variable n ≡ a = cc in
       rw (← same) (ap (λ (l : List ℕ). 118 ∷ l) (f .0), f .1)
+
+  declared-sound : (others : List ℕ) (r : NumberRead) (a : Atom) → numberRead (names .declared) others ≡ r → declaredWordOf r ≡ atom-cases.Read a → (108 ∷ others ≡ atomText a) × AtomFits names a
+  declared-sound others number-cases.Malformed a q e = absurd (let z : _≡_ {A = ℕ} 0 1 = cc in omega arith)
+  declared-sound others (number-cases.Number n) a q e =
+      let f = below-sound (names .declared) others n (omega arith) q in
+      let same : Declared n ≡ a = cc in
+      rw (← same) (ap (λ (l : List ℕ). 108 ∷ l) (f .0), f .1)
 
   temporary-sound : (others : List ℕ) (r : NumberRead) (a : Atom) → numberRead (names .temporaries) others ≡ r → temporaryOf r ≡ atom-cases.Read a → (116 ∷ others ≡ atomText a) × AtomFits names a
   temporary-sound others number-cases.Malformed a q e = absurd (let z : _≡_ {A = ℕ} 0 1 = cc in omega arith)
@@ -155,9 +162,11 @@ module _ (names : Names) (few-variables : names .variables ≤ 256) (few-tempora
   atom-sound (first ∷ others) a e =
       by-cases (eqb first 118)
       (λ t. rw (eqb-true first 118 t) (variable-sound others (numberRead (names .variables) others) a refl (rw t at e)))
-      (λ t. by-cases (eqb first 116)
-      (λ u. rw (eqb-true first 116 u) (temporary-sound others (numberRead (names .temporaries) others) a refl (rw (t, u) at e)))
-      (λ u. constant-sound (first ∷ others) (numberOf (first ∷ others)) a refl (rw (t, u) at e)))
+      (λ t. by-cases (eqb first 108)
+      (λ u. rw (eqb-true first 108 u) (declared-sound others (numberRead (names .declared) others) a refl (rw (t, u) at e)))
+      (λ u. by-cases (eqb first 116)
+      (λ w. rw (eqb-true first 116 w) (temporary-sound others (numberRead (names .temporaries) others) a refl (rw (t, u, w) at e)))
+      (λ w. constant-sound (first ∷ others) (numberOf (first ∷ others)) a refl (rw (t, u, w) at e))))
 
   -- ---- elements
 
@@ -251,6 +260,7 @@ module _ (names : Names) (few-variables : names .variables ≤ 256) (few-tempora
   name-sound word atom-cases.Malformed a q e = absurd (let z : _≡_ {A = ℕ} 0 1 = cc in omega arith)
   name-sound word (atom-cases.Read (Constant v)) a q e = absurd (let z : _≡_ {A = ℕ} 0 1 = cc in omega arith)
   name-sound word (atom-cases.Read (Variable n)) a q e = let same : Variable n ≡ a = cc in rw (← same) (atom-sound word (Variable n) q)
+  name-sound word (atom-cases.Read (Declared n)) a q e = let same : Declared n ≡ a = cc in rw (← same) (atom-sound word (Declared n) q)
   name-sound word (atom-cases.Read (Temporary n)) a q e = let same : Temporary n ≡ a = cc in rw (← same) (atom-sound word (Temporary n) q)
 
   store-sound : (target value : List ℕ) (r : AtomRead) (s : ValueRead) (line : Line) → nameOf (atomRead names target) ≡ r → valueRead names value ≡ s → storeOf r s ≡ line-cases.Read line

@@ -8,7 +8,7 @@ use Rattle.text_numbers.specs.Number.{digits, numberBytes}
 use Rattle.page.specs.Page.{operatorWord, endedBy}
 use Rattle.page_words.specs.declared.Names.{Names}
 use Rattle.page_words.specs.declared.Atom.{Atom}
-use Rattle.page_words.specs.declared.Atom.the-variants.{Constant, Variable, Temporary}
+use Rattle.page_words.specs.declared.Atom.the-variants.{Constant, Variable, Declared, Temporary}
 use Rattle.page_words.specs.declared.Value.{Value}
 use Rattle.page_words.specs.declared.Value.the-variants.{Single, Element, Minus, Binary}
 use Rattle.page_words.specs.declared.Line.{Line}
@@ -17,6 +17,7 @@ use Rattle.page_words.specs.declared.Line.the-variants.{Empty, Abort, Go
 abbrev pub atomText : Atom → List ℕ
 atomText (Constant v) = numberBytes v
 atomText (Variable n) = 118 ∷ digits n
+atomText (Declared n) = 108 ∷ digits n
 atomText (Temporary n) = 116 ∷ digits n
 
 -- `a7[X]`
@@ -50,11 +51,13 @@ module _ (names : Names) where
   abbrev pub AtomFits : Atom → Type 0
   AtomFits (Constant v) = mag v < 2 ^ 31
   AtomFits (Variable n) = n < names .variables
+  AtomFits (Declared n) = n < names .declared
   AtomFits (Temporary n) = n < names .temporaries
 
   abbrev pub NameFits : Atom → Type 0
   NameFits (Constant v) = ⊥
   NameFits (Variable n) = n < names .variables
+  NameFits (Declared n) = n < names .declared
   NameFits (Temporary n) = n < names .temporaries
 
   abbrev pub ElementFits : ℕ → Atom → Type 0

@@ -1,4 +1,5 @@
--- Trees: the line of a page that each line read is, and that its bytes are those of the page. Temporary n is variable number S + n.
+-- Trees: the line of a page that each line read is, and that its bytes are those of the page. Declared word n is variable number S + n,
+-- temporary n is S + D + n.
 use mathlib.Core.Path.{_≡_, refl, sym, ap, ap₂, _∙_}
 use mathlib.Core.Bool.{true, false}
 use mathlib.Core.List.{List, [], _∷_, _++_, append-assoc}
@@ -10,30 +11,33 @@ use borrow.Author.Tests.{lt-ltb, le-ltb}
 use Rattle.text_numbers.specs.Number.{digits}
 use Rattle.language.specs.Trees.{Expression, constant, read, minus, binary, assign, Place, variable, element, label, empty, express, goto, abort}
 use Rattle.page.specs.Lines.{Line as PageLine, single, mark, opens, opensWhile, opensIf, turns, closes}
-use Rattle.page.specs.Page.{operatorWord, name, atomWord, placeWord, valueWords, ended, parted, lineWords}
+use Rattle.page.specs.declared.Sizes.{Sizes}
+use Rattle.page.specs.Page.{operatorWord, firstTemporary, name, atomWord, placeWord, valueWords, ended, parted, lineWords}
 use Rattle.page.specs.Fits.{fits-constant, fits-variable, value-atom, value-element, value-minus, value-binary, fits-empty, fits-abort, fits-goto, fits-label, fits-store, fits-put, fits-opens, fits-while, fits-if, fits-turns, fits-closes}
 use Rattle.page.specs.Fits as page-fits
 use Rattle.page_words.specs.Texts.{atomText, elementText, valueText, assignmentText, lineText, AtomFits, NameFits, ElementFits, ValueFits, LineFits}
 use Rattle.page_words.specs.declared.Names.{Names}
 use Rattle.page_words.specs.declared.Atom.{Atom}
-use Rattle.page_words.specs.declared.Atom.the-variants.{Constant, Variable, Temporary}
+use Rattle.page_words.specs.declared.Atom.the-variants.{Constant, Variable, Declared, Temporary}
 use Rattle.page_words.specs.declared.Value.{Value}
 use Rattle.page_words.specs.declared.Value.the-variants.{Single, Element, Minus, Binary}
 use Rattle.page_words.specs.declared.Line.{Line}
 use Rattle.page_words.specs.declared.Line.the-variants.{Empty, Abort, Goto, Label, Store, Put, Opens, While, If, Turns, Closes}
 
--- S is the number of store words.
-module _ (S : ℕ) where
+-- S and D.
+module _ (sizes : Sizes) where
   -- A constant is no place; no line that fits has one there.
   abbrev pub placeTree : Atom → Place
   placeTree (Constant v) = variable 0
   placeTree (Variable n) = variable n
-  placeTree (Temporary n) = variable (S + n)
+  placeTree (Declared n) = variable (sizes .store + n)
+  placeTree (Temporary n) = variable (firstTemporary sizes + n)
 
   abbrev pub atomTree : Atom → Expression
   atomTree (Constant v) = constant v
   atomTree (Variable n) = read (variable n)
-  atomTree (Temporary n) = read (variable (S + n))
+  atomTree (Declared n) = read (variable (sizes .store + n))
+  atomTree (Temporary n) = read (variable (firstTemporary sizes + n))
 
   abbrev pub valueTree : Value → Expression
   valueTree (Single a) = atomTree a
@@ -56,36 +60,54 @@ module _ (S : ℕ) where
 
 -- ---- laws
 
-module _ (S : ℕ) (names : Names) (within : names .variables ≤ S) where
-  temporary-word : (n : ℕ) → name S (S + n) ≡ 116 ∷ digits n
-  unfolding name
-  temporary-word n = let back : S + n - S ≡ n = omega arith in rw (le-ltb (S + n) S (omega arith), back)
+-- The names are those of a store with these sizes.
+pub record Within (sizes : Sizes) (names : Names) : Type 0 where
+  pub variables-inside : names .variables ≤ sizes .store
+  pub same-declared : names .declared ≡ sizes .declared
 
-  variable-word : (n : ℕ) → n < names .variables → name S n ≡ 118 ∷ digits n
+module _ (sizes : Sizes) (names : Names) (within : Within sizes names) where
+  temporary-word : (n : ℕ) → name sizes (firstTemporary sizes + n) ≡ 116 ∷ digits n
   unfolding name
-  variable-word n h = rw (lt-ltb n S (omega arith))
+  temporary-word n =
+      let first = firstTemporary sizes in
+      let back : first + n - first ≡ n = omega arith in
+      rw (le-ltb (first + n) (sizes .store) (omega arith), le-ltb (first + n) first (omega arith), back)
 
-  atom-word : (a : Atom) → AtomFits names a → atomWord S (atomTree S a) ≡ atomText a
+  declared-word : (n : ℕ) → n < names .declared → name sizes (sizes .store + n) ≡ 108 ∷ digits n
+  unfolding name
+  declared-word n h =
+      let number = sizes .store + n in
+      let back : number - sizes .store ≡ n = omega arith in
+      rw (le-ltb number (sizes .store) (omega arith), lt-ltb number (firstTemporary sizes) (omega (arith, within .same-declared)), back)
+
+  variable-word : (n : ℕ) → n < names .variables → name sizes n ≡ 118 ∷ digits n
+  unfolding name
+  variable-word n h = rw (lt-ltb n (sizes .store) (omega (arith, within .variables-inside)))
+
+  atom-word : (a : Atom) → AtomFits names a → atomWord sizes (atomTree sizes a) ≡ atomText a
   atom-word (Constant v) h = refl
   atom-word (Variable n) h = variable-word n h
+  atom-word (Declared n) h = declared-word n h
   atom-word (Temporary n) h = temporary-word n
 
-  name-word : (a : Atom) → NameFits names a → placeWord S (placeTree S a) ≡ atomText a
+  name-word : (a : Atom) → NameFits names a → placeWord sizes (placeTree sizes a) ≡ atomText a
   name-word (Constant v) h = absurd h
   name-word (Variable n) h = variable-word n h
+  name-word (Declared n) h = declared-word n h
   name-word (Temporary n) h = temporary-word n
 
-  element-word : (array : ℕ) (a : Atom) → ElementFits names array a → placeWord S (element array (atomTree S a)) ≡ elementText array a
+  element-word : (array : ℕ) (a : Atom) → ElementFits names array a → placeWord sizes (element array (atomTree sizes a)) ≡ elementText array a
   element-word array a h =
       ap (λ (l : List ℕ). 97 ∷ (digits array ++ (91 ∷ (l ++ (93 ∷ []))))) (atom-word a (h .1)) ∙ ap (λ (l : List ℕ). 97 ∷ l) (sym (append-assoc (digits array) (91 ∷ atomText a) (93 ∷ [])))
 
-  assigned-atom : (word : List ℕ) (a : Atom) → AtomFits names a → parted (word ∷ ((61 ∷ []) ∷ ended (valueWords S (atomTree S a)))) ≡ assignmentText word (atomText a)
+  assigned-atom : (word : List ℕ) (a : Atom) → AtomFits names a → parted (word ∷ ((61 ∷ []) ∷ ended (valueWords sizes (atomTree sizes a)))) ≡ assignmentText word (atomText a)
   unfolding parted ended
   assigned-atom word (Constant v) h = refl
   assigned-atom word (Variable n) h = rw (variable-word n h)
+  assigned-atom word (Declared n) h = rw (declared-word n h)
   assigned-atom word (Temporary n) h = rw (temporary-word n)
 
-  assigned : (word : List ℕ) (v : Value) → ValueFits names v → parted (word ∷ ((61 ∷ []) ∷ ended (valueWords S (valueTree S v)))) ≡ assignmentText word (valueText v)
+  assigned : (word : List ℕ) (v : Value) → ValueFits names v → parted (word ∷ ((61 ∷ []) ∷ ended (valueWords sizes (valueTree sizes v)))) ≡ assignmentText word (valueText v)
   unfolding parted ended
   assigned word (Single a) h = assigned-atom word a h
   assigned word (Element array a) h = ap (λ (l : List ℕ). word ++ (32 ∷ (61 ∷ (32 ∷ (l ++ (59 ∷ [])))))) (element-word array a h)
@@ -97,15 +119,15 @@ module _ (S : ℕ) (names : Names) (within : names .variables ≤ S) where
       ∙ ap (λ (l : List ℕ). atomText a ++ (32 ∷ l)) (append-assoc (operatorWord o) (32 ∷ atomText b) (59 ∷ [])))))
 
   -- The bytes of a line are its words on the page, parted by blanks.
-  pub line-words : (line : Line) → LineFits names line → parted (lineWords S (lineTree S line)) ≡ lineText line
+  pub line-words : (line : Line) → LineFits names line → parted (lineWords sizes (lineTree sizes line)) ≡ lineText line
   unfolding parted ended
   line-words Empty h = refl
   line-words Abort h = refl
   line-words (Goto l) h = refl
   line-words (Label l) h = ap (λ (bytes : List ℕ). 76 ∷ bytes) (append-assoc (digits l) (58 ∷ []) (59 ∷ []))
-  line-words (Store a v) h = ap (λ (l : List ℕ). parted (l ∷ ((61 ∷ []) ∷ ended (valueWords S (valueTree S v))))) (name-word a (h .0)) ∙ assigned (atomText a) v (h .1)
+  line-words (Store a v) h = ap (λ (l : List ℕ). parted (l ∷ ((61 ∷ []) ∷ ended (valueWords sizes (valueTree sizes v))))) (name-word a (h .0)) ∙ assigned (atomText a) v (h .1)
   line-words (Put array index a) h =
-      ap (λ (l : List ℕ). parted (l ∷ ((61 ∷ []) ∷ ended (valueWords S (atomTree S a))))) (element-word array index (h .0)) ∙ assigned-atom (elementText array index) a (h .1)
+      ap (λ (l : List ℕ). parted (l ∷ ((61 ∷ []) ∷ ended (valueWords sizes (atomTree sizes a))))) (element-word array index (h .0)) ∙ assigned-atom (elementText array index) a (h .1)
   line-words Opens h = refl
   line-words (While a) h = rw (atom-word a h) (ap (λ (l : List ℕ). 119 ∷ 104 ∷ 105 ∷ 108 ∷ 101 ∷ 32 ∷ 40 ∷ l) (append-assoc (atomText a) (41 ∷ []) (32 ∷ 123 ∷ [])))
   line-words (If a) h = rw (atom-word a h) (ap (λ (l : List ℕ). 105 ∷ 102 ∷ 32 ∷ 40 ∷ l) (append-assoc (atomText a) (41 ∷ []) (32 ∷ 123 ∷ [])))
@@ -114,29 +136,31 @@ module _ (S : ℕ) (names : Names) (within : names .variables ≤ S) where
 
   -- ---- it fits, as page/Fits has it
 
-  -- The variables, and the temporaries behind the store.
+  -- The variables, and the declared words and temporaries behind the store.
   abbrev pub Named : ℕ → Type 0
-  Named i = (i < names .variables) ⊎ ((S ≤ i) × (i < S + names .temporaries))
+  Named i = (i < names .variables) ⊎ ((sizes .store ≤ i) × (i < sizes .store + (names .declared + names .temporaries)))
 
-  atom-fits : (a : Atom) → AtomFits names a → page-fits.AtomFits Named (names .arrays) (atomTree S a)
+  atom-fits : (a : Atom) → AtomFits names a → page-fits.AtomFits Named (names .arrays) (atomTree sizes a)
   atom-fits (Constant v) h = fits-constant h
   atom-fits (Variable n) h = fits-variable (inl h)
-  atom-fits (Temporary n) h = fits-variable {i = S + n} (inr (omega arith, omega arith))
+  atom-fits (Declared n) h = fits-variable {i = sizes .store + n} (inr (omega arith, omega arith))
+  atom-fits (Temporary n) h = fits-variable {i = firstTemporary sizes + n} (inr (omega arith, omega (arith, within .same-declared)))
 
-  value-fits : (v : Value) → ValueFits names v → page-fits.ValueFits Named (names .arrays) (valueTree S v)
+  value-fits : (v : Value) → ValueFits names v → page-fits.ValueFits Named (names .arrays) (valueTree sizes v)
   value-fits (Single a) h = value-atom (atom-fits a h)
   value-fits (Element array a) h = value-element (h .0) (atom-fits a (h .1))
   value-fits (Minus a) h = value-minus (atom-fits a h)
   value-fits (Binary o a b) h = value-binary (atom-fits a (h .0)) (atom-fits b (h .1))
 
-  pub line-fits : (line : Line) → LineFits names line → page-fits.LineFits Named (names .arrays) (lineTree S line)
+  pub line-fits : (line : Line) → LineFits names line → page-fits.LineFits Named (names .arrays) (lineTree sizes line)
   line-fits Empty h = fits-empty
   line-fits Abort h = fits-abort
   line-fits (Goto l) h = fits-goto h
   line-fits (Label l) h = fits-label h
   line-fits (Store (Constant v) value) h = absurd (h .0)
   line-fits (Store (Variable n) v) h = fits-store (inl (h .0)) (value-fits v (h .1))
-  line-fits (Store (Temporary n) v) h = let less = h .0 in fits-store {i = S + n} (inr (omega arith, omega arith)) (value-fits v (h .1))
+  line-fits (Store (Declared n) v) h = let less = h .0 in fits-store {i = sizes .store + n} (inr (omega arith, omega arith)) (value-fits v (h .1))
+  line-fits (Store (Temporary n) v) h = let less = h .0 in fits-store {i = firstTemporary sizes + n} (inr (omega arith, omega (arith, within .same-declared))) (value-fits v (h .1))
   line-fits (Put array index a) h = fits-put (h .0 .0) (atom-fits index (h .0 .1)) (atom-fits a (h .1))
   line-fits Opens h = fits-opens
   line-fits (While a) h = fits-while (atom-fits a h)

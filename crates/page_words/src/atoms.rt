@@ -12,7 +12,7 @@ use text_numbers::number::natural;
 use text_numbers::number::number;
 ghost use mathlib.Core.Path.{_≡_};
 ghost use Rattle.text_numbers.specs.Reader.{fieldNumber};
-ghost use Rattle.page_words.specs.Reads.{numberRead, variableOf, temporaryOf, constantOf, atomRead, nameOf, elementOf, elementIn, elementRead};
+ghost use Rattle.page_words.specs.Reads.{numberRead, variableOf, declaredWordOf, temporaryOf, constantOf, atomRead, nameOf, elementOf, elementIn, elementRead};
 
 // A number below a bound.
 pub fn number_below(word: &[u8], bound: u32) -> NumberRead
@@ -37,6 +37,15 @@ fn variable_of(number: NumberRead) -> AtomRead
     }
 }
 
+fn declared_of(number: NumberRead) -> AtomRead
+    ensures { λ r. ⌜ r ≡ declaredWordOf number ⌝ }
+{
+    match number {
+        NumberRead::Number(value) => AtomRead::Read(Atom::Declared(value)),
+        NumberRead::Malformed => AtomRead::Malformed,
+    }
+}
+
 fn temporary_of(number: NumberRead) -> AtomRead
     ensures { λ r. ⌜ r ≡ temporaryOf number ⌝ }
 {
@@ -55,7 +64,7 @@ fn constant_of(field: Field) -> AtomRead
     }
 }
 
-// `v7`, `t7`, `-7`
+// `v7`, `l7`, `t7`, `-7`
 pub fn atom(names: Names, word: &[u8]) -> AtomRead
     ensures { λ r. ⌜ r ≡ atomRead names (now (word .entry)) ⌝ }
 {
@@ -65,6 +74,9 @@ pub fn atom(names: Names, word: &[u8]) -> AtomRead
     let first = word[0];
     if first == b'v' {
         return variable_of(number_below(&word[1..], names.variables));
+    }
+    if first == b'l' {
+        return declared_of(number_below(&word[1..], names.declared));
     }
     if first == b't' {
         return temporary_of(number_below(&word[1..], names.temporaries));
@@ -82,6 +94,7 @@ pub fn name_of(atom: AtomRead) -> AtomRead
     match named {
         Atom::Constant(_) => AtomRead::Malformed,
         Atom::Variable(number) => AtomRead::Read(Atom::Variable(number)),
+        Atom::Declared(number) => AtomRead::Read(Atom::Declared(number)),
         Atom::Temporary(number) => AtomRead::Read(Atom::Temporary(number)),
     }
 }

@@ -6,9 +6,10 @@ pub mod values; // values.rt: operators and what is assigned
 
 use words::Operator;
 
-// The names that a page can have: variables and arrays by the header, and temporaries, t from 0.
+// The names that a page can have: variables and arrays by the header, declared words, l from 0, and temporaries, t from 0.
 pub struct Names {
     pub variables: u32,
+    pub declared: u32,
     pub temporaries: u32,
     pub arrays: u32,
 }
@@ -16,6 +17,7 @@ pub struct Names {
 pub enum Atom {
     Constant(i32),
     Variable(u32),
+    Declared(u32),
     Temporary(u32),
 }
 

@@ -101,36 +101,36 @@ abbrev answerOf : Finished → RunAnswer
 answerOf finished = record { ending = finished .ending; count = finished .count }
 
 module _ (header rows : List ℤ) (budget : ℕ) (store scratch : List ℤ) where
-  pub store-refused : (length store ≡ storeWords Source header → ⊥) → previewRefused (record { number = 11; place = 0 }) store scratch ≡ acceptedPreview header rows budget store scratch
+  pub store-refused : (length store ≡ storeWords Source header rows → ⊥) → previewRefused (record { number = 11; place = 0 }) store scratch ≡ acceptedPreview header rows budget store scratch
   store-refused other =
-      sym (ap (λ (same : Bool). previewOfRun (pick same (ran (runProgram Source header rows budget store)) (runRefused (record { number = 11; place = 0 }) store)) (storeWords Source header) store scratch)
-      (ne-eqb (length store) (storeWords Source header) other))
+      sym (ap (λ (same : Bool). previewOfRun (pick same (ran (runProgram Source header rows budget store)) (runRefused (record { number = 11; place = 0 }) store)) (storeWords Source header rows) store scratch)
+      (ne-eqb (length store) (storeWords Source header rows) other))
 
   -- a store of the right size is run
-  run-previewed : length store ≡ storeWords Source header → acceptedPreview header rows budget store scratch ≡ previewOfRun (ran (runProgram Source header rows budget store)) (storeWords Source header) store scratch
+  run-previewed : length store ≡ storeWords Source header rows → acceptedPreview header rows budget store scratch ≡ previewOfRun (ran (runProgram Source header rows budget store)) (storeWords Source header rows) store scratch
   run-previewed same =
-      ap (λ (same : Bool). previewOfRun (pick same (ran (runProgram Source header rows budget store)) (runRefused (record { number = 11; place = 0 }) store)) (storeWords Source header) store scratch)
-      (eq-eqb (length store) (storeWords Source header) same)
+      ap (λ (same : Bool). previewOfRun (pick same (ran (runProgram Source header rows budget store)) (runRefused (record { number = 11; place = 0 }) store)) (storeWords Source header rows) store scratch)
+      (eq-eqb (length store) (storeWords Source header rows) same)
 
-  pub scratch-refused : length store ≡ storeWords Source header → length scratch < storeWords Source header → previewRefused (record { number = 15; place = 0 }) store scratch ≡ acceptedPreview header rows budget store scratch
+  pub scratch-refused : length store ≡ storeWords Source header rows → length scratch < storeWords Source header rows → previewRefused (record { number = 15; place = 0 }) store scratch ≡ acceptedPreview header rows budget store scratch
   scratch-refused same short =
       let left = runProgram Source header rows budget store in
-      sym (run-previewed same ∙ ap (λ (room : Bool). previewIf room (answerOf left) (storeWords Source header) (left .store) store scratch) (lt-leb (storeWords Source header) (length scratch) short))
+      sym (run-previewed same ∙ ap (λ (room : Bool). previewIf room (answerOf left) (storeWords Source header rows) (left .store) store scratch) (lt-leb (storeWords Source header rows) (length scratch) short))
 
   -- the copy stands in the scratch, with what stood behind
-  pub run-told : length store ≡ storeWords Source header → storeWords Source header ≤ length scratch → (preview : PreviewAnswer) (copy : List ℤ)
-      → Foretells (runProgram Source header rows budget store) store preview copy → answerAndWords (Previewed preview) store (copy ++ drop (storeWords Source header) scratch) ≡ acceptedPreview header rows budget store scratch
+  pub run-told : length store ≡ storeWords Source header rows → storeWords Source header rows ≤ length scratch → (preview : PreviewAnswer) (copy : List ℤ)
+      → Foretells (runProgram Source header rows budget store) store preview copy → answerAndWords (Previewed preview) store (copy ++ drop (storeWords Source header rows) scratch) ≡ acceptedPreview header rows budget store scratch
   unfolding over
   run-told same room preview copy f =
       let left = runProgram Source header rows budget store in
       let run = answerOf left in
-      let long : length (left .store) ≡ storeWords Source header = store-length Source header rows store budget ∙ same in
-      let tally : preview ≡ previewOf run (differences (storeWords Source header) store (left .store)) = f .told ∙ ap (λ (n : ℕ). previewOf run (differences n store (left .store))) same in
-      let words : copy ++ drop (storeWords Source header) scratch ≡ over (left .store) scratch =
-      ap (λ (l : List ℤ). l ++ drop (storeWords Source header) scratch) (f .holds) ∙ ap (λ (n : ℕ). left .store ++ drop n scratch) (sym long) in
-      ap (λ (p : PreviewAnswer). answerAndWords (Previewed p) store (copy ++ drop (storeWords Source header) scratch)) tally
-      ∙ ap (λ (l : List ℤ). answerAndWords (Previewed (previewOf run (differences (storeWords Source header) store (left .store)))) store l) words
-      ∙ sym (run-previewed same ∙ ap (λ (b : Bool). previewIf b run (storeWords Source header) (left .store) store scratch) (le-leb (storeWords Source header) (length scratch) room))
+      let long : length (left .store) ≡ storeWords Source header rows = store-length Source header rows store budget ∙ same in
+      let tally : preview ≡ previewOf run (differences (storeWords Source header rows) store (left .store)) = f .told ∙ ap (λ (n : ℕ). previewOf run (differences n store (left .store))) same in
+      let words : copy ++ drop (storeWords Source header rows) scratch ≡ over (left .store) scratch =
+      ap (λ (l : List ℤ). l ++ drop (storeWords Source header rows) scratch) (f .holds) ∙ ap (λ (n : ℕ). left .store ++ drop n scratch) (sym long) in
+      ap (λ (p : PreviewAnswer). answerAndWords (Previewed p) store (copy ++ drop (storeWords Source header rows) scratch)) tally
+      ∙ ap (λ (l : List ℤ). answerAndWords (Previewed (previewOf run (differences (storeWords Source header rows) store (left .store)))) store l) words
+      ∙ sym (run-previewed same ∙ ap (λ (b : Bool). previewIf b run (storeWords Source header rows) (left .store) store scratch) (le-leb (storeWords Source header rows) (length scratch) room))
 
 -- ---- a run gives what was previewed
 
@@ -148,13 +148,13 @@ record Sized (words : ℕ) (store left : List ℤ) : Type 0 where
   left-long : length left ≡ words
 
 sized : (header rows : List ℤ) (budget : ℕ) (store : List ℤ) (verdict : Verdict) (run : RunAnswer) → runAfter verdict Source header rows budget store .answer ≡ Ran run
-    → Sized (storeWords Source header) store (runAfter verdict Source header rows budget store .store)
+    → Sized (storeWords Source header rows) store (runAfter verdict Source header rows budget store .store)
 sized header rows budget store (Refused refusal) run e = absurd (false≢true (ap hasRun e))
-sized header rows budget store Accepted run e = by (eqb (length store) (storeWords Source header)) (eqb-true (length store) (storeWords Source header)) e
+sized header rows budget store Accepted run e = by (eqb (length store) (storeWords Source header rows)) (eqb-true (length store) (storeWords Source header rows)) e
   where
-    by : (same : Bool) → (same ≡ true → length store ≡ storeWords Source header)
+    by : (same : Bool) → (same ≡ true → length store ≡ storeWords Source header rows)
         → pick same (ran (runProgram Source header rows budget store)) (runRefused (record { number = 11; place = 0 }) store) .answer ≡ Ran run
-        → Sized (storeWords Source header) store (pick same (ran (runProgram Source header rows budget store)) (runRefused (record { number = 11; place = 0 }) store) .store)
+        → Sized (storeWords Source header rows) store (pick same (ran (runProgram Source header rows budget store)) (runRefused (record { number = 11; place = 0 }) store) .store)
     by true equal e = record { store-long = equal refl; left-long = store-length Source header rows store budget ∙ equal refl }
     by false equal e = absurd (false≢true (ap hasRun e))
 
@@ -187,20 +187,20 @@ told-after (RunRefused refusal) words left store scratch preview s e = absurd (f
 
 -- A preview that is not refused, then a run of the same program on the same store.
 pub run-as-previewed : (header rows : List ℤ) (budget : ℕ) (store scratch : List ℤ) (preview : PreviewAnswer) → previewResult header rows budget store scratch .answer ≡ Previewed preview
-    → RunAsPreviewed (runResult Source header rows budget store) (storeWords Source header) store preview (previewResult header rows budget store scratch .scratch)
+    → RunAsPreviewed (runResult Source header rows budget store) (storeWords Source header rows) store preview (previewResult header rows budget store scratch .scratch)
 unfolding previewResult runResult
 run-as-previewed header rows budget store scratch preview e =
     let run = runAfter (refusalOf Source header rows) Source header rows budget store in
-    let t = told-after (run .answer) (storeWords Source header) (run .store) store scratch preview (sized header rows budget store (refusalOf Source header rows)) e in
+    let t = told-after (run .answer) (storeWords Source header rows) (run .store) store scratch preview (sized header rows budget store (refusalOf Source header rows)) e in
     record { store-size = t .told-size; scratch-room = t .told-room; same-answer = t .told-answer; same-words = t .told-words; tally-right = t .told-tally }
 
 -- "0 gives spent with count 0": with that budget the scratch gets the store as it is, and no word differs.
-pub zero-previewed : (header rows store scratch : List ℤ) → refusalOf Source header rows ≡ Accepted → length store ≡ storeWords Source header → storeWords Source header ≤ length scratch
+pub zero-previewed : (header rows store scratch : List ℤ) → refusalOf Source header rows ≡ Accepted → length store ≡ storeWords Source header rows → storeWords Source header rows ≤ length scratch
     → previewResult header rows 0 store scratch ≡ answerAndWords (Previewed (record { ending = Spent; count = 0; differing = 0 })) store (over store scratch)
 unfolding previewResult runResult
 zero-previewed header rows store scratch accepted same room =
-    ap (λ (v : Verdict). previewOfRun (runAfter v Source header rows 0 store) (storeWords Source header) store scratch) accepted
+    ap (λ (v : Verdict). previewOfRun (runAfter v Source header rows 0 store) (storeWords Source header rows) store scratch) accepted
     ∙ run-previewed header rows 0 store scratch same
-    ∙ ap (λ (f : Finished). previewOfRun (ran f) (storeWords Source header) store scratch) (budget-zero Source header rows store)
-    ∙ ap (λ (b : Bool). previewIf b (record { ending = Spent; count = 0 }) (storeWords Source header) store store scratch) (le-leb (storeWords Source header) (length scratch) room)
-    ∙ ap (λ (n : ℕ). answerAndWords (Previewed (record { ending = Spent; count = 0; differing = n })) store (over store scratch)) (differences-same (storeWords Source header) store)
+    ∙ ap (λ (f : Finished). previewOfRun (ran f) (storeWords Source header rows) store scratch) (budget-zero Source header rows store)
+    ∙ ap (λ (b : Bool). previewIf b (record { ending = Spent; count = 0 }) (storeWords Source header rows) store store scratch) (le-leb (storeWords Source header rows) (length scratch) room)
+    ∙ ap (λ (n : ℕ). answerAndWords (Previewed (record { ending = Spent; count = 0; differing = n })) store (over store scratch)) (differences-same (storeWords Source header rows) store)

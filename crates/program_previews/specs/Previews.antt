@@ -87,11 +87,11 @@ previewOfRun run words store scratch = previewAfter (run .answer) words (run .st
 
 -- "It equals running the rule on a copy of the store, spent and faulted runs included."
 unfoldable pub previewResult : List ℤ → List ℤ → ℕ → List ℤ → List ℤ → PreviewResult
-previewResult header rows budget store scratch = previewOfRun (runResult Source header rows budget store) (storeWords Source header) store scratch
+previewResult header rows budget store scratch = previewOfRun (runResult Source header rows budget store) (storeWords Source header rows) store scratch
 
 -- The same of an accepted program.
 abbrev pub acceptedPreview : List ℤ → List ℤ → ℕ → List ℤ → List ℤ → PreviewResult
-acceptedPreview header rows budget store scratch = previewOfRun (runAfter Accepted Source header rows budget store) (storeWords Source header) store scratch
+acceptedPreview header rows budget store scratch = previewOfRun (runAfter Accepted Source header rows budget store) (storeWords Source header rows) store scratch
 
 -- A run was made on a copy of the store: its answer with the tally, and what the copy holds.
 pub record Foretells (finished : Finished) (store : List ℤ) (preview : PreviewAnswer) (copy : List ℤ) : Type 0 where

@@ -60,8 +60,8 @@ fn preview_on_copy(
     copy: &mut [i32],
 ) -> PreviewAnswer
     requires { ⌜ refusalOf Source (now header) (now rows) ≡ Accepted ⌝ }
-    requires { ⌜ length (now store) ≡ storeWords Source (now header) ⌝ }
-    requires { ⌜ length (now copy) ≡ storeWords Source (now header) ⌝ }
+    requires { ⌜ length (now store) ≡ storeWords Source (now header) (now rows) ⌝ }
+    requires { ⌜ length (now copy) ≡ storeWords Source (now header) (now rows) ⌝ }
     ensures { λ r. ⌜ Foretells (runProgram Source (now (header .entry)) (now (rows .entry)) budget (now (store .entry))) (now (store .entry)) r (now (copy .exit)) ⌝ }
 {
     put(store, copy);
@@ -85,7 +85,7 @@ fn preview_accepted(
     requires { ⌜ refusalOf Source (now header) (now rows) ≡ Accepted ⌝ }
     ensures { λ r. ⌜ answerAndWords r (now (store .exit)) (now (scratch .exit)) ≡ acceptedPreview (now (header .entry)) (now (rows .entry)) budget (now (store .entry)) (now (scratch .entry)) ⌝ }
 {
-    let words = store_words(Form::Source, header);
+    let words = store_words(Form::Source, header, rows);
     if store.len() != words {
         return PreviewVerdict::Refused(Refusal {
             number: 11,
@@ -101,7 +101,7 @@ fn preview_accepted(
     PreviewVerdict::Previewed(preview_on_copy(header, rows, store, budget, &mut scratch[..words]))
 }
 
-// Tells what a run of a source program on the store would do: the answer of that run, and in the first S words of the scratch the store
+// Tells what a run of a source program on the store would do: the answer of that run, and in the first S+D words of the scratch the store
 // that it would leave.
 pub fn preview(
     header: &[i32],

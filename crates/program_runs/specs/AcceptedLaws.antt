@@ -7,8 +7,10 @@ use native.Mathlib.Omega.{arith}
 use lib.IntN.{ℤ}
 use lib.ListN.{length}
 use Rattle.words.specs.Table.{rowCount}
-use Rattle.words.specs.Layout.{headerFits, countFits, layoutOf, storeWords}
-use Rattle.words.specs.Laws.{headerFits-facts, countFits-facts, rowLimit-most}
+use Rattle.words.specs.Declarations.{declarationCount, declarationLimit}
+use Rattle.words.specs.Layout.{headerFits, countFits, layoutOf, headerStore, storeWords}
+use Rattle.words.specs.Laws.{countFits-facts, rowLimit-most}
+use Rattle.words.specs.StoreLaws.{source-small, kernel-small}
 use Rattle.words.specs.declared.Form.{Form}
 use Rattle.words.specs.declared.Form.the-variants.{Source, Kernel}
 use Rattle.words.specs.declared.Verdict.the-variants.{Accepted}
@@ -16,8 +18,9 @@ use Rattle.language.specs.Sound.{Sound}
 use Rattle.row_fields.specs.Fields.{boundsOf}
 use Rattle.structure.specs.Structured.{Structured}
 use Rattle.source_check.specs.AcceptsLegal.{accepts-legal as source-accepts}
+use Rattle.source_check.specs.DeclarationLaws.{legal-declarations}
 use Rattle.kernel_check.specs.Accepts.{accepts-legal as kernel-accepts}
-use Rattle.accepted.specs.Sound.{header-sound}
+use Rattle.accepted.specs.Sound.{store-sound}
 use Rattle.program_runs.specs.Runs.{refusalOf}
 
 accepted-structured : (form : Form) (header rows : List ℤ) → refusalOf form header rows ≡ Accepted → (headerFits form header ≡ true) × Structured form (boundsOf form header) rows
@@ -31,18 +34,19 @@ module _ (form : Form) (header rows : List ℤ) (accepted : refusalOf form heade
   pub accepted-count : countFits form (length rows) ≡ true
   accepted-count = accepted-structured form header rows accepted .1 .count-fits
 
-  pub accepted-sound : Sound rows (layoutOf form header) (storeWords form header)
-  accepted-sound = header-sound form header rows (accepted-structured form header rows accepted .1)
+  pub accepted-sound : Sound rows (layoutOf form header) (storeWords form header rows)
+  accepted-sound = store-sound form header rows (accepted-structured form header rows accepted .1)
 
   pub accepted-rows : rowCount rows ≤ 40980
   accepted-rows = omega (arith, countFits-facts form (length rows) accepted-count .most, rowLimit-most form)
 
-pub source-words : (header rows : List ℤ) → refusalOf Source header rows ≡ Accepted → storeWords Source header ≤ 8192
-unfolding storeWords
-source-words header rows e = omega (arith, headerFits-facts Source header (accepted-header Source header rows e) .small-store)
+-- "There are D of them, at most 64."
+pub accepted-declarations : (header rows : List ℤ) → refusalOf Source header rows ≡ Accepted → declarationCount rows ≤ declarationLimit
+accepted-declarations header rows e = legal-declarations header rows (source-accepts header rows .0 e)
 
-pub kernel-words : (header rows : List ℤ) → refusalOf Kernel header rows ≡ Accepted → storeWords Kernel header ≤ 16384
-unfolding storeWords
-kernel-words header rows e =
-    let facts = headerFits-facts Kernel header (accepted-header Kernel header rows e) in
-    omega (arith, facts .small-store, facts .few-temporaries)
+pub source-words : (header rows : List ℤ) → refusalOf Source header rows ≡ Accepted → storeWords Source header rows ≤ 8256
+source-words header rows e =
+    omega (arith, source-small header rows (accepted-header Source header rows e), accepted-declarations header rows e)
+
+pub kernel-words : (header rows : List ℤ) → refusalOf Kernel header rows ≡ Accepted → headerStore Kernel header ≤ 16448
+kernel-words header rows e = kernel-small header (accepted-header Kernel header rows e)

@@ -40,11 +40,11 @@ runRefused refusal store = answerAndStore (RunRefused refusal) store
 abbrev pub ran : Finished → RunResult
 ran finished = answerAndStore (Ran (record { ending = finished .ending; count = finished .count })) (finished .store)
 
--- The check's causes first; then 11, "store not S (source) or S+T (kernel) words"; then the run.
+-- The check's causes first; then 11, "store not S (source) or S+T (kernel) words", where Change 11 "reads S+D and S+D+T"; then the run.
 abbrev pub runAfter : Verdict → Form → List ℤ → List ℤ → ℕ → List ℤ → RunResult
 runAfter (Refused refusal) form header rows budget store = runRefused refusal store
 runAfter Accepted form header rows budget store =
-    pick (eqb (length store) (storeWords form header)) (ran (runProgram form header rows budget store)) (runRefused (record { number = 11; place = 0 }) store)
+    pick (eqb (length store) (storeWords form header rows)) (ran (runProgram form header rows budget store)) (runRefused (record { number = 11; place = 0 }) store)
 
 unfoldable pub runResult : Form → List ℤ → List ℤ → ℕ → List ℤ → RunResult
 runResult form header rows budget store = runAfter (refusalOf form header rows) form header rows budget store

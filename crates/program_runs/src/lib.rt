@@ -44,7 +44,7 @@ pub fn run_accepted(
     budget: u32,
 ) -> RunAnswer
     requires { ⌜ refusalOf form (now header) (now rows) ≡ Accepted ⌝ }
-    requires { ⌜ length (now store) ≡ storeWords form (now header) ⌝ }
+    requires { ⌜ length (now store) ≡ storeWords form (now header) (now rows) ⌝ }
     ensures { λ r. ⌜ finishedOf r (now (store .exit)) ≡ runProgram form (now (header .entry)) (now (rows .entry)) budget (now (store .entry)) ⌝ }
 {
     machine::whole::run(form, header, rows, store, budget)
@@ -61,7 +61,7 @@ fn run_on_store(
     requires { ⌜ refusalOf form (now header) (now rows) ≡ Accepted ⌝ }
     ensures { λ r. ⌜ answerAndStore r (now (store .exit)) ≡ runAfter Accepted form (now (header .entry)) (now (rows .entry)) budget (now (store .entry)) ⌝ }
 {
-    if store.len() != store_words(form, header) {
+    if store.len() != store_words(form, header, rows) {
         return RunVerdict::Refused(Refusal {
             number: 11,
             place: 0,

@@ -15,7 +15,7 @@ use words::Form;
 use words::RunAnswer;
 use words::RunVerdict;
 use words::Verdict;
-use words::layout::store_words;
+use words::layout::header_store;
 ghost use mathlib.Core.Path.{_≡_};
 ghost use Prim.Native.Nat.{_≤_};
 ghost use lib.ListN.{length};
@@ -43,7 +43,7 @@ fn is_same(left: &[i32], right: &[i32]) -> bool {
 
 // Reads the text back, and says so where it gives other words.
 fn compare_text(header: &[i32], rows: &[i32], text: &[u8], read_rows: &mut [i32]) {
-    let mut read_header = [0i32; 34];
+    let mut read_header = [0i32; 35];
     let answer = read_kernel(text, &mut read_header, read_rows);
     let ReadAnswer::Read(header_words, row_words) = answer else {
         print(b"unequal\n");
@@ -78,9 +78,9 @@ fn enough(rows: usize, count: u32) -> u32
     steps as u32
 }
 
-// Runs a kernel program on the store, of S+T words, whose first S words are the source's start words.
+// Runs a kernel program on the store, of S+D+T words, whose first S words are the source's start words.
 fn run_from(header: &[i32], rows: &[i32], start: &[i32], store: &mut [i32], budget: u32)
-    requires { ⌜ length (now start) ≤ 8192 ⌝ }
+    requires { ⌜ length (now start) ≤ 8256 ⌝ }
 {
     if store.len() < start.len() {
         print(b"kernel-refused\n");
@@ -101,10 +101,10 @@ fn run_from(header: &[i32], rows: &[i32], start: &[i32], store: &mut [i32], budg
 // Runs a legal kernel program from the source's start words, with a budget that is enough. The temporaries begin with a word that is
 // not 0.
 fn run_translation(header: &[i32], rows: &[i32], start: &[i32], count: u32)
-    requires { ⌜ (refusalOf Kernel (now header) (now rows) ≡ Accepted) × (length (now start) ≤ 8192) ⌝ }
+    requires { ⌜ (refusalOf Kernel (now header) (now rows) ≡ Accepted) × (length (now start) ≤ 8256) ⌝ }
 {
-    let mut store = [1234567891i32; 16384];
-    let words = store_words(Form::Kernel, header);
+    let mut store = [1234567891i32; 16448];
+    let words = header_store(Form::Kernel, header);
     run_from(
         header,
         rows,
@@ -123,7 +123,7 @@ fn answer_legal(
     text: &mut [u8],
     read_rows: &mut [i32],
 )
-    requires { ⌜ (refusalOf Kernel (now header) (now rows) ≡ Accepted) × (length (now start) ≤ 8192) ⌝ }
+    requires { ⌜ (refusalOf Kernel (now header) (now rows) ≡ Accepted) × (length (now start) ≤ 8256) ⌝ }
 {
     try_text(header, rows, text, read_rows);
     let ending = source.ending;
@@ -142,7 +142,7 @@ fn answer_kernel(
     text: &mut [u8],
     read_rows: &mut [i32],
 )
-    requires { ⌜ length (now start) ≤ 8192 ⌝ }
+    requires { ⌜ length (now start) ≤ 8256 ⌝ }
 {
     let verdict = kernel_check(header, rows);
     match verdict {
@@ -161,9 +161,9 @@ pub fn answer_translation(
     text: &mut [u8],
     read_rows: &mut [i32],
 )
-    requires { ⌜ length (now start) ≤ 8192 ⌝ }
+    requires { ⌜ length (now start) ≤ 8256 ⌝ }
 {
-    let mut kernel_header = [0i32; 34];
+    let mut kernel_header = [0i32; 35];
     let answer = translate(header, rows, &mut kernel_header, kernel_rows);
     match answer {
         TranslateAnswer::Refused(_) => print(b"untranslated\n"),

@@ -42,7 +42,7 @@ fn answer_run(
     text: &mut [u8],
     read_rows: &mut [i32],
 )
-    requires { ⌜ (length (now start) ≤ 8192) × (length (now store) ≤ 8192) ⌝ }
+    requires { ⌜ (length (now start) ≤ 8256) × (length (now store) ≤ 8256) ⌝ }
 {
     let verdict = run(header, rows, store, budget);
     match verdict {
@@ -67,8 +67,8 @@ fn answer_accepted(
 )
     requires { ⌜ refusalOf Source (now header) (now rows) ≡ Accepted ⌝ }
 {
-    let mut start = [0i32; 8192];
-    let n = start_size(words, store_words(Form::Source, header), &mut start);
+    let mut start = [0i32; 8256];
+    let n = start_size(words, store_words(Form::Source, header, rows), &mut start);
     let mut store = start;
     answer_run(
         header,

@@ -1,25 +1,21 @@
--- Declared words: what a declaration is to do, and how the rest of its list goes on. Its word becomes known there, whatever it held before.
--- No kind of today declares a word: these are laws of computations.
+-- Declared words: a declaration makes its word known, whatever it held before; how the rest of its list goes on, entered or passed over.
 use mathlib.Core.Path.{_≡_, refl, subst, sym}
+use mathlib.Core.Bool.{false, true≢false}
 use mathlib.Core.Logic.{inl, inr}
+use mathlib.Core.Option.{Option, none as nothing, some}
 use Prim.Native.Nat.{ℕ}
+use Rattle.words.specs.Word.{pick}
 use Rattle.words.specs.Layout.{Layout}
-use Rattle.computation.specs.Computation.{Computation, ret, _>>=_, _>>_, save}
+use Rattle.computation.specs.Computation.{Computation, ret, _>>=_}
 use Rattle.computation.specs.Agreement.{Words, _within_}
-use Rattle.language.specs.Trees.{Expression}
-use Rattle.language.specs.Meaning.{value, Signal, next}
+use Rattle.language.specs.Trees.{Expression, Statement, empty, express, block, ifThen, ifElse, while, doWhile, for, switch, break, continue, goto, guardedIf, guardedDo, abort, declare, Items, none, _then_, _here_}
+use Rattle.language.specs.Meaning.{enter, Signal, next, breaking, continuing, seeking, entersStatement, perform, items}
 use Rattle.language.specs.WellFormed.{NamedExpression}
-use Rattle.renaming.specs.Renaming.{renamed}
+use Rattle.renaming.specs.Renaming.{renamedStatement, renamedItems}
+use Rattle.renaming.specs.Scoped.{declared, behind, Unmarked, Unreached, Scoped}
 use Rattle.renaming.specs.Twin.{Alike, Equal, Renames, _with_}
-use Rattle.renaming.specs.TwinLaws.{alike-weaker, alike-ret, alike-then, alike-bind, alike-save}
-use Rattle.renaming.specs.Renamed.{Same, value-same}
-
--- Change 11: "b initial expression"; the value is stored in the word of the new object.
-abbrev pub declares : Layout → ℕ → Expression → Computation Signal
-declares L word e = do
-  v ← value L e
-  save word v
-  ret next
+use Rattle.renaming.specs.TwinLaws.{alike-weaker, alike-ret, alike-then, alike-bind, alike-after, alike-enter, alike-save, alike-pick}
+use Rattle.renaming.specs.RenamedParts.{Same, same-enter, value-same}
 
 module _ {L : Layout} {arrays : ℕ} {All : Words} {π : ℕ → ℕ} {Visible P : Words} (h : Renames L arrays All π Visible P) where
   with-named : (word : ℕ) → All word → (P with word) within All
@@ -27,7 +23,7 @@ module _ {L : Layout} {arrays : ℕ} {All : Words} {π : ℕ → ℕ} {Visible P
   with-named word a i (inr e) = subst All (sym e) a
 
   -- with one word more known it is a renaming still
-  pub renames-with : (word : ℕ) → All word → Renames L arrays All π Visible (P with word)
+  renames-with : (word : ℕ) → All word → Renames L arrays All π Visible (P with word)
   renames-with word a =
       record {
         apart = h .apart;
@@ -36,15 +32,61 @@ module _ {L : Layout} {arrays : ℕ} {All : Words} {π : ℕ → ℕ} {Visible P
         elements = λ array b i least most. let e = h .elements array b i least most in (inl (e .0), e .1);
       }
 
+  -- what is known behind a statement
+  pub renames-behind : (s : Statement) → Scoped All arrays P s → Renames L arrays All π Visible (behind P (declared s))
+  unfolding Scoped declared behind
+  renames-behind empty n = h
+  renames-behind (express e) n = h
+  renames-behind (block is) n = h
+  renames-behind (ifThen e onTrue) n = h
+  renames-behind (ifElse e onTrue onFalse) n = h
+  renames-behind (while e body) n = h
+  renames-behind (doWhile body e) n = h
+  renames-behind (for first test action body) n = h
+  renames-behind (switch e is) n = h
+  renames-behind break n = h
+  renames-behind continue n = h
+  renames-behind (goto l) n = h
+  renames-behind (guardedIf arms) n = h
+  renames-behind (guardedDo arms) n = h
+  renames-behind abort n = h
+  renames-behind (declare word e) n = renames-with word (n .0)
+
   -- the word is known from then on
-  pub declared-same : (word : ℕ) (e : Expression) → All word → NamedExpression P arrays e → Alike All π Visible P (P with word) Equal (declares L word e) (declares L (π word) (renamed π e))
+  pub declared-same : (word : ℕ) (e : Expression) → All word → NamedExpression P arrays e
+      → Alike All π Visible P (P with word) Equal (perform L (declare word e)) (perform L (renamedStatement π (declare word e)))
+  unfolding perform renamedStatement
   declared-same word e a n = alike-bind (value-same h e n) (λ v. alike-then (alike-save word v (h .apart) (with-named word a) a older) (λ _ _ _. alike-ret refl))
     where
       older : (j : ℕ) → (P with word) j → (j ≡ word → ⊥) → P j
       older j (inl p) d = p
       older j (inr e) d = absurd (d e)
 
-  -- "from its next item to the block's end": the rest may name the word; behind the block it is not known
-  pub scope-same : (word : ℕ) (e : Expression) {rest rest' : Signal → Computation Signal} (a : All word) → NamedExpression P arrays e
-      → ((signal : Signal) → Same (renames-with word a) Equal (rest signal) (rest' signal)) → Same h Equal (declares L word e >>= rest) (declares L (π word) (renamed π e) >>= rest')
-  scope-same word e a n k = alike-weaker (λ i p. p) (λ i p. inl p) (alike-bind (declared-same word e a n) k)
+  -- behind the list it is not known
+  pub forget : (d : Option ℕ) {m n : Computation Signal} → Alike All π Visible P (behind P d) Equal m n → Same h Equal m n
+  unfolding behind
+  forget nothing p = p
+  forget (some word) p = alike-weaker (λ i p. p) (λ i p. inl p) p
+
+  -- ---- the rest of a list
+
+  -- no item is entered: nothing need be known
+  passed-same : (is : Items) → Unmarked is → (signal : Signal) → entersStatement signal ≡ false → Same h Equal (items L is signal) (items L (renamedItems π is) signal)
+  unfolding items renamedItems Unmarked
+  passed-same none u signal p = alike-ret refl
+  passed-same (s then is) u next p = absurd (true≢false p)
+  passed-same (s then is) u breaking p = alike-after (passed-same is u breaking p)
+  passed-same (s then is) u continuing p = alike-after (passed-same is u continuing p)
+  passed-same (s then is) u (seeking m) p = alike-after (passed-same is u (seeking m) p)
+  passed-same (m here is) u signal p = absurd u
+
+  -- an item and the rest of its list
+  pub item-same : (d : Option ℕ) (is : Items) {m n : Computation Signal} → Unreached d is → Alike All π Visible P (behind P d) Equal m n
+      → ((signal : Signal) → Alike All π Visible (behind P d) (behind P d) Equal (items L is signal) (items L (renamedItems π is) signal))
+      → (signal : Signal) → Same h Equal (pick (entersStatement signal) (enter m) (ret signal) >>= items L is) (pick (entersStatement signal) (enter n) (ret signal) >>= items L (renamedItems π is))
+  unfolding behind Unreached
+  item-same nothing is u p k signal = alike-bind (alike-pick (entersStatement signal) (same-enter h p) (alike-ret refl)) k
+  item-same (some word) is u p k next = forget (some word) (alike-bind (alike-enter (h .visible) p) k)
+  item-same (some word) is u p k breaking = alike-after (passed-same is u breaking refl)
+  item-same (some word) is u p k continuing = alike-after (passed-same is u continuing refl)
+  item-same (some word) is u p k (seeking m) = alike-after (passed-same is u (seeking m) refl)

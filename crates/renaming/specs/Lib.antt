@@ -5,12 +5,16 @@
 pub mod Renaming
 -- Twins: two states, two results and two computations that are the same but for where the words stand.
 pub mod Twin
+-- Scope: every name in a tree is known where it stands. A declaration makes its word known to the rest of its list.
+pub mod Scoped
 -- ---- laws
 -- Laws of renaming: the marks of a list stay; a renaming that moves no word gives the program itself.
 pub mod RenamingLaws
 -- Laws of twins: a rule for each computation; how twin runs begin and end.
 pub mod TwinLaws
--- Renamed programs: a line for each kind, and the theorem: a renamed program runs alike under every limit.
-pub mod Renamed
--- Declared words: what a declaration is to do, and how the rest of its list goes on.
+-- Renamed parts of programs: expressions, a line for each kind; loops and arms over what they hold.
+pub mod RenamedParts
+-- Declared words: a declaration makes its word known; how the rest of its list goes on, entered or passed over.
 pub mod Declared
+-- Renamed programs: statements, a line for each kind, and the theorem: a scoped program and its renamed one run alike.
+pub mod Renamed

@@ -1,6 +1,6 @@
 -- Renaming: a program with every variable named by another store word. Arrays keep their numbers.
 use Prim.Native.Nat.{ℕ}
-use Rattle.language.specs.Trees.{Expression, constant, read, minus, not, binary, and, or, comma, conditional, assign, compound, prefix, postfix, Place, variable, element, Part, absent, present, Statement, empty, express, block, ifThen, ifElse, while, doWhile, for, switch, break, continue, goto, guardedIf, guardedDo, abort, Arms, noArm, arm, Items, none, _then_, _here_}
+use Rattle.language.specs.Trees.{Expression, constant, read, minus, not, binary, and, or, comma, conditional, assign, compound, prefix, postfix, Place, variable, element, Part, absent, present, Statement, empty, express, block, ifThen, ifElse, while, doWhile, for, switch, break, continue, goto, guardedIf, guardedDo, abort, declare, Arms, noArm, arm, Items, none, _then_, _here_}
 
 -- `π i` is the word that stands for i.
 module _ (π : ℕ → ℕ) where
@@ -45,6 +45,7 @@ module _ (π : ℕ → ℕ) where
     renamedStatement (guardedIf arms) = guardedIf (renamedArms arms)
     renamedStatement (guardedDo arms) = guardedDo (renamedArms arms)
     renamedStatement abort = abort
+    renamedStatement (declare word e) = declare (π word) (renamed e)
 
     pub renamedArms : Arms → Arms
     renamedArms noArm = noArm

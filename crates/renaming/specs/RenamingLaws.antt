@@ -2,7 +2,7 @@
 use mathlib.Core.Path.{_≡_, refl}
 use Prim.Native.Nat.{ℕ}
 use lib.IntN.{ℤ}
-use Rattle.language.specs.Trees.{Expression, constant, read, minus, not, binary, and, or, comma, conditional, assign, compound, prefix, postfix, Place, variable, element, Part, absent, present, Mark, case, default, Statement, empty, express, block, ifThen, ifElse, while, doWhile, for, switch, break, continue, goto, guardedIf, guardedDo, abort, Arms, noArm, arm, Items, none, _then_, _here_, has}
+use Rattle.language.specs.Trees.{Expression, constant, read, minus, not, binary, and, or, comma, conditional, assign, compound, prefix, postfix, Place, variable, element, Part, absent, present, Mark, case, default, Statement, empty, express, block, ifThen, ifElse, while, doWhile, for, switch, break, continue, goto, guardedIf, guardedDo, abort, declare, Arms, noArm, arm, Items, none, _then_, _here_, has}
 use Rattle.language.specs.Meaning.{target}
 use Rattle.renaming.specs.Renaming.{renamed, renamedPlace, renamedPart, renamedStatement, renamedArms, renamedItems}
 
@@ -67,6 +67,7 @@ mutual
   statement-itself (guardedIf arms) = rw (arms-itself arms)
   statement-itself (guardedDo arms) = rw (arms-itself arms)
   statement-itself abort = refl
+  statement-itself (declare word e) = rw (expression-itself e)
 
   arms-itself : (arms : Arms) → renamedArms itself arms ≡ arms
   arms-itself noArm = refl

@@ -58,6 +58,12 @@ module _ {All : Words} {π : ℕ → ℕ} {Visible : Words} where
       → Alike All π Visible P Q Equal m n → ((a : A) → Alike All π Visible Q R Wal (f a) (g a)) → Alike All π Visible P R Wal (m >>= f) (n >>= g)
   alike-bind p q = alike-then p (λ a b e. rw (← e) (q a))
 
+  -- what follows a value that is there
+  pub alike-after : {A B C D : Type 0} {P R : Words} {Wal : C → D → Type 0} {a : A} {b : B} {f : A → Computation C} {g : B → Computation D}
+      → Alike All π Visible P R Wal (f a) (g b) → Alike All π Visible P R Wal (ret a >>= f) (ret b >>= g)
+  unfolding run
+  alike-after p = record { goes = p .goes }
+
   -- ---- steps
 
   step-twins : {P : Words} → Visible within P → (l : Limit) (σ τ : State) → Twin All π P σ τ → TwinResult All π Visible {A = Unit {0}} P Equal (runStep l σ) (runStep l τ)

@@ -5,11 +5,12 @@ use lib.IntN.{ℤ}
 use Rattle.words.specs.Table.{rowCount}
 use Rattle.structure.specs.Structured.{Tree}
 use Rattle.structure.specs.Passes.{Notes}
-use Rattle.names.specs.Names.{linking, scopeAt, declarationsBefore}
+use Rattle.names.specs.Names.{scopeAt}
+use Rattle.words.specs.Declarations.{declarationsBefore}
 
 -- The scope of every row, and how many declarations stand before it.
 pub record Scanned (rows : List ℤ) (scopes counts : List ℕ) : Type 0 where
-  pub tree : Tree (linking rows)
+  pub tree : Tree rows
   pub few : rowCount rows ≤ 2048
-  pub scoped : Notes (linking rows) (scopeAt rows) scopes
+  pub scoped : Notes rows (scopeAt rows) scopes
   pub counted : Notes rows (declarationsBefore rows) counts

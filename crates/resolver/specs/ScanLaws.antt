@@ -9,15 +9,16 @@ use lib.Arith.{lt-of-le-ne}
 use lib.IntN.{ℤ}
 use lib.ListN.{length, getD, set}
 use lib.Seq.{getD-set-same, getD-set-other}
+use Rattle.words.specs.Word.{one}
 use Rattle.words.specs.Table.{rowCount}
-use Rattle.structure.specs.Links.{one}
 use Rattle.structure.specs.Structured.{Tree}
 use Rattle.structure.specs.Passes.{written, Notes}
 use Rattle.structure.specs.NoteLaws.{Noted, noted-start}
 use Rattle.structure.specs.WrittenLaws.{written-length, written-noted, notes-written}
-use Rattle.names.specs.Names.{isDeclaration, linking, inScope, scopeAt, declarationsBefore}
-use Rattle.names.specs.LinkingLaws.{linking-length, linking-count}
-use Rattle.names.specs.ScopeLaws.{scope-before, before-few}
+use Rattle.names.specs.Names.{inScope, scopeAt}
+use Rattle.names.specs.ScopeLaws.{scope-before}
+use Rattle.words.specs.StoreLaws.{before-few}
+use Rattle.words.specs.Declarations.{isDeclaration, declarationsBefore}
 use Rattle.resolver.specs.Passes.{Scanned}
 
 -- ---- scopes
@@ -25,22 +26,22 @@ use Rattle.resolver.specs.Passes.{Scanned}
 -- The scopes after so many words; the array keeps its length.
 pub record Scoping (rows : List ℤ) (start : List ℕ) (words : ℕ) (scopes : List ℕ) : Type 0 where
   pub same : length scopes ≡ length start
-  pub noted : (t : Tree (linking rows)) → Noted (inScope rows) 0 (linking rows) t words scopes
+  pub noted : (t : Tree rows) → Noted (inScope rows) 0 rows t words scopes
 
 module _ {rows : List ℤ} {start : List ℕ} where
   pub scoping-begun : rowCount rows ≤ length start → getD start 0 0 ≡ 0 → Scoping rows start 0 start
-  scoping-begun room root = record { same = refl; noted = λ t. noted-start _ _ _ t _ (rw linking-count room) root }
+  scoping-begun room root = record { same = refl; noted = λ t. noted-start _ _ _ t _ room root }
 
-  pub scoping-on : {words : ℕ} {scopes next : List ℕ} → words < length rows → Scoping rows start words scopes → next ≡ written (inScope rows) (linking rows) words scopes → Scoping rows start (words + 1) next
+  pub scoping-on : {words : ℕ} {scopes next : List ℕ} → words < length rows → Scoping rows start words scopes → next ≡ written (inScope rows) rows words scopes → Scoping rows start (words + 1) next
   scoping-on {words} {scopes} h s e =
       record {
         same = rw e (written-length _ _ _ _ ∙ s .same);
-        noted = λ t. rw e (written-noted _ _ _ _ _ t (let whole = t .whole in let same = linking-length rows in omega arith) (s .noted t));
+        noted = λ t. rw e (written-noted _ _ _ _ _ t (let whole = t .whole in omega arith) (s .noted t));
       }
 
-  pub scoping-ended : {words : ℕ} {scopes : List ℕ} → Tree (linking rows) → length rows ≤ words → Scoping rows start words scopes → Notes (linking rows) (scopeAt rows) scopes
+  pub scoping-ended : {words : ℕ} {scopes : List ℕ} → Tree rows → length rows ≤ words → Scoping rows start words scopes → Notes rows (scopeAt rows) scopes
   unfolding scopeAt
-  scoping-ended t h s = notes-written _ _ _ t _ _ (let whole = t .whole in let same = linking-length rows in omega arith) (s .noted t)
+  scoping-ended t h s = notes-written _ _ _ t _ _ (let whole = t .whole in omega arith) (s .noted t)
 
 -- ---- counts
 
@@ -69,10 +70,10 @@ counting-ended c h room = record { room = room; is = λ row n. c .before row (om
 
 module _ {rows : List ℤ} {scopes counts : List ℕ} (s : Scanned rows scopes counts) (row : ℕ) (n : row < rowCount rows) where
   pub scope-room : row < length scopes
-  scope-room = let room = s .scoped .room in let same = linking-count rows in omega arith
+  scope-room = let room = s .scoped .room in omega arith
 
   pub scope-is : getD scopes row 0 ≡ scopeAt rows row
-  scope-is = s .scoped .is row (rw linking-count n)
+  scope-is = s .scoped .is row n
 
   -- a row's scope is a row
   pub scope-inside : getD scopes row 0 < rowCount rows

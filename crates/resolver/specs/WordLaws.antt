@@ -10,7 +10,8 @@ use borrow.Author.Tests.{eq-eqb, ne-eqb}
 use Rattle.words.specs.Table.{rowCount, wordAt, numberAt}
 use Rattle.words.specs.Over.{over}
 use Rattle.words.specs.OverLaws.{over-set}
-use Rattle.names.specs.Names.{tableOf, isDeclaration, isName, wordOf, meantAt, variableWord, resolvedName, resolvedWord}
+use Rattle.words.specs.Declarations.{isDeclaration}
+use Rattle.names.specs.Names.{tableOf, isName, wordOf, meantAt, variableWord, resolvedName, resolvedWord}
 use Rattle.names.specs.TableLaws.{tabulate-more, table-length}
 use Rattle.resolver.specs.Passes.{Scanned}
 use Rattle.resolver.specs.ScanLaws.{count-is}

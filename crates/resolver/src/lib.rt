@@ -15,7 +15,7 @@ ghost use lib.ListN.{length};
 ghost use Rattle.words.specs.Over.{over};
 ghost use Rattle.grammar.specs.Grammar.{grammar};
 ghost use Rattle.structure.specs.Structured.{Tree};
-ghost use Rattle.names.specs.Names.{linking, resolved};
+ghost use Rattle.names.specs.Names.{resolved};
 ghost use Rattle.resolver.specs.Passes.{Scanned};
 
 // Writes every word of the resolved table.
@@ -33,7 +33,7 @@ fn put_resolved(store: usize, rows: &[i32], scopes: &[u16], counts: &[u16], out:
 // Writes the resolved table of a source program, with the table of kinds. `store` is the number of words of the header's variables and
 // arrays.
 fn resolve_by(kinds: &KindTable, store: usize, rows: &[i32], out: &mut [i32])
-    requires { ⌜ Tree (linking (now rows)) × (length (now rows) / 6 ≤ 2048) × (store ≤ 8192) × (length (now rows) ≤ length (now out)) × (now kinds ≡ grammar) ⌝ }
+    requires { ⌜ Tree (now rows) × (length (now rows) / 6 ≤ 2048) × (store ≤ 8192) × (length (now rows) ≤ length (now out)) × (now kinds ≡ grammar) ⌝ }
     ensures { λ _. ⌜ now (out .exit) ≡ over (resolved store (now (rows .entry))) (now (out .entry)) ⌝ }
 {
     let mut scopes = [0u16; 2048];
@@ -45,7 +45,7 @@ fn resolve_by(kinds: &KindTable, store: usize, rows: &[i32], out: &mut [i32])
 
 // The same: the table of kinds is built here, once, and lent on.
 pub fn resolve(store: usize, rows: &[i32], out: &mut [i32])
-    requires { ⌜ Tree (linking (now rows)) × (length (now rows) / 6 ≤ 2048) × (store ≤ 8192) × (length (now rows) ≤ length (now out)) ⌝ }
+    requires { ⌜ Tree (now rows) × (length (now rows) / 6 ≤ 2048) × (store ≤ 8192) × (length (now rows) ≤ length (now out)) ⌝ }
     ensures { λ _. ⌜ now (out .exit) ≡ over (resolved store (now (rows .entry))) (now (out .entry)) ⌝ }
 {
     let kinds = kind_table();

@@ -2,54 +2,16 @@
 use grammar::KindTable;
 use grammar::link;
 use structure::row_number::narrow;
+use words::declarations::is_declaration;
 use words::table::number_at;
 ghost use mathlib.Core.Path.{_≡_};
-ghost use mathlib.Core.Bool.{_||_};
 ghost use Prim.Native.Nat.{_+_, _*_, _/_, _<_, _≤_};
-ghost use lib.Dec.{eqb};
 ghost use lib.ListN.{length, getD};
-ghost use Rattle.words.specs.Word.{pick};
-ghost use Rattle.words.specs.Table.{numberAt};
-ghost use Rattle.words.specs.Links.{link as linkOf, target};
+ghost use Rattle.words.specs.Links.{target};
 ghost use Rattle.grammar.specs.Grammar.{grammar};
 ghost use Rattle.structure.specs.Structured.{Tree};
 ghost use Rattle.structure.specs.Passes.{written, Notes};
-ghost use Rattle.names.specs.Names.{isDeclaration, linking, inScope, scopeAt};
-
-// "Kind 58": the one place in the code that says the number.
-const DECLARATION: usize = 58;
-
-pub fn is_declaration(rows: &[i32], row: usize) -> bool
-    requires { ⌜ 6 * row < length (now rows) ⌝ }
-    ensures { λ r. ⌜ r ≡ isDeclaration (now (rows .entry)) row ⌝ }
-{
-    number_at(rows, row, 0) == DECLARATION
-}
-
-// What a declaration links: b and next.
-fn declared_link(rows: &[i32], row: usize, field: usize) -> usize
-    requires { ⌜ (6 * row + 5 < length (now rows)) × (field < 6) ⌝ }
-    ensures { λ r. ⌜ r ≡ pick (eqb field 2 || eqb field 5) (numberAt (now (rows .entry)) row field) 0 ⌝ }
-{
-    if field == 2 {
-        return number_at(rows, row, field);
-    }
-    if field == 5 {
-        return number_at(rows, row, field);
-    }
-    0
-}
-
-// The row that a field links, or 0. Once the table of kinds has kind 58, this is `grammar::link`.
-fn linked_row(kinds: &KindTable, rows: &[i32], row: usize, field: usize) -> usize
-    requires { ⌜ (6 * row + 5 < length (now rows)) × (field < 6) × (now kinds ≡ grammar) ⌝ }
-    ensures { λ r. ⌜ r ≡ linkOf (linking (now (rows .entry))) row field ⌝ }
-{
-    if is_declaration(rows, row) {
-        return declared_link(rows, row, field);
-    }
-    link(kinds, rows, row, field)
-}
+ghost use Rattle.names.specs.Names.{inScope, scopeAt};
 
 // What a row hands to the row that its field links.
 fn hand(rows: &[i32], owner: usize, field: usize, own: u16) -> u16
@@ -67,8 +29,8 @@ fn hand(rows: &[i32], owner: usize, field: usize, own: u16) -> u16
 
 // A word that links a row writes that row's scope.
 fn write_scope(rows: &[i32], scopes: &mut [u16], word: usize, linked: usize)
-    requires { ⌜ Tree (linking (now rows)) × (length (now rows) / 6 ≤ length (now scopes)) × (word < length (now rows)) × (linked ≡ target (linking (now rows)) word) ⌝ }
-    ensures { λ _. ⌜ now (scopes .exit) ≡ written (inScope (now (rows .entry))) (linking (now (rows .entry))) word (now (scopes .entry)) ⌝ }
+    requires { ⌜ Tree (now rows) × (length (now rows) / 6 ≤ length (now scopes)) × (word < length (now rows)) × (linked ≡ target (now rows) word) ⌝ }
+    ensures { λ _. ⌜ now (scopes .exit) ≡ written (inScope (now (rows .entry))) (now (rows .entry)) word (now (scopes .entry)) ⌝ }
 {
     if linked != 0 {
         let row = word / 6;
@@ -79,11 +41,11 @@ fn write_scope(rows: &[i32], scopes: &mut [u16], word: usize, linked: usize)
 
 // The scopes of all rows, in one pass: a row's own is written before those of the rows that it links.
 pub fn write_scopes(kinds: &KindTable, rows: &[i32], scopes: &mut [u16])
-    requires { ⌜ Tree (linking (now rows)) × (length (now rows) / 6 ≤ length (now scopes)) × (getD (now scopes) 0 0 ≡ 0) × (now kinds ≡ grammar) ⌝ }
-    ensures { λ _. ⌜ Notes (linking (now (rows .entry))) (scopeAt (now (rows .entry))) (now (scopes .exit)) ⌝ }
+    requires { ⌜ Tree (now rows) × (length (now rows) / 6 ≤ length (now scopes)) × (getD (now scopes) 0 0 ≡ 0) × (now kinds ≡ grammar) ⌝ }
+    ensures { λ _. ⌜ Notes (now (rows .entry)) (scopeAt (now (rows .entry))) (now (scopes .exit)) ⌝ }
 {
     for word in 0..rows.len() {
-        let linked = linked_row(kinds, rows, word / 6, word % 6);
+        let linked = link(kinds, rows, word / 6, word % 6);
         write_scope(rows, scopes, word, linked);
     }
 }

@@ -1,6 +1,6 @@
 // What a name means, and its store word.
-use super::scopes::is_declaration;
 use structure::row_number::wide;
+use words::declarations::is_declaration;
 use words::table::number_at;
 use words::table::word_at;
 ghost use mathlib.Core.Path.{_≡_};

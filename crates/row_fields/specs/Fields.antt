@@ -7,9 +7,9 @@ use lib.IntN.{ℤ}
 use lib.ListN.{length}
 use Rattle.words.specs.Word.{pick}
 use Rattle.words.specs.Table.{rowCount, numberAt}
-use Rattle.words.specs.Layout.{Layout, layoutOf, storeSize, storeWords}
+use Rattle.words.specs.Layout.{Layout, layoutOf, storeSize, headerStore}
 use Rattle.words.specs.declared.Form.{Form}
-use Rattle.words.specs.Kinds.{unused, variable, array, label, sortAt, inLanguage, isLink, isRequired}
+use Rattle.words.specs.Kinds.{unused, variable, array, label, declaredNumber, sortAt, inLanguage, isLink, isRequired}
 use Rattle.words.specs.Links.{fits}
 use Rattle.row_fields.specs.declared.Bounds.{Bounds}
 
@@ -35,14 +35,18 @@ mislinked rows row field =
 abbrev pub boundsIn : Layout → ℕ → Bounds
 boundsIn L words = record { variables = L .variables; arrays = length (L .lengths); store = storeSize L; words = words }
 
--- Those that a header gives. The source has no temporaries: its `words` is its `store`.
+-- Those that a header gives. A source header gives no words behind the first S: its `words` is its `store`.
 unfoldable pub boundsOf : Form → List ℤ → Bounds
-boundsOf form header = boundsIn (layoutOf form header) (storeWords form header)
+boundsOf form header = boundsIn (layoutOf form header) (headerStore form header)
 
--- "T temporaries (0 to 8,192), which are variable numbers S to S+T−1; numbers V to S−1 name nothing." "A label number (0 to 40,979)".
+-- "T temporaries (0 to 8,192)"; "numbers V to S−1 name nothing". Change 11: "the kernel names them S to S+D−1", "temporaries begin at S+D".
+abbrev pub variableFits : Bounds → ℕ → Bool
+variableFits bounds number = ltb number (bounds .variables) || (leb (bounds .store) number && ltb number (bounds .words))
+
+-- "A label number (0 to 40,979)". Of a declaration: "a variable number below V", which in the source is every number of a variable.
 unfoldable pub numberFits : Bounds → ℕ → ℕ → Bool
 numberFits bounds sort number =
-    pick (eqb sort variable) (ltb number (bounds .variables) || (leb (bounds .store) number && ltb number (bounds .words)))
+    pick (eqb sort variable || eqb sort declaredNumber) (variableFits bounds number)
     (pick (eqb sort array) (ltb number (bounds .arrays))
     (pick (eqb sort label) (ltb number 40980)
     true))

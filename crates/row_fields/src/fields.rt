@@ -3,6 +3,7 @@ use super::Bounds;
 use grammar::ARM;
 use grammar::ARRAY;
 use grammar::BODY_BLOCK;
+use grammar::DECLARED;
 use grammar::ITEM;
 use grammar::KindTable;
 use grammar::LABEL;
@@ -21,9 +22,9 @@ use grammar::is_required;
 use grammar::is_statement;
 use grammar::sort_at;
 use words::Form;
+use words::layout::header_store;
 use words::layout::leading;
 use words::layout::store_size;
-use words::layout::store_words;
 use words::table::natural;
 use words::table::number_at;
 ghost use mathlib.Core.Path.{_≡_};
@@ -36,7 +37,7 @@ ghost use Rattle.words.specs.Layout.{headerFits};
 ghost use Rattle.words.specs.Kinds.{bodyBlock};
 ghost use Rattle.grammar.specs.Grammar.{grammar};
 ghost use Rattle.words.specs.Links.{isStatement, isBlock, fits as fitsOf};
-ghost use Rattle.row_fields.specs.Fields.{foreign, leadsRight, mislinked, boundsOf, numberFits, outside};
+ghost use Rattle.row_fields.specs.Fields.{foreign, leadsRight, mislinked, boundsOf, variableFits, numberFits, outside};
 
 // Cause 3.
 pub fn is_foreign(kinds: &KindTable, form: Form, rows: &[i32], row: usize, field: usize) -> bool
@@ -127,7 +128,7 @@ pub fn bounds_of(form: Form, header: &[i32]) -> Bounds
     let variables = natural(header[0]);
     let arrays = header.len() - leading(form);
     let store = store_size(form, header);
-    let words = store_words(form, header);
+    let words = header_store(form, header);
     Bounds {
         variables: variables,
         arrays: arrays,
@@ -136,17 +137,26 @@ pub fn bounds_of(form: Form, header: &[i32]) -> Bounds
     }
 }
 
+fn variable_fits(bounds: Bounds, number: usize) -> bool
+    ensures { λ r. ⌜ r ≡ variableFits bounds number ⌝ }
+{
+    if number < bounds.variables {
+        return true;
+    }
+    if bounds.store <= number {
+        return number < bounds.words;
+    }
+    false
+}
+
 pub fn number_fits(bounds: Bounds, sort: u8, number: usize) -> bool
     ensures { λ r. ⌜ r ≡ numberFits bounds sort number ⌝ }
 {
     if sort == VARIABLE {
-        if number < bounds.variables {
-            return true;
-        }
-        if bounds.store <= number {
-            return number < bounds.words;
-        }
-        return false;
+        return variable_fits(bounds, number);
+    }
+    if sort == DECLARED {
+        return variable_fits(bounds, number);
     }
     if sort == ARRAY {
         return number < bounds.arrays;

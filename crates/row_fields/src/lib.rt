@@ -1,7 +1,7 @@
 // The causes that lie in one field of a row: 3, 4 and 6.
 pub mod fields; // fields.rt: the causes that lie in one field of a row: 3, 4 and 6
 
-// The numbers that a header gives to its program: variables 0 to V-1, so many arrays, temporaries S to S+T-1.
+// The numbers that a header gives to its program: variables 0 to V-1, so many arrays, declared words and temporaries S to S+D+T-1.
 pub struct Bounds {
     pub variables: usize,
     pub arrays: usize,

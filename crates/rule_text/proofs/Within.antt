@@ -1,4 +1,4 @@
--- A text within the limits: it is read into tables of 34 and 768 words, and what its rule is.
+-- A text within the limits: it is read into tables of 35 and 768 words, and what its rule is.
 use mathlib.Core.Path.{_≡_, sym, ap, _∙_}
 use mathlib.Core.Bool.{_&&_}
 use mathlib.Core.List.{List, [], _∷_}
@@ -90,17 +90,17 @@ module _ {text : List ℕ} (w : WithinLimits text) where
   small : Small (w .program .header) (length (w .program .rows))
   small = no-cause-small (w .program .header) (length (w .program .rows)) (w .no-cause)
 
-  few-numbers : length (w .program .header) ≤ 34
+  few-numbers : length (w .program .header) ≤ 35
   few-numbers = let most = headerFits-facts Source (w .program .header) (small .passes .header-fits) .most in omega arith
 
   -- what the reader counts and leaves
   pub record Tables (headerWords rowWords : ℕ) (headerLeft rowsLeft : List ℤ) : Type 0 where
-    pub header-inside : headerWords ≤ 34
+    pub header-inside : headerWords ≤ 35
     pub rows-inside : rowWords ≤ 768
     pub header-read : take (headerWords - 0) headerLeft ≡ w .program .header
     pub rows-read : take (rowWords - 0) rowsLeft ≡ w .program .rows
 
-  module _ (header rows headerLeft rowsLeft : List ℤ) (h : length header ≡ 34) (r : length rows ≡ 768) where
+  module _ (header rows headerLeft rowsLeft : List ℤ) (h : length header ≡ 35) (r : length rows ≡ 768) where
     reads : readResult Source text header rows
         ≡ record { outcome = finished (length (w .program .header) ∷ length (w .program .rows) ∷ []); header = over (w .program .header) header; rows = over (w .program .rows) rows }
     reads = read-passing Source text (w .program) (w .parses) (small .passes) header rows (omega (arith, few-numbers)) (omega (arith, small .few-rows))

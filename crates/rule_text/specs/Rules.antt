@@ -3,11 +3,12 @@ use mathlib.Core.Path.{_≡_}
 use mathlib.Core.Bool.{true, _&&_}
 use mathlib.Core.List.{List}
 use mathlib.Core.Option.{Option, none, some}
-use Prim.Native.Nat.{ℕ, _-_, _*_, _≤_}
+use Prim.Native.Nat.{ℕ, _+_, _-_, _*_, _≤_}
 use lib.Dec.{leb}
 use lib.IntN.{ℤ}
 use lib.ListN.{length, take}
 use Rattle.words.specs.Word.{pick}
+use Rattle.words.specs.Declarations.{declarationLimit}
 use Rattle.words.specs.Layout.{headerFits, countFits, layoutOf, storeSize}
 use Rattle.words.specs.declared.Form.the-variants.{Source}
 use Rattle.words.specs.declared.Verdict.{Verdict}
@@ -27,6 +28,10 @@ mostRows = 128
 
 abbrev pub mostWords : ℕ
 mostWords = 1024
+
+-- Words that the store of every accepted rule has room in: S, and one for each declaration.
+abbrev pub storeRoom : ℕ
+storeRoom = mostWords + declarationLimit
 
 abbrev pub budget : ℕ
 budget = 100000
@@ -80,7 +85,7 @@ pub record Holds (rule : Rule) (headerWords rowWords : ℕ) (header rows : List 
   pub program : Program
   pub is : rule ≡ accepted program
   pub allowed : IsAccepted (program .header) (program .rows)
-  pub header-inside : headerWords ≤ 34
+  pub header-inside : headerWords ≤ 35
   pub rows-inside : rowWords ≤ 768
   pub header-read : take (headerWords - 0) header ≡ program .header
   pub rows-read : take (rowWords - 0) rows ≡ program .rows

@@ -20,7 +20,7 @@ ghost use Rattle.rule_text.specs.Rules.{parsedRule, ruleOf, WithinLimits
 // A text within the limits is read, and its program checked. The reader does not refuse it: both tables have room.
 fn program_rule(text: &[u8], header: &mut [i32], rows: &mut [i32]) -> RuleAnswer
     requires { ⌜ WithinLimits (now text) ⌝ }
-    requires { ⌜ length (now header) ≡ 34 ⌝ }
+    requires { ⌜ length (now header) ≡ 35 ⌝ }
     requires { ⌜ length (now rows) ≡ 768 ⌝ }
     ensures { λ r. ⌜ RuleRead (parsedRule (parse Source (now (text .entry)))) r (now (header .exit)) (now (rows .exit)) ⌝ }
 {
@@ -47,11 +47,11 @@ fn lines_rule(
     rows: &mut [i32],
 ) -> RuleAnswer
     requires { ⌜ HasLines 6 Source (now text) end numbers «row_words» ⌝ }
-    requires { ⌜ length (now header) ≡ 34 ⌝ }
+    requires { ⌜ length (now header) ≡ 35 ⌝ }
     requires { ⌜ length (now rows) ≡ 768 ⌝ }
     ensures { λ r. ⌜ RuleRead (parsedRule (parse Source (now (text .entry)))) r (now (header .exit)) (now (rows .exit)) ⌝ }
 {
-    let mut first = [0i32; 34];
+    let mut first = [0i32; 35];
     store_numbers(&text[0..end], &mut first);
     let cause = trial_cause(&first[0..numbers], row_words);
     if let Cause::Number(number) = cause {
@@ -65,7 +65,7 @@ fn lines_rule(
 
 // Reads a rule's text to the start of both tables, and checks its program.
 pub fn read_rule(text: &[u8], header: &mut [i32], rows: &mut [i32]) -> RuleAnswer
-    requires { ⌜ length (now header) ≡ 34 ⌝ }
+    requires { ⌜ length (now header) ≡ 35 ⌝ }
     requires { ⌜ length (now rows) ≡ 768 ⌝ }
     ensures { λ r. ⌜ RuleRead (ruleOf (now (text .entry))) r (now (header .exit)) (now (rows .exit)) ⌝ }
 {

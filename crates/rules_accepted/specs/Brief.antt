@@ -12,7 +12,8 @@ use Rattle.words.specs.Search.{lowestRow, someField}
 use Rattle.words.specs.declared.Form.{Form}
 use Rattle.words.specs.declared.Verdict.{Verdict}
 use Rattle.row_fields.specs.Fields.{foreign, mislinked, boundsOf, outside}
-use Rattle.structure.specs.Links.{one, notOnce}
+use Rattle.words.specs.Word.{one}
+use Rattle.structure.specs.Links.{notOnce}
 use Rattle.structure.specs.Refusal.{at, unless, _next_}
 
 -- The rows that the first words link.

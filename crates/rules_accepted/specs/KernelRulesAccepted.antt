@@ -3,7 +3,7 @@ use mathlib.Core.Path.{_≡_, refl}
 use mathlib.Core.List.{List, [], _∷_, map}
 use Rattle.words.specs.Word.{natural}
 use Rattle.words.specs.Table.{wordAt, numberAt}
-use Rattle.words.specs.Layout.{layoutOf, sum, storeSize, storeWords, allWithin, headerFits, countFits}
+use Rattle.words.specs.Layout.{layoutOf, sum, storeSize, allWithin, headerFits, countFits, headerStore}
 use Rattle.words.specs.declared.Form.the-variants.{Kernel}
 use Rattle.words.specs.declared.Verdict.{Verdict}
 use Rattle.words.specs.declared.Verdict.the-variants.{Accepted}
@@ -43,7 +43,7 @@ tested-accepted rule e =
     (accepts-next (at 9 _) _ (accepts-at 9 _ (brief-shallow Kernel (rule .header) (rule .rows) (c6 .0))) (c6 .1))
 
 table-tested : map tested kernelTable ≡ map accepted kernelTable
-unfolding natural wordAt numberAt layoutOf sum storeSize storeWords allWithin headerFits countFits foreign fits leadsRight mislinked boundsOf numberFits outside kindOf kindIn kinds sortIn kindRow expressionFields statementFields markFields memberFields sortOf sortAt inLanguage isExpression isPlace isStatement isLink isRequired link target loneBlock notOnce linker received noteBy note at unless _next_ lowest some lowestRow someField targets times briefCauses brief isLabel repeatedLabel owning ownerAt labelBehind labelAhead gotoWithoutLabel labelFault isAtom isAtomMinus isAtomOperation isAtomElement fitsVariable isAssignment isBlock isKernelIf isKernelWhile isKernelExpression isKernelStatement notKernelForm tested
+unfolding natural wordAt numberAt layoutOf sum storeSize headerStore allWithin headerFits countFits foreign fits leadsRight mislinked boundsOf numberFits outside kindOf kindIn kinds sortIn kindRow expressionFields statementFields markFields memberFields sortOf sortAt inLanguage isExpression isPlace isStatement isLink isRequired link target loneBlock notOnce linker received noteBy note at unless _next_ lowest some lowestRow someField targets times briefCauses brief isLabel repeatedLabel owning ownerAt labelBehind labelAhead gotoWithoutLabel labelFault isAtom isAtomMinus isAtomOperation isAtomElement fitsVariable isAssignment isBlock isKernelIf isKernelWhile isKernelExpression isKernelStatement notKernelForm tested
 table-tested = refl
 
 pub kernel-rules-accepted : map checked kernelTable ≡ map accepted kernelTable

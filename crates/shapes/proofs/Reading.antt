@@ -12,8 +12,8 @@ use Rattle.words.specs.declared.StatementKind.{StatementKind}
 use Rattle.words.specs.declared.MarkKind.{MarkKind}
 use Rattle.words.specs.declared.MemberKind.{MemberKind}
 use Rattle.words.specs.declared.MemberKind.the-variants.{Arm}
-use Rattle.shapes.specs.Shapes.{expressionShape, statementShape, markShape, expressionAs, statementAs, markAs, memberAs, shapeAs, shapeAt, expressionIn, placeIn, statementIn, itemIn, armIn, StatementAt, ItemAt, ArmAt}
-use Rattle.shapes.specs.Source.{Source, PlaceAt, ExpressionAt}
+use Rattle.shapes.specs.Shapes.{expressionShape, statementShape, markShape, expressionAs, statementAs, markAs, memberAs, shapeAs, shapeAt, expressionIn, placeIn, statementIn, itemIn, armIn, ItemAt, ArmAt}
+use Rattle.shapes.specs.Source.{Source, PlaceAt, ExpressionAt, StatementAt}
 use Rattle.shapes.specs.ShapeLaws.{expression-found, statement-found, item-found, arm-found, place-in}
 use Rattle.shapes.specs.declared.PlaceShape.{PlaceShape}
 use Rattle.shapes.specs.declared.ExpressionShape.{ExpressionShape}
@@ -50,7 +50,7 @@ module _ {rows : List ℤ} {row : ℕ} (source : Source rows) (inside : row < ro
   expression-read {shape} {e} h g = subst (λ (x : ExpressionShape). ExpressionAt rows row x) (sym (g ∙ ap expressionIn h)) (expression-found (source .sound) inside (source .few-variables row inside) (source .few-arrays))
 
   pub statement-read : {shape : Shape} {s : StatementShape} → shape ≡ shapeAt rows row → s ≡ statementIn shape → StatementAt rows row s
-  statement-read {shape} {s} h g = subst (λ (x : StatementShape). StatementAt rows row x) (sym (g ∙ ap statementIn h)) (statement-found (source .sound) inside)
+  statement-read {shape} {s} h g = subst (λ (x : StatementShape). StatementAt rows row x) (sym (g ∙ ap statementIn h)) (statement-found (source .sound) inside (source .few-declared row inside))
 
   pub item-read : {shape : Shape} {i : Item} → shape ≡ shapeAt rows row → i ≡ itemIn shape → ItemAt rows row (numberAt rows row 5) i
   item-read {shape} {i} h g = subst (λ (x : Item). ItemAt rows row (numberAt rows row 5) x) (sym (g ∙ ap itemIn h)) (item-found (source .sound) inside)

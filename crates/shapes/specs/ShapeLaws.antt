@@ -14,16 +14,16 @@ use Rattle.words.specs.declared.Kind.the-variants as group
 use Rattle.words.specs.declared.ExpressionKind.{ExpressionKind}
 use Rattle.words.specs.declared.ExpressionKind.the-variants.{Constant, Variable, Element, Minus, Not, Binary, And, Or, Conditional, Comma, Assign, Compound, Prefix, Postfix}
 use Rattle.words.specs.declared.StatementKind.{StatementKind}
-use Rattle.words.specs.declared.StatementKind.the-variants.{Empty, Express, Block, If, While, Do, For, Switch, Break, Continue, Goto, GuardedIf, GuardedDo, Abort}
+use Rattle.words.specs.declared.StatementKind.the-variants.{Empty, Express, Block, If, While, Do, For, Switch, Break, Continue, Goto, GuardedIf, GuardedDo, Abort, Declare}
 use Rattle.words.specs.declared.MarkKind.{MarkKind}
 use Rattle.words.specs.declared.MarkKind.the-variants.{Case, Default, Label}
 use Rattle.words.specs.declared.MemberKind.the-variants.{Arm}
 use Rattle.language.specs.Trees.{variable as variableTree, Statement, _then_}
 use Rattle.language.specs.Decode.{Forward, placeOf, expressionOf, statementOf, itemsOf, armsOf, statementAt}
-use Rattle.language.specs.DecodeLaws.{expression-at, statement-at, at-constant, at-variable, at-element, at-minus, at-not, at-binary, at-and, at-or, at-comma, at-conditional, at-assign, at-compound, at-prefix, at-postfix, at-empty, at-express, at-block, at-ifThen, at-ifElse, at-while, at-doWhile, at-for, at-switch, at-break, at-continue, at-goto, at-guardedIf, at-guardedDo, at-abort, at-item, at-case, at-default, at-label, at-arm, items-at, arms-at, later-list}
+use Rattle.language.specs.DecodeLaws.{expression-at, statement-at, at-constant, at-variable, at-element, at-minus, at-not, at-binary, at-and, at-or, at-comma, at-conditional, at-assign, at-compound, at-prefix, at-postfix, at-empty, at-express, at-block, at-ifThen, at-ifElse, at-while, at-doWhile, at-for, at-switch, at-break, at-continue, at-goto, at-guardedIf, at-guardedDo, at-abort, at-declare, at-item, at-case, at-default, at-label, at-arm, items-at, arms-at, later-list}
 use Rattle.language.specs.Sound.{Link, OptionalLink, Sound}
 use Rattle.language.specs.SoundLaws.{field-of, link-of, optional-link-of, behind}
-use Rattle.shapes.specs.Shapes.{expressionAs, statementAs, markAs, memberAs, shapeAs, shapeAt, expressionIn, placeIn, statementIn, itemIn, armIn, Onward, OptionalOnward, operationTree, choiceTree, statementTree, PlaceWithin, ExpressionWithin, StatementAt, ItemAt, ArmAt}
+use Rattle.shapes.specs.Shapes.{expressionAs, statementAs, markAs, memberAs, shapeAs, shapeAt, expressionIn, placeIn, statementIn, itemIn, armIn, Onward, OptionalOnward, operationTree, choiceTree, statementTree, PlaceWithin, ExpressionWithin, StatementWithin, ItemAt, ArmAt}
 use Rattle.shapes.specs.declared.PlaceShape.{PlaceShape}
 use Rattle.shapes.specs.declared.OperationShape.{OperationShape}
 use Rattle.shapes.specs.declared.OperationShape.the-variants as operation
@@ -122,62 +122,67 @@ module _ {rows : List ℤ} {L : Layout} {words : ℕ} (sound : Sound rows L word
         go (group.OfMember Arm) k = record { is = rw (expression-at rows whole row, k); onward = tt }
         go group.Other k = record { is = rw (expression-at rows whole row, k); onward = tt }
 
-  -- ---- statements
+  -- ---- statements: `variables` bounds the words of declarations
 
-  if-of : kindAt rows row ≡ group.OfStatement If → (n : ℕ) → f 3 ≡ n → StatementAt rows row (statement.If (f 1) (f 2) (f 3))
-  unfolding sortIn kindRow statementFields isRequired isLink
-  if-of k zero z =
-      let a = required k 1 (omega arith) (omega arith) refl in
-      let b = required k 2 (omega arith) (omega arith) refl in
-      record { is = at-ifThen rows whole row k (a .later) (b .later) z ∙ rw z; onward = (a, b, optional-link k 3 (omega arith) (omega arith) refl) }
-  if-of k (suc n) z =
-      let a = required k 1 (omega arith) (omega arith) refl in
-      let b = required k 2 (omega arith) (omega arith) refl in
-      let c = optional-link k 3 (omega arith) (omega arith) refl in
-      record { is = at-ifElse rows whole row k (a .later) (b .later) (c (omega arith) .later) ∙ rw z; onward = (a, b, c) }
+  module _ {variables : ℕ} (few-declared : kindAt rows row ≡ group.OfStatement Declare → f 1 < variables) where
+    abbrev S : StatementShape → Type 0
+    S s = StatementWithin rows row variables s
 
-  statement-of : (kind : StatementKind) → kindAt rows row ≡ group.OfStatement kind → StatementAt rows row (statementAs rows row kind)
-  unfolding sortIn kindRow statementFields isRequired isLink
-  statement-of Empty k = record { is = at-empty rows whole row k; onward = tt }
-  statement-of Express k = let a = required k 1 (omega arith) (omega arith) refl in record { is = at-express rows whole row k (a .later); onward = a }
-  statement-of Block k = let a = optional-link k 1 (omega arith) (omega arith) refl in record { is = at-block rows whole row k (forward 1 a); onward = a }
-  statement-of If k = if-of k (f 3) refl
-  statement-of While k =
-      let a = required k 1 (omega arith) (omega arith) refl in
-      let b = required k 2 (omega arith) (omega arith) refl in
-      record { is = at-while rows whole row k (a .later) (b .later); onward = (a, b) }
-  statement-of Do k =
-      let a = required k 1 (omega arith) (omega arith) refl in
-      let b = required k 2 (omega arith) (omega arith) refl in
-      record { is = at-doWhile rows whole row k (a .later) (b .later); onward = (a, b) }
-  statement-of For k =
-      let a = optional-link k 1 (omega arith) (omega arith) refl in
-      let b = optional-link k 2 (omega arith) (omega arith) refl in
-      let c = optional-link k 3 (omega arith) (omega arith) refl in
-      let d = required k 4 (omega arith) (omega arith) refl in
-      record { is = at-for rows whole row k (forward 1 a) (forward 2 b) (forward 3 c) (d .later); onward = (a, b, c, d) }
-  statement-of Switch k =
-      let a = required k 1 (omega arith) (omega arith) refl in
-      let b = optional-link k 2 (omega arith) (omega arith) refl in
-      record { is = at-switch rows whole row k (a .later) (forward 2 b); onward = (a, b) }
-  statement-of Break k = record { is = at-break rows whole row k; onward = tt }
-  statement-of Continue k = record { is = at-continue rows whole row k; onward = tt }
-  statement-of Goto k = record { is = at-goto rows whole row k; onward = tt }
-  statement-of GuardedIf k = let a = optional-link k 1 (omega arith) (omega arith) refl in record { is = at-guardedIf rows whole row k (forward 1 a); onward = a }
-  statement-of GuardedDo k = let a = optional-link k 1 (omega arith) (omega arith) refl in record { is = at-guardedDo rows whole row k (forward 1 a); onward = a }
-  statement-of Abort k = record { is = at-abort rows whole row k; onward = tt }
+    if-of : kindAt rows row ≡ group.OfStatement If → (n : ℕ) → f 3 ≡ n → S (statement.If (f 1) (f 2) (f 3))
+    unfolding sortIn kindRow statementFields isRequired isLink
+    if-of k zero z =
+        let a = required k 1 (omega arith) (omega arith) refl in
+        let b = required k 2 (omega arith) (omega arith) refl in
+        record { is = at-ifThen rows whole row k (a .later) (b .later) z ∙ rw z; onward = (a, b, optional-link k 3 (omega arith) (omega arith) refl) }
+    if-of k (suc n) z =
+        let a = required k 1 (omega arith) (omega arith) refl in
+        let b = required k 2 (omega arith) (omega arith) refl in
+        let c = optional-link k 3 (omega arith) (omega arith) refl in
+        record { is = at-ifElse rows whole row k (a .later) (b .later) (c (omega arith) .later) ∙ rw z; onward = (a, b, c) }
 
-  -- What a row is as a statement; empty where it is none.
-  pub statement-found : StatementAt rows row (statementIn (shapeAt rows row))
-  unfolding shapeAt memberAs statementOf
-  statement-found = go (kindAt rows row) refl
-    where
-      go : (kind : Kind) → kindAt rows row ≡ kind → StatementAt rows row (statementIn (shapeAs rows row kind))
-      go (group.OfExpression kind) k = record { is = rw (statement-at rows whole row, k); onward = tt }
-      go (group.OfStatement kind) k = statement-of kind k
-      go (group.OfMark kind) k = record { is = rw (statement-at rows whole row, k); onward = tt }
-      go (group.OfMember Arm) k = record { is = rw (statement-at rows whole row, k); onward = tt }
-      go group.Other k = record { is = rw (statement-at rows whole row, k); onward = tt }
+    statement-of : (kind : StatementKind) → kindAt rows row ≡ group.OfStatement kind → S (statementAs rows row kind)
+    unfolding sortIn kindRow statementFields isRequired isLink
+    statement-of Empty k = record { is = at-empty rows whole row k; onward = tt }
+    statement-of Express k = let a = required k 1 (omega arith) (omega arith) refl in record { is = at-express rows whole row k (a .later); onward = a }
+    statement-of Block k = let a = optional-link k 1 (omega arith) (omega arith) refl in record { is = at-block rows whole row k (forward 1 a); onward = a }
+    statement-of If k = if-of k (f 3) refl
+    statement-of While k =
+        let a = required k 1 (omega arith) (omega arith) refl in
+        let b = required k 2 (omega arith) (omega arith) refl in
+        record { is = at-while rows whole row k (a .later) (b .later); onward = (a, b) }
+    statement-of Do k =
+        let a = required k 1 (omega arith) (omega arith) refl in
+        let b = required k 2 (omega arith) (omega arith) refl in
+        record { is = at-doWhile rows whole row k (a .later) (b .later); onward = (a, b) }
+    statement-of For k =
+        let a = optional-link k 1 (omega arith) (omega arith) refl in
+        let b = optional-link k 2 (omega arith) (omega arith) refl in
+        let c = optional-link k 3 (omega arith) (omega arith) refl in
+        let d = required k 4 (omega arith) (omega arith) refl in
+        record { is = at-for rows whole row k (forward 1 a) (forward 2 b) (forward 3 c) (d .later); onward = (a, b, c, d) }
+    statement-of Switch k =
+        let a = required k 1 (omega arith) (omega arith) refl in
+        let b = optional-link k 2 (omega arith) (omega arith) refl in
+        record { is = at-switch rows whole row k (a .later) (forward 2 b); onward = (a, b) }
+    statement-of Break k = record { is = at-break rows whole row k; onward = tt }
+    statement-of Continue k = record { is = at-continue rows whole row k; onward = tt }
+    statement-of Goto k = record { is = at-goto rows whole row k; onward = tt }
+    statement-of GuardedIf k = let a = optional-link k 1 (omega arith) (omega arith) refl in record { is = at-guardedIf rows whole row k (forward 1 a); onward = a }
+    statement-of GuardedDo k = let a = optional-link k 1 (omega arith) (omega arith) refl in record { is = at-guardedDo rows whole row k (forward 1 a); onward = a }
+    statement-of Abort k = record { is = at-abort rows whole row k; onward = tt }
+    statement-of Declare k = let b = required k 2 (omega arith) (omega arith) refl in record { is = at-declare rows whole row k (b .later); onward = (few-declared k, b) }
+
+    -- What a row is as a statement; empty where it is none.
+    pub statement-found : S (statementIn (shapeAt rows row))
+    unfolding shapeAt memberAs statementOf
+    statement-found = go (kindAt rows row) refl
+      where
+        go : (kind : Kind) → kindAt rows row ≡ kind → S (statementIn (shapeAs rows row kind))
+        go (group.OfExpression kind) k = record { is = rw (statement-at rows whole row, k); onward = tt }
+        go (group.OfStatement kind) k = statement-of kind k
+        go (group.OfMark kind) k = record { is = rw (statement-at rows whole row, k); onward = tt }
+        go (group.OfMember Arm) k = record { is = rw (statement-at rows whole row, k); onward = tt }
+        go group.Other k = record { is = rw (statement-at rows whole row, k); onward = tt }
 
   -- ---- items
 
@@ -247,8 +252,8 @@ expressed {rows} {row} {variables} {arrays} found e = subst (λ (s : ExpressionS
 pub placed : {rows : List ℤ} {row variables arrays : ℕ} {p q : PlaceShape} → PlaceWithin rows row variables arrays p → p ≡ q → PlaceWithin rows row variables arrays q
 placed {rows} {row} {variables} {arrays} found e = subst (λ (p : PlaceShape). PlaceWithin rows row variables arrays p) e found
 
-pub stated : {rows : List ℤ} {row : ℕ} {s t : StatementShape} → StatementAt rows row s → s ≡ t → StatementAt rows row t
-stated {rows} {row} found e = subst (λ (s : StatementShape). StatementAt rows row s) e found
+pub stated : {rows : List ℤ} {row variables : ℕ} {s t : StatementShape} → StatementWithin rows row variables s → s ≡ t → StatementWithin rows row variables t
+stated {rows} {row} {variables} found e = subst (λ (s : StatementShape). StatementWithin rows row variables s) e found
 
 pub itemed : {rows : List ℤ} {row next : ℕ} {i j : Item} → ItemAt rows row next i → i ≡ j → ItemAt rows row next j
 itemed {rows} {row} {next} found e = subst (λ (i : Item). ItemAt rows row next i) e found
@@ -261,7 +266,7 @@ pub at-next : {rows : List ℤ} {row next read : ℕ} {i : Item} → read ≡ ne
 at-next {rows} {row} {next} {read} {i} e found = subst (λ (n : ℕ). ItemAt rows row n i) (sym e) found
 
 -- a measure of the statement at a row is that of its shape
-pub by-statement : {rows : List ℤ} {row : ℕ} {s : StatementShape} {x : ℕ} (g : Statement → ℕ) → StatementAt rows row s → x ≡ g (statementTree rows s) → x ≡ g (statementAt rows row)
+pub by-statement : {rows : List ℤ} {row variables : ℕ} {s : StatementShape} {x : ℕ} (g : Statement → ℕ) → StatementWithin rows row variables s → x ≡ g (statementTree rows s) → x ≡ g (statementAt rows row)
 by-statement g found e = e ∙ sym (ap g (found .is))
 
 pub optional : {rows : List ℤ} {row link : ℕ} → Onward rows row link → OptionalOnward rows row link

@@ -16,7 +16,7 @@ use Rattle.words.specs.declared.MarkKind.{MarkKind}
 use Rattle.words.specs.declared.MarkKind.the-variants as mark
 use Rattle.words.specs.declared.MemberKind.{MemberKind}
 use Rattle.words.specs.declared.MemberKind.the-variants as member
-use Rattle.language.specs.Trees.{Expression, constant, read, minus, not, binary, and, or, comma, conditional, assign, compound, prefix, postfix, Place, variable, element, Mark as MarkTree, case, default, label, Statement, empty, express, block, while, doWhile, for, switch, break, continue, goto, guardedIf, guardedDo, abort, Arms, noArm, arm, Items, _then_, _here_}
+use Rattle.language.specs.Trees.{Expression, constant, read, minus, not, binary, and, or, comma, conditional, assign, compound, prefix, postfix, Place, variable, element, Mark as MarkTree, case, default, label, Statement, empty, express, block, while, doWhile, for, switch, break, continue, goto, guardedIf, guardedDo, abort, declare, Arms, noArm, arm, Items, _then_, _here_}
 use Rattle.language.specs.Decode.{placeOf, expressionAt, ifOf, statementAt, itemsAt, armsAt, listAt, armListAt, partAt}
 use Rattle.shapes.specs.declared.PlaceShape.{PlaceShape}
 use Rattle.shapes.specs.declared.PlaceShape.the-variants.{Variable, Element}
@@ -27,7 +27,7 @@ use Rattle.shapes.specs.declared.ChoiceShape.the-variants.{And, Or, Cond
 use Rattle.shapes.specs.declared.ExpressionShape.{ExpressionShape}
 use Rattle.shapes.specs.declared.ExpressionShape.the-variants.{Number, Read, Operation, Choice}
 use Rattle.shapes.specs.declared.StatementShape.{StatementShape}
-use Rattle.shapes.specs.declared.StatementShape.the-variants.{Empty, Express, Block, If, While, Do, For, Switch, Break, Continue, Goto, GuardedIf, GuardedDo, Abort}
+use Rattle.shapes.specs.declared.StatementShape.the-variants.{Empty, Express, Block, If, While, Do, For, Switch, Break, Continue, Goto, GuardedIf, GuardedDo, Abort, Declare}
 use Rattle.shapes.specs.declared.MarkShape.{MarkShape}
 use Rattle.shapes.specs.declared.MarkShape.the-variants.{Case, Default, Label}
 use Rattle.shapes.specs.declared.Shape.{Shape}
@@ -70,6 +70,7 @@ statementShape statement.Goto a b c d = Goto a
 statementShape statement.GuardedIf a b c d = GuardedIf a
 statementShape statement.GuardedDo a b c d = GuardedDo a
 statementShape statement.Abort a b c d = Abort
+statementShape statement.Declare a b c d = Declare a b
 
 abbrev pub markShape : MarkKind → ℤ → ℕ → MarkShape
 markShape mark.Case v a = Case v
@@ -193,6 +194,7 @@ module _ (rows : List ℤ) where
   statementTree (GuardedIf arms) = guardedIf (armListAt rows arms)
   statementTree (GuardedDo arms) = guardedDo (armListAt rows arms)
   statementTree Abort = abort
+  statementTree (Declare i e) = declare i (expressionAt rows e)
 
   abbrev pub markTree : MarkShape → MarkTree
   markTree (Case v) = case v
@@ -238,21 +240,22 @@ module _ (rows : List ℤ) where
     ExpressionOnward variables arrays (Operation o) = OperationOnward o
     ExpressionOnward variables arrays (Choice c) = ChoiceOnward c
 
-    abbrev pub StatementOnward : StatementShape → Type 0
-    StatementOnward Empty = Unit {0}
-    StatementOnward (Express e) = Onward rows row e
-    StatementOnward (Block list) = OptionalOnward rows row list
-    StatementOnward (If e onTrue onFalse) = Onward rows row e × Onward rows row onTrue × OptionalOnward rows row onFalse
-    StatementOnward (While e body) = Onward rows row e × Onward rows row body
-    StatementOnward (Do body e) = Onward rows row body × Onward rows row e
-    StatementOnward (For first test action body) = OptionalOnward rows row first × OptionalOnward rows row test × OptionalOnward rows row action × Onward rows row body
-    StatementOnward (Switch e list) = Onward rows row e × OptionalOnward rows row list
-    StatementOnward Break = Unit {0}
-    StatementOnward Continue = Unit {0}
-    StatementOnward (Goto l) = Unit {0}
-    StatementOnward (GuardedIf arms) = OptionalOnward rows row arms
-    StatementOnward (GuardedDo arms) = OptionalOnward rows row arms
-    StatementOnward Abort = Unit {0}
+    abbrev pub StatementOnward : ℕ → StatementShape → Type 0
+    StatementOnward variables Empty = Unit {0}
+    StatementOnward variables (Express e) = Onward rows row e
+    StatementOnward variables (Block list) = OptionalOnward rows row list
+    StatementOnward variables (If e onTrue onFalse) = Onward rows row e × Onward rows row onTrue × OptionalOnward rows row onFalse
+    StatementOnward variables (While e body) = Onward rows row e × Onward rows row body
+    StatementOnward variables (Do body e) = Onward rows row body × Onward rows row e
+    StatementOnward variables (For first test action body) = OptionalOnward rows row first × OptionalOnward rows row test × OptionalOnward rows row action × Onward rows row body
+    StatementOnward variables (Switch e list) = Onward rows row e × OptionalOnward rows row list
+    StatementOnward variables Break = Unit {0}
+    StatementOnward variables Continue = Unit {0}
+    StatementOnward variables (Goto l) = Unit {0}
+    StatementOnward variables (GuardedIf arms) = OptionalOnward rows row arms
+    StatementOnward variables (GuardedDo arms) = OptionalOnward rows row arms
+    StatementOnward variables Abort = Unit {0}
+    StatementOnward variables (Declare i e) = (i < variables) × Onward rows row e
 
     abbrev pub ArmOnward : ArmShape → Type 0
     ArmOnward (Arm guard body) = Onward rows row guard × Onward rows row body
@@ -268,9 +271,9 @@ module _ (rows : List ℤ) where
       pub is : expressionAt rows row ≡ expressionTree shape
       pub onward : ExpressionOnward variables arrays shape
 
-    pub record StatementAt (shape : StatementShape) : Type 0 where
+    pub record StatementWithin (variables : ℕ) (shape : StatementShape) : Type 0 where
       pub is : statementAt rows row ≡ statementTree shape
-      pub onward : StatementOnward shape
+      pub onward : StatementOnward variables shape
 
     -- `next` is the row behind.
     pub record ItemAt (next : ℕ) (item : Item) : Type 0 where

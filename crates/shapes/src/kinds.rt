@@ -73,6 +73,7 @@ pub fn statement_shape(rows: &[i32], row: usize, kind: StatementKind) -> Stateme
         StatementKind::GuardedIf => StatementShape::GuardedIf(a),
         StatementKind::GuardedDo => StatementShape::GuardedDo(a),
         StatementKind::Abort => StatementShape::Abort,
+        StatementKind::Declare => StatementShape::Declare(a, b),
     }
 }
 

@@ -37,7 +37,7 @@ pub enum ExpressionShape {
     Choice(ChoiceShape),
 }
 
-// A statement with its links; 0 is absent.
+// A statement with its links; 0 is absent. A declaration with the store word of its object.
 pub enum StatementShape {
     Empty,
     Express(usize),
@@ -53,6 +53,7 @@ pub enum StatementShape {
     GuardedIf(usize),
     GuardedDo(usize),
     Abort,
+    Declare(usize, usize),
 }
 
 pub enum MarkShape {

@@ -16,8 +16,8 @@ ghost use mathlib.Core.Path.{_≡_};
 ghost use Prim.Native.Nat.{_+_, _*_, _<_};
 ghost use lib.ListN.{length};
 ghost use Rattle.words.specs.Table.{rowCount, numberAt};
-ghost use Rattle.shapes.specs.Source.{Source, PlaceAt, ExpressionAt};
-ghost use Rattle.shapes.specs.Shapes.{shapeAt, expressionIn, placeIn, statementIn, itemIn, armIn, StatementAt, ItemAt, ArmAt};
+ghost use Rattle.shapes.specs.Source.{Source, PlaceAt, ExpressionAt, StatementAt};
+ghost use Rattle.shapes.specs.Shapes.{shapeAt, expressionIn, placeIn, statementIn, itemIn, armIn, ItemAt, ArmAt};
 
 pub fn shape_at(rows: &[i32], row: usize) -> Shape
     requires { ⌜ 6 * row + 5 < length (now rows) ⌝ }

@@ -26,10 +26,10 @@ const BUDGET: u32 = 100000;
 fn temporaries_of(header: &[i32]) -> usize
     ensures { λ r. ⌜ r ≤ 128 ⌝ }
 {
-    if header.len() < 2 {
+    if header.len() < 3 {
         return 0;
     }
-    let temporaries = natural(header[1]);
+    let temporaries = natural(header[2]);
     if temporaries > 128 {
         return 0;
     }
@@ -63,7 +63,7 @@ fn show_kernel_run(header: &[i32], rows: &[i32], store: &mut [i32], size: usize)
     }
 }
 
-// The kernel's run: its store has the start words, then the temporaries.
+// The kernel's run: its store has the start words, those of the declarations among them, then the temporaries.
 fn show_kernel(header: &[i32], rows: &[i32], start: &[i32])
     requires { ⌜ length (now start) ≤ 64 ⌝ }
 {
@@ -116,7 +116,7 @@ fn show_forms(
 
 // A program that was read: at most 128 rows, so that its translation has at most 20 × 128 + 20.
 fn show_program(line: &[u8], text: &[u8], header: &[i32], rows: &[i32]) {
-    let mut kernel_header = [0i32; 34];
+    let mut kernel_header = [0i32; 35];
     let mut kernel_rows = [0i32; 15480];
     let answer = translate(header, rows, &mut kernel_header, &mut kernel_rows);
     match answer {

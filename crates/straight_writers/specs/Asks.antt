@@ -27,7 +27,7 @@ use Rattle.leaves.specs.declared.KernelPlace.{KernelPlace}
 -- The source is measured; the store has S words.
 pub record Writing (rows : List ℤ) (table : List ℕ) (S : ℕ) : Type 0 where
   pub measured : Measured rows table
-  pub small-store : S ≤ 8192
+  pub small-store : S ≤ 8256
 
 -- What an expression does behind its first two operands.
 pub record LastAsks (rows : List ℤ) (row : ℕ) (u : Use) (level base words : ℕ) : Type 0 where

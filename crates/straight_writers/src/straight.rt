@@ -227,7 +227,7 @@ fn put_postfix(
 }
 
 // A value into a variable; one that went straight there is there already.
-fn put_variable(
+pub fn put_variable(
     rows: &[i32],
     table: &[usize],
     number: usize,

@@ -4,14 +4,11 @@ use mathlib.Core.List.{List}
 use Prim.Native.Nat.{ℕ, zero, suc, _+_, _*_}
 use lib.Dec.{ltb, eqb}
 use lib.IntN.{ℤ}
-use Rattle.words.specs.Word.{pick}
+use Rattle.words.specs.Word.{pick, one}
 use Rattle.words.specs.Table.{rowCount, numberAt}
 use Rattle.words.specs.Layout.{depthLimit}
 use Rattle.words.specs.declared.Form.{Form}
 use Rattle.words.specs.Links.{target, note}
-
-abbrev pub one : Bool → ℕ
-one test = pick test 1 0
 
 -- How many of the first `words` words link the row.
 unfoldable pub linksAmong : List ℤ → ℕ → ℕ → ℕ

@@ -15,7 +15,7 @@ use Rattle.words.specs.Layout.{headerFits, countFits}
 use Rattle.words.specs.Laws.{both, rowLimit-most, countFits-facts}
 use Rattle.words.specs.declared.Form.{Form}
 use Rattle.words.specs.declared.Verdict.the-variants.{Accepted}
-use Rattle.words.specs.Kinds.{unused, variable, array, label, sortOf, sortAt, between, inLanguage, isLink, isRequired}
+use Rattle.words.specs.Kinds.{unused, variable, array, label, declaredNumber, sortOf, sortAt, between, inLanguage, isLink, isRequired}
 use Rattle.words.specs.KindLaws.{required-link}
 use Rattle.words.specs.Links.{link, fits}
 use Rattle.words.specs.Search.{lowestRow, someField}
@@ -133,11 +133,11 @@ kind-linked : (rows : List ℤ) (row : ℕ) → mislinked rows row 0 ≡ false
 unfolding mislinked sortAt
 kind-linked rows row = rw (kind-no-link (numberAt rows row 0))
 
-no-number-fits : (bounds : Bounds) (sort number : ℕ) → between variable label sort ≡ false → numberFits bounds sort number ≡ true
+no-number-fits : (bounds : Bounds) (sort number : ℕ) → between variable declaredNumber sort ≡ false → numberFits bounds sort number ≡ true
 unfolding numberFits
 no-number-fits bounds sort number e =
-    let other : (s : ℕ) → between variable label s ≡ true → eqb sort s ≡ false = λ s h. ne-eqb sort s (λ q. true≢false (sym h ∙ ap (between variable label) (sym q) ∙ e)) in
-    rw (other variable refl, other array refl, other label refl)
+    let other : (s : ℕ) → between variable declaredNumber s ≡ true → eqb sort s ≡ false = λ s h. ne-eqb sort s (λ q. true≢false (sym h ∙ ap (between variable declaredNumber) (sym q) ∙ e)) in
+    rw (other variable refl, other array refl, other label refl, other declaredNumber refl)
 
 kind-inside : (bounds : Bounds) (rows : List ℤ) (row : ℕ) → outside bounds rows row 0 ≡ false
 unfolding outside sortAt

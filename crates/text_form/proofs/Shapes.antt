@@ -80,7 +80,7 @@ module _ (width : ℕ) (form : Form) {text : List ℕ} {end : ℕ} (p : Piece 10
       unfolding headerLine lineNumbers
       kept = keep-reads (headerSized form) (numbersOf (fieldsOf (take (end - 0) text))) (s .numbers) (s .is)
 
-      sized-few : headerSized form (s .numbers) ≡ true → numbers ≤ 34
+      sized-few : headerSized form (s .numbers) ≡ true → numbers ≤ 35
       sized-few t =
           by-cases (leb (length (s .numbers)) (leading form + 32))
           (λ b. omega (arith, leb-true (length (s .numbers)) (leading form + 32) b, leading-limits form, s .size))

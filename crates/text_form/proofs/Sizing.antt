@@ -52,7 +52,7 @@ pub record Sized (form : Form) (header rows : List ℤ) (first others : ℕ) : T
 -- tables within their limits are small
 pub record Limited (header rows : List ℤ) : Type 0 where
   pub filled : 0 < length header
-  pub header-few : length header ≤ 34
+  pub header-few : length header ≤ 35
   pub whole : length rows ≡ 6 * rowCount rows
   pub rows-few : length rows ≤ 245880
 

@@ -18,10 +18,15 @@ header-alone : parse Source (48 ∷ 10 ∷ []) ≡ parsed (record { header = pos
 unfolding parseTable programOf linesOf withHeader headerLine keep lineNumbers fieldsOf numbersOf together numberOf natural decimal isDigit positive word isWord rowsFrom
 header-alone = refl
 
--- in a kernel text T is missing
+-- in a kernel text D and T are missing
 header-too-short : parse Kernel (48 ∷ 10 ∷ []) ≡ malformed 1
 unfolding parseTable programOf linesOf withHeader headerLine keep lineNumbers fieldsOf numbersOf together numberOf natural decimal isDigit positive word isWord
 header-too-short = refl
+
+-- V and another number: a kernel text from before its header had D
+header-of-two : parse Kernel (48 ∷ 9 ∷ 48 ∷ 10 ∷ []) ≡ malformed 1
+unfolding parseTable programOf linesOf withHeader headerLine keep lineNumbers fieldsOf numbersOf together numberOf natural decimal isDigit positive word isWord
+header-of-two = refl
 
 -- the last line lacks its newline
 newline-missing : parse Source (48 ∷ 10 ∷ 48 ∷ []) ≡ malformed 2

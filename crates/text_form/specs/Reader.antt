@@ -20,11 +20,11 @@ use Rattle.text_form.specs.Text.{Parsed, parsed, malformed, rowsFrom, Pr
 
 -- ---- lines
 
--- So many numbers were read, at most 34.
+-- So many numbers were read, at most 35.
 pub record HoldsExactly (read : Option (List ℤ)) (count : ℕ) : Type 0 where
   pub well-formed : read ≡ some (numbersIn read)
   pub size : length (numbersIn read) ≡ count
-  pub few : count ≤ 34
+  pub few : count ≤ 35
 
 abbrev pub isFound : Option (List ℤ) → Bool
 isFound none = false
@@ -62,7 +62,7 @@ pub record HasLines (width : ℕ) (form : Form) (text : List ℕ) (end headerWor
   pub other-lines : rowsFrom width 2 (linesOf (drop (end + 1) text)) ≡ parsed (program .rows)
   pub header-size : length (program .header) ≡ headerWords
   pub rows-size : length (program .rows) ≡ rowWords
-  pub few : headerWords ≤ 34
+  pub few : headerWords ≤ 35
   pub parses : parseTable width form text ≡ parsed program
 
 abbrev pub Shaped : ℕ → Form → List ℕ → Shape → Type 0

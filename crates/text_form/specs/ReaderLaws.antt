@@ -19,7 +19,7 @@ use Rattle.words.specs.OverLaws.{first-of, rest-of, written-part}
 -- ---- numbers stored in a scratch array
 
 module _ {read : Option (List ℤ)} {numbers : ℕ} (h : HoldsExactly read numbers) where
-  pub scratch-holds : (table : List ℤ) → length table ≡ 34 → Holds read table
+  pub scratch-holds : (table : List ℤ) → length table ≡ 35 → Holds read table
   scratch-holds table e = record { well-formed = h .well-formed; room = omega (arith, h .size, h .few) }
 
   pub scratch-part : (table written : List ℤ) → written ≡ over (numbersIn read) table → take (numbers - 0) written ≡ numbersIn read

@@ -34,7 +34,8 @@ unfoldable pub keep : (List ℤ → Bool) → Option (List ℤ) → Option (List
 keep test none = none
 keep test (some numbers) = pick (test numbers) (some numbers) none
 
--- "A first line of more than 33 numbers (kernel: 34) or too few" is malformed: V (kernel: V and T), and up to 32 lengths.
+-- "A first line of more than 33 numbers (kernel: 34) or too few" is malformed; Change 11: in the kernel's "35 numbers". V (kernel: V, D and T), and
+-- up to 32 lengths.
 abbrev pub headerSized : Form → List ℤ → Bool
 headerSized form numbers = leb (leading form) (length numbers) && leb (length numbers) (leading form + 32)
 

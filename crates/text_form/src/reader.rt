@@ -120,7 +120,7 @@ fn text_cause(form: Form, line: &[u8], numbers: usize, words: usize) -> Cause
     requires { ⌜ HoldsExactly (numbersOf (fieldsOf (now line))) numbers ⌝ }
     ensures { λ r. ⌜ causeSays r ≡ causeOf form (numbersIn (numbersOf (fieldsOf (now (line .entry))))) words true ⌝ }
 {
-    let mut header = [0i32; 34];
+    let mut header = [0i32; 35];
     store_numbers(line, &mut header);
     first_cause(form, &header[0..numbers], words)
 }

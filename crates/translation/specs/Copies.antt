@@ -4,7 +4,7 @@ use mathlib.Core.Bool.{Bool, true, not, _&&_}
 use Prim.Native.Nat.{ℕ, _+_, _*_}
 use lib.Dec.{leb}
 use Rattle.words.specs.Word.{pick}
-use Rattle.language.specs.Trees.{Expression, constant, read, minus, not as notTrue, binary, and, or, comma, conditional, assign, compound, prefix, postfix, Place, variable, element, Part, absent, present, Statement, empty, express, block, ifThen, ifElse, while, doWhile, for, switch, break, continue, goto, guardedIf, guardedDo, abort, Arms, noArm, arm, Items, none, _then_, _here_}
+use Rattle.language.specs.Trees.{Expression, constant, read, minus, not as notTrue, binary, and, or, comma, conditional, assign, compound, prefix, postfix, Place, variable, element, Part, absent, present, Statement, empty, express, block, ifThen, ifElse, while, doWhile, for, switch, break, continue, goto, guardedIf, guardedDo, abort, declare, Arms, noArm, arm, Items, none, _then_, _here_}
 use Rattle.language.specs.Writes.{writes, indexWrites}
 use Rattle.translation.specs.Uses.{useFor, passedOn, direct}
 use Rattle.translation.specs.declared.Use.{Use}
@@ -72,6 +72,7 @@ module _ (S : ℕ) where
     statementCopies (guardedIf arms) = armsCopies arms
     statementCopies (guardedDo arms) = armsCopies arms
     statementCopies abort = 0
+    statementCopies (declare i e) = 0
 
     pub armsCopies : Arms → ℕ
     armsCopies noArm = 0
@@ -198,6 +199,7 @@ module _ (own : Expression → Use → ℕ) where
     statementTotal (guardedIf arms) = armsTotal arms
     statementTotal (guardedDo arms) = armsTotal arms
     statementTotal abort = 0
+    statementTotal (declare i e) = expressionTotal e (stored i)
 
     pub armsTotal : Arms → ℕ
     armsTotal noArm = 0

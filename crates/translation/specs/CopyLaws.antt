@@ -8,10 +8,10 @@ use lib.Dec.{leb}
 use lib.IntN.{pos}
 use borrow.Author.Tests.{le-leb, lt-leb}
 use Rattle.words.specs.Word.{pick}
-use Rattle.words.specs.Layout.{Layout, storeSize}
+use Rattle.words.specs.Layout.{Layout}
 use Rattle.words.specs.Laws.{by-cases}
 use Rattle.words.specs.declared.Operator.{Operator}
-use Rattle.language.specs.Trees.{Expression, constant, read, minus, not as notTrue, binary, and, or, comma, conditional, assign, compound, prefix, postfix, Place, variable, element, Part, absent, present, case, default, label, Statement, empty, express, block, ifThen, ifElse, while, doWhile, for, switch, break, continue, goto, guardedIf, guardedDo, abort, Arms, noArm, arm, Items, none, _then_, _here_, _⧺_}
+use Rattle.language.specs.Trees.{Expression, constant, read, minus, not as notTrue, binary, and, or, comma, conditional, assign, compound, prefix, postfix, Place, variable, element, Part, absent, present, case, default, label, Statement, empty, express, block, ifThen, ifElse, while, doWhile, for, switch, break, continue, goto, guardedIf, guardedDo, abort, declare, Arms, noArm, arm, Items, none, _then_, _here_, _⧺_}
 use Rattle.language.specs.WellFormed.{NamedExpression, NamedPlace, NamedStatement, SourceTree}
 use Rattle.language.specs.Writes.{writes, indexWrites}
 use Rattle.translation.specs.Uses.{useFor, passedOn, direct}
@@ -188,7 +188,7 @@ module _ (L : Layout) (S : ℕ) (inside : L .variables ≤ S) where
   copies-rounds (arm e s arms) xs l h = simp copies-append (omega arith)
 
   mutual
-    unfolding statementCode copies statementTotal NamedStatement
+    unfolding statementCode copies kernelPlace statementTotal NamedStatement NamedPlace
 
     copies-statement : (s : Statement) (x : Exits) (l : ℕ) → StatementInRange L s → copies S (statementCode S s x l) ≡ statementTotal ownCopies s + statementTotal ownResults s
     copies-statement empty x l n = refl
@@ -210,6 +210,7 @@ module _ (L : Layout) (S : ℕ) (inside : L .variables ≤ S) where
     copies-statement (guardedIf arms) x l n = simp copies-append (omega (arith, copies-arms arms x l (l + 1) n))
     copies-statement (guardedDo arms) x l n = copies-rounds arms (armsCode S arms x (l + 1) (l + 2)) l (copies-arms arms x (l + 1) (l + 2) n)
     copies-statement abort x l n = refl
+    copies-statement (declare i e) x l n = simp (copies-append, copies-store (variable i) 0 (direct e) (atom S 0 (atomOf e)) (n .0)) (omega (arith, copies-expression e (stored i) 0 (n .1)))
 
     copies-arms : (arms : Arms) (x : Exits) (out l : ℕ) → ArmsInRange L arms → copies S (armsCode S arms x out l) ≡ armsTotal ownCopies arms + armsTotal ownResults arms
     copies-arms noArm x out l n = refl
@@ -221,6 +222,6 @@ module _ (L : Layout) (S : ℕ) (inside : L .variables ≤ S) where
     copies-items (m here is) x l n = omega (arith, copies-items is x (l + 1) n)
 
 -- "Copied only if": of the statements that copy a variable into a temporary, as many as the sentence allows; the others move a result.
-pub copies-exactly : (L : Layout) (program : Items) → SourceTree L program → copies (storeSize L) (translate L program) ≡ total ownCopies program + total ownResults program
-unfolding translate storeSize
-copies-exactly L program tree = copies-items L (storeSize L) (omega arith) program (exits 0 0) 1 (tree .named)
+pub copies-exactly : (L : Layout) (first : ℕ) → L .variables ≤ first → (program : Items) → SourceTree L program → copies first (translate first program) ≡ total ownCopies program + total ownResults program
+unfolding translate
+copies-exactly L first inside program tree = copies-items L first inside program (exits 0 0) 1 (tree .named)

@@ -99,7 +99,7 @@ postfix-room (element array e) u t room h = omega arith
 module _ (fr : Frame) {C D : Type 0} {R : C → D → State → State → Type 0} {F : Stack ℤ} {t : ℕ} (at : depth F ≡ t) where
   -- A variable: the value went straight there, or is assigned from what holds it.
   assign-variable : (i : ℕ) → i < fr .layout .variables → (straight : Bool) {m : Computation ℤ} {xs : Items} {h : Atom} → t + taken (held (pick straight (word i) h) (indexWrites (variable i))) ≤ fr .temporaries
-      → GoesFor fr R (stored i) straight 0 F m xs h
+      → GoesFor fr R true (stored i) straight 0 F m xs h
       → Goes fr R (pick straight 0 4 + holdRows (pick straight (word i) h) (indexWrites (variable i))) F (do v ← m; position ← enter (ret i); save position v; ret v)
       (xs ⧺ holdCode (fr .words) t (pick straight (word i) h) (indexWrites (variable i)) ⧺ none ⧺ storeCode (fr .words) (variable i) straight (atom (fr .words) t (held (pick straight (word i) h) (indexWrites (variable i)))))
       (held (pick straight (word i) h) (indexWrites (variable i)))
@@ -109,7 +109,7 @@ module _ (fr : Frame) {C D : Type 0} {R : C → D → State → State → Type 0
       (λ F' level. points-variable fr i (omega (arith, fr .variables-inside))))
 
   assign-goes : (p : Place) (e : Expression) → PlaceInRange (fr .layout) p → t + taken (held (landed p (direct e) (atomOf e)) (indexWrites p)) ≤ fr .temporaries
-      → GoesFor fr R (useFor p) (direct e) 0 F (value (fr .layout) e) (expressionCode (fr .words) e (useFor p) t) (atomOf e)
+      → GoesFor fr R true (useFor p) (direct e) 0 F (value (fr .layout) e) (expressionCode (fr .words) e (useFor p) t) (atomOf e)
       → ((F' : Stack ℤ) → depth F' ≡ t + taken (held (landed p (direct e) (atomOf e)) (indexWrites p)) → Points fr R (indexWrites p) F' (locate (fr .layout) p) (indexCode (fr .words) p (t + taken (held (landed p (direct e) (atomOf e)) (indexWrites p)))) (kernelPlace (fr .words) p (t + taken (held (landed p (direct e) (atomOf e)) (indexWrites p)))) (indexRows p) (placeTaken p))
       → Goes fr R (ownRows (assign p e) wanted) F (evaluate (fr .layout) (assign p e)) (expressionCode (fr .words) (assign p e) wanted t) (atomOf (assign p e))
   unfolding _⧺_ evaluate expressionCode atomOf kernelPlace placeTaken NamedPlace
@@ -137,9 +137,9 @@ module _ (fr : Frame) {C D : Type 0} {R : C → D → State → State → Type 0
     goes = λ x y σ κ f g m le k. goes-compound fr at operator (omega arith) (omega arith) (goes-constant fr (pos 1)) q .goes x y σ κ f g m (omega arith) k;
   }
 
-  postfix-goes : (operator : Operator) (p : Place) (u : Use) → PlaceInRange (fr .layout) p → t + postfixLevels p u ≤ fr .temporaries
+  postfix-goes : {entered : Bool} (operator : Operator) (p : Place) (u : Use) → PlaceInRange (fr .layout) p → t + postfixLevels p u ≤ fr .temporaries
       → ((w : ℤ) → Points fr R (indexWrites p) (F ▹ w) (locate (fr .layout) p) (indexCode (fr .words) p (t + 1)) (kernelPlace (fr .words) p (t + 1)) (indexRows p) (placeTaken p))
-      → GoesFor fr R u false (ownRows (postfix operator p) u) F (evaluate (fr .layout) (postfix operator p)) (expressionCode (fr .words) (postfix operator p) u t) (atomOf (postfix operator p))
+      → GoesFor fr R entered u false (ownRows (postfix operator p) u) F (evaluate (fr .layout) (postfix operator p)) (expressionCode (fr .words) (postfix operator p) u t) (atomOf (postfix operator p))
   unfolding _⧺_ evaluate expressionCode atomOf kernelPlace placeTaken expressionLevels NamedPlace
   postfix-goes operator (variable i) dropped h n q = goes-step fr at operator i h (omega arith)
   postfix-goes operator (variable i) wanted h n q = goes-for fr wanted (goes-old fr at operator i (omega (arith, fr .variables-inside)) (omega arith))
@@ -148,22 +148,22 @@ module _ (fr : Frame) {C D : Type 0} {R : C → D → State → State → Type 0
 
 module _ (fr : Frame) where
   -- The step of entering the row pays.
-  paid-for : {C D : Type 0} {R : C → D → State → State → Type 0} (e : Expression) (u : Use) {F : Stack ℤ} {xs : Items} {h : Atom} → expressionSize e u ≤ fr .rate → GoesFor fr R u (direct e) (ownRows e u) F (evaluate (fr .layout) e) xs h → GoesFor fr R u (direct e) 0 F (value (fr .layout) e) xs h
+  paid-for : {C D : Type 0} {R : C → D → State → State → Type 0} {entered : Bool} (e : Expression) (u : Use) {F : Stack ℤ} {xs : Items} {h : Atom} → expressionSize e u ≤ fr .rate → GoesFor fr R entered u (direct e) (ownRows e u) F (evaluate (fr .layout) e) xs h → GoesFor fr R entered u (direct e) 0 F (value (fr .layout) e) xs h
   paid-for e u r p = pay fr (omega (arith, own-size e u)) p
 
-  paid : {C D : Type 0} {R : C → D → State → State → Type 0} (e : Expression) {F : Stack ℤ} {xs : Items} {h : Atom} → expressionSize e wanted ≤ fr .rate → GoesFor fr R wanted (direct e) (ownRows e wanted) F (evaluate (fr .layout) e) xs h → Goes fr R 0 F (value (fr .layout) e) xs h
+  paid : {C D : Type 0} {R : C → D → State → State → Type 0} (e : Expression) {F : Stack ℤ} {xs : Items} {h : Atom} → expressionSize e wanted ≤ fr .rate → GoesFor fr R true wanted (direct e) (ownRows e wanted) F (evaluate (fr .layout) e) xs h → Goes fr R 0 F (value (fr .layout) e) xs h
   paid e r p = goes-wanted fr (paid-for e wanted r p)
 
   -- The same, and the expression leaves alone what is not in its write set.
-  paid-within : {C D : Type 0} {R : C → D → State → State → Type 0} (e : Expression) {F : Stack ℤ} {xs : Items} {h : Atom} → expressionSize e wanted ≤ fr .rate → ((x : ℕ) → GoesFor fr (HeldAtEnd fr F h x) wanted (direct e) (ownRows e wanted) F (evaluate (fr .layout) e) xs h)
+  paid-within : {C D : Type 0} {R : C → D → State → State → Type 0} (e : Expression) {F : Stack ℤ} {xs : Items} {h : Atom} → expressionSize e wanted ≤ fr .rate → ((x : ℕ) → GoesFor fr (HeldAtEnd fr F h x) true wanted (direct e) (ownRows e wanted) F (evaluate (fr .layout) e) xs h)
       → GoesWithin fr R (writes e) F (value (fr .layout) e) xs h
   paid-within e r p = within fr (writes e) (λ x. paid e r (p x)) (λ i b o. leaves-enter (expression-leaves (fr .layout) i (variable-apart (fr .layout) i b) e o))
 
   mutual
     unfolding _⧺_ writes evaluate expressionCode direct atomOf kernelPlace placeTaken expressionLevels expressionSize NamedExpression
 
-    expression-goes : {C D : Type 0} {R : C → D → State → State → Type 0} (e : Expression) (u : Use) {F : Stack ℤ} {t : ℕ} → depth F ≡ t → InRange (fr .layout) e → UseInRange (fr .layout) u → t + expressionLevels e u ≤ fr .temporaries → expressionSize e u ≤ fr .rate
-        → GoesFor fr R u (direct e) (ownRows e u) F (evaluate (fr .layout) e) (expressionCode (fr .words) e u t) (atomOf e)
+    expression-goes : {C D : Type 0} {R : C → D → State → State → Type 0} {entered : Bool} (e : Expression) (u : Use) {F : Stack ℤ} {t : ℕ} → depth F ≡ t → InRange (fr .layout) e → UseInRange (fr .layout) u → t + expressionLevels e u ≤ fr .temporaries → expressionSize e u ≤ fr .rate
+        → GoesFor fr R entered u (direct e) (ownRows e u) F (evaluate (fr .layout) e) (expressionCode (fr .words) e u t) (atomOf e)
     expression-goes (constant v) u at h i n r = goes-for fr u (goes-constant fr v)
     expression-goes (read p) u at h i n r = read-goes p u at h i n r
     expression-goes (minus e) u {t = t} at h i n r = goes-minus fr at u (use-room fr u t i (omega arith)) (paid e (omega arith) (expression-goes e wanted at h tt (omega arith) (omega arith)))
@@ -187,8 +187,8 @@ module _ (fr : Frame) where
     expression-goes (prefix operator p) u {t = t} at h i n r = goes-for fr u (prefix-goes fr at operator p h n (λ w. place-points p (omega arith) h (update-room p t _ n) (omega arith)))
     expression-goes (postfix operator p) u {t = t} at h i n r = postfix-goes fr at operator p u h n (λ w. place-points p (omega arith) h (postfix-room p u t _ n) (omega arith))
 
-    read-goes : {C D : Type 0} {R : C → D → State → State → Type 0} (p : Place) (u : Use) {F : Stack ℤ} {t : ℕ} → depth F ≡ t → PlaceInRange (fr .layout) p → UseInRange (fr .layout) u → t + expressionLevels (read p) u ≤ fr .temporaries → expressionSize (read p) u ≤ fr .rate
-        → GoesFor fr R u (direct (read p)) (ownRows (read p) u) F (evaluate (fr .layout) (read p)) (expressionCode (fr .words) (read p) u t) (atomOf (read p))
+    read-goes : {C D : Type 0} {R : C → D → State → State → Type 0} {entered : Bool} (p : Place) (u : Use) {F : Stack ℤ} {t : ℕ} → depth F ≡ t → PlaceInRange (fr .layout) p → UseInRange (fr .layout) u → t + expressionLevels (read p) u ≤ fr .temporaries → expressionSize (read p) u ≤ fr .rate
+        → GoesFor fr R entered u (direct (read p)) (ownRows (read p) u) F (evaluate (fr .layout) (read p)) (expressionCode (fr .words) (read p) u t) (atomOf (read p))
     read-goes (variable j) u at h i n r = goes-for fr u (goes-variable fr j h)
     read-goes (element array e) u {t = t} at h i n r = goes-read fr at u (use-room fr u t i (omega arith))
         (points-element fr at array (fr .arrays-inside array (h .0)) (paid-within e (omega arith) (λ x. expression-goes e wanted at (h .1) tt (omega arith) (omega arith))))
@@ -210,5 +210,10 @@ module _ (fr : Frame) where
 
   -- One whose value is dropped.
   pub dropped-goes : {C D : Type 0} {R : C → D → State → State → Type 0} (e : Expression) {F : Stack ℤ} {t : ℕ} → depth F ≡ t → InRange (fr .layout) e → t + expressionLevels e dropped ≤ fr .temporaries → expressionSize e dropped ≤ fr .rate
-      → GoesFor fr R dropped (direct e) 0 F (value (fr .layout) e) (expressionCode (fr .words) e dropped t) (atomOf e)
+      → GoesFor fr R true dropped (direct e) 0 F (value (fr .layout) e) (expressionCode (fr .words) e dropped t) (atomOf e)
   dropped-goes e at h n r = paid-for e dropped r (expression-goes e dropped at h tt n r)
+
+  -- One whose value a declaration stores.
+  pub declared-goes : {C D : Type 0} {R : C → D → State → State → Type 0} (i : ℕ) (e : Expression) {F : Stack ℤ} {t : ℕ} → depth F ≡ t → i < fr .layout .variables → InRange (fr .layout) e → t + expressionLevels e (stored i) ≤ fr .temporaries → expressionSize e (stored i) ≤ fr .rate
+      → GoesFor fr R false (stored i) (direct e) 0 F (value (fr .layout) e) (expressionCode (fr .words) e (stored i) t) (atomOf e)
+  declared-goes i e at b h n r = paid-for e (stored i) r (expression-goes e (stored i) at h b n r)

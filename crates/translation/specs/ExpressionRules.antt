@@ -42,14 +42,18 @@ zero-differs (pos zero) = refl
 zero-differs (pos (suc n)) = rw (eqb·suc-zero n)
 zero-differs (negsuc n) = refl
 
--- What the source has yet to do where the kernel has stored a value straight in its variable; and what holds the value then.
-abbrev pub storing : Use → Bool → ℤ → Computation ℤ
-storing dropped straight v = ret v
-storing wanted straight v = ret v
-storing (stored i) false v = ret v
-storing (stored i) true v = do
+-- What the source has yet to do where the kernel has stored a value straight in its variable; and what holds the value then. An assignment
+-- has a row for its place, which is `entered`; a declaration has none.
+abbrev pub storing : Use → Bool → Bool → ℤ → Computation ℤ
+storing dropped straight entered v = ret v
+storing wanted straight entered v = ret v
+storing (stored i) false entered v = ret v
+storing (stored i) true true v = do
   position ← enter (ret i)
   save position v
+  ret v
+storing (stored i) true false v = do
+  save i v
   ret v
 
 abbrev pub storedAtom : Use → Bool → Atom → Atom
@@ -75,9 +79,9 @@ module _ (fr : Frame) {C D : Type 0} (R : C → D → State → State → Type 0
   UseFollows (stored i) F h x f g = ValueFollows F h x f g
 
   -- The same promise for a use of the value. Where it is stored straight in its variable, the source's store belongs to it.
-  pub record GoesFor (u : Use) (straight : Bool) (own : ℕ) (F : Stack ℤ) (m : Computation ℤ) (xs : Items) (h : Atom) : Type 0 where
+  pub record GoesFor (entered : Bool) (u : Use) (straight : Bool) (own : ℕ) (F : Stack ℤ) (m : Computation ℤ) (xs : Items) (h : Atom) : Type 0 where
     pub goes : (x y : ℕ) (σ κ : State) (f : ℤ → State → Result C) (g : Signal → State → Result D) → Related fr F y σ κ → x + own ≤ y → UseFollows u F (storedAtom u straight h) x f g
-        → Alike fr R (source fr (do v ← m; storing u straight v) σ f) (kernel fr xs next κ g)
+        → Alike fr R (source fr (do v ← m; storing u straight entered v) σ f) (kernel fr xs next κ g)
 
   -- The same of a computation that writes no variable but those of W: what is held meanwhile stays held.
   pub record GoesWithin (W : ℕ → Bool) (F : Stack ℤ) (m : Computation ℤ) (xs : Items) (h : Atom) : Type 0 where
@@ -119,13 +123,13 @@ module _ (fr : Frame) {C D : Type 0} {R : C → D → State → State → Type 0
 
 module _ (fr : Frame) {C D : Type 0} {R : C → D → State → State → Type 0} {F : Stack ℤ} where
   -- A rule for a wanted value, and for every use of one that is not stored straight.
-  pub goes-for : {own : ℕ} {m : Computation ℤ} {xs : Items} {h : Atom} (u : Use) → Goes fr R own F m xs h → GoesFor fr R u false own F m xs h
+  pub goes-for : {entered : Bool} {own : ℕ} {m : Computation ℤ} {xs : Items} {h : Atom} (u : Use) → Goes fr R own F m xs h → GoesFor fr R entered u false own F m xs h
   unfolding runThen
   goes-for dropped p = record { goes = λ x y σ κ f g n le k. p .goes x y σ κ f g n le (λ v F' τ ν holds m. k v τ ν (release fr holds m)) }
   goes-for wanted p = record { goes = λ x y σ κ f g n le k. p .goes x y σ κ f g n le k }
   goes-for (stored i) p = record { goes = λ x y σ κ f g n le k. p .goes x y σ κ f g n le k }
 
-  pub goes-wanted : {straight : Bool} {own : ℕ} {m : Computation ℤ} {xs : Items} {h : Atom} → GoesFor fr R wanted straight own F m xs h → Goes fr R own F m xs h
+  pub goes-wanted : {straight : Bool} {own : ℕ} {m : Computation ℤ} {xs : Items} {h : Atom} → GoesFor fr R true wanted straight own F m xs h → Goes fr R own F m xs h
   unfolding runThen
   goes-wanted p = record { goes = λ x y σ κ f g n le k. p .goes x y σ κ f g n le k }
 
@@ -134,7 +138,7 @@ module _ (fr : Frame) {C D : Type 0} {R : C → D → State → State → Type 0
   goes-within more le p = record { goes = λ x y σ κ f g n l k. p .goes x y σ κ f g n (omega arith) k }
 
   -- The step of entering the row pays.
-  pub pay : {u : Use} {straight : Bool} {own : ℕ} {m : Computation ℤ} {xs : Items} {h : Atom} → own ≤ fr .rate → GoesFor fr R u straight own F m xs h → GoesFor fr R u straight 0 F (enter m) xs h
+  pub pay : {entered : Bool} {u : Use} {straight : Bool} {own : ℕ} {m : Computation ℤ} {xs : Items} {h : Atom} → own ≤ fr .rate → GoesFor fr R entered u straight own F m xs h → GoesFor fr R entered u straight 0 F (enter m) xs h
   unfolding runThen
   pay {own = own} r p = record { goes = λ x y σ κ f g n le k. p .goes x (x + own) _ _ _ _ (related-step (omega arith) n) (omega arith) k }
 
@@ -159,49 +163,50 @@ UseRoom fr (stored i) t = i < fr .layout .variables
 
 module _ (fr : Frame) {C D : Type 0} {R : C → D → State → State → Type 0} {F : Stack ℤ} {t : ℕ} (at : depth F ≡ t) where
   -- The kernel has assigned a result.
-  lands : (u : Use) → UseRoom fr u t → (v : ℤ) (x : ℕ) {τ ν : State} (f : ℤ → State → Result C) (g : Signal → State → Result D) → Related fr F x τ ν → UseFollows fr R u F (storedAtom u true top) x f g
-      → Alike fr R (source fr (storing u true v) τ f) (g next (written (targetWord (fr .words) u t) v ν))
+  lands : (u : Use) (entered : Bool) → UseRoom fr u t → (v : ℤ) (x : ℕ) {τ ν : State} (f : ℤ → State → Result C) (g : Signal → State → Result D) → Related fr F x τ ν → UseFollows fr R u F (storedAtom u true top) x f g
+      → Alike fr R (source fr (storing u true entered v) τ f) (g next (written (targetWord (fr .words) u t) v ν))
   unfolding runThen
-  lands dropped room v x f g m k = k _ _ _ (related-pop (related-push v at room m))
-  lands wanted room v x f g m k = k _ _ _ _ holds-top (related-push v at room m)
-  lands (stored i) room v x f g m k =
+  lands dropped entered room v x f g m k = k _ _ _ (related-pop (related-push v at room m))
+  lands wanted entered room v x f g m k = k _ _ _ _ holds-top (related-push v at room m)
+  lands (stored i) true room v x f g m k =
       let entered = related-step {y = x} (omega arith) m in
       k _ _ _ _ (holds-saved fr room entered) (related-save i v (omega (arith, fr .variables-inside)) entered)
+  lands (stored i) false room v x f g m k = k _ _ _ _ (holds-saved fr room m) (related-save i v (omega (arith, fr .variables-inside)) m)
 
   pub points-element : {W : ℕ → Bool} {m : Computation ℤ} {xs : Items} {h : Atom} (array : ℕ) → arrayBase (fr .layout) array + arrayLength (fr .layout) array ≤ fr .words → GoesWithin fr R W F m xs h
       → Points fr R W F (do index ← m; settle (elementWord (arrayBase (fr .layout) array) (arrayLength (fr .layout) array) index)) xs (element array (atom (fr .words) t h)) 1 (taken h)
   unfolding runThen items
   points-element array s p = record { goes = λ x σ κ f g n k. p .goes x _ _ _ _ n λ v F' τ ν kept holds m. k _ F' τ ν kept (aims-element s at holds) (holds-depth fr refl holds) m }
 
-  pub goes-read : {W : ℕ → Bool} {m : Computation ℕ} {xs : Items} {q : Place} {n k : ℕ} (u : Use) → UseRoom fr u t → Points fr R W F m xs q n k
-      → GoesFor fr R u true (4 + n) F (do position ← m; load position) (xs ⧺ assigning (fr .words) (target (fr .words) u t) (read q) none) top
+  pub goes-read : {entered : Bool} {W : ℕ → Bool} {m : Computation ℕ} {xs : Items} {q : Place} {n k : ℕ} (u : Use) → UseRoom fr u t → Points fr R W F m xs q n k
+      → GoesFor fr R entered u true (4 + n) F (do position ← m; load position) (xs ⧺ assigning (fr .words) (target (fr .words) u t) (read q) none) top
   unfolding runThen items perform evaluate
-  goes-read u room p = record {
+  goes-read {entered = entered} u room p = record {
     goes = λ x y σ κ f g n le k.
         rw kernel-append (p .goes y _ _ _ _ n λ o F' τ ν _ aims _ m.
         rw (see-place fr aims m, runThen) (by-outcome o
-        (λ i e. rw (e, runThen, related-load i (aims-inside fr aims i e) m) (lands u room _ x f g (aims-release fr aims (related-ran _ (omega arith) m)) k))
+        (λ i e. rw (e, runThen, related-load i (aims-inside fr aims i e) m) (lands u entered room _ x f g (aims-release fr aims (related-ran _ (omega arith) m)) k))
         (λ _ e. rw (e, runThen) (alike-stop _ (omega arith) m))));
   }
 
-  pub goes-minus : {m : Computation ℤ} {xs : Items} {h : Atom} (u : Use) → UseRoom fr u t → Goes fr R 0 F m xs h
-      → GoesFor fr R u true 5 F (do v ← m; settle (minusWord v)) (xs ⧺ assigning (fr .words) (target (fr .words) u t) (minus (atom (fr .words) t h)) none) top
+  pub goes-minus : {entered : Bool} {m : Computation ℤ} {xs : Items} {h : Atom} (u : Use) → UseRoom fr u t → Goes fr R 0 F m xs h
+      → GoesFor fr R entered u true 5 F (do v ← m; settle (minusWord v)) (xs ⧺ assigning (fr .words) (target (fr .words) u t) (minus (atom (fr .words) t h)) none) top
   unfolding runThen items perform evaluate
-  goes-minus u room p = record {
+  goes-minus {entered = entered} u room p = record {
     goes = λ x y σ κ f g n le k.
         rw kernel-append (p .goes y y _ _ _ _ n (omega arith) λ v F' τ ν holds m.
         rw (see fr at holds m, runThen) (by-outcome (minusWord v)
-        (λ v e. rw (e, runThen) (lands u room v x f g (release fr holds (related-ran _ (omega arith) m)) k))
+        (λ v e. rw (e, runThen) (lands u entered room v x f g (release fr holds (related-ran _ (omega arith) m)) k))
         (λ _ e. rw (e, runThen) (alike-stop _ (omega arith) m))));
   }
 
-  pub goes-not : {m : Computation ℤ} {xs : Items} {h : Atom} (u : Use) → UseRoom fr u t → Goes fr R 0 F m xs h
-      → GoesFor fr R u true 6 F (do v ← m; ret (logicalNot v)) (xs ⧺ assigning (fr .words) (target (fr .words) u t) (binary Equal (atom (fr .words) t h) (constant (pos 0))) none) top
+  pub goes-not : {entered : Bool} {m : Computation ℤ} {xs : Items} {h : Atom} (u : Use) → UseRoom fr u t → Goes fr R 0 F m xs h
+      → GoesFor fr R entered u true 6 F (do v ← m; ret (logicalNot v)) (xs ⧺ assigning (fr .words) (target (fr .words) u t) (binary Equal (atom (fr .words) t h) (constant (pos 0))) none) top
   unfolding runThen items perform evaluate
-  goes-not u room p = record {
+  goes-not {entered = entered} u room p = record {
     goes = λ x y σ κ f g n le k.
         rw kernel-append (p .goes y y _ _ _ _ n (omega arith) λ v F' τ ν holds m.
-        rw (see fr at holds m, runThen, zero-equal v, runThen) (lands u room _ x f g (release fr holds (related-ran _ (omega arith) m)) k));
+        rw (see fr at holds m, runThen, zero-equal v, runThen) (lands u entered room _ x f g (release fr holds (related-ran _ (omega arith) m)) k));
   }
 
   -- A waiting value is copied where it is a variable that can be written meanwhile.
@@ -222,18 +227,18 @@ module _ (fr : Frame) {C D : Type 0} {R : C → D → State → State → Type 0
   hold (word i) W room holds x y ν r g m le k = hold-word (W i) room holds x y ν r g m le k
   hold top W room holds-top x y ν r g m le k = k _ _ holds-top (related-less (omega arith) m)
 
-  pub goes-binary : {a b : Computation ℤ} {xs ys : Items} {ha hb : Atom} {W : ℕ → Bool} (u : Use) (operator : Operator) → UseRoom fr u t → t + taken (held hb W) ≤ fr .temporaries → Goes fr R 0 F b ys hb
+  pub goes-binary : {entered : Bool} {a b : Computation ℤ} {xs ys : Items} {ha hb : Atom} {W : ℕ → Bool} (u : Use) (operator : Operator) → UseRoom fr u t → t + taken (held hb W) ≤ fr .temporaries → Goes fr R 0 F b ys hb
       → ((F' : Stack ℤ) → depth F' ≡ t + taken (held hb W) → GoesWithin fr R W F' a xs ha)
-      → GoesFor fr R u true (6 + holdRows hb W) F (do right ← b; left ← a; settle (apply operator left right))
+      → GoesFor fr R entered u true (6 + holdRows hb W) F (do right ← b; left ← a; settle (apply operator left right))
       (ys ⧺ holdCode (fr .words) t hb W ⧺ xs ⧺ assigning (fr .words) (target (fr .words) u t) (binary operator (atom (fr .words) (t + taken (held hb W)) ha) (atom (fr .words) t (held hb W))) none) top
   unfolding runThen items perform evaluate
-  goes-binary {hb = hb} {W = W} u operator room above p q = record {
+  goes-binary {entered = entered} {hb = hb} {W = W} u operator room above p q = record {
     goes = λ x y σ κ f g n le k.
         rw kernel-append (p .goes y y _ _ _ _ n (omega arith) λ right F' τ ν holds m.
         rw kernel-append (hold hb W above holds (x + 6) y ν _ _ m (omega arith) λ F' ν holds-right m.
         rw kernel-append (q F' (holds-depth fr at holds-right) .goes (x + 6) _ _ _ _ m λ left F'' τ ν kept holds-left m.
         rw (see fr at (holds-later fr hb W kept holds-right) (release fr holds-left m), see fr (holds-depth fr at holds-right) holds-left m, runThen) (by-outcome (apply operator left right)
-        (λ v e. rw (e, runThen) (lands u room v x f g (release fr holds-right (release fr holds-left (related-ran _ (omega arith) m))) k))
+        (λ v e. rw (e, runThen) (lands u entered room v x f g (release fr holds-right (release fr holds-left (related-ran _ (omega arith) m))) k))
         (λ _ e. rw (e, runThen) (alike-stop _ (omega arith) m))))));
   }
 
@@ -265,7 +270,7 @@ module _ (fr : Frame) {C D : Type 0} {R : C → D → State → State → Type 0
         rw (see fr at holds m, runThen, zero-differs right, runThen) (k _ _ _ _ holds-top (related-push _ at room (release fr holds (related-ran _ (omega arith) m))))))));
   }
 
-  pub goes-comma : {a b : Computation ℤ} {xs ys : Items} {ha hb : Atom} {left right : Bool} (u : Use) → GoesFor fr R dropped left 0 F a xs ha → GoesFor fr R (passedOn u) right 0 F b ys hb → GoesFor fr R u false 0 F (do a; b) (xs ⧺ ys) hb
+  pub goes-comma : {entered : Bool} {a b : Computation ℤ} {xs ys : Items} {ha hb : Atom} {left right : Bool} (u : Use) → GoesFor fr R true dropped left 0 F a xs ha → GoesFor fr R true (passedOn u) right 0 F b ys hb → GoesFor fr R entered u false 0 F (do a; b) (xs ⧺ ys) hb
   unfolding runThen items
   goes-comma dropped p q = record { goes = λ x y σ κ f g n le k. rw kernel-append (p .goes y y _ _ _ _ n (omega arith) λ _ τ ν m. q .goes x y _ _ _ _ m le k) }
   goes-comma wanted p q = record { goes = λ x y σ κ f g n le k. rw kernel-append (p .goes y y _ _ _ _ n (omega arith) λ _ τ ν m. q .goes x y _ _ _ _ m le k) }
@@ -308,7 +313,7 @@ module _ (fr : Frame) {C D : Type 0} {R : C → D → State → State → Type 0
   }
 
   -- A value that went straight into its variable is stored.
-  pub goes-straight : {b : Computation ℤ} {ys : Items} {h : Atom} (i : ℕ) → GoesFor fr R (stored i) true 0 F b ys h → Goes fr R 0 F (do v ← b; position ← enter (ret i); save position v; ret v) ys (word i)
+  pub goes-straight : {b : Computation ℤ} {ys : Items} {h : Atom} (i : ℕ) → GoesFor fr R true (stored i) true 0 F b ys h → Goes fr R 0 F (do v ← b; position ← enter (ret i); save position v; ret v) ys (word i)
   unfolding runThen
   goes-straight i p = record { goes = λ x y σ κ f g n le k. p .goes x y σ κ f g n le k }
 
@@ -328,8 +333,8 @@ module _ (fr : Frame) {C D : Type 0} {R : C → D → State → State → Type 0
   }
 
   -- Where nobody uses the old value, e++ is ++e.
-  pub goes-step : (operator : Operator) (i : ℕ) → i < fr .layout .variables → t ≤ fr .temporaries
-      → GoesFor fr R dropped false 6 F (do position ← enter (ret i); update operator position (pos 1) oldValue) (stepCode (fr .words) operator i dropped t) top
+  pub goes-step : {entered : Bool} (operator : Operator) (i : ℕ) → i < fr .layout .variables → t ≤ fr .temporaries
+      → GoesFor fr R entered dropped false 6 F (do position ← enter (ret i); update operator position (pos 1) oldValue) (stepCode (fr .words) operator i dropped t) top
   unfolding runThen _⧺_
   goes-step operator i inside room = record {
     goes = λ x y σ κ f g n le k.

@@ -8,7 +8,7 @@ use lib.ListN.{length}
 use Rattle.words.specs.Word.{pick}
 use Rattle.words.specs.Layout.{Layout, storeSize}
 use Rattle.words.specs.declared.Operator.{Operator}
-use Rattle.language.specs.Trees.{Expression, constant, read, minus, binary, assign, variable, element, Mark, case, default, label, has, Statement, empty, express, block, ifThen, ifElse, while, doWhile, for, switch, break, continue, goto, guardedIf, guardedDo, abort, Arms, noArm, arm, Items, none, _then_, _here_, _⧺_}
+use Rattle.language.specs.Trees.{Expression, constant, read, minus, binary, assign, variable, element, Mark, case, default, label, has, Statement, empty, express, block, ifThen, ifElse, while, doWhile, for, switch, break, continue, goto, guardedIf, guardedDo, abort, declare, Arms, noArm, arm, Items, none, _then_, _here_, _⧺_}
 use Rattle.language.specs.Sizes.{statementRows, statementDepth}
 use Rattle.language.specs.WellFormed.{NamedItems}
 
@@ -71,6 +71,7 @@ unfoldable mutual
   statementTimes j (guardedIf arms) = armsTimes j arms
   statementTimes j (guardedDo arms) = armsTimes j arms
   statementTimes j abort = 0
+  statementTimes j (declare i e) = 0
 
   pub armsTimes : ℕ → Arms → ℕ
   armsTimes j noArm = 0
@@ -81,18 +82,18 @@ unfoldable mutual
   itemsTimes j (s then is) = statementTimes j s + itemsTimes j is
   itemsTimes j (m here is) = markTimes j m + itemsTimes j is
 
--- "T temporaries, which are variable numbers S to S+T−1; numbers V to S−1 name nothing."
+-- "T temporaries, which are variable numbers S to S+T−1; numbers V to S−1 name nothing." Change 11: S to S+D+T−1; T here is both.
 pub data KernelName (L : Layout) (T : ℕ) : ℕ → Type 0 where
   name-variable : {i : ℕ} → i < L .variables → KernelName L T i
   name-temporary : {t : ℕ} → t < T → KernelName L T (storeSize L + t)
 
--- The items of a kernel program, with T temporaries.
+-- The items of a kernel program, with T words behind the first S.
 pub record KernelTree (L : Layout) (T : ℕ) (program : Items) : Type 0 where
   pub form : KernelItems none program
   -- "A label number stands once".
   pub labels-once : (l : ℕ) → itemsTimes l program ≤ 1
   pub named : NamedItems (KernelName L T) (length (L .lengths)) program
-  -- "T temporaries (0 to 8,192)"; "Up to 40,980 rows, depth up to 512."
-  pub few-temporaries : T ≤ 8192
+  -- "T temporaries (0 to 8,192)", D at most 64; "Up to 40,980 rows, depth up to 512."
+  pub few-temporaries : T ≤ 8256
   pub few-rows : statementRows (block program) ≤ 40980
   pub shallow : statementDepth (block program) ≤ 512

@@ -8,7 +8,7 @@ use borrow.Author.Tests.{ne-eqb}
 use Rattle.words.specs.Laws.{by-cases, neither}
 use Rattle.words.specs.declared.Operator.{Operator}
 use Rattle.computation.specs.Run.{State, Result}
-use Rattle.language.specs.Trees.{Expression, constant, read, minus, not, binary, and, or, comma, conditional, assign, compound, prefix, postfix, Place, variable, element, Part, absent, present, Mark, case, default, label, sameMark, has, Statement, empty, express, block, ifThen, ifElse, while, doWhile, for, switch, break, continue, goto, guardedIf, guardedDo, abort, Arms, noArm, arm, Items, none, _then_, _here_, _⧺_}
+use Rattle.language.specs.Trees.{Expression, constant, read, minus, not, binary, and, or, comma, conditional, assign, compound, prefix, postfix, Place, variable, element, Part, absent, present, Mark, case, default, label, sameMark, has, Statement, empty, express, block, ifThen, ifElse, while, doWhile, for, switch, break, continue, goto, guardedIf, guardedDo, abort, declare, Arms, noArm, arm, Items, none, _then_, _here_, _⧺_}
 use Rattle.language.specs.Meaning.{Signal, seeking, items}
 use Rattle.language.specs.Writes.{writes, indexWrites}
 use Rattle.translation.specs.Uses.{useFor, passedOn, direct}
@@ -166,6 +166,7 @@ module _ (S : ℕ) where
     own-labels (guardedIf arms) x l j h = simp (has-append, plain-arms arms x l (l + 1) (label j)) (has-other j l none (h l (omega arith) (omega arith)) refl)
     own-labels (guardedDo arms) x l j h = own-rounds arms (armsCode S arms x (l + 1) (l + 2)) l (armsLabels arms) j h
     own-labels abort x l j h = refl
+    own-labels (declare i e) x l j h = simp (has-append, plain-expression S e (stored i) 0, plain-store S)
 
     -- The code of arms has no mark.
     pub plain-arms : (arms : Arms) (x : Exits) (out l : ℕ) (m : Mark) → has m (armsCode S arms x out l) ≡ false

@@ -26,33 +26,35 @@ use Rattle.translation.specs.TranslatePreserves.{sourceRun, kernelRun, r
 -- ---- what is shown
 
 -- "kernel rows × N steps"
-abbrev pub kernelSteps : Layout → Items → ℕ → ℕ
-kernelSteps L program N = statementRows (block (translate L program)) * N
+abbrev pub kernelSteps : ℕ → Items → ℕ → ℕ
+kernelSteps first program N = statementRows (block (translate first program)) * N
 
 -- Change 14 on trees, for a program, a store and temporaries.
-pub record SameWrites (L : Layout) (program : Items) (store temporaryWords : List ℤ) : Type 0 where
-  pub kernel-follows : (N : ℕ) → FirstOf (made (storeSize L) (sourceRun L program store (steps N))) (made (storeSize L) (kernelRun L program store temporaryWords (steps (kernelSteps L program N))))
+pub record SameWrites (L : Layout) (first : ℕ) (program : Items) (store temporaryWords : List ℤ) : Type 0 where
+  pub kernel-follows : (N : ℕ) → FirstOf (made (storeSize L) (sourceRun L program store (steps N))) (made (storeSize L) (kernelRun L first program store temporaryWords (steps (kernelSteps first program N))))
   -- how many steps of the source are enough
   pub sourceSteps : ℕ → ℕ
-  pub source-follows : (N : ℕ) → FirstOf (made (storeSize L) (kernelRun L program store temporaryWords (steps N))) (made (storeSize L) (sourceRun L program store (steps (sourceSteps N))))
+  pub source-follows : (N : ℕ) → FirstOf (made (storeSize L) (kernelRun L first program store temporaryWords (steps N))) (made (storeSize L) (sourceRun L program store (steps (sourceSteps N))))
 
 -- ---- logs
 
-logs-visible : {fr : Frame} {ws vs : List Write} → Logs fr ws vs → visible (fr .words) vs ≡ visible (fr .words) ws
-unfolding visible
-logs-visible logs-none = refl
-logs-visible {fr} (logs-both {i = i} {v = v} h b l) = ap (λ l. l ++ pick (ltb i (fr .words)) (record { place = i; value = v } ∷ []) []) (logs-visible l)
-logs-visible {fr} (logs-kernel {i = i} h l) = rw (le-ltb i (fr .words) h) (append-nil _ ∙ logs-visible l)
+-- `S` words are shown, all of them before the temporaries.
+module _ {fr : Frame} (S : ℕ) (shown : S ≤ fr .words) where
+  logs-visible : {ws vs : List Write} → Logs fr ws vs → visible S vs ≡ visible S ws
+  unfolding visible
+  logs-visible logs-none = refl
+  logs-visible (logs-both {i = i} {v = v} h b l) = ap (λ l. l ++ pick (ltb i S) (record { place = i; value = v } ∷ []) []) (logs-visible l)
+  logs-visible (logs-kernel {i = i} h l) = rw (le-ltb i S (omega arith)) (append-nil _ ∙ logs-visible l)
 
--- The kernel's writes up to b, where those of the source up to n are made by then.
-first-made : {fr : Frame} (n b : ℕ) {most : ℕ} (ls ws lk vs : List Write) → fr .rate * n ≤ b → Logs fr (ls ++ ws) (lk ++ vs) → Timed (suc b) most lk → Timed 0 n ws → FirstOf (visible (fr .words) ws) (visible (fr .words) vs)
-unfolding visible
-first-made {fr} n b ls ws [] vs r g late early = record { later = visible (fr .words) ls; are = logs-visible g ∙ visible-append (fr .words) ls ws }
-first-made {fr} n b [] [] (k ∷ lk) vs r g late early = record { later = visible (fr .words) vs; are = refl }
-first-made {fr} n b [] (w ∷ ws) (k ∷ lk) vs r (logs-both h t g) (timed-more p q late) (timed-more e f early) = absurd (omega (arith, mul-le-mul-left (fr .rate) f))
-first-made n b [] (w ∷ ws) (k ∷ lk) vs r (logs-kernel h g) (timed-more p q late) early = first-made n b [] (w ∷ ws) lk vs r g late early
-first-made n b (l ∷ ls) ws (k ∷ lk) vs r (logs-both h t g) (timed-more p q late) early = first-made n b ls ws lk vs r g late early
-first-made n b (l ∷ ls) ws (k ∷ lk) vs r (logs-kernel h g) (timed-more p q late) early = first-made n b (l ∷ ls) ws lk vs r g late early
+  -- The kernel's writes up to b, where those of the source up to n are made by then.
+  first-made : (n b : ℕ) {most : ℕ} (ls ws lk vs : List Write) → fr .rate * n ≤ b → Logs fr (ls ++ ws) (lk ++ vs) → Timed (suc b) most lk → Timed 0 n ws → FirstOf (visible S ws) (visible S vs)
+  unfolding visible
+  first-made n b ls ws [] vs r g late early = record { later = visible S ls; are = logs-visible g ∙ visible-append S ls ws }
+  first-made n b [] [] (k ∷ lk) vs r g late early = record { later = visible S vs; are = refl }
+  first-made n b [] (w ∷ ws) (k ∷ lk) vs r (logs-both h t g) (timed-more p q late) (timed-more e f early) = absurd (omega (arith, mul-le-mul-left (fr .rate) f))
+  first-made n b [] (w ∷ ws) (k ∷ lk) vs r (logs-kernel h g) (timed-more p q late) early = first-made n b [] (w ∷ ws) lk vs r g late early
+  first-made n b (l ∷ ls) ws (k ∷ lk) vs r (logs-both h t g) (timed-more p q late) early = first-made n b ls ws lk vs r g late early
+  first-made n b (l ∷ ls) ws (k ∷ lk) vs r (logs-kernel h g) (timed-more p q late) early = first-made n b (l ∷ ls) ws lk vs r g late early
 
 -- Of one log told twice: ws are its writes up to n and ls later ones; those behind us were made after n. So ws are the first ones of us.
 within-log : (n : ℕ) {most : ℕ} (ls ws lk us : List Write) → lk ++ us ≡ ls ++ ws → Timed (suc n) most lk → Timed 0 n ws → (S : ℕ) → FirstOf (visible S ws) (visible S us)
@@ -68,38 +70,38 @@ started r h = rw (r .writes-are, append-nil (r .added)) (timed-wider (omega arit
 
 -- ---- both directions
 
-module _ (L : Layout) (program : Items) (store temporaryWords : List ℤ) (tree : SourceTree L program) (all-words : length store ≡ storeSize L) (enough : temporaries program ≤ length temporaryWords) where
+module _ (L : Layout) (first : ℕ) (inside : storeSize L ≤ first) (program : Items) (store temporaryWords : List ℤ) (tree : SourceTree L program) (all-words : length store ≡ first) (enough : temporaries program ≤ length temporaryWords) where
   abbrev S : ℕ
   S = storeSize L
 
-  kernel-first : (N : ℕ) → FirstOf (made S (sourceRun L program store (steps N))) (made S (kernelRun L program store temporaryWords (steps (kernelSteps L program N))))
+  kernel-first : (N : ℕ) → FirstOf (made S (sourceRun L program store (steps N))) (made S (kernelRun L first program store temporaryWords (steps (kernelSteps first program N))))
   kernel-first N =
-      let c = suc (N + kernelSteps L program N) in
-      let g = runs-logged L program store temporaryWords tree all-words enough c in
+      let c = suc (N + kernelSteps first program N) in
+      let g = runs-logged L first inside program store temporaryWords tree all-words enough c in
       let s = writes-later (exec L (block program)) (start store) N (rounds c) (enough-rounds N c (omega arith)) (omega arith) in
-      let k = writes-later (exec L (block (translate L program))) (start (store ++ temporaryWords)) (kernelSteps L program N) (rounds c) (enough-rounds (kernelSteps L program N) c (omega arith)) (omega arith) in
+      let k = writes-later (exec L (block (translate first program))) (start (store ++ temporaryWords)) (kernelSteps first program N) (rounds c) (enough-rounds (kernelSteps first program N) c (omega arith)) (omega arith) in
       let early = started (writes-in-time (exec L (block program)) (start store) (steps N)) (count-never-passes N (exec L (block program)) (start store) (omega arith)) in
-      let logs : Logs (g .frame-of) (s .added ++ (final (sourceRun L program store (steps N))) .writes) (k .added ++ (final (kernelRun L program store temporaryWords (steps (kernelSteps L program N)))) .writes) = rw (← s .writes-are, ← k .writes-are) (g .logs) in
-      rw (← g .words-are) (first-made {fr = g .frame-of} N (kernelSteps L program N) (s .added) _ (k .added) _ (rw (g .rate-is) (omega arith)) logs (k .in-time) early)
+      let logs : Logs (g .frame-of) (s .added ++ (final (sourceRun L program store (steps N))) .writes) (k .added ++ (final (kernelRun L first program store temporaryWords (steps (kernelSteps first program N)))) .writes) = rw (← s .writes-are, ← k .writes-are) (g .logs) in
+      first-made {fr = g .frame-of} S (rw (g .words-are) inside) N (kernelSteps first program N) (s .added) _ (k .added) _ (rw (g .rate-is) (omega arith)) logs (k .in-time) early
 
   -- As many steps as the source makes while each of its loops goes round at most N + 1 times.
   abbrev enoughSteps : ℕ → ℕ
   enoughSteps N = (final (sourceRun L program store (rounds (suc N)))) .count
 
-  source-first : (N : ℕ) → FirstOf (made S (kernelRun L program store temporaryWords (steps N))) (made S (sourceRun L program store (steps (enoughSteps N))))
+  source-first : (N : ℕ) → FirstOf (made S (kernelRun L first program store temporaryWords (steps N))) (made S (sourceRun L program store (steps (enoughSteps N))))
   source-first N =
       let c = suc N in
-      let g = runs-logged L program store temporaryWords tree all-words enough c in
-      let k = writes-later (exec L (block (translate L program))) (start (store ++ temporaryWords)) N (rounds c) (enough-rounds N c (omega arith)) (omega arith) in
+      let g = runs-logged L first inside program store temporaryWords tree all-words enough c in
+      let k = writes-later (exec L (block (translate first program))) (start (store ++ temporaryWords)) N (rounds c) (enough-rounds N c (omega arith)) (omega arith) in
       let M = enoughSteps N in
       let d = suc (M + c) in
       let w = writes-wider (exec L (block program)) (start store) (rounds c) (rounds d) (wider-rounds c d (omega arith)) in
       let u = writes-later (exec L (block program)) (start store) M (rounds d) (enough-rounds M d (omega arith)) (omega arith) in
       let early = started (writes-in-time (exec L (block program)) (start store) (rounds c)) (le-refl M) in
-      let same : visible S ((final (kernelRun L program store temporaryWords (rounds c))) .writes) ≡ visible S ((final (sourceRun L program store (rounds c))) .writes) = rw (← g .words-are) (logs-visible (g .logs)) in
-      let of-kernel : FirstOf (made S (kernelRun L program store temporaryWords (steps N))) (made S (sourceRun L program store (rounds c))) =
+      let same : visible S ((final (kernelRun L first program store temporaryWords (rounds c))) .writes) ≡ visible S ((final (sourceRun L program store (rounds c))) .writes) = logs-visible {fr = g .frame-of} S (rw (g .words-are) inside) (g .logs) in
+      let of-kernel : FirstOf (made S (kernelRun L first program store temporaryWords (steps N))) (made S (sourceRun L program store (rounds c))) =
       record { later = visible S (k .added); are = sym same ∙ ap (visible S) (k .writes-are) ∙ visible-append S (k .added) _ } in
       first-trans of-kernel (within-log M (w .0) _ (u .added) _ (sym (u .writes-are) ∙ w .1) (u .in-time) early S)
 
-  pub translation-writes : SameWrites L program store temporaryWords
+  pub translation-writes : SameWrites L first program store temporaryWords
   translation-writes = record { kernel-follows = kernel-first; sourceSteps = enoughSteps; source-follows = source-first }

@@ -7,16 +7,17 @@ use lib.ListN.{length}
 use Rattle.words.specs.Layout.{Layout}
 use Rattle.computation.specs.Computation.{Computation, ret, _>>_, again}
 use Rattle.computation.specs.Run.{State}
-use Rattle.language.specs.Trees.{Expression, Part, absent, present, label, has, Statement, empty, express, block, ifThen, ifElse, while, doWhile, for, switch, break, continue, goto, guardedIf, guardedDo, abort, Arms, noArm, arm, Items, none, _then_, _here_, _⧺_}
+use Rattle.language.specs.Trees.{Expression, variable, Part, absent, present, label, has, Statement, empty, express, block, ifThen, ifElse, while, doWhile, for, switch, break, continue, goto, guardedIf, guardedDo, abort, declare, Arms, noArm, arm, Items, none, _then_, _here_, _⧺_}
 use Rattle.language.specs.Meaning.{Signal, enter, valueOf, rounds, perform, choose, choiceRounds}
 use Rattle.language.specs.WellFormed.{NamedPart, NamedStatement, NamedArms, NamedItems, Placed, PlacedArms, PlacedItems}
-use Rattle.translation.specs.declared.Use.the-variants.{Wanted as wanted}
+use Rattle.translation.specs.Uses.{direct}
+use Rattle.translation.specs.declared.Use.the-variants.{Wanted as wanted, Stored as stored}
 use Rattle.translation.specs.Translate.{partCode, testCode, loopCode, labels, Exits, exits, roundsCode, statementCode, armsCode, itemsCode, partLevels, expressionLevels, statementLevels, armsLevels, itemsLevels}
-use Rattle.translation.specs.TranslateSize.{expressionSize, partSize, cases, roundsRows, statementSize, armsSize, itemsSize}
+use Rattle.translation.specs.TranslateSize.{storeRows, expressionSize, partSize, cases, roundsRows, statementSize, armsSize, itemsSize}
 use Rattle.translation.specs.Related.{Frame}
 use Rattle.translation.specs.PassedCode.{plain-expression, plain-part, plain-arms, apart-below, own-labels}
-use Rattle.translation.specs.ExpressionPreserves.{InRange, own-size, wanted-goes, value-goes, dropped-goes}
-use Rattle.translation.specs.StatementRules.{Below, Runs, RunsOn, Turns, Drops, drops-absent, drops-present, turns-action, turns-again, turns-test, turns-body, pay-statement, runs-empty, runs-express, runs-block, runs-ifThen, runs-ifElse, runs-break, runs-continue, runs-loop, runs-after, runs-none, runs-then, runs-here, runs-switch}
+use Rattle.translation.specs.ExpressionPreserves.{InRange, own-size, wanted-goes, value-goes, dropped-goes, declared-goes}
+use Rattle.translation.specs.StatementRules.{Below, Runs, RunsOn, Turns, Drops, drops-absent, drops-present, turns-action, turns-again, turns-test, turns-body, pay-statement, runs-empty, runs-express, runs-declare, runs-block, runs-ifThen, runs-ifElse, runs-break, runs-continue, runs-loop, runs-after, runs-none, runs-then, runs-here, runs-switch}
 use Rattle.translation.specs.GuardedRules.{Chooses, chooses-none, chooses-enter, chooses-arm, runs-guardedIf, runs-guardedDo}
 
 abbrev roundsSteps : Arms → ℕ
@@ -40,6 +41,7 @@ ownSteps (goto l) = 1
 ownSteps (guardedIf arms) = 1
 ownSteps (guardedDo arms) = roundsSteps arms
 ownSteps abort = 1
+ownSteps (declare i e) = storeRows (variable i) (direct e)
 
 own-rounds : (arms : Arms) → roundsSteps arms ≤ roundsRows arms
 own-rounds noArm = omega arith
@@ -62,6 +64,7 @@ own-statement (goto l) = omega arith
 own-statement (guardedIf arms) = omega arith
 own-statement (guardedDo arms) = omega (arith, own-rounds arms)
 own-statement abort = omega arith
+own-statement (declare i e) = omega arith
 
 -- The numbers of a source tree are in range.
 abbrev pub PartInRange : Layout → Part → Type 0
@@ -127,6 +130,7 @@ module _ (fr : Frame) {C D : Type 0} {R : C → D → State → State → Type 0
     statement-runs (guardedIf arms) x l b c u h p n r = runs-guardedIf fr u (arms-choose arms x l (l + 1) b c (omega arith) h p n (omega arith))
     statement-runs (guardedDo arms) x l b c u h p n r = rounds-run arms x l b c u h p n r
     statement-runs abort x l b c u h p n r = absurd p
+    statement-runs (declare i e) x l b c u h p n r = runs-declare fr i (omega (arith, fr .variables-inside, h .0)) (direct e) (declared-goes fr i e refl (h .0) (h .1) (omega arith) (omega arith))
 
     arms-choose : (arms : Arms) (x : Exits) (out l : ℕ) (mayBreak mayContinue : Bool) → Below x l → ArmsInRange (fr .layout) arms → PlacedArms mayBreak mayContinue arms → armsLevels arms ≤ fr .temporaries → armsSize arms ≤ fr .rate
         → Chooses fr R 0 x out (choose (fr .layout) arms) (armsCode (fr .words) arms x out l)

@@ -6,19 +6,19 @@ use Prim.Native.Nat.{ℕ, suc, _+_, _*_, _≤_, _<_}
 use native.Mathlib.Omega.{arith}
 use lib.IntN.{ℤ, pos}
 use borrow.Author.Tests.{eq-eqb, ne-eqb}
-use Rattle.words.specs.Word.{sameWord}
+use Rattle.words.specs.Word.{sameWord, pick}
 use Rattle.arithmetic.specs.Arithmetic.{isTrue, bit, apply}
 use Rattle.words.specs.Laws.{by-cases}
-use Rattle.computation.specs.Computation.{Computation, Turn, again, leave, ret, _>>=_, loop, _>>_}
+use Rattle.computation.specs.Computation.{Computation, Turn, again, leave, ret, _>>=_, save, loop, _>>_}
 use Rattle.computation.specs.Run.{State, Result}
-use Rattle.language.specs.Trees.{Mark, case, default, label, sameMark, has, Statement, empty, block, goto, Items, none, _then_, _here_, _⧺_}
+use Rattle.language.specs.Trees.{variable, Mark, case, default, label, sameMark, has, Statement, empty, block, goto, Items, none, _then_, _here_, _⧺_}
 use Rattle.language.specs.Meaning.{Signal, next, breaking, continuing, seeking, enter, ifTrue, target, afterSwitch, afterBody, afterTest, evaluate, perform, items}
-use Rattle.translation.specs.declared.Use.the-variants.{Dropped as dropped}
-use Rattle.translation.specs.Translate.{Atom, taken, atom, choosing, orEmpty, labels, labelOf, Exits, exits, loopCode, caseTests}
+use Rattle.translation.specs.declared.Use.the-variants.{Dropped as dropped, Stored as stored}
+use Rattle.translation.specs.Translate.{Atom, taken, atom, choosing, storeCode, orEmpty, labels, labelOf, Exits, exits, loopCode, caseTests}
 use Rattle.translation.specs.TranslateSize.{cases}
 use Rattle.translation.specs.Stack.{Stack, bottom, depth}
 use Rattle.translation.specs.RunThen.{runThen}
-use Rattle.translation.specs.Related.{Frame, Related, Alike, alike-loop, logs-temporary, related-logged, related-step, related-ran, related-less, related-push, related-top, related-pop}
+use Rattle.translation.specs.Related.{Frame, Related, Alike, alike-loop, logs-temporary, related-logged, related-step, related-ran, related-less, related-save, related-push, related-top, related-pop}
 use Rattle.translation.specs.Held.{Holds, holds-depth, source, kernel, kernel-append, see, release}
 use Rattle.translation.specs.ExpressionRules.{Goes, GoesFor}
 use Rattle.translation.specs.PassedCode.{has-neither, passes, plain-tests, Apart, apart-below, apart-above, label-least, label-absent}
@@ -75,7 +75,7 @@ module _ (fr : Frame) {C D : Type 0} {R : C → D → State → State → Type 0
   unfolding runThen items
   drops-absent = record { drops = λ c σ κ f g n k. k _ _ _ n }
 
-  pub drops-present : {m : Computation ℤ} {xs : Items} {h : Atom} {straight : Bool} → GoesFor fr R dropped straight 0 bottom m xs h → Drops fr R m xs
+  pub drops-present : {m : Computation ℤ} {xs : Items} {h : Atom} {straight : Bool} → GoesFor fr R true dropped straight 0 bottom m xs h → Drops fr R m xs
   unfolding runThen
   drops-present p = record { drops = λ c σ κ f g n k. p .goes c c σ κ f g n (omega arith) k }
 
@@ -137,6 +137,19 @@ module _ (fr : Frame) {C D : Type 0} {R : C → D → State → State → Type 0
       by none p c y σ κ f g n le k = p .drops (c + 1) σ κ _ (λ s ν. kernel fr (empty then none) s ν g) (related-less (omega arith) n) (λ v τ ν m. k _ _ _ _ leads-next (related-ran _ (omega arith) m))
       by (s then xs) p c y σ κ f g n le k = p .drops c σ κ _ g (related-less (omega arith) n) (λ v τ ν m. k _ _ _ _ leads-next m)
       by (s here xs) p c y σ κ f g n le k = p .drops c σ κ _ g (related-less (omega arith) n) (λ v τ ν m. k _ _ _ _ leads-next m)
+
+  -- A declaration's value is stored: it went straight into its word, or is assigned from what holds it.
+  pub runs-declare : (i : ℕ) → i < fr .words → (straight : Bool) {m : Computation ℤ} {xs : Items} {h : Atom} → GoesFor fr R false (stored i) straight 0 bottom m xs h
+      → Runs fr R (pick straight 0 4) x (do v ← m; save i v; ret next) (xs ⧺ storeCode (fr .words) (variable i) straight (atom (fr .words) 0 h))
+  unfolding runThen items perform evaluate
+  runs-declare i b true p = record {
+    runs = λ c y σ κ f g n le k. rw kernel-append (p .goes c y σ κ (λ v. f next) _ n (omega arith) λ v F' τ ν holds m. k _ _ _ _ leads-next (release fr holds m));
+  }
+  runs-declare i b false p = record {
+    runs = λ c y σ κ f g n le k.
+        rw kernel-append (p .goes (c + 4) y σ κ _ _ n (omega arith) λ v F' τ ν holds m.
+        rw (see fr refl holds m, runThen) (k _ _ _ _ leads-next (related-save i v b (release fr holds (related-ran _ (omega arith) m)))));
+  }
 
   pub runs-block : {l : ℕ} {is xs : Items} → RunsOn fr R x l is xs → Runs fr R 1 x (items (fr .layout) is next) (block xs then none)
   unfolding runThen items perform

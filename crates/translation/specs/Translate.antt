@@ -5,10 +5,10 @@ use mathlib.Core.List.{List, _∷_, map}
 use Prim.Native.Nat.{ℕ, _+_, max}
 use lib.IntN.{ℤ, pos}
 use Rattle.words.specs.Word.{pick}
-use Rattle.words.specs.Layout.{Layout, storeSize}
+use Rattle.words.specs.Layout.{Layout}
 use Rattle.words.specs.declared.Operator.{Operator}
 use Rattle.words.specs.declared.Operator.the-variants.{Equal, NotEqual}
-use Rattle.language.specs.Trees.{Expression, constant, read, minus, not, binary, and, or, comma, conditional, assign, compound, prefix, postfix, Place, variable, element, Part, absent, present, Mark, case, default, label, sameMark, Statement, empty, express, block, ifThen, ifElse, while, doWhile, for, switch, break, continue, goto, guardedIf, guardedDo, abort, Arms, noArm, arm, Items, none, _then_, _here_, _⧺_}
+use Rattle.language.specs.Trees.{Expression, constant, read, minus, not, binary, and, or, comma, conditional, assign, compound, prefix, postfix, Place, variable, element, Part, absent, present, Mark, case, default, label, sameMark, Statement, empty, express, block, ifThen, ifElse, while, doWhile, for, switch, break, continue, goto, guardedIf, guardedDo, abort, declare, Arms, noArm, arm, Items, none, _then_, _here_, _⧺_}
 use Rattle.language.specs.Writes.{writes, indexWrites}
 use Rattle.translation.specs.Uses.{useFor, passedOn, direct}
 use Rattle.translation.specs.declared.Use.{Use}
@@ -92,6 +92,7 @@ unfoldable mutual
   labels (guardedIf arms) = 1 + armsLabels arms
   labels (guardedDo arms) = roundsLabels arms + armsLabels arms
   labels abort = 0
+  labels (declare i e) = 0
 
   pub armsLabels : Arms → ℕ
   armsLabels noArm = 0
@@ -292,6 +293,8 @@ module _ (S : ℕ) where
     statementCode (guardedDo arms) x l = roundsCode arms (armsCode arms x (l + 1) (l + 2)) l
     -- nor abort
     statementCode abort x l = empty then none
+    -- the assignment of the initial value, straight where an assignment's value goes straight
+    statementCode (declare i e) x l = expressionCode e (stored i) 0 ⧺ storeCode (variable i) (direct e) (atom 0 (atomOf e))
 
     -- Arms whose labels begin at l, one behind the other, so that the code of many is no deeper than that of one; after its block an arm goes to
     -- the label `out`.
@@ -306,10 +309,10 @@ module _ (S : ℕ) where
 
 -- ---- the program
 
--- The translation of a program, which is the items of its block; so is what it gives. Its labels begin at 1; no break or continue
--- stands outside a loop or switch, so label 0 is not used.
-unfoldable pub translate : Layout → Items → Items
-translate L program = itemsCode (storeSize L) program (exits 0 0) 1
+-- The translation of a program, which is the items of its block; so is what it gives. `first` is the store word where the temporaries
+-- begin. Its labels begin at 1; no break or continue stands outside a loop or switch, so label 0 is not used.
+unfoldable pub translate : ℕ → Items → Items
+translate first program = itemsCode first program (exits 0 0) 1
 
 -- ---- temporaries
 
@@ -386,6 +389,7 @@ unfoldable mutual
   statementLevels (guardedIf arms) = armsLevels arms
   statementLevels (guardedDo arms) = armsLevels arms
   statementLevels abort = 0
+  statementLevels (declare i e) = expressionLevels e (stored i)
 
   pub armsLevels : Arms → ℕ
   armsLevels noArm = 0
@@ -400,6 +404,6 @@ unfoldable mutual
 unfoldable pub temporaries : Items → ℕ
 temporaries program = itemsLevels program
 
--- "The kernel header adds T temporaries": V, T, the array lengths.
-unfoldable pub kernelHeader : Layout → ℕ → List ℤ
-kernelHeader L T = pos (L .variables) ∷ pos T ∷ map pos (L .lengths)
+-- "The kernel header adds T temporaries", and "gains D after V": V, D, T, the array lengths.
+unfoldable pub kernelHeader : Layout → ℕ → ℕ → List ℤ
+kernelHeader L D T = pos (L .variables) ∷ pos D ∷ pos T ∷ map pos (L .lengths)

@@ -1,11 +1,11 @@
 -- How large a translation is: "From n source rows come at most 20×n+20 kernel rows and at most 4×n temporaries." By induction on the
 -- tree, each row with its own share.
-use mathlib.Core.Bool.{Bool, true, false}
+use mathlib.Core.Path.{_≡_}
+use mathlib.Core.Bool.{Bool, true, false, true≢false}
 use Prim.Native.Nat.{ℕ, _+_, _*_, _≤_}
 use native.Mathlib.Omega.{arith}
-use Rattle.words.specs.Layout.{Layout}
 use Rattle.words.specs.Laws.{by-cases}
-use Rattle.language.specs.Trees.{Expression, constant, read, minus, not, binary, and, or, comma, conditional, assign, compound, prefix, postfix, Place, variable, element, Part, absent, present, case, default, label, Statement, empty, express, block, ifThen, ifElse, while, doWhile, for, switch, break, continue, goto, guardedIf, guardedDo, abort, Arms, noArm, arm, Items, none, _then_, _here_}
+use Rattle.language.specs.Trees.{Expression, constant, read, minus, not, binary, and, or, comma, conditional, assign, compound, prefix, postfix, Place, variable, element, Part, absent, present, case, default, label, Statement, empty, express, block, ifThen, ifElse, while, doWhile, for, switch, break, continue, goto, guardedIf, guardedDo, abort, declare, Arms, noArm, arm, Items, none, _then_, _here_}
 use Rattle.language.specs.Writes.{writes, indexWrites}
 use Rattle.language.specs.Sizes.{expressionRows, placeRows, partRows, statementRows, armsRows, itemsRows}
 use Rattle.translation.specs.Uses.{useFor, passedOn, direct}
@@ -130,6 +130,7 @@ mutual
   statement-most (guardedIf arms) = omega (arith, arms-most arms)
   statement-most (guardedDo arms) = omega (arith, rounds-most arms, arms-most arms)
   statement-most abort = omega arith
+  statement-most (declare i e) = omega (arith, expression-most e (stored i), store-most (variable i) (direct e))
 
   arms-most : (arms : Arms) → armsSize arms ≤ 20 * armsRows arms
   arms-most noArm = omega arith
@@ -144,9 +145,9 @@ mutual
   items-most (label l here is) = omega (arith, items-most is)
 
 -- "At most 20×n+20 kernel rows".
-pub rows-bound : (L : Layout) (program : Items) → statementRows (block (translate L program)) ≤ 20 * statementRows (block program) + 20
+pub rows-bound : (first : ℕ) (program : Items) → statementRows (block (translate first program)) ≤ 20 * statementRows (block program) + 20
 unfolding statementRows
-rows-bound L program = omega (arith, translation-rows L program, items-most program)
+rows-bound first program = omega (arith, translation-rows first program, items-most program)
 
 -- ---- temporaries
 
@@ -221,6 +222,7 @@ mutual
   statement-levels-most (guardedIf arms) = omega (arith, arms-levels-most arms)
   statement-levels-most (guardedDo arms) = omega (arith, arms-levels-most arms)
   statement-levels-most abort = omega arith
+  statement-levels-most (declare i e) = omega (arith, levels-most e (stored i))
 
   arms-levels-most : (arms : Arms) → armsLevels arms ≤ armsRows arms
   arms-levels-most noArm = omega arith
@@ -264,6 +266,25 @@ mutual
   postfix-level (variable i) = omega arith
   postfix-level (element array e) = omega arith
 
+-- So does one whose value does not go straight into the variable that it is stored in.
+pub stored-level : (e : Expression) (i : ℕ) → direct e ≡ false → taken (atomOf e) ≤ expressionLevels e (stored i)
+unfolding direct atomOf expressionLevels
+stored-level (constant v) i n = omega arith
+stored-level (read (variable j)) i n = omega arith
+stored-level (read (element array e)) i n = absurd (true≢false n)
+stored-level (minus e) i n = absurd (true≢false n)
+stored-level (not e) i n = absurd (true≢false n)
+stored-level (binary operator a b) i n = absurd (true≢false n)
+stored-level (and a b) i n = omega arith
+stored-level (or a b) i n = omega arith
+stored-level (comma a b) i n = omega (arith, taken-level b)
+stored-level (conditional c a b) i n = omega arith
+stored-level (assign p e) i n = omega arith
+stored-level (compound operator p e) i n = omega (arith, updated-level p)
+stored-level (prefix operator p) i n = updated-level p
+stored-level (postfix operator (variable j)) i n = omega arith
+stored-level (postfix operator (element array e)) i n = omega arith
+
 -- "At most 4×n temporaries": at most n.
 pub temporaries-bound : (program : Items) → temporaries program ≤ statementRows (block program)
 unfolding temporaries statementRows
@@ -294,6 +315,7 @@ mutual
   labels-most (guardedIf arms) = omega (arith, arms-labels-most arms)
   labels-most (guardedDo arms) = omega (arith, rounds-labels-most arms, arms-labels-most arms)
   labels-most abort = omega arith
+  labels-most (declare i e) = omega arith
 
   arms-labels-most : (arms : Arms) → armsLabels arms ≤ 2 * armsRows arms
   arms-labels-most noArm = omega arith

@@ -10,7 +10,7 @@ use lib.IntN.{pos}
 use Rattle.words.specs.Word.{pick}
 use Rattle.words.specs.Laws.{by-cases}
 use Rattle.words.specs.declared.Operator.{Operator}
-use Rattle.language.specs.Trees.{Expression, constant, read, minus, not, binary, and, or, comma, conditional, assign, compound, prefix, postfix, Place, variable, element, Part, absent, present, case, default, label, Statement, empty, express, block, ifThen, ifElse, while, doWhile, for, switch, break, continue, goto, guardedIf, guardedDo, abort, Arms, noArm, arm, Items, none, _then_, _here_, _⧺_}
+use Rattle.language.specs.Trees.{Expression, constant, read, minus, not, binary, and, or, comma, conditional, assign, compound, prefix, postfix, Place, variable, element, Part, absent, present, case, default, label, Statement, empty, express, block, ifThen, ifElse, while, doWhile, for, switch, break, continue, goto, guardedIf, guardedDo, abort, declare, Arms, noArm, arm, Items, none, _then_, _here_, _⧺_}
 use Rattle.language.specs.Writes.{writes, indexWrites}
 use Rattle.translation.specs.Uses.{useFor, passedOn, direct}
 use Rattle.translation.specs.declared.Use.{Use}
@@ -153,6 +153,7 @@ module _ (S j : ℕ) where
     once (guardedIf arms) x l e q = simp times-append (omega (arith, under-next j l, once-arms arms x l (l + 1) e (omega arith)))
     once (guardedDo arms) x l e q = once-rounds arms (armsCode S arms x (l + 1) (l + 2)) l e q (λ m. once-arms arms x (l + 1) (l + 2) e m)
     once abort x l e q = let z : l ≡ e = omega arith in rw z (omega arith)
+    once (declare i d) x l e q = let z : l ≡ e = omega arith in rw z (simp (times-append, times-store) (omega (arith, times-expression d (stored i) 0)))
 
     once-arms : (arms : Arms) (x : Exits) (out l e : ℕ) → l + armsLabels arms ≡ e → itemsTimes j (armsCode S arms x out l) + under j l ≡ under j e
     once-arms noArm x out l e q = let z : l ≡ e = omega arith in rw z (omega arith)

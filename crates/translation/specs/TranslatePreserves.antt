@@ -44,25 +44,25 @@ pub data SameEnd (rows T : ℕ) : Result Signal → Result Signal → Type 0 whe
   both-fault : {sort : FaultSort} {σ κ : State} → SameWords rows T σ κ → SameEnd rows T (stopped (fault sort) σ) (stopped (fault sort) κ)
   neither : {σ κ : State} → SameEnd rows T (stopped spent σ) (stopped spent κ)
 
--- The two runs under a limit, from a store of S words and any content of the temporaries.
+-- The two runs under a limit, from a store and any content of the temporaries, which begin at the store word `first`.
 abbrev pub sourceRun : Layout → Items → List ℤ → Limit → Result Signal
 sourceRun L program store limit = run limit (exec L (block program)) (start store)
 
-abbrev pub kernelRun : Layout → Items → List ℤ → List ℤ → Limit → Result Signal
-kernelRun L program store temporaryWords limit = run limit (exec L (block (translate L program))) (start (store ++ temporaryWords))
+abbrev pub kernelRun : Layout → ℕ → Items → List ℤ → List ℤ → Limit → Result Signal
+kernelRun L first program store temporaryWords limit = run limit (exec L (block (translate first program))) (start (store ++ temporaryWords))
 
 -- Demand 3 for a program, a store and temporaries.
-pub record SharedFate (L : Layout) (program : Items) (store temporaryWords : List ℤ) : Type 0 where
+pub record SharedFate (L : Layout) (first : ℕ) (program : Items) (store temporaryWords : List ℤ) : Type 0 where
   -- With no limit on steps, the source's run ends exactly when the kernel's does.
-  pub ends-together : Ends (exec L (block program)) (start store) ↔ Ends (exec L (block (translate L program))) (start (store ++ temporaryWords))
+  pub ends-together : Ends (exec L (block program)) (start store) ↔ Ends (exec L (block (translate first program))) (start (store ++ temporaryWords))
   -- For any two budgets that are enough: the same ending, equal words, and a bound on the kernel's count.
-  pub same-ending : (b d : ℕ) → Settled (sourceRun L program store (steps b)) → Settled (kernelRun L program store temporaryWords (steps d))
-      → endingOf (kernelRun L program store temporaryWords (steps d)) ≡ endingOf (sourceRun L program store (steps b))
-  pub same-state : (b d : ℕ) → Settled (sourceRun L program store (steps b)) → Settled (kernelRun L program store temporaryWords (steps d))
-      → SameWords (statementRows (block (translate L program))) (length temporaryWords) (final (sourceRun L program store (steps b))) (final (kernelRun L program store temporaryWords (steps d)))
+  pub same-ending : (b d : ℕ) → Settled (sourceRun L program store (steps b)) → Settled (kernelRun L first program store temporaryWords (steps d))
+      → endingOf (kernelRun L first program store temporaryWords (steps d)) ≡ endingOf (sourceRun L program store (steps b))
+  pub same-state : (b d : ℕ) → Settled (sourceRun L program store (steps b)) → Settled (kernelRun L first program store temporaryWords (steps d))
+      → SameWords (statementRows (block (translate first program))) (length temporaryWords) (final (sourceRun L program store (steps b))) (final (kernelRun L first program store temporaryWords (steps d)))
   -- The kernel's rows times the source's count is a budget that is enough.
-  pub enough : (b d : ℕ) → Settled (sourceRun L program store (steps b)) → statementRows (block (translate L program)) * (final (sourceRun L program store (steps b))) .count ≤ d
-      → Settled (kernelRun L program store temporaryWords (steps d))
+  pub enough : (b d : ℕ) → Settled (sourceRun L program store (steps b)) → statementRows (block (translate first program)) * (final (sourceRun L program store (steps b))) .count ≤ d
+      → Settled (kernelRun L first program store temporaryWords (steps d))
 
 -- ---- proof
 
@@ -110,69 +110,69 @@ same-end (alike-ok (ended n)) = both-plain (related-words n)
 same-end (alike-spent l) = neither
 same-end (alike-fault n) = both-fault (related-words n)
 
-module _ (L : Layout) (program : Items) (store temporaryWords : List ℤ) (tree : SourceTree L program) (all-words : length store ≡ storeSize L) (enough : temporaries program ≤ length temporaryWords) where
+module _ (L : Layout) (first : ℕ) (inside : storeSize L ≤ first) (program : Items) (store temporaryWords : List ℤ) (tree : SourceTree L program) (all-words : length store ≡ first) (enough : temporaries program ≤ length temporaryWords) where
   abbrev Rows : ℕ
-  Rows = statementRows (block (translate L program))
+  Rows = statementRows (block (translate first program))
 
   frame : ℕ → Frame
   unfolding storeSize
   frame c = record {
     layout = L;
-    words = storeSize L;
+    words = first;
     temporaries = length temporaryWords;
     rate = Rows;
     rounds = c;
     variables-inside = omega arith;
-    arrays-inside = array-in-store L;
+    arrays-inside = λ array h. le-trans (array-in-store L array h) inside;
   }
 
-  alike-rounds : (c : ℕ) → Alike (frame c) (Ended (frame c)) (sourceRun L program store (rounds c)) (kernelRun L program store temporaryWords (rounds c))
+  alike-rounds : (c : ℕ) → Alike (frame c) (Ended (frame c)) (sourceRun L program store (rounds c)) (kernelRun L first program store temporaryWords (rounds c))
   unfolding runThen perform translate temporaries frame
   alike-rounds c =
       let fr = frame c in
-      let size = translation-rows L program in
+      let size = translation-rows first program in
       let at-start : Related fr bottom 0 (start store) (start (store ++ temporaryWords)) = record { spare = temporaryWords; stores = refl; source-words = all-words; kernel-words = omega arith; cost = omega arith; logs = logs-none } in
-      rw (← runThen-run c (exec L (block program)) (start store), ← runThen-run c (exec L (block (translate L program))) (start (store ++ temporaryWords)))
+      rw (← runThen-run c (exec L (block program)) (start store), ← runThen-run c (exec L (block (translate first program))) (start (store ++ temporaryWords)))
       (items-run fr program (exits 0 0) 1 false false false (omega arith) (tree .named) (tree .placed) enough (omega arith) .runs next next leads-next 0 _ _ _ _
       (related-ran _ (omega arith) (related-step {y = 1} (omega arith) at-start)) (λ t u τ ν w m. alike-ok (ended m)))
 
   -- The relation under `rounds c`, for every c: runs that do not end are cut off together.
-  pub runs-alike : (c : ℕ) → SameEnd Rows (length temporaryWords) (sourceRun L program store (rounds c)) (kernelRun L program store temporaryWords (rounds c))
+  pub runs-alike : (c : ℕ) → SameEnd Rows (length temporaryWords) (sourceRun L program store (rounds c)) (kernelRun L first program store temporaryWords (rounds c))
   unfolding frame
   runs-alike c = same-end {fr = frame c} (alike-rounds c)
 
   -- Under `rounds c` both have made the same writes, cut off or not.
-  pub runs-logged : (c : ℕ) → Logged Rows (storeSize L) (sourceRun L program store (rounds c)) (kernelRun L program store temporaryWords (rounds c))
+  pub runs-logged : (c : ℕ) → Logged Rows first (sourceRun L program store (rounds c)) (kernelRun L first program store temporaryWords (rounds c))
   unfolding frame
   runs-logged c = record { frame-of = frame c; rate-is = refl; words-are = refl; logs = alike-logs (alike-rounds c) }
 
-  same-limits : (b d : ℕ) → Settled (sourceRun L program store (steps b)) → Settled (kernelRun L program store temporaryWords (steps d))
-      → SameEnd Rows (length temporaryWords) (sourceRun L program store (steps b)) (kernelRun L program store temporaryWords (steps d))
+  same-limits : (b d : ℕ) → Settled (sourceRun L program store (steps b)) → Settled (kernelRun L first program store temporaryWords (steps d))
+      → SameEnd Rows (length temporaryWords) (sourceRun L program store (steps b)) (kernelRun L first program store temporaryWords (steps d))
   same-limits b d s t =
-      rw (← budget-rounds (exec L (block program)) (start store) b (suc (b + d)) (omega arith) s, ← budget-rounds (exec L (block (translate L program))) (start (store ++ temporaryWords)) d (suc (b + d)) (omega arith) t)
+      rw (← budget-rounds (exec L (block program)) (start store) b (suc (b + d)) (omega arith) s, ← budget-rounds (exec L (block (translate first program))) (start (store ++ temporaryWords)) d (suc (b + d)) (omega arith) t)
       (runs-alike (suc (b + d)))
 
-  kernel-enough : (b d : ℕ) → Settled (sourceRun L program store (steps b)) → Rows * (final (sourceRun L program store (steps b))) .count ≤ d → Settled (kernelRun L program store temporaryWords (steps d))
+  kernel-enough : (b d : ℕ) → Settled (sourceRun L program store (steps b)) → Rows * (final (sourceRun L program store (steps b))) .count ≤ d → Settled (kernelRun L first program store temporaryWords (steps d))
   kernel-enough b d s most =
-      let a : SameEnd Rows (length temporaryWords) (sourceRun L program store (steps b)) (kernelRun L program store temporaryWords (rounds (suc b)))
+      let a : SameEnd Rows (length temporaryWords) (sourceRun L program store (steps b)) (kernelRun L first program store temporaryWords (rounds (suc b)))
       = rw (← budget-rounds (exec L (block program)) (start store) b (suc b) (omega arith) s) (runs-alike (suc b)) in
-      rw (rounds-budget (exec L (block (translate L program))) (start (store ++ temporaryWords)) (suc b) d (there a s) (le-trans (words a s .few-steps) most)) (there a s)
+      rw (rounds-budget (exec L (block (translate first program))) (start (store ++ temporaryWords)) (suc b) d (there a s) (le-trans (words a s .few-steps) most)) (there a s)
 
-  source-ends : Ends (exec L (block (translate L program))) (start (store ++ temporaryWords)) → Ends (exec L (block program)) (start store)
+  source-ends : Ends (exec L (block (translate first program))) (start (store ++ temporaryWords)) → Ends (exec L (block program)) (start store)
   source-ends e =
       let c = suc (e .budget) in
-      let k : Settled (kernelRun L program store temporaryWords (rounds c)) = rw (budget-rounds (exec L (block (translate L program))) (start (store ++ temporaryWords)) (e .budget) c (omega arith) (e .settled)) (e .settled) in
+      let k : Settled (kernelRun L first program store temporaryWords (rounds c)) = rw (budget-rounds (exec L (block (translate first program))) (start (store ++ temporaryWords)) (e .budget) c (omega arith) (e .settled)) (e .settled) in
       let s : Settled (sourceRun L program store (rounds c)) = back (runs-alike c) k in
       let b = (final (sourceRun L program store (rounds c))) .count in
       record { budget = b; settled = rw (rounds-budget (exec L (block program)) (start store) c b s (omega arith)) s }
 
-  kernel-ends : Ends (exec L (block program)) (start store) → Ends (exec L (block (translate L program))) (start (store ++ temporaryWords))
+  kernel-ends : Ends (exec L (block program)) (start store) → Ends (exec L (block (translate first program))) (start (store ++ temporaryWords))
   kernel-ends e =
       let d = Rows * (final (sourceRun L program store (steps (e .budget)))) .count in
       record { budget = d; settled = kernel-enough (e .budget) d (e .settled) (omega arith) }
 
-  -- Demand 3, for every source program, every store of S words and every content of the temporaries.
-  pub translation-preserves : SharedFate L program store temporaryWords
+  -- Demand 3, for every source program, every store of as many words as stand before the temporaries, and every content of the temporaries.
+  pub translation-preserves : SharedFate L first program store temporaryWords
   translation-preserves = record {
     ends-together = (kernel-ends, source-ends);
     same-ending = λ b d s t. ending (same-limits b d s t);

@@ -6,9 +6,8 @@ use Prim.Native.Nat.{ℕ, _+_, _*_, _-_, max}
 use native.Mathlib.Omega.{arith}
 use lib.IntN.{pos}
 use Rattle.words.specs.Word.{pick}
-use Rattle.words.specs.Layout.{Layout, storeSize}
 use Rattle.words.specs.declared.Operator.{Operator}
-use Rattle.language.specs.Trees.{Expression, constant, read, minus, not, binary, and, or, comma, conditional, assign, compound, prefix, postfix, Place, variable, element, Part, absent, present, case, default, label, Statement, empty, express, block, ifThen, ifElse, while, doWhile, for, switch, break, continue, goto, guardedIf, guardedDo, abort, Arms, noArm, arm, Items, none, _then_, _here_, _⧺_}
+use Rattle.language.specs.Trees.{Expression, constant, read, minus, not, binary, and, or, comma, conditional, assign, compound, prefix, postfix, Place, variable, element, Part, absent, present, case, default, label, Statement, empty, express, block, ifThen, ifElse, while, doWhile, for, switch, break, continue, goto, guardedIf, guardedDo, abort, declare, Arms, noArm, arm, Items, none, _then_, _here_, _⧺_}
 use Rattle.language.specs.Sizes.{expressionRows, statementRows, itemsRows}
 use Rattle.language.specs.TreeLaws.{statement-some}
 use Rattle.language.specs.Writes.{writes, indexWrites}
@@ -127,7 +126,7 @@ module _ (S : ℕ) where
   rows-rounds (arm d s arms) xs l e = simp rows-append (omega arith)
 
   mutual
-    unfolding statementSize statementCode itemsRows expressionRows
+    unfolding statementSize statementCode itemsRows expressionRows kernelPlace
 
     pub rows-statement : (s : Statement) (x : Exits) (l : ℕ) → itemsRows (statementCode S s x l) ≡ statementSize s
     rows-statement empty x l = refl
@@ -145,6 +144,7 @@ module _ (S : ℕ) where
     rows-statement (guardedIf arms) x l = simp rows-append (omega (arith, rows-arms arms x l (l + 1)))
     rows-statement (guardedDo arms) x l = rows-rounds arms (armsCode S arms x (l + 1) (l + 2)) l (rows-arms arms x (l + 1) (l + 2))
     rows-statement abort x l = refl
+    rows-statement (declare i e) x l = simp rows-append (omega (arith, rows-expression e (stored i) 0, rows-store (variable i) (direct e) (atomOf e) 0 0))
 
     pub rows-arms : (arms : Arms) (x : Exits) (out l : ℕ) → itemsRows (armsCode S arms x out l) ≡ armsSize arms
     rows-arms noArm x out l = refl
@@ -156,6 +156,6 @@ module _ (S : ℕ) where
     rows-items (m here is) x l = omega (arith, rows-items is x (l + 1))
 
 -- The rows of a translation.
-pub translation-rows : (L : Layout) (program : Items) → statementRows (block (translate L program)) ≡ 1 + itemsSize program
+pub translation-rows : (first : ℕ) (program : Items) → statementRows (block (translate first program)) ≡ 1 + itemsSize program
 unfolding itemsRows translate
-translation-rows L program = omega (arith, rows-items (storeSize L) program (exits 0 0) 1)
+translation-rows first program = omega (arith, rows-items first program (exits 0 0) 1)

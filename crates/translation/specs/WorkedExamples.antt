@@ -27,7 +27,7 @@ abbrev worked : Items
 worked = set (variable 0) (constant (pos 2)) then set (element 0 (compound Subtract (variable 0) (constant (pos 1)))) (postfix Add (variable 0)) then none
 
 -- v0 = 2; t0 = v0; v0 = t0 + 1; v0 = v0 - 1; a[v0] = t0;
-pub worked-translation : translate layout worked
+pub worked-translation : translate (storeSize layout) worked
     ≡ set (variable 0) (constant (pos 2))
     then set (variable 4) (read (variable 0))
     then set (variable 0) (binary Add (read (variable 4)) (constant (pos 1)))
@@ -42,7 +42,7 @@ unfolding temporaries statementLevels expressionLevels direct atomOf writes
 worked-temporaries = refl
 
 -- From zeros, and 7 in the temporary, the kernel leaves 2, 0, 0, 2, as the source does.
-pub worked-kernel : (final (run (rounds 0) (exec layout (block (translate layout worked))) (start (pos 0 ∷ pos 0 ∷ pos 0 ∷ pos 0 ∷ pos 7 ∷ [])))) .store ≡ pos 2 ∷ pos 0 ∷ pos 0 ∷ pos 2 ∷ pos 2 ∷ []
+pub worked-kernel : (final (run (rounds 0) (exec layout (block (translate (storeSize layout) worked))) (start (pos 0 ∷ pos 0 ∷ pos 0 ∷ pos 0 ∷ pos 7 ∷ [])))) .store ≡ pos 2 ∷ pos 0 ∷ pos 0 ∷ pos 2 ∷ pos 2 ∷ []
 unfolding translate statementCode expressionCode direct atomOf placeTaken kernelPlace labels storeSize sum _⧺_ run perform evaluate apply inWord isWord arrayBase arrayLength elementWord natural
 worked-kernel = refl
 
@@ -51,7 +51,7 @@ abbrev choice : Items
 choice = switch (read (variable 0)) (default here set (element 0 (constant (pos 0))) (constant (pos 1)) then case (pos 2) here set (element 0 (constant (pos 1))) (constant (pos 1)) then none) then none
 
 -- t0 = v0 == 2; if (t0) { goto L3; } else { } goto L2; L2: a[0] = 1; L3: a[1] = 1; L1:
-pub choice-translation : translate layout choice
+pub choice-translation : translate (storeSize layout) choice
     ≡ set (variable 4) (binary Equal (read (variable 0)) (constant (pos 2)))
     then ifElse (read (variable 4)) (block (goto 3 then none)) (block none)
     then goto 2
@@ -69,18 +69,18 @@ abbrev sum-of : Expression → Expression → Items
 sum-of a b = set (variable 1) (binary Add a b) then none
 
 -- v1 = v1 + v0: no copy, and straight into v1
-pub plain-operands : translate pair (sum-of (read (variable 1)) (read (variable 0))) ≡ set (variable 1) (binary Add (read (variable 1)) (read (variable 0))) then none
+pub plain-operands : translate (storeSize pair) (sum-of (read (variable 1)) (read (variable 0))) ≡ set (variable 1) (binary Add (read (variable 1)) (read (variable 0))) then none
 unfolding translate statementCode expressionCode direct atomOf writes placeTaken kernelPlace labels storeSize sum _⧺_
 plain-operands = refl
 
 -- v1 = (v0 = 5) + v0: the left operand writes v0; t0 = v0; v0 = 5; v1 = 5 + t0
-pub copied-operand : translate pair (sum-of (assign (variable 0) (constant (pos 5))) (read (variable 0)))
+pub copied-operand : translate (storeSize pair) (sum-of (assign (variable 0) (constant (pos 5))) (read (variable 0)))
     ≡ set (variable 2) (read (variable 0)) then set (variable 0) (constant (pos 5)) then set (variable 1) (binary Add (constant (pos 5)) (read (variable 2))) then none
 unfolding translate statementCode expressionCode direct atomOf writes placeTaken kernelPlace labels storeSize sum _⧺_
 copied-operand = refl
 
 -- v1 = (v0 = 3) + (v0 = v0 + v1): so does it write the value that stands in v0; v0 = v0 + v1; t0 = v0; v0 = 3; v1 = 3 + t0
-pub copied-result : translate pair (sum-of (assign (variable 0) (constant (pos 3))) (assign (variable 0) (binary Add (read (variable 0)) (read (variable 1)))))
+pub copied-result : translate (storeSize pair) (sum-of (assign (variable 0) (constant (pos 3))) (assign (variable 0) (binary Add (read (variable 0)) (read (variable 1)))))
     ≡ set (variable 0) (binary Add (read (variable 0)) (read (variable 1)))
     then set (variable 2) (read (variable 0))
     then set (variable 0) (constant (pos 3))
@@ -105,7 +105,7 @@ straight = set (variable 0) (binary Add (read (variable 1)) (constant (pos 2)))
     then none
 
 -- v0 = v1 + 2; v1 = v0 == 0; v0 = -v1; v1 = a[v0]; v0 = 5; v0 = v0 + 5;
-pub straight-translation : translate places straight
+pub straight-translation : translate (storeSize places) straight
     ≡ set (variable 0) (binary Add (read (variable 1)) (constant (pos 2)))
     then set (variable 1) (binary Equal (read (variable 0)) (constant (pos 0)))
     then set (variable 0) (minus (read (variable 1)))
@@ -130,7 +130,7 @@ updates = express (compound Add (variable 0) (constant (pos 2)))
     then none
 
 -- v0 = v0 + 2; v0 = v0 - 1; v0 = v0 + 1; v1 = v1 - 1; v0 = v0 + 1; a[v0] = v0; and where the old value is used, t0 = v0; v0 = t0 + 1; v1 = t0;
-pub updates-translation : translate places updates
+pub updates-translation : translate (storeSize places) updates
     ≡ set (variable 0) (binary Add (read (variable 0)) (constant (pos 2)))
     then set (variable 0) (binary Subtract (read (variable 0)) (constant (pos 1)))
     then set (variable 0) (binary Add (read (variable 0)) (constant (pos 1)))
@@ -151,7 +151,7 @@ indirect = set (variable 0) (comma (assign (variable 0) (constant (pos 1))) (bin
     then none
 
 -- By the temporary: v0 = 1; t0 = v0 + 2; v0 = t0; if (v1) { t0 = 1; } else { t0 = 2; } v0 = t0;
-pub indirect-translation : translate places indirect
+pub indirect-translation : translate (storeSize places) indirect
     ≡ set (variable 0) (constant (pos 1))
     then set (variable 5) (binary Add (read (variable 0)) (constant (pos 2)))
     then set (variable 0) (read (variable 5))
@@ -177,12 +177,12 @@ abbrev divisor : Items
 divisor = guardedDo (reduces 0 1 (reduces 1 0 noArm)) then none
 
 -- while (1) { t0 = v0 > v1; if (t0) { { v0 = v0 - v1; } goto L2; } else { } .. goto L1; L2: } L1:
-pub divisor-translation : translate pair divisor ≡ while (constant (pos 1)) (block (reduced 0 1 (reduced 1 0 (goto 1 then label 2 here none)))) then label 1 here none
+pub divisor-translation : translate (storeSize pair) divisor ≡ while (constant (pos 1)) (block (reduced 0 1 (reduced 1 0 (goto 1 then label 2 here none)))) then label 1 here none
 unfolding translate statementCode expressionCode direct atomOf writes placeTaken kernelPlace labels storeSize sum _⧺_
 divisor-translation = refl
 
 -- if v0 -> { v1 = 1; } fi: if (v0) { { v1 = 1; } goto L1; } else { } abort; L1:
-pub guarded-translation : translate pair (guardedIf (arm (read (variable 0)) (block (set (variable 1) (constant (pos 1)) then none)) noArm) then none)
+pub guarded-translation : translate (storeSize pair) (guardedIf (arm (read (variable 0)) (block (set (variable 1) (constant (pos 1)) then none)) noArm) then none)
     ≡ ifElse (read (variable 0)) (block (block (set (variable 1) (constant (pos 1)) then none) then goto 1 then none)) (block none)
     then abort
     then label 1 here none
@@ -190,6 +190,6 @@ unfolding translate statementCode expressionCode direct atomOf writes placeTaken
 guarded-translation = refl
 
 -- Without arms there is nothing to go round.
-pub no-arms-translation : translate pair (guardedDo noArm then guardedIf noArm then none) ≡ empty then abort then label 1 here none
+pub no-arms-translation : translate (storeSize pair) (guardedDo noArm then guardedIf noArm then none) ≡ empty then abort then label 1 here none
 unfolding translate statementCode labels storeSize sum _⧺_
 no-arms-translation = refl

@@ -6,7 +6,7 @@ use mathlib.Core.Bool.{Bool, true, false}
 use Prim.Native.Nat.{ℕ, _+_, _*_, _-_, _≤_, max}
 use native.Mathlib.Omega.{arith}
 use Rattle.words.specs.Word.{pick}
-use Rattle.language.specs.Trees.{Expression, constant, read, minus, not, binary, and, or, comma, conditional, assign, compound, prefix, postfix, Place, variable, element, Part, absent, present, Statement, empty, express, block, ifThen, ifElse, while, doWhile, for, switch, break, continue, goto, guardedIf, guardedDo, abort, Arms, noArm, arm, Items, none, _then_, _here_}
+use Rattle.language.specs.Trees.{Expression, constant, read, minus, not, binary, and, or, comma, conditional, assign, compound, prefix, postfix, Place, variable, element, Part, absent, present, Statement, empty, express, block, ifThen, ifElse, while, doWhile, for, switch, break, continue, goto, guardedIf, guardedDo, abort, declare, Arms, noArm, arm, Items, none, _then_, _here_}
 use Rattle.language.specs.Writes.{writes, indexWrites}
 use Rattle.translation.specs.Uses.{useFor, passedOn, direct}
 use Rattle.translation.specs.declared.Use.{Use}
@@ -99,6 +99,7 @@ unfoldable mutual
   throughStatement (guardedIf arms) = 2 + throughArms arms
   throughStatement (guardedDo arms) = roundsRows arms + throughArms arms
   throughStatement abort = 1
+  throughStatement (declare i e) = 4 + throughSize e
 
   pub throughArms : Arms → ℕ
   throughArms noArm = 0
@@ -126,6 +127,7 @@ unfoldable mutual
   throughStatementLevels (guardedIf arms) = throughArmsLevels arms
   throughStatementLevels (guardedDo arms) = throughArmsLevels arms
   throughStatementLevels abort = 0
+  throughStatementLevels (declare i e) = throughLevels e
 
   pub throughArmsLevels : Arms → ℕ
   throughArmsLevels noArm = 0
@@ -284,6 +286,10 @@ test-rows : (p : Part) → testSize p ≤ throughPart (λ e. throughSize e + 5) 
 test-rows absent = omega arith
 test-rows (present e) = omega (arith, less-rows e wanted)
 
+variable-rows : (straight : Bool) → pick straight 0 4 ≤ 4
+variable-rows true = omega arith
+variable-rows false = omega arith
+
 mutual
   unfolding statementSize throughStatement
 
@@ -303,6 +309,7 @@ mutual
   statement-rows (guardedIf arms) = omega (arith, arms-rows arms)
   statement-rows (guardedDo arms) = omega (arith, arms-rows arms)
   statement-rows abort = omega arith
+  statement-rows (declare i e) = omega (arith, less-rows e (stored i), variable-rows (direct e))
 
   arms-rows : (arms : Arms) → armsSize arms ≤ throughArms arms
   arms-rows noArm = omega arith
@@ -387,6 +394,7 @@ mutual
   statement-less (guardedIf arms) = arms-less arms
   statement-less (guardedDo arms) = arms-less arms
   statement-less abort = omega arith
+  statement-less (declare i e) = less-levels e (stored i)
 
   arms-less : (arms : Arms) → armsLevels arms ≤ throughArmsLevels arms
   arms-less noArm = omega arith

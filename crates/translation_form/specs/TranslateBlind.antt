@@ -3,6 +3,7 @@ use mathlib.Core.Path.{_≡_, refl, sym, _∙_, ap, subst}
 use mathlib.Core.Bool.{Bool, true, false}
 use mathlib.Core.List.{List, [], _∷_, _++_}
 use Prim.Native.Nat.{ℕ, zero, suc, _+_, _≤_, _<_}
+use native.Mathlib.Nat.{le-trans}
 use native.Mathlib.Omega.{arith}
 use lib.IntN.{ℤ, pos}
 use lib.ListN.{length, getD, take, List·getD-append, length-append}
@@ -13,7 +14,7 @@ use Rattle.words.specs.declared.Operator.{Operator}
 use Rattle.words.specs.declared.Operator.the-variants.{NotEqual}
 use Rattle.computation.specs.Run.{State, Result, Limit, run, start, final, endingOf}
 use Rattle.computation.specs.Agreement.{Words, _within_, Agree, Same, same-ok, same-stopped, Blind, blind-then, blind-step}
-use Rattle.language.specs.Trees.{Expression, constant, read, minus, not, binary, and, or, comma, conditional, assign, compound, prefix, postfix, Place, variable, element, Part, absent, present, Mark, case, default, label, Statement, empty, express, block, ifThen, ifElse, while, doWhile, for, switch, break, continue, goto, guardedIf, guardedDo, abort, Arms, noArm, arm, Items, none, _then_, _here_, _⧺_}
+use Rattle.language.specs.Trees.{Expression, constant, read, minus, not, binary, and, or, comma, conditional, assign, compound, prefix, postfix, Place, variable, element, Part, absent, present, Mark, case, default, label, Statement, empty, express, block, ifThen, ifElse, while, doWhile, for, switch, break, continue, goto, guardedIf, guardedDo, abort, declare, Arms, noArm, arm, Items, none, _then_, _here_, _⧺_}
 use Rattle.language.specs.Meaning.{Signal, next, breaking, continuing, seeking, perform, exec}
 use Rattle.language.specs.Writes.{writes, indexWrites}
 use Rattle.language.specs.WellFormed.{NamedExpression, NamedPlace, NamedPart, NamedStatement, NamedArms, NamedItems, SourceTree}
@@ -307,6 +308,13 @@ module _ (L : Layout) (S : ℕ) (variables-inside : L .variables ≤ S) (arrays-
   rounds-blind noArm l xs b = items-empty L S same (items-none L S)
   rounds-blind (arm e s arms) l xs b = loop-blind l (items-append L S xs _ b (jump-blind l (label-blind (l + 1) (items-none L S))))
 
+  -- A declaration's word, assigned from what holds its value, or there already.
+  declared-blind : (i : ℕ) (straight : Bool) (h : Atom) → BlindItems L S (holding (Seen L S) 0 (landed (variable i) straight h)) (Seen L S) (storeCode S (variable i) straight (atom S 0 h))
+  declared-blind i true h = items-less L S (λ j k. k) (λ j k. old k) (items-none L S)
+  declared-blind i false h =
+      let more : Seen L S within holding (Seen L S) 0 h = holding-old (Seen L S) 0 h in
+      items-assign L S i more (atom-reads (Seen L S) 0 h (λ j k. k)) (items-less L S (λ j k. k) (λ j k. old (more j k)) (items-none L S))
+
   mutual
     unfolding statementCode NamedStatement
 
@@ -332,6 +340,7 @@ module _ (L : Layout) (S : ℕ) (variables-inside : L .variables ≤ S) (arrays-
     statement-blind (guardedIf arms) x l h = items-append L S (armsCode S arms x l (l + 1)) _ (arms-blind arms x l (l + 1) h) (items-abort L S (Seen L S) same (label-blind l (items-none L S)))
     statement-blind (guardedDo arms) x l h = rounds-blind arms l (armsCode S arms x (l + 1) (l + 2)) (arms-blind arms x (l + 1) (l + 2) h)
     statement-blind abort x l h = items-empty L S same (items-none L S)
+    statement-blind (declare i e) x l h = items-append L S (expressionCode S e (stored i) 0) _ (expression-blind e (stored i) 0 (Seen L S) (h .1) same) (declared-blind i (direct e) (atomOf e))
 
     arms-blind : (arms : Arms) (x : Exits) (out l : ℕ) → NamedArms (λ i. i < L .variables) (length (L .lengths)) arms → Passes (armsCode S arms x out l)
     arms-blind noArm x out l h = items-none L S
@@ -358,13 +367,11 @@ take-same (suc n) [] (y ∷ t) e h = absurd (omega arith)
 take-same (suc n) (x ∷ s) [] e h = absurd (omega arith)
 take-same (suc n) (x ∷ s) (y ∷ t) e h = ap (λ (v : ℤ). v ∷ take n s) (h 0 (omega arith)) ∙ ap (λ (l : List ℤ). y ∷ l) (take-same n s t (omega arith) (λ i b. h (suc i) (omega arith)))
 
-module _ (L : Layout) (program : Items) (tree : SourceTree L program) (store : List ℤ) (all-words : length store ≡ storeSize L) where
-  abbrev S : ℕ
-  S = storeSize L
-
-  translated-blind : Blind (Seen L S) (Seen L S) (after L S (Seen L S)) (exec L (block (translate L program)))
+-- The temporaries begin at the store word `S`.
+module _ (L : Layout) (S : ℕ) (inside : storeSize L ≤ S) (program : Items) (tree : SourceTree L program) (store : List ℤ) (all-words : length store ≡ S) where
+  translated-blind : Blind (Seen L S) (Seen L S) (after L S (Seen L S)) (exec L (block (translate S program)))
   unfolding translate perform storeSize
-  translated-blind = blind-then (Seen L S) (blind-step (Seen L S) (λ i k. k)) (λ _. items-blind L S (omega arith) (array-in-store L) program (exits 0 0) 1 (tree .named) .blind next)
+  translated-blind = blind-then (Seen L S) (blind-step (Seen L S) (λ i k. k)) (λ _. items-blind L S (omega arith) (λ array h. le-trans (array-in-store L array h) inside) program (exits 0 0) 1 (tree .named) .blind next)
 
   start-agree : (temporaries others : List ℤ) → length temporaries ≡ length others → Agree (Seen L S) (start (store ++ temporaries)) (start (store ++ others))
   start-agree temporaries others e = record {
@@ -385,5 +392,5 @@ module _ (L : Layout) (program : Items) (tree : SourceTree L program) (store : L
 
   -- Under every limit, runs that are cut off included.
   pub temporaries-hidden : (limit : Limit) (temporaries others : List ℤ) → length temporaries ≡ length others
-      → Shown S (run limit (exec L (block (translate L program))) (start (store ++ temporaries))) (run limit (exec L (block (translate L program))) (start (store ++ others)))
+      → Shown S (run limit (exec L (block (translate S program))) (start (store ++ temporaries))) (run limit (exec L (block (translate S program))) (start (store ++ others)))
   temporaries-hidden limit temporaries others e = shown (translated-blind .same limit _ _ (start-agree temporaries others e))

@@ -4,9 +4,8 @@ use mathlib.Core.Bool.{Bool}
 use Prim.Native.Nat.{ℕ, _+_, _*_, _≤_, max}
 use native.Mathlib.Omega.{arith}
 use lib.IntN.{pos}
-use Rattle.words.specs.Layout.{Layout, storeSize}
 use Rattle.words.specs.declared.Operator.{Operator}
-use Rattle.language.specs.Trees.{Expression, constant, read, minus, not, binary, and, or, comma, conditional, assign, compound, prefix, postfix, Place, variable, element, Part, absent, present, Mark, case, default, label, Statement, empty, express, block, ifThen, ifElse, while, doWhile, for, switch, break, continue, goto, guardedIf, guardedDo, abort, Arms, noArm, arm, Items, none, _then_, _here_, _⧺_}
+use Rattle.language.specs.Trees.{Expression, constant, read, minus, not, binary, and, or, comma, conditional, assign, compound, prefix, postfix, Place, variable, element, Part, absent, present, Mark, case, default, label, Statement, empty, express, block, ifThen, ifElse, while, doWhile, for, switch, break, continue, goto, guardedIf, guardedDo, abort, declare, Arms, noArm, arm, Items, none, _then_, _here_, _⧺_}
 use Rattle.language.specs.Writes.{writes, indexWrites}
 use Rattle.language.specs.Sizes.{expressionDepth, placeDepth, partDepth, statementDepth, armsDepth, itemsDepth}
 use Rattle.translation.specs.HeldCode.{holdCode, hold-either, store-either}
@@ -191,7 +190,7 @@ module _ (S : ℕ) where
   deep-rounds (arm e s arms) l b d h le k = deep-loop b l le (deep-append k (deep-goto h (deep-label h deep-none)))
 
   mutual
-    unfolding itemsDepth statementCode
+    unfolding itemsDepth statementCode kernelPlace
 
     deep-statement : (s : Statement) (x : Exits) (l d : ℕ) → statementDepth s * 2 + 2 ≤ d → Deep d (statementCode S s x l)
     deep-statement empty x l d h = record { most = omega arith }
@@ -214,6 +213,7 @@ module _ (S : ℕ) where
     deep-statement (guardedIf arms) x l d h = deep-append (deep-arms arms x l (l + 1) d (omega arith)) (deep-abort (omega arith) (deep-label (omega arith) deep-none))
     deep-statement (guardedDo arms) x l d h = deep-rounds arms l (armsDepth arms * 2 + 2) d (omega arith) (omega arith) (deep-arms arms x (l + 1) (l + 2) _ (omega arith))
     deep-statement abort x l d h = record { most = omega arith }
+    deep-statement (declare i e) x l d h = deep-append (deep-expression e (stored i) 0 d (omega arith)) (deep-store (variable i) 0 (direct e) (atomOf e) 0 (omega arith))
 
     deep-arms : (arms : Arms) (x : Exits) (out l d : ℕ) → armsDepth arms * 2 + 2 ≤ d → Deep d (armsCode S arms x out l)
     deep-arms noArm x out l d h = deep-none
@@ -226,6 +226,6 @@ module _ (S : ℕ) where
     deep-items (m here is) x l d h = deep-label (omega arith) (deep-items is x (l + 1) d (omega arith))
 
 -- So a source of depth 64 has a kernel of depth 129 at most.
-pub depth-bound : (L : Layout) (program : Items) → statementDepth (block (translate L program)) ≤ 2 * statementDepth (block program) + 1
+pub depth-bound : (first : ℕ) (program : Items) → statementDepth (block (translate first program)) ≤ 2 * statementDepth (block program) + 1
 unfolding itemsDepth translate
-depth-bound L program = omega (arith, deep-items (storeSize L) program (exits 0 0) 1 (itemsDepth program * 2 + 2) (omega arith) .most)
+depth-bound first program = omega (arith, deep-items first program (exits 0 0) 1 (itemsDepth program * 2 + 2) (omega arith) .most)

@@ -7,7 +7,7 @@ use native.Mathlib.Omega.{arith}
 use borrow.Author.Tests.{eq-eqb}
 use Rattle.words.specs.Laws.{by-cases}
 use Rattle.words.specs.declared.Operator.{Operator}
-use Rattle.language.specs.Trees.{Expression, constant, read, minus, not, binary, and, or, comma, conditional, assign, compound, prefix, postfix, Place, variable, element, Part, absent, present, Mark, case, default, label, sameMark, has, Statement, empty, express, block, ifThen, ifElse, while, doWhile, for, switch, break, continue, goto, guardedIf, guardedDo, abort, Arms, noArm, arm, Items, none, _then_, _here_, _⧺_}
+use Rattle.language.specs.Trees.{Expression, constant, read, minus, not, binary, and, or, comma, conditional, assign, compound, prefix, postfix, Place, variable, element, Part, absent, present, Mark, case, default, label, sameMark, has, Statement, empty, express, block, ifThen, ifElse, while, doWhile, for, switch, break, continue, goto, guardedIf, guardedDo, abort, declare, Arms, noArm, arm, Items, none, _then_, _here_, _⧺_}
 use Rattle.language.specs.WellFormed.{Placed, PlacedArms, PlacedItems}
 use Rattle.language.specs.TreeLaws.{append-append, has-next, has-left, has-right}
 use Rattle.language.specs.Writes.{writes, indexWrites}
@@ -218,7 +218,7 @@ module _ (S : ℕ) where
   -- ---- statements
 
   mutual
-    unfolding statementCode labels Placed _⧺_
+    unfolding statementCode kernelPlace labels Placed _⧺_
 
     form-statement : (s : Statement) (x : Exits) (l : ℕ) (r : Items) (b c : Bool) → Placed b c s → Below x l → l + labels s ≤ 40980
         → (b ≡ true → has (label (x .onBreak)) r ≡ true) → (c ≡ true → has (label (x .onContinue)) r ≡ true) → KernelItems r (statementCode S s x l)
@@ -248,6 +248,7 @@ module _ (S : ℕ) where
         (λ m. form-arms arms x (l + 1) (l + 2) (aheadOfArms l r) b c h (omega arith) m (omega arith) (has-after (label (l + 1)) (goto l) (label (l + 1) here label l here r) (has-here (l + 1) (label l here r)))
         (λ q. has-ahead (x .onBreak) l r (o q)) (λ q. has-ahead (x .onContinue) l r (k q)))
     form-statement abort x l r b c h u n o k = absurd h
+    form-statement (declare i e) x l r b c h u n o k = append r (expressionCode S e (stored i) 0) _ (form-expression e (stored i) 0 _) (form-store (variable i) 0 (direct e) r (form-atom 0 (atomOf e)))
 
     -- The label `out` stands ahead of the arms.
     form-arms : (arms : Arms) (x : Exits) (out l : ℕ) (r : Items) (b c : Bool) → PlacedArms b c arms → Below x l → l + armsLabels arms ≤ 40980 → isLabelNumber out → has (label out) r ≡ true

@@ -1,6 +1,6 @@
 -- Every translation of a source program is a kernel program's tree, and its header a kernel header. Put together from the files on form,
 -- labels, names, bounds and depth.
-use mathlib.Core.Path.{_≡_, refl, ap}
+use mathlib.Core.Path.{_≡_, refl, ap, subst}
 use mathlib.Core.Bool.{true, false}
 use mathlib.Core.List.{List, [], _∷_, map}
 use Prim.Native.Nat.{ℕ, _+_, _≤_, _<_}
@@ -8,7 +8,7 @@ use native.Mathlib.Omega.{arith}
 use lib.IntN.{ℤ, pos}
 use lib.ListN.{length, length-map}
 use Rattle.words.specs.Word.{natural}
-use Rattle.words.specs.Layout.{Layout, storeSize, layoutOf, temporariesOf, headerFits}
+use Rattle.words.specs.Layout.{Layout, storeSize, layoutOf, declaredOf, temporariesOf, behindOf, headerFits}
 use Rattle.words.specs.Laws.{headerFits-facts, facts-headerFits}
 use Rattle.words.specs.declared.Form.the-variants.{Source, Kernel}
 use Rattle.language.specs.Trees.{block, Items, none}
@@ -22,20 +22,26 @@ use Rattle.translation_form.specs.TranslateNames.{named-items, more-name
 use Rattle.translation.specs.TranslateBounds.{rows-bound, temporaries-bound, labels-bound}
 use Rattle.translation_form.specs.TranslateDepth.{depth-bound}
 
--- Every translation is a kernel program.
-pub translation-is-kernel : (L : Layout) (program : Items) → SourceTree L program → statementRows (block program) ≤ 2048 → statementDepth (block program) ≤ 64 → KernelTree L (temporaries program) (translate L program)
+-- Every translation is a kernel program, its temporaries behind D declared words.
+pub translation-is-kernel : (L : Layout) (D : ℕ) → D ≤ 64 → (program : Items) → SourceTree L program → statementRows (block program) ≤ 2048 → statementDepth (block program) ≤ 64 → KernelTree L (D + temporaries program) (translate (storeSize L + D) program)
 unfolding translate temporaries
-translation-is-kernel L program tree few shallow =
+translation-is-kernel L D declared program tree few shallow =
     let few-labels = labels-bound program in
     record {
-      form = form-items (storeSize L) program (exits 0 0) 1 none false false false (tree .placed) (omega arith) (omega arith) (λ e. absurd (let z : _≡_ {A = ℕ} 0 1 = cc in omega arith)) (λ e. absurd (let z : _≡_ {A = ℕ} 0 1 = cc in omega arith));
-      labels-once = λ l. labels-distinct (storeSize L) l program (exits 0 0) 1;
-      named = named-items (KernelName L (temporaries program)) (length (L .lengths)) (storeSize L) (temporaries program) (λ t h. name-temporary h) program (exits 0 0) 1
-          (more-names (λ i. i < L .variables) (KernelName L (temporaries program)) (length (L .lengths)) (λ i h. name-variable h) program (tree .named)) (omega arith);
+      form = form-items (storeSize L + D) program (exits 0 0) 1 none false false false (tree .placed) (omega arith) (omega arith) (λ e. absurd (let z : _≡_ {A = ℕ} 0 1 = cc in omega arith)) (λ e. absurd (let z : _≡_ {A = ℕ} 0 1 = cc in omega arith));
+      labels-once = λ l. labels-distinct (storeSize L + D) l program (exits 0 0) 1;
+      named = named-items (KernelName L (D + temporaries program)) (length (L .lengths)) (storeSize L + D) (temporaries program) behind-declared program (exits 0 0) 1
+          (more-names (λ i. i < L .variables) (KernelName L (D + temporaries program)) (length (L .lengths)) (λ i h. name-variable h) program (tree .named)) (omega arith);
       few-temporaries = omega (arith, temporaries-bound program);
-      few-rows = omega (arith, rows-bound L program);
-      shallow = omega (arith, depth-bound L program);
+      few-rows = omega (arith, rows-bound (storeSize L + D) program);
+      shallow = omega (arith, depth-bound (storeSize L + D) program);
     }
+  where
+    -- "temporaries begin at S+D"
+    behind-declared : (t : ℕ) → t < temporaries program → KernelName L (D + temporaries program) (storeSize L + D + t)
+    behind-declared t h =
+        let same : storeSize L + (D + t) ≡ storeSize L + D + t = omega arith in
+        subst (KernelName L (D + temporaries program)) same (name-temporary (omega arith))
 
 -- ---- the header
 
@@ -44,30 +50,38 @@ unfolding natural
 numbers-back [] = refl
 numbers-back (n ∷ ns) = ap (λ l. n ∷ l) (numbers-back ns)
 
--- The kernel header says the same of variables and arrays, and T.
-pub header-layout : (L : Layout) (T : ℕ) → layoutOf Kernel (kernelHeader L T) ≡ L
+-- The kernel header says the same of variables and arrays, and D and T.
+pub header-layout : (L : Layout) (D T : ℕ) → layoutOf Kernel (kernelHeader L D T) ≡ L
 unfolding layoutOf kernelHeader natural
-header-layout L T = ap (λ (ns : List ℕ). record { variables = L .variables; lengths = ns }) (numbers-back (L .lengths))
+header-layout L D T = ap (λ (ns : List ℕ). record { variables = L .variables; lengths = ns }) (numbers-back (L .lengths))
 
-pub header-temporaries : (L : Layout) (T : ℕ) → temporariesOf Kernel (kernelHeader L T) ≡ T
+pub header-declared : (L : Layout) (D T : ℕ) → declaredOf Kernel (kernelHeader L D T) ≡ D
 unfolding kernelHeader natural
-header-temporaries L T = refl
+header-declared L D T = refl
 
-header-length : (L : Layout) (T : ℕ) → length (kernelHeader L T) ≡ 2 + length (L .lengths)
+pub header-temporaries : (L : Layout) (D T : ℕ) → temporariesOf Kernel (kernelHeader L D T) ≡ T
+unfolding kernelHeader natural
+header-temporaries L D T = refl
+
+pub header-behind : (L : Layout) (D T : ℕ) → behindOf Kernel (kernelHeader L D T) ≡ D + T
+header-behind L D T = rw (header-declared L D T, header-temporaries L D T)
+
+header-length : (L : Layout) (D T : ℕ) → length (kernelHeader L D T) ≡ 3 + length (L .lengths)
 unfolding kernelHeader
-header-length L T = simp length-map (omega arith)
+header-length L D T = simp length-map (omega arith)
 
 -- The header of a translation is within its limits.
-pub header-fits : (header : List ℤ) → headerFits Source header ≡ true → (T : ℕ) → T ≤ 8192 → headerFits Kernel (kernelHeader (layoutOf Source header) T) ≡ true
-header-fits header fits T few =
+pub header-fits : (header : List ℤ) → headerFits Source header ≡ true → (D T : ℕ) → D ≤ 64 → T ≤ 8192 → headerFits Kernel (kernelHeader (layoutOf Source header) D T) ≡ true
+header-fits header fits D T declared few =
     let L = layoutOf Source header in
     let f = headerFits-facts Source header fits in
-    facts-headerFits Kernel (kernelHeader L T) (record {
-      least = omega (arith, header-length L T);
-      most = omega (arith, header-length L T, f .few-arrays);
-      few-variables = rw (header-layout L T) (f .few-variables);
-      few-temporaries = rw (header-temporaries L T) few;
-      few-arrays = rw (header-layout L T) (f .few-arrays);
-      each-length = rw (header-layout L T) (f .each-length);
-      small-store = rw (header-layout L T) (f .small-store);
+    facts-headerFits Kernel (kernelHeader L D T) (record {
+      least = omega (arith, header-length L D T);
+      most = omega (arith, header-length L D T, f .few-arrays);
+      few-variables = rw (header-layout L D T) (f .few-variables);
+      few-declared = rw (header-declared L D T) declared;
+      few-temporaries = rw (header-temporaries L D T) few;
+      few-arrays = rw (header-layout L D T) (f .few-arrays);
+      each-length = rw (header-layout L D T) (f .each-length);
+      small-store = rw (header-layout L D T) (f .small-store);
     })

@@ -1,16 +1,17 @@
 -- The variables and arrays that a translation names: the source's, and temporaries. By induction on the tree, for any property of
 -- names that the source's variables and the temporaries have.
+use mathlib.Core.Path.{_≡_, refl}
 use mathlib.Core.Bool.{Bool, true, false}
 use Prim.Native.Nat.{ℕ, _+_, _≤_, _<_}
 use native.Mathlib.Omega.{arith}
 use Rattle.words.specs.Word.{pick}
 use Rattle.words.specs.declared.Operator.{Operator}
 use Rattle.words.specs.declared.Operator.the-variants.{Add}
-use Rattle.language.specs.Trees.{Expression, constant, read, minus, not, binary, and, or, comma, conditional, assign, compound, prefix, postfix, Place, variable, element, Part, absent, present, case, default, label, Statement, empty, express, block, ifThen, ifElse, while, doWhile, for, switch, break, continue, goto, guardedIf, guardedDo, abort, Arms, noArm, arm, Items, none, _then_, _here_, _⧺_}
+use Rattle.language.specs.Trees.{Expression, constant, read, minus, not, binary, and, or, comma, conditional, assign, compound, prefix, postfix, Place, variable, element, Part, absent, present, case, default, label, Statement, empty, express, block, ifThen, ifElse, while, doWhile, for, switch, break, continue, goto, guardedIf, guardedDo, abort, declare, Arms, noArm, arm, Items, none, _then_, _here_, _⧺_}
 use Rattle.language.specs.WellFormed.{NamedExpression, NamedPlace, NamedPart, NamedStatement, NamedArms, NamedItems}
 use Rattle.language.specs.Writes.{writes, indexWrites}
 use Rattle.translation.specs.HeldCode.{holdCode, held-either, held-variable, store-either}
-use Rattle.translation.specs.TranslateBounds.{taken-most, taken-level}
+use Rattle.translation.specs.TranslateBounds.{taken-most, taken-level, stored-level}
 use Rattle.translation.specs.Uses.{useFor, passedOn, direct}
 use Rattle.translation.specs.declared.Use.{Use}
 use Rattle.translation.specs.declared.Use.the-variants.{Dropped as dropped, Wanted as wanted, Stored as stored}
@@ -265,6 +266,13 @@ module _ (Names : ℕ → Type 0) (arrays : ℕ) where
     named-guarded noArm l xs h = (tt, tt)
     named-guarded (arm e s arms) l xs h = ((tt, named-append xs _ h (tt, tt)), tt)
 
+    -- a declaration's word, assigned from what holds its value
+    named-declared : (i : ℕ) (e : Expression) (straight : Bool) → direct e ≡ straight → Names i → NamedExpression Names arrays e → expressionLevels e (stored i) ≤ T
+        → NamedItems Names arrays (storeCode S (variable i) straight (atom S 0 (atomOf e)))
+    unfolding NamedExpression NamedItems
+    named-declared i e true q h k n = tt
+    named-declared i e false q h k n = ((h, named-atom 0 (atomOf e) (atom-named e k) (omega (arith, stored-level e i q))), tt)
+
     mutual
       unfolding NamedStatement statementLevels statementCode
 
@@ -288,6 +296,8 @@ module _ (Names : ℕ → Type 0) (arrays : ℕ) where
       named-statement (guardedIf arms) x l h n = named-append (armsCode S arms x l (l + 1)) _ (named-arms arms x l (l + 1) h n) (tt, tt)
       named-statement (guardedDo arms) x l h n = named-guarded arms l (armsCode S arms x (l + 1) (l + 2)) (named-arms arms x (l + 1) (l + 2) h n)
       named-statement abort x l h n = (tt, tt)
+      named-statement (declare i e) x l h n =
+          named-append (expressionCode S e (stored i) 0) _ (named-expression e (stored i) 0 (h .1) (h .0) (omega arith)) (named-declared i e (direct e) refl (h .0) (h .1) n)
 
       named-arms : (arms : Arms) (x : Exits) (out l : ℕ) → NamedArms Names arrays arms → armsLevels arms ≤ T → NamedItems Names arrays (armsCode S arms x out l)
       named-arms noArm x out l h n = tt
@@ -347,6 +357,7 @@ module _ (Names More : ℕ → Type 0) (arrays : ℕ) (more : (i : ℕ) → Name
     more-statement (guardedIf arms) h = more-arms arms h
     more-statement (guardedDo arms) h = more-arms arms h
     more-statement abort h = tt
+    more-statement (declare i e) h = (more i (h .0), more-expression e (h .1))
 
     more-arms : (arms : Arms) → NamedArms Names arrays arms → NamedArms More arrays arms
     more-arms noArm h = tt

@@ -1,6 +1,6 @@
 -- Laws of an accepted source program: what the measures and the writers ask of it, and that its kernel form is as large as row 0
 -- measures.
-use mathlib.Core.Path.{_≡_, refl, sym, ap, _∙_}
+use mathlib.Core.Path.{_≡_, refl, sym, ap, ap₂, _∙_}
 use mathlib.Core.Bool.{true}
 use mathlib.Core.List.{List}
 use Prim.Native.Nat.{ℕ, _+_, _*_, _≤_, _<_}
@@ -8,13 +8,15 @@ use native.Mathlib.Omega.{arith}
 use lib.IntN.{ℤ}
 use lib.ListN.{length}
 use Rattle.words.specs.Table.{rowCount, numberAt}
-use Rattle.words.specs.Kinds.{kindAt, expressionFields, kindRow, sortIn}
-use Rattle.words.specs.Layout.{headerFits, layoutOf, storeSize, storeWords}
+use Rattle.words.specs.Kinds.{kindAt, expressionFields, statementFields, kindRow, sortIn}
+use Rattle.words.specs.Layout.{headerFits, layoutOf, storeSize, storeWords, headerStore}
+use Rattle.words.specs.Declarations.{declarationCount}
+use Rattle.words.specs.StoreLaws.{source-store, source-small}
 use Rattle.words.specs.Laws.{headerFits-facts, countFits-facts}
 use Rattle.words.specs.declared.Form.the-variants.{Source as SourceForm}
 use Rattle.words.specs.declared.Kind.the-variants.{OfExpression, OfStatement}
 use Rattle.words.specs.declared.ExpressionKind.the-variants.{Variable}
-use Rattle.words.specs.declared.StatementKind.the-variants.{Block}
+use Rattle.words.specs.declared.StatementKind.the-variants.{Block, Declare}
 use Rattle.words.specs.declared.Verdict.the-variants.{Accepted}
 use Rattle.language.specs.Trees.{block}
 use Rattle.language.specs.Program.{contents}
@@ -27,7 +29,8 @@ use Rattle.emission.specs.EmissionLaws.{length-emit}
 use Rattle.source_check.specs.Refusal.{refusal as sourceRefusal}
 use Rattle.source_check.specs.Legal.{Legal}
 use Rattle.source_check.specs.AcceptsLegal.{accepts-legal}
-use Rattle.accepted.specs.Fields.{names-variable}
+use Rattle.accepted.specs.Fields.{names-variable, names-declared}
+use Rattle.source_check.specs.DeclarationLaws.{legal-declarations}
 use Rattle.accepted.specs.Names.{source-variable}
 use Rattle.accepted.specs.Source.{legal-sound, legal-rows}
 use Rattle.accepted.specs.Statements.{root-kind}
@@ -45,6 +48,10 @@ module _ (header rows : List ℤ) (accepted : sourceRefusal header rows ≡ Acce
   pub accepted-header : headerFits SourceForm header ≡ true
   accepted-header = legal .header-fits
 
+  -- "At most 64."
+  pub few-declarations : declarationCount rows ≤ 64
+  few-declarations = legal-declarations header rows legal
+
   few-rows : rowCount rows ≤ 2048
   few-rows = omega (arith, countFits-facts SourceForm (length rows) (legal .structured .count-fits) .most)
 
@@ -55,28 +62,42 @@ module _ (header rows : List ℤ) (accepted : sourceRefusal header rows ≡ Acce
       let h = headerFits-facts SourceForm header accepted-header in
       omega (arith, source-variable header (numberAt rows row 1) (names-variable SourceForm _ rows (legal .structured) row inside k 1 refl), h .few-variables)
 
+  few-declared : (row : ℕ) → row < rowCount rows → kindAt rows row ≡ OfStatement Declare → numberAt rows row 1 < mostVariables
+  unfolding sortIn kindRow statementFields
+  few-declared row inside k =
+      let h = headerFits-facts SourceForm header accepted-header in
+      omega (arith, source-variable header (numberAt rows row 1) (names-declared SourceForm _ rows (legal .structured) row inside k 1 refl), h .few-variables)
+
   -- What the measures ask.
   pub accepted-source : Source rows
-  unfolding storeWords
   accepted-source =
       let h = headerFits-facts SourceForm header accepted-header in
       record {
         layout = layoutOf SourceForm header;
-        words = storeWords SourceForm header;
+        words = headerStore SourceForm header;
         sound = legal-sound header rows legal;
         few-rows = few-rows;
         few-variables = few-variables;
+        few-declared = few-declared;
         few-arrays = h .few-arrays;
       }
 
   root : kindAt rows 0 ≡ OfStatement Block
   root = root-kind SourceForm _ rows (legal .structured)
 
+  -- where the temporaries begin, S+D
+  abbrev first : ℕ
+  first = storeWords SourceForm header rows
+
+  pub first-is : (S D : ℕ) → S ≡ storeSize (layoutOf SourceForm header) → D ≡ declarationCount rows → S + D ≡ first
+  first-is S D e d = omega (arith, source-store header rows)
+
+  pub first-low : first ≤ 8256
+  first-low = omega (arith, source-small header rows accepted-header, few-declarations)
+
   -- "At most 20×n+20 kernel rows and at most 4×n temporaries."
   size-low : 1 + itemsSize (contents rows) ≤ 40980
-  size-low =
-      let L = layoutOf SourceForm header in
-      omega (arith, rows-bound L (contents rows), translation-rows L (contents rows), legal-rows header rows legal, few-rows)
+  size-low = omega (arith, rows-bound first (contents rows), translation-rows first (contents rows), legal-rows header rows legal, few-rows)
 
   levels-low : temporaries (contents rows) ≤ 2048
   levels-low = omega (arith, temporaries-bound (contents rows), legal-rows header rows legal, few-rows)
@@ -89,9 +110,9 @@ module _ (header rows : List ℤ) (accepted : sourceRefusal header rows ≡ Acce
     levels-is = program-levels m root (omega (arith, levels-low))
 
     -- What the writer of the rows asks of a table that holds the kernel rows.
-    pub accepted-asks : (words : ℕ) → 6 * slot table 0 statementRowsSlot ≤ words → ProgramAsks rows table (storeSize (layoutOf SourceForm header)) words
+    pub accepted-asks : (words : ℕ) → 6 * slot table 0 statementRowsSlot ≤ words → ProgramAsks rows table first words
     accepted-asks words h = record {
-      writing = record { measured = m; small-store = headerFits-facts SourceForm header accepted-header .small-store };
+      writing = record { measured = m; small-store = first-low };
       is-block = root;
       room = record { inside = omega (arith, size-is); low = omega (arith, size-low) };
     }
@@ -103,20 +124,18 @@ module _ (header rows : List ℤ) (accepted : sourceRefusal header rows ≡ Acce
     row-words-low = omega (arith, size-is, size-low)
 
     -- The header and the rows that the writers write are those of the kernel form.
-    pub header-is : kernelHeader (layoutOf SourceForm header) (slot table 0 statementLevelsSlot) ≡ kernelHeaderOf header rows
+    pub header-is : (D : ℕ) → D ≡ declarationCount rows → kernelHeader (layoutOf SourceForm header) D (slot table 0 statementLevelsSlot) ≡ kernelHeaderOf header rows
     unfolding kernelHeaderOf
-    header-is = ap (kernelHeader (layoutOf SourceForm header)) levels-is
+    header-is D e = ap₂ (kernelHeader (layoutOf SourceForm header)) e levels-is
 
     pub row-words : 6 * slot table 0 statementRowsSlot ≡ length (kernelRowsOf header rows)
     unfolding kernelRowsOf
-    row-words =
-        let L = layoutOf SourceForm header in
-        omega (arith, size-is, translation-rows L (contents rows), length-emit (block (translate L (contents rows))))
+    row-words = omega (arith, size-is, translation-rows first (contents rows), length-emit (block (translate first (contents rows))))
 
-  pub rows-are : (S : ℕ) → S ≡ storeSize (layoutOf SourceForm header) → emit (kernelProgram S (contents rows)) ≡ kernelRowsOf header rows
+  pub rows-are : (S : ℕ) → S ≡ first → emit (kernelProgram S (contents rows)) ≡ kernelRowsOf header rows
   unfolding kernelRowsOf
-  rows-are S e = ap emit (ap (λ (n : ℕ). kernelProgram n (contents rows)) e ∙ is-translation (layoutOf SourceForm header) (contents rows))
+  rows-are S e = ap emit (ap (λ (n : ℕ). kernelProgram n (contents rows)) e ∙ is-translation first (contents rows))
 
-  pub header-words : length header + 1 ≡ length (kernelHeaderOf header rows)
+  pub header-words : length header + 2 ≡ length (kernelHeaderOf header rows)
   unfolding kernelHeaderOf
-  header-words = sym (kernel-header-length header (temporaries (contents rows)) accepted-header)
+  header-words = sym (kernel-header-length header (declarationCount rows) (temporaries (contents rows)) accepted-header)

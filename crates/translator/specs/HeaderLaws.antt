@@ -1,4 +1,4 @@
--- Laws of the kernel header: V, T, and the source header's array lengths.
+-- Laws of the kernel header: V, D, T, and the source header's array lengths.
 use mathlib.Core.Path.{_≡_, refl, sym, ap, ap₂, _∙_}
 use mathlib.Core.Bool.{true}
 use mathlib.Core.List.{List, [], _∷_, _++_, map}
@@ -30,20 +30,20 @@ unfolding layoutOf
 variables-back header fits =
     sym (natural-pos (getD header 0 (pos 0)) (natural (getD header 0 (pos 0))) refl (omega (arith, headerFits-facts Source header fits .few-variables)))
 
-kernel-header-words : (header : List ℤ) (T : ℕ) → headerFits Source header ≡ true → (getD header 0 (pos 0) ∷ pos T ∷ []) ++ drop 1 header ≡ kernelHeader (layoutOf Source header) T
+kernel-header-words : (header : List ℤ) (D T : ℕ) → headerFits Source header ≡ true → (getD header 0 (pos 0) ∷ pos D ∷ pos T ∷ []) ++ drop 1 header ≡ kernelHeader (layoutOf Source header) D T
 unfolding kernelHeader
-kernel-header-words header T fits = ap₂ (λ (v : ℤ) (ls : List ℤ). v ∷ pos T ∷ ls) (sym (variables-back header fits)) (sym (lengths-back header fits))
+kernel-header-words header D T fits = ap₂ (λ (v : ℤ) (ls : List ℤ). v ∷ pos D ∷ pos T ∷ ls) (sym (variables-back header fits)) (sym (lengths-back header fits))
 
-pub kernel-header-length : (header : List ℤ) (T : ℕ) → headerFits Source header ≡ true → length (kernelHeader (layoutOf Source header) T) ≡ length header + 1
+pub kernel-header-length : (header : List ℤ) (D T : ℕ) → headerFits Source header ≡ true → length (kernelHeader (layoutOf Source header) D T) ≡ length header + 2
 unfolding kernelHeader
-kernel-header-length header T fits =
+kernel-header-length header D T fits =
     let lengths = length-map (layoutOf Source header .lengths) pos in
     omega (arith, lengths, number-of-arrays Source header, headerFits-facts Source header fits .least)
 
--- V and T written first, then the array lengths behind them.
-pub header-over : (header : List ℤ) (T : ℕ) (out l1 l2 : List ℤ) (v t : ℤ) → headerFits Source header ≡ true → v ≡ getD header 0 (pos 0) → t ≡ pos T
-    → l1 ≡ over (v ∷ t ∷ []) out → l2 ≡ over (take (length header - 1) (drop 1 header)) (midOf 2 (length l1 - 2) l1)
-    → putMid 2 (length l1 - 2) l1 l2 ≡ over (kernelHeader (layoutOf Source header) T) out
-header-over header T out l1 l2 v t fits ve te e1 e2 =
-    let words = ap₂ (λ (x y : ℤ). (x ∷ y ∷ []) ++ drop 1 header) ve te ∙ kernel-header-words header T fits in
-    over-next (v ∷ t ∷ []) (drop 1 header) out l1 l2 2 refl e1 (rw (rest-of header 1) at e2) ∙ ap (λ (ws : List ℤ). over ws out) words
+-- V, D and T written first, then the array lengths behind them.
+pub header-over : (header : List ℤ) (D T : ℕ) (out l1 l2 : List ℤ) (v d t : ℤ) → headerFits Source header ≡ true → v ≡ getD header 0 (pos 0) → d ≡ pos D → t ≡ pos T
+    → l1 ≡ over (v ∷ d ∷ t ∷ []) out → l2 ≡ over (take (length header - 1) (drop 1 header)) (midOf 3 (length l1 - 3) l1)
+    → putMid 3 (length l1 - 3) l1 l2 ≡ over (kernelHeader (layoutOf Source header) D T) out
+header-over header D T out l1 l2 v d t fits ve de te e1 e2 =
+    let words : (v ∷ d ∷ t ∷ []) ++ drop 1 header ≡ kernelHeader (layoutOf Source header) D T = rw (ve, de, te) (kernel-header-words header D T fits) in
+    over-next (v ∷ d ∷ t ∷ []) (drop 1 header) out l1 l2 3 refl e1 (rw (rest-of header 1) at e2) ∙ ap (λ (ws : List ℤ). over ws out) words

@@ -1,4 +1,4 @@
--- Laws of room: from n source rows, 20×n+20 rows and one word more than the source header are room enough, so that an accepted program is
+-- Laws of room: from n source rows, 20×n+20 rows and two words more than the source header are room enough, so that an accepted program is
 -- translated and number 10 is not given. The emission writes six words a row, and the rows of the translation are bounded.
 use mathlib.Core.Path.{_≡_}
 use mathlib.Core.List.{List}
@@ -8,7 +8,7 @@ use lib.IntN.{ℤ}
 use lib.ListN.{length}
 use borrow.Author.Tests.{le-leb}
 use Rattle.words.specs.Table.{rowCount}
-use Rattle.words.specs.Layout.{layoutOf}
+use Rattle.words.specs.Layout.{storeWords}
 use Rattle.words.specs.Laws.{headerFits-facts}
 use Rattle.words.specs.declared.Form.the-variants.{Source}
 use Rattle.words.specs.declared.Verdict.the-variants.{Accepted}
@@ -30,14 +30,13 @@ module _ (header rows : List ℤ) (accepted : sourceRefusal header rows ≡ Acce
   pub row-words-bound : length (kernelRowsOf header rows) ≤ 6 * (20 * rowCount rows + 20)
   unfolding kernelRowsOf
   row-words-bound =
-      let L = layoutOf Source header in
-      omega (arith, length-emit (block (translate L (contents rows))), rows-bound L (contents rows), legal-rows header rows (accepts-legal header rows .0 accepted))
+      omega (arith, length-emit (block (translate (storeWords Source header rows) (contents rows))), rows-bound (storeWords Source header rows) (contents rows), legal-rows header rows (accepts-legal header rows .0 accepted))
 
-  -- V, T and up to 32 array lengths.
-  pub header-words-bound : length (kernelHeaderOf header rows) ≤ 34
+  -- V, D, T and up to 32 array lengths.
+  pub header-words-bound : length (kernelHeaderOf header rows) ≤ 35
   header-words-bound = omega (arith, header-words header rows accepted, headerFits-facts Source header (accepted-header header rows accepted) .most)
 
-  pub room-suffices : (outHeader outRows : List ℤ) → length header + 1 ≤ length outHeader → 6 * (20 * rowCount rows + 20) ≤ length outRows
+  pub room-suffices : (outHeader outRows : List ℤ) → length header + 2 ≤ length outHeader → 6 * (20 * rowCount rows + 20) ≤ length outRows
       → translateResult header rows outHeader outRows .answer ≡ Translated (length (kernelHeaderOf header rows)) (length (kernelRowsOf header rows))
   unfolding translateResult
   room-suffices outHeader outRows h r =

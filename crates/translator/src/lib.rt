@@ -6,6 +6,7 @@ use measures::pass::measure;
 use words::Form;
 use words::Refusal;
 use words::Verdict;
+use words::declarations::declaration_count;
 use words::layout::store_size;
 use writers::program::write_program;
 ghost use mathlib.Core.Path.{_≡_};
@@ -34,7 +35,7 @@ fn write_measured(
     requires { ⌜ (sourceRefusal (now header) (now rows) ≡ Accepted) × Measured (now rows) (now table) ⌝ }
     ensures { λ r. ⌜ answerAndTables r (now («kernel_header» .exit)) (now («kernel_rows» .exit)) ≡ translateAfter Accepted (now (header .entry)) (now (rows .entry)) (now («kernel_header» .entry)) (now («kernel_rows» .entry)) ⌝ }
 {
-    let header_words = header.len() + 1;
+    let header_words = header.len() + 2;
     if header_words > kernel_header.len() {
         return TranslateAnswer::Refused(Refusal {
             number: 10,
@@ -48,8 +49,10 @@ fn write_measured(
             place: 0,
         });
     }
-    write_header(header, table[STATEMENT_LEVELS], kernel_header);
-    write_program(rows, table, store_size(Form::Source, header), kernel_rows);
+    let declared = declaration_count(rows);
+    write_header(header, declared, table[STATEMENT_LEVELS], kernel_header);
+    let first = store_size(Form::Source, header) + declared;
+    write_program(rows, table, first, kernel_rows);
     TranslateAnswer::Translated(header_words, row_words)
 }
 

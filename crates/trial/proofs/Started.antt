@@ -5,7 +5,9 @@ use Prim.Native.Nat.{ℕ, _+_, _-_, _≤_}
 use native.Mathlib.Omega.{arith}
 use lib.IntN.{ℤ, pos}
 use lib.ListN.{length, take, length-replicate}
+use lib.Seq.{length-take-le}
 use Rattle.words.specs.Layout.{layoutOf, storeSize, storeWords, zeros}
+use Rattle.words.specs.StoreLaws.{size-least}
 use Rattle.words.specs.declared.Form.{Form}
 use Rattle.words.specs.declared.Form.the-variants.{Source, Kernel}
 use Rattle.words.specs.declared.RunAnswer.{RunAnswer}
@@ -21,17 +23,12 @@ use Rattle.rule_text.specs.Rules.{mostWords, budget}
 use Rattle.trial.specs.Output.{sourceOutput, kernelOutput, runsOutput}
 use Rattle.trial.specs.Conditions.{FromZeros, Translates}
 
--- a source run has no temporaries
-pub source-words : (header : List ℤ) → storeWords Source header ≡ storeSize (layoutOf Source header)
-unfolding storeWords
-source-words header = omega arith
-
-module _ (form : Form) (header rows store : List ℤ) (starts : store ≡ zeros (storeWords form header)) where
+module _ (form : Form) (header rows store : List ℤ) (starts : store ≡ zeros (storeWords form header rows)) where
   abbrev run : Finished
-  run = runProgram form header rows budget (zeros (storeWords form header))
+  run = runProgram form header rows budget (zeros (storeWords form header rows))
 
-  pub started-length : length store ≡ storeWords form header
-  started-length = ap length starts ∙ length-replicate (storeWords form header) (pos 0)
+  pub started-length : length store ≡ storeWords form header rows
+  started-length = ap length starts ∙ length-replicate (storeWords form header rows) (pos 0)
 
   -- the run was made
   pub record RunMade (answer : RunAnswer) (left : List ℤ) : Type 0 where
@@ -46,26 +43,30 @@ module _ (form : Form) (header rows store : List ℤ) (starts : store ≡ zeros 
 
 -- ---- the lines
 
-module _ {header rows store : List ℤ} {starts : store ≡ zeros (storeWords Source header)} {answer : RunAnswer} {left : List ℤ} (m : RunMade Source header rows store starts answer left) where
-  pub both-lines : {n : ℕ} → n ≡ written rows → sourceLine (answer .ending) (answer .count) left n ++ kernelOutput (storeSize (layoutOf Source header)) (kernelHeaderOf header rows) (kernelRowsOf header rows)
+module _ {header rows store : List ℤ} {starts : store ≡ zeros (storeWords Source header rows)} {answer : RunAnswer} {left : List ℤ} (m : RunMade Source header rows store starts answer left) where
+  pub both-lines : {words n : ℕ} → words ≡ storeSize (layoutOf Source header) → n ≡ written rows
+      → sourceLine (answer .ending) (answer .count) (take (words - 0) left) n ++ kernelOutput (storeSize (layoutOf Source header)) (kernelHeaderOf header rows) (kernelRowsOf header rows)
       ≡ runsOutput header rows
   unfolding runsOutput sourceOutput
-  both-lines e = rw (m .ending, m .count, m .store-left, e)
+  both-lines {words} w e = rw (first-of left words, m .ending, m .count, m .store-left, w, e)
 
-module _ {header rows store : List ℤ} {starts : store ≡ zeros (storeWords Kernel header)} {answer : RunAnswer} {left : List ℤ} (m : RunMade Kernel header rows store starts answer left) where
+module _ {header rows store : List ℤ} {starts : store ≡ zeros (storeWords Kernel header rows)} {answer : RunAnswer} {left : List ℤ} (m : RunMade Kernel header rows store starts answer left) where
   pub second-line : (words : ℕ) → kernelLine (answer .ending) (take (words - 0) left) ≡ kernelOutput words header rows
   unfolding kernelOutput
   second-line words = rw (first-of left words, m .ending, m .store-left)
 
 -- the source's line is put, and there is room behind it for the kernel's
-module _ {header rows store : List ℤ} {room words : ℕ} (z : FromZeros header rows store room) (kept : words ≡ length store) where
-  few : words ≤ mostWords
-  few = omega (arith, kept, started-length Source header rows store (z .starts), source-words header, z .fits .few-words)
+module _ {header rows store : List ℤ} {room words : ℕ} (z : FromZeros header rows store room) (left : List ℤ) (kept : length left ≡ length store) (size : words ≡ storeSize (layoutOf Source header)) where
+  pub first-inside : words ≤ length left
+  first-inside = omega (arith, kept, started-length Source header rows store (z .starts), size-least Source header rows, size)
 
-  pub first-room : lineRoom words ≤ room
+  few : length (take (words - 0) left) ≤ mostWords
+  few = rw (first-of left words) (omega (arith, length-take-le words left first-inside, size, z .fits .few-words))
+
+  pub first-room : lineRoom (length (take (words - 0) left)) ≤ room
   first-room = omega (arith, few, z .fits .both-lines)
 
-  module _ {bytes output : List ℕ} {end : ℕ} {after : List ℕ} (p : Put bytes output end after) (within : end ≤ lineRoom words) (whole : room ≡ length output) where
+  module _ {bytes output : List ℕ} {end : ℕ} {after : List ℕ} (p : Put bytes output end after) (within : end ≤ lineRoom (length (take (words - 0) left))) (whole : room ≡ length output) where
     pub first-put : SoFar (lineRoom mostWords) bytes output end after
     first-put = record { put = p; few = omega (arith, p .size, few); room = omega (arith, z .fits .both-lines) }
 

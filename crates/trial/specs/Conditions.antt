@@ -5,6 +5,7 @@ use mathlib.Core.List.{List}
 use Prim.Native.Nat.{ℕ, _+_, _*_, _≤_}
 use lib.IntN.{ℤ}
 use lib.ListN.{length}
+use Rattle.words.specs.Declarations.{declarationLimit}
 use Rattle.words.specs.Layout.{headerFits, layoutOf, storeSize, storeWords, zeros}
 use Rattle.words.specs.declared.Form.the-variants.{Source, Kernel}
 use Rattle.words.specs.declared.Verdict.the-variants.{Accepted}
@@ -27,7 +28,7 @@ pub record Fits (header rows : List ℤ) (room : ℕ) : Type 0 where
 pub record FromZeros (header rows store : List ℤ) (room : ℕ) : Type 0 where
   pub fits : Fits header rows room
   pub accepted : refusalOf Source header rows ≡ Accepted
-  pub starts : store ≡ zeros (storeWords Source header)
+  pub starts : store ≡ zeros (storeWords Source header rows)
 
 -- An accepted program within the limits, and room for its kernel line.
 pub record Translates (header rows : List ℤ) (room : ℕ) : Type 0 where
@@ -39,11 +40,11 @@ pub record Translates (header rows : List ℤ) (room : ℕ) : Type 0 where
 -- An accepted kernel program whose store is that of a translation within the limits, and room for a line with some of its words.
 pub record KernelFits (header rows : List ℤ) (words room : ℕ) : Type 0 where
   pub accepted : refusalOf Kernel header rows ≡ Accepted
-  pub inside : words ≤ storeWords Kernel header
-  pub few-words : storeWords Kernel header ≤ mostWords + 4 * mostRows
+  pub inside : words ≤ storeWords Kernel header rows
+  pub few-words : storeWords Kernel header rows ≤ mostWords + (declarationLimit + 4 * mostRows)
   pub line : lineRoom words ≤ room
 
 -- The same, with the store that the kernel run starts from.
 pub record KernelFromZeros (header rows : List ℤ) (words : ℕ) (store : List ℤ) (room : ℕ) : Type 0 where
   pub fits : KernelFits header rows words room
-  pub starts : store ≡ zeros (storeWords Kernel header)
+  pub starts : store ≡ zeros (storeWords Kernel header rows)

@@ -2,6 +2,7 @@
 use mathlib.Core.List.{List, _++_}
 use Prim.Native.Nat.{ℕ}
 use lib.IntN.{ℤ}
+use lib.ListN.{take}
 use Rattle.words.specs.Layout.{layoutOf, storeSize, storeWords, zeros}
 use Rattle.words.specs.declared.Form.the-variants.{Source, Kernel}
 use Rattle.language.specs.Program.{runProgram}
@@ -14,13 +15,13 @@ use Rattle.fate.specs.Views.{dispatcherView}
 -- "Output: form, ending .., source count on the first line only, S words", and last the number of variables that the program can write.
 unfoldable pub sourceOutput : List ℤ → List ℤ → List ℕ
 sourceOutput header rows =
-    let finished = runProgram Source header rows budget (zeros (storeWords Source header)) in
-    sourceLine (finished .ending) (finished .count) (finished .store) (written rows)
+    let finished = runProgram Source header rows budget (zeros (storeWords Source header rows)) in
+    sourceLine (finished .ending) (finished .count) (take (storeSize (layoutOf Source header)) (finished .store)) (written rows)
 
--- The kernel's store has S+T words; its line is what a dispatcher is shown.
+-- The kernel's store has S+D+T words; its line is what a dispatcher is shown.
 unfoldable pub kernelOutput : ℕ → List ℤ → List ℤ → List ℕ
 kernelOutput words header rows =
-    let view = dispatcherView words (runProgram Kernel header rows budget (zeros (storeWords Kernel header))) in
+    let view = dispatcherView words (runProgram Kernel header rows budget (zeros (storeWords Kernel header rows))) in
     kernelLine (view .ending) (view .words)
 
 -- "runs both forms"

@@ -14,7 +14,7 @@ pub fn trial(text: &[u8], output: &mut [u8]) -> usize
     requires { ⌜ outputRoom ≤ length (now output) ⌝ }
     ensures { λ r. ⌜ Put (trialOutput (now (text .entry))) (now (output .entry)) r (now (output .exit)) ⌝ }
 {
-    let mut header = [0i32; 34];
+    let mut header = [0i32; 35];
     let mut rows = [0i32; 768];
     let answer = read_rule(text, &mut header, &mut rows);
     match answer {

@@ -41,8 +41,8 @@ fn run_kernel(header: &[i32], rows: &[i32], words: usize, output: &mut [u8]) -> 
     requires { ⌜ KernelFits (now header) (now rows) words (length (now output)) ⌝ }
     ensures { λ r. ⌜ Put (kernelOutput words (now (header .entry)) (now (rows .entry))) (now (output .entry)) r (now (output .exit)) ⌝ }
 {
-    let size = store_words(Form::Kernel, header);
-    let mut store = [0i32; 1536];
+    let size = store_words(Form::Kernel, header, rows);
+    let mut store = [0i32; 1600];
     run_kernel_on(header, rows, words, &mut store[0..size], output)
 }
 
@@ -52,7 +52,7 @@ fn run_translation(header: &[i32], rows: &[i32], output: &mut [u8]) -> usize
     ensures { λ r. ⌜ Put (kernelOutput (storeSize (layoutOf Source (now (header .entry)))) (kernelHeaderOf (now (header .entry)) (now (rows .entry))) (kernelRowsOf (now (header .entry)) (now (rows .entry)))) (now (output .entry)) r (now (output .exit)) ⌝ }
 {
     let words = store_size(Form::Source, header);
-    let mut kernel_header = [0i32; 34];
+    let mut kernel_header = [0i32; 35];
     let mut kernel_rows = [0i32; 15480];
     let answer = translate_accepted(header, rows, &mut kernel_header, &mut kernel_rows);
     match answer {
@@ -74,7 +74,8 @@ fn run_source_on(header: &[i32], rows: &[i32], store: &mut [i32], output: &mut [
     let answer = run_accepted(Form::Source, header, rows, store, 100000);
     let ending = answer.ending;
     let written = written_count(rows);
-    let end = source_line(ending, answer.count, store, written, output);
+    let words = store_size(Form::Source, header);
+    let end = source_line(ending, answer.count, &store[0..words], written, output);
     end + run_translation(header, rows, &mut output[end..])
 }
 
@@ -84,7 +85,7 @@ pub fn run_source(header: &[i32], rows: &[i32], output: &mut [u8]) -> usize
     requires { ⌜ refusalOf Source (now header) (now rows) ≡ Accepted ⌝ }
     ensures { λ r. ⌜ Put (runsOutput (now (header .entry)) (now (rows .entry))) (now (output .entry)) r (now (output .exit)) ⌝ }
 {
-    let size = store_size(Form::Source, header);
-    let mut store = [0i32; 1024];
+    let size = store_words(Form::Source, header, rows);
+    let mut store = [0i32; 1088];
     run_source_on(header, rows, &mut store[0..size], output)
 }

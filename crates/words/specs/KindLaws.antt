@@ -9,8 +9,11 @@ use lib.IntN.{ℤ}
 use borrow.Author.Tests.{eqb-true, eqb-false, leb-true}
 use Rattle.words.specs.Word.{pick}
 use Rattle.words.specs.Table.{numberAt}
-use Rattle.words.specs.Kinds.{kinds, kindIn, kindOf, kindAt, operators, operatorOf, isExpressionKind, isStatementKind, between, expression, place, branch, bodyBlock, armRow, isLink, isRequired, kindRow, expressionFields, statementFields, markFields, memberFields, sortIn, isPlaceKind}
+use Rattle.words.specs.Kinds.{kinds, kindIn, kindOf, kindAt, operators, operatorOf, isExpressionKind, isStatementKind, between, expression, place, branch, bodyBlock, armRow, isLink, isRequired, inLanguage, kindRow, expressionFields, statementFields, markFields, memberFields, sortIn, isPlaceKind}
+use Rattle.words.specs.Declarations.{declarationKind}
 use Rattle.words.specs.Laws.{both, by-cases}
+use Rattle.words.specs.declared.Form.{Form}
+use Rattle.words.specs.declared.Form.the-variants.{Source, Kernel}
 use Rattle.words.specs.declared.Operator.{Operator}
 use Rattle.words.specs.declared.Kind.{Kind}
 use Rattle.words.specs.declared.Kind.the-variants.{OfExpression, OfStatement, OfMark, OfMember, Other}
@@ -76,18 +79,18 @@ no-expression number beyond =
 
 -- The numbers of statements, marks apart.
 abbrev statementNumbers : ℕ → Bool
-statementNumbers n = between 40 47 n || (between 50 52 n || (between 54 55 n || eqb n 57))
+statementNumbers n = between 40 47 n || (between 50 52 n || (between 54 55 n || between 57 58 n))
 
-pub no-statement : (number : ℕ) → ((40 ≤ number) × (number ≤ 47) → ⊥) → ((50 ≤ number) × (number ≤ 52) → ⊥) → ((54 ≤ number) × (number ≤ 55) → ⊥) → (number ≡ 57 → ⊥)
+pub no-statement : (number : ℕ) → ((40 ≤ number) × (number ≤ 47) → ⊥) → ((50 ≤ number) × (number ≤ 52) → ⊥) → ((54 ≤ number) × (number ≤ 55) → ⊥) → ((57 ≤ number) × (number ≤ 58) → ⊥)
     → isStatementKind (kindOf number) ≡ false
 unfolding everyLine kinds
-no-statement number plain jumps guarded aborting =
+no-statement number plain jumps guarded others =
     by-cases (isStatementKind (kindOf number))
     (λ e. let inside = numbers-of isStatementKind statementNumbers refl refl number e in
     by-cases (between 40 47 number) (λ t. absurd (plain (between-both 40 47 number t)))
     (λ t. by-cases (between 50 52 number) (λ u. absurd (jumps (between-both 50 52 number u)))
     (λ u. by-cases (between 54 55 number) (λ v. absurd (guarded (between-both 54 55 number v)))
-    (λ v. absurd (aborting (eqb-true number 57 (rw (t, u, v) at inside)))))))
+    (λ v. absurd (others (between-both 57 58 number (rw (t, u, v) at inside)))))))
     (λ e. e)
 
 -- A place is a variable or an element.
@@ -168,3 +171,9 @@ passed from zero number known rest = (rest, λ h. omega arith)
 passed from (suc more) number known rest =
     let later = passed (suc from) more number (known × (number ≡ from → ⊥)) rest in
     (later .0 .0, λ h. let beyond : suc from ≤ number = omega (arith, later .0 .1) in omega (arith, later .1 beyond))
+
+-- No form has kind 58 yet.
+pub declaration-foreign : (form : Form) → inLanguage form declarationKind ≡ false
+unfolding inLanguage kindOf kindIn kinds kindRow statementFields
+declaration-foreign Source = refl
+declaration-foreign Kernel = refl

@@ -17,7 +17,7 @@ use Rattle.words.specs.declared.StatementKind.{StatementKind}
 use Rattle.words.specs.declared.MarkKind.{MarkKind}
 use Rattle.words.specs.declared.MemberKind.{MemberKind}
 use Rattle.words.specs.declared.ExpressionKind.the-variants.{Constant, Variable, Element, Minus, Not, Binary, And, Or, Conditional, Comma, Assign, Compound, Prefix, Postfix}
-use Rattle.words.specs.declared.StatementKind.the-variants.{Empty, Express, Block, If, While, Do, For, Switch, Break, Continue, Goto, GuardedIf, GuardedDo, Abort}
+use Rattle.words.specs.declared.StatementKind.the-variants.{Empty, Express, Block, If, While, Do, For, Switch, Break, Continue, Goto, GuardedIf, GuardedDo, Abort, Declare}
 use Rattle.words.specs.declared.MarkKind.the-variants.{Case, Default, Label}
 use Rattle.words.specs.declared.MemberKind.the-variants.{Arm}
 use Rattle.words.specs.declared.Kind.{Kind}
@@ -75,6 +75,7 @@ kinds =
     (55, OfStatement GuardedDo) ∷  -- guarded do
     (56, OfMember Arm) ∷  -- arm
     (57, OfStatement Abort) ∷  -- abort
+    (58, OfStatement Declare) ∷  -- declaration
     []
 
 unfoldable pub kindIn : List (ℕ × Kind) → ℕ → Kind
@@ -130,44 +131,48 @@ array = 3
 abbrev pub label : ℕ
 label = 4
 
+-- The number that a declaration gives to its object.
+abbrev pub declaredNumber : ℕ
+declaredNumber = 5
+
 -- Links. Optional ones "may be 0". A branch or body has next 0, and so has the block of an arm; an item is the first of a list, or the
 -- next, and so is an arm.
 abbrev pub expression : ℕ
-expression = 5
+expression = 6
 
 abbrev pub optionalExpression : ℕ
-optionalExpression = 6
+optionalExpression = 7
 
 abbrev pub place : ℕ
-place = 7
+place = 8
 
 abbrev pub branch : ℕ
-branch = 8
+branch = 9
 
 abbrev pub optionalBranch : ℕ
-optionalBranch = 9
+optionalBranch = 10
 
 abbrev pub optionalItem : ℕ
-optionalItem = 10
+optionalItem = 11
 
 abbrev pub bodyBlock : ℕ
-bodyBlock = 11
+bodyBlock = 12
 
 abbrev pub optionalArm : ℕ
-optionalArm = 12
+optionalArm = 13
 
 -- What a row is.
 abbrev pub expressionRow : ℕ
-expressionRow = 13
+expressionRow = 14
 
 abbrev pub placeRow : ℕ
-placeRow = 14
+placeRow = 15
 
 abbrev pub statementRow : ℕ
-statementRow = 15
+statementRow = 16
 
 abbrev pub armRow : ℕ
-armRow = 16
+armRow = 17
 
 abbrev pub noKind : ℕ
 noKind = 0
@@ -252,7 +257,7 @@ expressionFields (Prefix operator) = computing place unused unused inSource  -- 
 expressionFields (Postfix operator) = computing place unused unused inSource  -- 29 e++, 30 e−−: a place
 
 -- "52 goto, 53 label (kernel only)". "Kind 54 (guarded if) and 55 (guarded do), each with a the first arm or 0"; "the kernel's new kind 57 (abort, no
--- fields)".
+-- fields)". "Kind 58: a variable number below V, b initial expression": no form has it yet.
 unfoldable pub statementFields : StatementKind → StatementRow
 statementFields Empty = stating unused unused unused unused inBoth  -- 40 empty: none
 statementFields Express = stating expression unused unused unused inBoth  -- 41 expression statement: a
@@ -268,6 +273,7 @@ statementFields Goto = stating label unused unused unused inKernel  -- 52 goto: 
 statementFields GuardedIf = stating optionalArm unused unused unused inSource  -- 54 guarded if: a first arm or 0
 statementFields GuardedDo = stating optionalArm unused unused unused inSource  -- 55 guarded do: a first arm or 0
 statementFields Abort = stating unused unused unused unused inKernel  -- 57 abort: none
+statementFields Declare = stating declaredNumber expression unused unused inNeither  -- 58 declaration: a number, b initial expression
 
 unfoldable pub markFields : MarkKind → StatementRow
 markFields Case = stating value unused unused unused inSource  -- 48 case: a value

@@ -15,7 +15,7 @@ use mir.Val.{toZ, ofZ}
 use mir.Facts.{toZ-ofZ}
 use borrow.Author.Tests.{ltb-true, ltb-false, leb-true, eqb-true, le-leb, eq-eqb, ne-eqb}
 use Rattle.words.specs.Word.{sameWord, natural}
-use Rattle.words.specs.Layout.{Layout, leading, rowLimit, temporariesOf, layoutOf, sum, storeSize, zeros, arrayLength, arrayBase, allWithin, headerFits, countFits}
+use Rattle.words.specs.Layout.{Layout, leading, rowLimit, declaredOf, temporariesOf, layoutOf, sum, storeSize, zeros, arrayLength, arrayBase, allWithin, headerFits, countFits}
 use Rattle.words.specs.declared.Form.the-variants.{Source, Kernel}
 use Rattle.words.specs.declared.Form.{Form}
 
@@ -104,7 +104,7 @@ natural-pos (negsuc m) n e h = absurd (omega arith)
 
 -- ---- limits of the forms
 
-pub leading-limits : (form : Form) → (1 ≤ leading form) × (leading form ≤ 2)
+pub leading-limits : (form : Form) → (1 ≤ leading form) × (leading form ≤ 3)
 leading-limits Source = (omega arith, omega arith)
 leading-limits Kernel = (omega arith, omega arith)
 
@@ -138,6 +138,7 @@ pub record HeaderFits (form : Form) (header : List ℤ) : Type 0 where
   pub least : leading form ≤ length header
   pub most : length header ≤ leading form + 32
   pub few-variables : layoutOf form header .variables ≤ 256
+  pub few-declared : declaredOf form header ≤ 64
   pub few-temporaries : temporariesOf form header ≤ 8192
   pub few-arrays : length (layoutOf form header .lengths) ≤ 32
   pub each-length : (array : ℕ) → array < length (layoutOf form header .lengths) → (1 ≤ arrayLength (layoutOf form header) array) × (arrayLength (layoutOf form header) array ≤ 4096)
@@ -150,13 +151,15 @@ headerFits-facts form header e =
     let parts = both (leb (leading form) (length header) && leb (length header) (leading form + 32)) _ e in
     let between = both (leb (leading form) (length header)) (leb (length header) (leading form + 32)) (parts .0) in
     let variables = both (leb (L .variables) 256) _ (parts .1) in
-    let temporaries = both (leb (temporariesOf form header) 8192) _ (variables .1) in
+    let declared = both (leb (declaredOf form header) 64) _ (variables .1) in
+    let temporaries = both (leb (temporariesOf form header) 8192) _ (declared .1) in
     let lengths = both (allWithin 4096 (L .lengths)) (leb (storeSize L) 8192) (temporaries .1) in
     let most : length header ≤ leading form + 32 = leb-true _ _ (between .1) in
     record {
       least = leb-true _ _ (between .0);
       most = most;
       few-variables = leb-true _ _ (variables .0);
+      few-declared = leb-true _ _ (declared .0);
       few-temporaries = leb-true _ _ (temporaries .0);
       few-arrays = omega (arith, number-of-arrays form header);
       each-length = within-each 4096 (L .lengths) (lengths .0);
@@ -166,7 +169,7 @@ headerFits-facts form header e =
 pub facts-headerFits : (form : Form) (header : List ℤ) → HeaderFits form header → headerFits form header ≡ true
 unfolding headerFits arrayLength
 facts-headerFits form header f =
-    rw (le-leb _ _ (f .least), le-leb _ _ (f .most), le-leb _ _ (f .few-variables), le-leb _ _ (f .few-temporaries), each-within 4096 (layoutOf form header .lengths) (f .each-length), le-leb _ _ (f .small-store))
+    rw (le-leb _ _ (f .least), le-leb _ _ (f .most), le-leb _ _ (f .few-variables), le-leb _ _ (f .few-declared), le-leb _ _ (f .few-temporaries), each-within 4096 (layoutOf form header .lengths) (f .each-length), le-leb _ _ (f .small-store))
 
 -- ---- arrays in the store
 

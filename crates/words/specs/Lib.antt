@@ -5,6 +5,8 @@
 pub mod Word
 -- Tables: the rows of a program, and the words of a row.
 pub mod Table
+-- Declarations: the rows of kind 58, and how many there are.
+pub mod Declarations
 -- Forms and layouts: the limits of both forms, the header, the store.
 pub mod Layout
 -- Kinds: the table of kinds of documents 01 and 02: numbers, sorts of fields, forms.
@@ -26,6 +28,8 @@ pub mod OverLaws
 pub mod AnswerLaws
 -- Laws: what follows from these definitions.
 pub mod Laws
+-- Laws of declarations and of the sizes of stores.
+pub mod StoreLaws
 -- Laws of the table of kinds.
 pub mod KindLaws
 -- Laws of searches.

@@ -26,3 +26,7 @@ natural (negsuc n) = 2 ^ 32
 abbrev pub pick {ℓ} : {A : Type ℓ} → Bool → A → A → A
 pick true a b = a
 pick false a b = b
+
+-- 1 when the test is true, else 0.
+abbrev pub one : Bool → ℕ
+one test = pick test 1 0

@@ -64,6 +64,7 @@ pub fn kind_of(number: usize) -> Kind
         55 => Kind::OfStatement(StatementKind::GuardedDo),
         56 => Kind::OfMember(MemberKind::Arm),
         57 => Kind::OfStatement(StatementKind::Abort),
+        58 => Kind::OfStatement(StatementKind::Declare),
         _ => Kind::Other,
     }
 }

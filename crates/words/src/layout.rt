@@ -1,5 +1,6 @@
 // The header's limits, and the sizes it gives.
 use super::Form;
+use super::declarations::declaration_count;
 use super::table::natural;
 ghost use mathlib.Core.Path.{_≡_};
 ghost use mathlib.Core.Bool.{true, _&&_};
@@ -8,7 +9,7 @@ ghost use Prim.Native.Nat.{_+_, _*_, _<_, _≤_};
 ghost use lib.Dec.{leb};
 ghost use lib.ListN.{length};
 ghost use Rattle.words.specs.Word.{natural as naturalOf};
-ghost use Rattle.words.specs.Layout.{leading as leadingOf, rowLimit, temporariesOf, layoutOf, sum, storeSize, storeWords, allWithin, headerFits, countFits};
+ghost use Rattle.words.specs.Layout.{leading as leadingOf, rowLimit, declaredOf, temporariesOf, layoutOf, sum, storeSize, headerStore, storeWords, allWithin, headerFits, countFits};
 
 // How many words the header has before the array lengths.
 pub fn leading(form: Form) -> usize
@@ -16,7 +17,7 @@ pub fn leading(form: Form) -> usize
 {
     match form {
         Form::Source => 1,
-        Form::Kernel => 2,
+        Form::Kernel => 3,
     }
 }
 
@@ -29,6 +30,17 @@ pub fn row_limit(form: Form) -> usize
     }
 }
 
+// D, or 0 in the source form, whose rows say it.
+pub fn declared(form: Form, header: &[i32]) -> usize
+    requires { ⌜ leadingOf form ≤ length (now header) ⌝ }
+    ensures { λ r. ⌜ r ≡ declaredOf form (now (header .entry)) ⌝ }
+{
+    match form {
+        Form::Source => 0,
+        Form::Kernel => natural(header[1]),
+    }
+}
+
 // T, or 0 in the source form.
 pub fn temporaries(form: Form, header: &[i32]) -> usize
     requires { ⌜ leadingOf form ≤ length (now header) ⌝ }
@@ -36,7 +48,7 @@ pub fn temporaries(form: Form, header: &[i32]) -> usize
 {
     match form {
         Form::Source => 0,
-        Form::Kernel => natural(header[1]),
+        Form::Kernel => natural(header[2]),
     }
 }
 
@@ -75,6 +87,9 @@ pub fn header_fits(form: Form, header: &[i32]) -> bool
     }
     let variables = natural(header[0]);
     if variables > 256 {
+        return false;
+    }
+    if declared(form, header) > 64 {
         return false;
     }
     if temporaries(form, header) > 8192 {
@@ -120,10 +135,22 @@ pub fn store_size(form: Form, header: &[i32]) -> usize
     natural(header[0]) + total
 }
 
-// S (source) or S+T (kernel).
-pub fn store_words(form: Form, header: &[i32]) -> usize
+// The store words that a header gives: S (source) or S+D+T (kernel).
+pub fn header_store(form: Form, header: &[i32]) -> usize
     requires { ⌜ headerFits form (now header) ≡ true ⌝ }
-    ensures { λ r. ⌜ r ≡ storeWords form (now (header .entry)) ⌝ }
+    ensures { λ r. ⌜ r ≡ headerStore form (now (header .entry)) ⌝ }
 {
-    store_size(form, header) + temporaries(form, header)
+    let behind = declared(form, header) + temporaries(form, header);
+    store_size(form, header) + behind
+}
+
+// The words that a run's store has: with a word for each declaration in the source form.
+pub fn store_words(form: Form, header: &[i32], rows: &[i32]) -> usize
+    requires { ⌜ headerFits form (now header) ≡ true ⌝ }
+    ensures { λ r. ⌜ r ≡ storeWords form (now (header .entry)) (now (rows .entry)) ⌝ }
+{
+    match form {
+        Form::Source => header_store(form, header) + declaration_count(rows),
+        Form::Kernel => header_store(form, header),
+    }
 }

@@ -11,5 +11,7 @@ pub mod ArmLaws
 pub mod LoopLaws
 -- Statements: the code of the other statements, one part behind another.
 pub mod StatementLaws
+-- Declarations: the code of a declaration, one part behind another.
+pub mod DeclarationLaws
 -- Programs: the block at row 0, and the labels of its code.
 pub mod ProgramLaws

@@ -9,7 +9,7 @@ use Rattle.words.specs.Table.{rowCount, numberAt}
 use Rattle.words.specs.Kinds.{kindAt, isLink, statementFields, kindRow, sortIn}
 use Rattle.words.specs.declared.Kind.the-variants.{OfStatement}
 use Rattle.words.specs.declared.StatementKind.the-variants.{Block}
-use Rattle.language.specs.Trees.{Statement, empty, express, block, ifThen, ifElse, while, doWhile, for, switch, break, continue, goto, guardedIf, guardedDo, abort, Arms, noArm, arm, Items, none, _then_, _here_}
+use Rattle.language.specs.Trees.{Statement, empty, express, block, ifThen, ifElse, while, doWhile, for, switch, break, continue, goto, guardedIf, guardedDo, abort, declare, Arms, noArm, arm, Items, none, _then_, _here_}
 use Rattle.language.specs.Decode.{listAt}
 use Rattle.language.specs.Program.{contents}
 use Rattle.language.specs.SoundLaws.{optional-link-of}
@@ -44,6 +44,7 @@ mutual
   labels-small (guardedIf arms) = omega (arith, arms-labels-small arms)
   labels-small (guardedDo arms) = omega (arith, rounds-labels-small arms, arms-labels-small arms)
   labels-small abort = omega arith
+  labels-small (declare i e) = omega arith
 
   arms-labels-small : (arms : Arms) → armsLabels arms ≤ armsSize arms
   arms-labels-small noArm = omega arith

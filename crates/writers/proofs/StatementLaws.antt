@@ -6,7 +6,7 @@ use Prim.Native.Nat.{ℕ, zero, suc, _+_, _*_, _≤_, _<_}
 use native.Mathlib.Omega.{arith}
 use lib.IntN.{ℤ, pos}
 use Rattle.words.specs.Word.{pick}
-use Rattle.language.specs.Trees.{Expression, Part, absent, present, default, label, Statement, empty, express, block, ifThen, ifElse, while, doWhile, for, switch, break, continue, goto, guardedIf, guardedDo, abort, Arms, noArm, arm, Items, none, _then_, _here_, _⧺_}
+use Rattle.language.specs.Trees.{Expression, Part, absent, present, default, label, Statement, empty, express, block, ifThen, ifElse, while, doWhile, for, switch, break, continue, goto, guardedIf, guardedDo, abort, declare, Arms, noArm, arm, Items, none, _then_, _here_, _⧺_}
 use Rattle.language.specs.Sizes.{statementRows, itemsRows}
 use Rattle.language.specs.TreeLaws.{append-none, append-append, statement-some}
 use Rattle.language.specs.Decode.{expressionAt, ifOf, statementAt, partAt}
@@ -20,7 +20,8 @@ use Rattle.emission.specs.EmissionLaws.{emit-append, length-expression, length-
 use Rattle.words.specs.Over.{over}
 use Rattle.leaves.specs.Room.{moreRows}
 use Rattle.leaves.specs.Atoms.{atomTree}
-use Rattle.shapes.specs.Shapes.{statementTree, StatementAt}
+use Rattle.shapes.specs.Shapes.{statementTree}
+use Rattle.shapes.specs.Source.{StatementAt}
 use Rattle.shapes.specs.declared.StatementShape.{StatementShape}
 use Rattle.straight_writers.specs.Asks.{AtomAt}
 use Rattle.writers.specs.Asks.{bodySize, bodyLabels, loopSize}
@@ -29,6 +30,7 @@ use Rattle.writers.specs.declared.Loop.{Loop}
 use Rattle.leaves.specs.declared.Atom.{Atom as KernelAtom}
 use Rattle.straight_writers.specs.AtomLaws.{atom-rows}
 use Rattle.leaves.specs.Chain.{part, back-in, Put, reworded, more-some, link-is, Wrote, wrote-put, one-item, choice-words}
+use Rattle.writers.proofs.DeclarationLaws.{declared-some}
 use Rattle.writers.proofs.Sequence.{put-behind, wrote-behind, more-true, append-four}
 
 -- ---- branches that may be absent
@@ -118,6 +120,7 @@ statement-size-some (goto l) = omega arith
 statement-size-some (guardedIf arms) = omega arith
 statement-size-some (guardedDo arms) = omega (arith, rounds-some arms)
 statement-size-some abort = omega arith
+statement-size-some (declare i e) = declared-some i e
 
 module _ (S : ℕ) where
   -- A block of a list.

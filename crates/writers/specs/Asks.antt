@@ -4,10 +4,12 @@ use Prim.Native.Nat.{ℕ, zero, suc, _+_, _*_, _≤_, _<_, max}
 use lib.IntN.{ℤ}
 use Rattle.words.specs.Table.{rowCount}
 use Rattle.language.specs.Decode.{expressionAt, statementAt, itemsAt, armsAt, listAt, armListAt, partAt}
-use Rattle.translation.specs.declared.Use.the-variants.{Dropped as dropped, Wanted as wanted}
+use Rattle.language.specs.Trees.{variable}
+use Rattle.translation.specs.Uses.{direct}
+use Rattle.translation.specs.declared.Use.the-variants.{Dropped as dropped, Wanted as wanted, Stored as stored}
 use Rattle.translation.specs.Translate.{roundsLabels, labels, armsLabels, itemsLabels}
-use Rattle.translation.specs.TranslateSize.{expressionSize, partSize, testSize, roundsRows, statementSize, armsSize, itemsSize, cases}
-use Rattle.shapes.specs.Source.{Source}
+use Rattle.translation.specs.TranslateSize.{storeRows, expressionSize, operandSize, partSize, testSize, roundsRows, statementSize, armsSize, itemsSize, cases}
+use Rattle.shapes.specs.Source.{mostVariables, Source}
 use Rattle.leaves.specs.Room.{Room}
 use Rattle.leaves.specs.Atoms.{AtomFits}
 use Rattle.leaves.specs.declared.Atom.{Atom}
@@ -115,6 +117,13 @@ pub record ExpressAsks (rows : List ℤ) (row base words : ℕ) : Type 0 where
   pub some : 0 < row
   pub inside : row < rowCount rows
   pub room : Room (max 1 (expressionSize (expressionAt rows row) dropped)) base words
+
+-- A declaration: the word of its object, and its value.
+pub record DeclareAsks (rows : List ℤ) (number value base words : ℕ) : Type 0 where
+  pub low : number < mostVariables
+  pub some : 0 < value
+  pub inside : value < rowCount rows
+  pub room : Room (operandSize (partAt rows value) (stored number) + storeRows (variable number) (direct (expressionAt rows value))) base words
 
 pub record IfAsks (rows : List ℤ) (test onTrue onFalse : ℕ) (x : Exits) (label base words : ℕ) : Type 0 where
   pub test-some : 0 < test

@@ -2,9 +2,11 @@
 use mathlib.Core.List.{List}
 use Prim.Native.Nat.{ℕ, zero, suc, _+_}
 use lib.IntN.{ℤ}
-use Rattle.language.specs.Trees.{Part, label, Items, none, _here_, _⧺_}
+use Rattle.language.specs.Trees.{Expression, variable, Part, label, Items, none, _here_, _⧺_}
 use Rattle.language.specs.Decode.{statementAt, partAt}
-use Rattle.translation.specs.Translate.{partCode, testCode, loopCode, Exits, exits, statementCode}
+use Rattle.translation.specs.Uses.{direct}
+use Rattle.translation.specs.declared.Use.the-variants.{Stored as stored}
+use Rattle.translation.specs.Translate.{atomOf, atom, storeCode, expressionCode, partCode, testCode, loopCode, Exits, exits, statementCode}
 use Rattle.writers.specs.declared.Exits.{Exits as ExitLabels}
 use Rattle.writers.specs.declared.Loop.{Loop}
 
@@ -26,6 +28,10 @@ module _ (S : ℕ) (rows : List ℤ) where
 
   abbrev pub wholeLoop : Loop → ℕ → Items
   wholeLoop parts l = partCode S (partAt rows (parts .first)) ⧺ loopCode S (roundCode parts l) l
+
+-- A declaration: the code of its value, and the assignment to the word i, where the value is not there already.
+abbrev pub declaredCode : ℕ → ℕ → Expression → Items
+declaredCode S i e = expressionCode S e (stored i) 0 ⧺ storeCode S (variable i) (direct e) (atom S 0 (atomOf e))
 
 abbrev pub exitsOf : ExitLabels → Exits
 exitsOf x = exits (x .breaking) (x .continuing)

@@ -6,7 +6,6 @@ use native.Mathlib.Omega.{arith}
 use lib.IntN.{ℤ}
 use Rattle.words.specs.Table.{rowCount}
 use Rattle.words.specs.Kinds.{kindAt, isLink, statementFields, kindRow, sortIn}
-use Rattle.words.specs.Layout.{Layout, storeSize}
 use Rattle.words.specs.declared.Kind.the-variants.{OfStatement}
 use Rattle.words.specs.declared.StatementKind.the-variants.{Block}
 use Rattle.language.specs.Trees.{block, Items}
@@ -21,9 +20,9 @@ use Rattle.measure_table.specs.Measures.{statementRowsSlot, statementLevelsSlot
 use Rattle.measure_table.specs.MeasureLaws.{limited-small, whole-row}
 use Rattle.writers.specs.Program.{kernelProgram}
 
-pub is-translation : (L : Layout) (program : Items) → kernelProgram (storeSize L) program ≡ block (translate L program)
+pub is-translation : (first : ℕ) (program : Items) → kernelProgram first program ≡ block (translate first program)
 unfolding translate
-is-translation L program = refl
+is-translation first program = refl
 
 module _ {rows : List ℤ} {table : List ℕ} (m : Measured rows table) (kind : kindAt rows 0 ≡ OfStatement Block) where
   source : Source rows

@@ -1,5 +1,6 @@
 // Writers: the code that writes the rows of a translation. The output table's part from the free row is lent on to each construct's
 // writer; the table of measures says beforehand how many rows each takes.
+pub mod declarations; // declarations.rt: the writer of declarations
 pub mod lists; // lists.rt: what statements, items, lists and arms take, by the table of measures
 pub mod loops; // loops.rt: the parts of a loop
 pub mod program; // program.rt: the writer of a program

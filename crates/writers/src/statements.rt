@@ -1,6 +1,7 @@
 // The writers of statements, blocks, lists and arms: the functions that call each other, by what they write.
 use super::Exits;
 use super::Loop;
+use super::declarations::write_declare;
 use super::lists::arms_labels;
 use super::lists::arms_size;
 use super::lists::body_size;
@@ -215,6 +216,16 @@ pub fn write_statement(
             out,
         ),
         StatementShape::Abort => put_empty(base, follows, out),
+        StatementShape::Declare(number, e) => write_declare(
+            rows,
+            table,
+            store,
+            number,
+            e,
+            base,
+            follows,
+            out,
+        ),
     }
 }
 

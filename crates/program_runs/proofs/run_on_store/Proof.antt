@@ -16,7 +16,7 @@ store-words-requires c κs = accepted-header (c .args .form) (c .args .header .n
 returns : tie.Need-returns
 returns c =
     let s = c .before .before in
-    rw (ne-eqb (length (s .args .store .now)) (storeWords (s .args .form) (s .args .header .now)) (λ e. omega (arith, c .if1 .taken, c .before .store-words .ensures, e)))
+    rw (ne-eqb (length (s .args .store .now)) (storeWords (s .args .form) (s .args .header .now) (s .args .rows .now)) (λ e. omega (arith, c .if1 .taken, c .before .store-words .ensures, e)))
 
 run-accepted-requires : tie.Need-run-accepted-requires
 run-accepted-requires c κs = (c .before .before .before .pre, omega (arith, c .before .if1 .left, c .before .before .store-words .ensures))
@@ -27,8 +27,8 @@ same-length c = search needs
 returns-2 : tie.Need-returns-2
 returns-2 c =
     let s = c .before .before .before .before .before in
-    let same : length (s .args .store .now) ≡ storeWords (s .args .form) (s .args .header .now) = omega (arith, c .before .before .before .if1 .left, c .before .before .before .before .store-words .ensures) in
-    rw (eq-eqb (length (s .args .store .now)) (storeWords (s .args .form) (s .args .header .now)) same) (ap ran (c .before .run-accepted .ensures))
+    let same : length (s .args .store .now) ≡ storeWords (s .args .form) (s .args .header .now) (s .args .rows .now) = omega (arith, c .before .before .before .if1 .left, c .before .before .before .before .store-words .ensures) in
+    rw (eq-eqb (length (s .args .store .now)) (storeWords (s .args .form) (s .args .header .now) (s .args .rows .now)) same) (ap ran (c .before .run-accepted .ensures))
 
 pub run-on-store-spec : {M : Type 1} → statement M
 run-on-store-spec =

@@ -8,7 +8,6 @@ use Rattle.words.specs.Over.{over}
 use Rattle.words.specs.OverLaws.{length-over, over-none}
 use Rattle.names.specs.Names.{tableOf, resolvedWord, resolved}
 use Rattle.names.specs.TableLaws.{table-length}
-use Rattle.names.specs.LinkingLaws.{linking-length}
 use Rattle.resolver.specs.WordLaws.{fill-more}
 use Rattle.resolver.proofs.put_resolved.Statement.{statement}
 use Rattle.resolver.proofs.put_resolved.Tie as tie
@@ -35,7 +34,7 @@ loop-holds c =
 
 resolved-word-requires : tie.Need-resolved-word-requires Inv-loop μ-loop
 resolved-word-requires c κs =
-    let whole = c .before .before .before .before .pre .0 .tree .whole in let same = linking-length (c .before .before .before .before .args .rows .now) in (c .before .before .before .before .pre .0, c .before .before .before .before .pre .1, omega arith, omega arith)
+    let whole = c .before .before .before .before .pre .0 .tree .whole in (c .before .before .before .before .pre .0, c .before .before .before .before .pre .1, omega arith, omega arith)
 
 mul-t11 : tie.Need-mul-t11 Inv-loop μ-loop
 mul-t11 c =

@@ -1,16 +1,18 @@
 -- `write_measured` tests the room that row 0's measures ask for, and writes both tables: they are the kernel form's.
-use mathlib.Core.Path.{sym, ap, subst, _∙_}
+use mathlib.Core.Path.{_≡_, sym, ap, subst, _∙_}
 use mathlib.Core.List.{List}
-use Prim.Native.Nat.{ℕ}
+use Prim.Native.Nat.{ℕ, _+_}
 use native.Mathlib.Omega.{arith}
 use lib.IntN.{ℤ}
 use lib.ListN.{length}
 use borrow.Author.Needs.{needs}
+use Rattle.words.specs.Layout.{storeWords}
 use Rattle.words.specs.Over.{over}
+use Rattle.words.specs.declared.Form.the-variants.{Source}
 use Rattle.writers.specs.Program.{ProgramAsks}
 use Rattle.fate.specs.KernelForms.{kernelHeaderOf, kernelRowsOf}
 use Rattle.translator.specs.TranslationLaws.{header-short, rows-short, both-written}
-use Rattle.translator.specs.AcceptedLaws.{accepted-header, accepted-asks, temporaries-low, header-words, row-words, row-words-low, header-is, rows-are}
+use Rattle.translator.specs.AcceptedLaws.{accepted-header, few-declarations, first-is, first-low, accepted-asks, temporaries-low, header-words, row-words, row-words-low, header-is, rows-are}
 use Rattle.translator.proofs.write_measured.Statement.{statement}
 use Rattle.translator.proofs.write_measured.Tie as tie
 
@@ -41,30 +43,47 @@ returns-2 c =
     rows-short (kernelHeaderOf header rows) (kernelRowsOf header rows) (start .args .kernel-header .now) (start .args .kernel-rows .now)
     (omega (arith, row-words header rows (start .pre .0) (start .pre .1), c .if2 .taken))
 
+declaration-count-requires : tie.Need-declaration-count-requires
+declaration-count-requires c κs = search needs
+
 shared-slice-read-write-header : tie.Need-shared-slice-read-write-header
 shared-slice-read-write-header c = search needs
 
 write-header-requires : tie.Need-write-header-requires
 write-header-requires c κs =
-    let start = c .before .before .before .before .before .before in
+    let start = c .before .before .before .before .before .before .before in
     let header = start .args .header .now in
     let rows = start .args .rows .now in (
       accepted-header header rows (start .pre .0),
+      omega (arith, c .before .before .declaration-count .ensures, few-declarations header rows (start .pre .0)),
       temporaries-low header rows (start .pre .0) (start .pre .1),
-      omega (arith, c .before .before .before .before .if1 .left),
+      omega (arith, c .before .before .before .before .before .if1 .left),
     )
 
 store-size-requires : tie.Need-store-size-requires
 store-size-requires c κs =
-    let start = c .before .before .before .before .before .before .before .before in
+    let start = c .before .before .before .before .before .before .before .before .before in
     accepted-header (start .args .header .now) (start .args .rows .now) (start .pre .0)
+
+-- the store word where the temporaries begin
+first-counted : (c : tie.After-store-size)
+    → c .store-size .result + c .before .before .before .before .before .declaration-count .result
+    ≡ storeWords Source (c .before .before .before .before .before .before .before .before .before .before .args .header .now) (c .before .before .before .before .before .before .before .before .before .before .args .rows .now)
+first-counted c =
+    let start = c .before .before .before .before .before .before .before .before .before .before in
+    first-is (start .args .header .now) (start .args .rows .now) (start .pre .0) _ _ (c .store-size .ensures) (c .before .before .before .before .before .declaration-count .ensures)
+
+add-first : tie.Need-add-first
+add-first c =
+    let start = c .before .before .before .before .before .before .before .before .before .before in
+    omega (arith, first-counted c, first-low (start .args .header .now) (start .args .rows .now) (start .pre .0))
 
 write-program-requires : tie.Need-write-program-requires
 write-program-requires c κs =
-    let start = c .before .before .before .before .before .before .before .before .before .before in
+    let start = c .before .before .before .before .before .before .before .before .before .before .before in
     let rows = start .args .rows .now in
-    let asks = accepted-asks (start .args .header .now) rows (start .pre .0) (start .pre .1) (length (start .args .kernel-rows .now)) (omega (arith, c .before .before .before .before .before .before .if2 .left)) in
-    subst (λ (S : ℕ). ProgramAsks rows (start .args .table .now) S (length (start .args .kernel-rows .now))) (sym (c .before .store-size .ensures)) asks
+    let asks = accepted-asks (start .args .header .now) rows (start .pre .0) (start .pre .1) (length (start .args .kernel-rows .now)) (omega (arith, c .before .before .before .before .before .before .before .if2 .left)) in
+    subst (λ (S : ℕ). ProgramAsks rows (start .args .table .now) S (length (start .args .kernel-rows .now))) (sym (first-counted (c .before))) asks
 
 same-length : tie.Need-same-length
 same-length c = search needs
@@ -74,21 +93,22 @@ same-length-2 c = search needs
 
 returns-3 : tie.Need-returns-3
 returns-3 c =
-    let start = c .before .before .before .before .before .before .before .before .before .before .before .before in
+    let counted = c .before .before .before in
+    let start = counted .before .before .before .before .before .before .before .before .before .before in
     let header = start .args .header .now in
     let rows = start .args .rows .now in
     let outHeader = start .args .kernel-header .now in
     let outRows = start .args .kernel-rows .now in
     let accepted = start .pre .0 in
     let measured = start .pre .1 in
-    let headerLeft = c .before .before .before .before .before .write-header .ensures ∙ ap (λ (ws : List ℤ). over ws outHeader) (header-is header rows accepted measured) in
-    let rowsLeft = c .before .write-program .ensures ∙ ap (λ (ws : List ℤ). over ws outRows) (rows-are header rows accepted _ (c .before .before .before .store-size .ensures)) in
+    let headerLeft = counted .before .before .write-header .ensures ∙ ap (λ (ws : List ℤ). over ws outHeader) (header-is header rows accepted measured _ (counted .before .before .before .before .before .declaration-count .ensures)) in
+    let rowsLeft = c .before .write-program .ensures ∙ ap (λ (ws : List ℤ). over ws outRows) (rows-are header rows accepted _ (first-counted counted)) in
     let headerWords = header-words header rows accepted in
     let rowWords = row-words header rows accepted measured in
     rw (headerWords, rowWords, headerLeft, rowsLeft)
     (both-written (kernelHeaderOf header rows) (kernelRowsOf header rows) outHeader outRows
-    (omega (arith, headerWords, c .before .before .before .before .before .before .before .before .before .before .if1 .left))
-    (omega (arith, rowWords, c .before .before .before .before .before .before .before .before .if2 .left)))
+    (omega (arith, headerWords, counted .before .before .before .before .before .before .before .before .if1 .left))
+    (omega (arith, rowWords, counted .before .before .before .before .before .before .if2 .left)))
 
 pub write-measured-spec : {M : Type 1} → statement M
 write-measured-spec =
@@ -99,9 +119,11 @@ write-measured-spec =
     shared-slice-read-row-words
     mul-row-words
     returns-2
+    declaration-count-requires
     shared-slice-read-write-header
     write-header-requires
     store-size-requires
+    add-first
     write-program-requires
     same-length
     same-length-2

@@ -6,7 +6,7 @@ use Rattle.command_program.proofs.buffers.output_buffer.Statement.{stat
 use Rattle.command_program.proofs.buffers.output_buffer.Tie as tie
 
 returns : tie.Need-returns
-returns c = sym (length-replicate {A = ℕ} 2950968 0)
+returns c = sym (length-replicate {A = ℕ} 2950980 0)
 
 pub output-buffer-spec : {M : Type 1} → statement M
 output-buffer-spec = tie.close (tie.spec returns)

@@ -6,7 +6,7 @@ use Rattle.command_program.proofs.buffers.store_buffer.Statement.{state
 use Rattle.command_program.proofs.buffers.store_buffer.Tie as tie
 
 returns : tie.Need-returns
-returns c = sym (length-replicate {A = ℕ} 196609 0)
+returns c = sym (length-replicate {A = ℕ} 197377 0)
 
 pub store-buffer-spec : {M : Type 1} → statement M
 store-buffer-spec = tie.close (tie.spec returns)

@@ -1,4 +1,4 @@
--- `put_preview`: a scratch of as many zeros as the header asks, then the preview.
+-- `put_preview`: a scratch of as many zeros as the program's store has words, then the preview.
 use mathlib.Core.Path.{ap, _∙_}
 use mathlib.Core.List.{List}
 use Prim.Native.Nat.{_≤_}
@@ -10,7 +10,6 @@ use Rattle.words.specs.Laws.{zeros-part}
 use Rattle.text_numbers.specs.PutLaws.{put-as}
 use Rattle.program_previews.specs.Previews.{previewResult}
 use Rattle.command_runs.specs.Tasks.{resultLines}
-use Rattle.command_runs.proofs.Starts.{source-words-most}
 use borrow.Author.Needs.{needs}
 use Rattle.command_runs.proofs.previews.put_preview.Statement.{statement}
 use Rattle.command_runs.proofs.previews.put_preview.Tie as tie
@@ -25,14 +24,14 @@ part-scratch-start : tie.Need-part-scratch-start
 part-scratch-start c = search needs
 
 part-scratch-end : tie.Need-part-scratch-end
-part-scratch-end c = omega (arith, c .store-words .ensures, source-words-most (c .before .before .args .header .now) (c .before .before .pre .0), length-replicate 8192 (pos 0))
+part-scratch-end c = omega (arith, c .store-words .ensures, c .before .before .pre .1 .0, length-replicate 16448 (pos 0))
 
 put-previewed-requires : tie.Need-put-previewed-requires
 put-previewed-requires c κs =
     let start = c .before .before .before .before in
     let words = c .before .before .store-words .result in
-    let inside : words ≤ 8192 = omega (arith, c .before .before .store-words .ensures, source-words-most (start .args .header .now) (start .pre .0)) in
-    (omega (arith, ap length (zeros-part words 8192 inside), length-replicate words (pos 0), inside), start .pre .1)
+    let inside : words ≤ 16448 = omega (arith, c .before .before .store-words .ensures, start .pre .1 .0) in
+    (omega (arith, ap length (zeros-part words 16448 inside), length-replicate words (pos 0), inside), start .pre .1 .1)
 
 same-length : tie.Need-same-length
 same-length c = search needs
@@ -41,8 +40,8 @@ returns : tie.Need-returns
 returns c =
     let start = c .before .before .before .before .before .before .before .before in
     let words = c .before .before .before .before .before .before .store-words in
-    let inside : words .result ≤ 8192 = omega (arith, words .ensures, source-words-most (start .args .header .now) (start .pre .0)) in
-    put-as (ap (λ (scratch : List ℤ). resultLines (previewResult (start .args .header .now) (start .args .rows .now) (start .args .budget) (start .args .store .now) scratch)) (zeros-part (words .result) 8192 inside ∙ ap zeros (words .ensures))) (c .before .before .before .put-previewed .ensures)
+    let inside : words .result ≤ 16448 = omega (arith, words .ensures, start .pre .1 .0) in
+    put-as (ap (λ (scratch : List ℤ). resultLines (previewResult (start .args .header .now) (start .args .rows .now) (start .args .budget) (start .args .store .now) scratch)) (zeros-part (words .result) 16448 inside ∙ ap zeros (words .ensures))) (c .before .before .before .put-previewed .ensures)
 
 pub put-preview-spec : {M : Type 1} → statement M
 put-preview-spec =

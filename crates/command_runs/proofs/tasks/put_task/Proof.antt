@@ -7,13 +7,16 @@ enum-known-task : tie.Need-enum-known-task
 enum-known-task c = search needs
 
 put-run-requires : tie.Need-put-run-requires
-put-run-requires c κs = c .before .before .before .before .before .before .pre .1 .0
+put-run-requires c κs = c .before .before .before .before .before .before .pre .1 .1 .0
 
 enum-told : tie.Need-enum-told
 enum-told c = search needs
 
 put-preview-requires : tie.Need-put-preview-requires
-put-preview-requires c κs = (rw (c .before .before .enum-told .given .1) at (c .before .before .before .before .before .pre .0), c .before .before .before .before .before .pre .1 .1)
+put-preview-requires c κs =
+    let start = c .before .before .before .before .before in
+    let kind = c .before .before .enum-told .given .1 in
+    (rw kind at (start .pre .0), (rw kind at (start .pre .1 .0), start .pre .1 .1 .1))
 
 enum-told-2 : tie.Need-enum-told-2
 enum-told-2 c = search needs

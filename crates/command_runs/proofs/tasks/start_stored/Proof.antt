@@ -14,7 +14,7 @@ slice-aggregate-read-words : tie.Need-slice-aggregate-read-words
 slice-aggregate-read-words c = search needs
 
 read-words-requires : tie.Need-read-words-requires
-read-words-requires c κs = omega (arith, c .before .before .before .before .pre .1 .0, length-replicate 98304 (pos 0))
+read-words-requires c κs = omega (arith, c .before .before .before .before .pre .1 .0, length-replicate 98688 (pos 0))
 
 enum-known-read : tie.Need-enum-known-read
 enum-known-read c = search needs
@@ -35,7 +35,7 @@ part-store-end : tie.Need-part-store-end
 part-store-end c = stored-inside (rw (c .before .read2 .given .1) at (c .before .before .before .before .read-words .ensures)) (c .before .before .before .before .read-words .kept .1 .0)
 
 start-text-requires : tie.Need-start-text-requires
-start-text-requires c κs = (c .before .before .before .before .before .before .before .before .before .before .before .before .before .pre .0, (part-room _ _ (stored-inside (rw (c .before .before .before .before .before .read2 .given .1) at (c .before .before .before .before .before .before .before .before .read-words .ensures)) (c .before .before .before .before .before .before .before .before .read-words .kept .1 .0)) (omega (arith, c .before .before .before .before .before .before .before .before .read-words .kept .1 .0, length-replicate 98304 (pos 0))) (c .before .before .before .before .before .before .before .before .before .before .before .before .before .pre .1 .1), c .before .before .before .before .before .before .before .before .before .before .before .before .before .pre .1 .1))
+start-text-requires c κs = (c .before .before .before .before .before .before .before .before .before .before .before .before .before .pre .0, (part-room _ _ (stored-inside (rw (c .before .before .before .before .before .read2 .given .1) at (c .before .before .before .before .before .before .before .before .read-words .ensures)) (c .before .before .before .before .before .before .before .before .read-words .kept .1 .0)) (omega (arith, c .before .before .before .before .before .before .before .before .read-words .kept .1 .0, length-replicate 98688 (pos 0))) (c .before .before .before .before .before .before .before .before .before .before .before .before .before .pre .1 .1), c .before .before .before .before .before .before .before .before .before .before .before .before .before .pre .1 .1))
 
 same-length : tie.Need-same-length
 same-length c = search needs

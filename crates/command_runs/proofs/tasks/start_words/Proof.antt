@@ -24,8 +24,8 @@ store-size-requires c κs = rw (c .enum-told2 .given .1) at (c .before .before .
 enum-told-3 : tie.Need-enum-told-3
 enum-told-3 c = search needs
 
-store-words-requires-3 : tie.Need-store-words-requires-3
-store-words-requires-3 c κs = rw (c .enum-told3 .given .1) at (c .before .before .pre)
+header-store-requires : tie.Need-header-store-requires
+header-store-requires c κs = rw (c .enum-told3 .given .1) at (c .before .before .pre)
 
 returns : tie.Need-returns
 returns c = rw (c .before .before .task .given .1) (c .store-words .ensures)
@@ -37,7 +37,7 @@ returns-3 : tie.Need-returns-3
 returns-3 c = rw (c .before .enum-told2 .given .1) (c .store-size .ensures)
 
 returns-4 : tie.Need-returns-4
-returns-4 c = rw (c .before .enum-told3 .given .1) (c .store-words3 .ensures)
+returns-4 c = rw (c .before .enum-told3 .given .1) (c .header-store .ensures)
 
 pub start-words-spec : {M : Type 1} → statement M
 start-words-spec =
@@ -50,7 +50,7 @@ start-words-spec =
     enum-told-2
     store-size-requires
     enum-told-3
-    store-words-requires-3
+    header-store-requires
     returns
     returns-2
     returns-3

@@ -37,7 +37,9 @@ part-put-zeros-task-end-2 : tie.Need-part-put-zeros-task-end-2
 part-put-zeros-task-end-2 c = (rw (c .before .before .before .before .answer2 .given .1) at (c .before .before .before .before .before .before .before .before .read-task .ensures)) .rows-inside
 
 put-zeros-task-requires : tie.Need-put-zeros-task-requires
-put-zeros-task-requires c κs = ((rw (c .before .before .before .before .before .before .answer2 .given .1) at (c .before .before .before .before .before .before .before .before .before .before .read-task .ensures)) .fits, c .before .before .before .before .before .before .before .before .before .before .before .before .before .before .before .pre .1)
+put-zeros-task-requires c κs =
+    let text = rw (c .before .before .before .before .before .before .answer2 .given .1) at (c .before .before .before .before .before .before .before .before .before .before .read-task .ensures) in
+    (text .fits, (text .small, c .before .before .before .before .before .before .before .before .before .before .before .before .before .before .before .pre .1))
 
 same-length : tie.Need-same-length
 same-length c = search needs

@@ -1,9 +1,9 @@
--- `put_day`: a store of S zeros, then `put_day_on`.
+-- `put_day`: a store of as many zeros as the rule's has words, then `put_day_on`.
 use mathlib.Core.Path.{ap, _∙_}
 use native.Mathlib.Omega.{arith}
 use Rattle.words.specs.Laws.{back, zeros-part}
 use Rattle.words.specs.Layout.{zeros}
-use Rattle.day_values.proofs.Printing.{rule-words}
+use Rattle.rule_text.specs.RuleLaws.{rule-store}
 use borrow.Author.Needs.{needs}
 use Rattle.day_values.proofs.day.put_day.Statement.{statement}
 use Rattle.day_values.proofs.day.put_day.Tie as tie
@@ -19,11 +19,11 @@ part-store-start c = search needs
 
 part-store-end : tie.Need-part-store-end
 part-store-end c =
-    omega (arith, c .store-words .ensures, rule-words (c .before .before .before .pre .0 .rule))
+    omega (arith, c .store-words .ensures, rule-store (c .before .before .before .pre .0 .rule))
 
 put-day-on-requires : tie.Need-put-day-on-requires
 put-day-on-requires c κs =
-    (c .before .before .before .before .before .pre .0, (zeros-part (c .before .before .store-words .result) 1024 (omega (arith, c .before .before .store-words .ensures, rule-words (c .before .before .before .before .before .pre .0 .rule))) ∙ ap zeros (c .before .before .store-words .ensures), c .before .before .before .before .before .pre .1))
+    (c .before .before .before .before .before .pre .0, (zeros-part (c .before .before .store-words .result) 1088 (omega (arith, c .before .before .store-words .ensures, rule-store (c .before .before .before .before .before .pre .0 .rule))) ∙ ap zeros (c .before .before .store-words .ensures), c .before .before .before .before .before .pre .1))
 
 same-length : tie.Need-same-length
 same-length c = search needs

@@ -5,7 +5,7 @@ use native.Mathlib.Omega.{arith}
 use borrow.Author.Tests.{eq-eqb, ne-eqb}
 use Rattle.words.specs.Table.{rowCount}
 use Rattle.structure.specs.NoteLaws.{above-zero}
-use Rattle.names.specs.Names.{isDeclaration}
+use Rattle.words.specs.Declarations.{isDeclaration}
 use Rattle.list_items.specs.Items.{someFrom, someEarlier}
 use Rattle.list_items.specs.EarlierLaws.{earlier-lower, earlier-inside, from-none, from-here, from-back}
 use Rattle.declaration_causes.specs.Causes.{sameNumber}

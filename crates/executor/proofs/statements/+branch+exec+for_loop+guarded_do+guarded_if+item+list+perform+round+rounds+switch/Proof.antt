@@ -59,7 +59,7 @@ pub +branch+exec+for-loop+guarded-do+guarded-if+item+list+perform+round+rounds+s
     (λ t. guarded-if-lts.spec (guarded-if-claims t) (guarded-if-at t) guarded-if-reads.Post (guarded-if.link-at-requires t) (guarded-if.choose-block-requires t) (guarded-if.position-requires t) (guarded-if.enum-known-chosen t) (guarded-if.enum-told t) (guarded-if.same-length t) (guarded-if.returns t) (guarded-if.same-length-2 t) (guarded-if.returns-2 t) (guarded-if.exec-requires t) (guarded-if.same-length-3 t) (guarded-if.returns-3 t))
     (λ t. item-lts.spec (item-claims t) (item-at t) item-reads.Post (item.returns t) (item.sub-left t) (item.number-at-requires t) (item.express-requires t) (item.same-length t) (item.returns-2 t) (item.perform-requires t) (item.same-length-2 t) (item.returns-3 t))
     (λ t. list-lts.spec (list-claims t) (list-at t) list-reads.Post list-Inv-loop list-μ-loop (list.loop-holds t) (list.item-requires t) (list.resume-requires t) (list.loop-less t) (list.loop-again t) (list.same-length t) (list.returns t))
-    (λ t. perform-lts.spec (perform-claims t) (perform-at t) perform-reads.Post (perform.number-at-requires t) (perform.express-requires t) (perform.link-at-requires t) (perform.list-requires t) (perform.branch-requires t) (perform.link-at-requires-2 t) (perform.link-at-requires-3 t) (perform.rounds-requires t) (perform.link-at-requires-4 t) (perform.link-at-requires-5 t) (perform.rounds-requires-2 t) (perform.for-loop-requires t) (perform.switch-requires t) (perform.word-at-requires t) (perform.jump-requires t) (perform.guarded-if-requires t) (perform.guarded-do-requires t) (perform.returns t) (perform.same-length t) (perform.returns-2 t) (perform.same-length-2 t) (perform.returns-3 t) (perform.same-length-3 t) (perform.returns-4 t) (perform.same-length-4 t) (perform.returns-5 t) (perform.same-length-5 t) (perform.returns-6 t) (perform.same-length-6 t) (perform.returns-7 t) (perform.same-length-7 t) (perform.returns-8 t) (perform.returns-9 t) (perform.returns-10 t) (perform.returns-11 t) (perform.same-length-8 t) (perform.returns-12 t) (perform.same-length-9 t) (perform.returns-13 t) (perform.returns-14 t) (perform.returns-15 t))
+    (λ t. perform-lts.spec (perform-claims t) (perform-at t) perform-reads.Post (perform.number-at-requires t) (perform.express-requires t) (perform.link-at-requires t) (perform.list-requires t) (perform.branch-requires t) (perform.link-at-requires-2 t) (perform.link-at-requires-3 t) (perform.rounds-requires t) (perform.link-at-requires-4 t) (perform.link-at-requires-5 t) (perform.rounds-requires-2 t) (perform.for-loop-requires t) (perform.switch-requires t) (perform.word-at-requires t) (perform.jump-requires t) (perform.guarded-if-requires t) (perform.guarded-do-requires t) (perform.declare-requires t) (perform.returns t) (perform.same-length t) (perform.returns-2 t) (perform.same-length-2 t) (perform.returns-3 t) (perform.same-length-3 t) (perform.returns-4 t) (perform.same-length-4 t) (perform.returns-5 t) (perform.same-length-5 t) (perform.returns-6 t) (perform.same-length-6 t) (perform.returns-7 t) (perform.same-length-7 t) (perform.returns-8 t) (perform.returns-9 t) (perform.returns-10 t) (perform.returns-11 t) (perform.same-length-8 t) (perform.returns-12 t) (perform.same-length-9 t) (perform.returns-13 t) (perform.returns-14 t) (perform.same-length-10 t) (perform.returns-15 t) (perform.returns-16 t))
     (λ t. round-lts.spec (round-claims t) (round-at t) round-reads.Post (round.part-requires t) (round.operand-requires t) (round.enum-known-tested t) (round.enum-told t) (round.same-length t) (round.returns t) (round.is-true-requires t) (round.same-length-2 t) (round.returns-2 t) (round.exec-requires t) (round.after-body-requires t) (round.flow-requires t) (round.enum-told-2 t) (round.same-length-3 t) (round.returns-3 t) (round.part-requires-2 t) (round.operand-requires-2 t) (round.enum-known-closed t) (round.enum-told-3 t) (round.same-length-4 t) (round.returns-4 t) (round.after-last-requires t) (round.same-length-5 t) (round.returns-5 t))
     (λ t. rounds-lts.spec (rounds-claims t) (rounds-at t) rounds-reads.Post rounds-Inv-loop rounds-μ-loop (rounds.loop-holds t) (rounds.round-requires t) (rounds.flow-requires t) (rounds.enum-told t) (rounds.loop-less t) (rounds.loop-again t) (rounds.same-length t) (rounds.returns t))
     (λ t. switch-lts.spec (switch-claims t) (switch-at t) switch-reads.Post (switch.link-at-requires t) (switch.eval-requires t) (switch.operand-requires t) (switch.enum-known-selector t) (switch.enum-told t) (switch.same-length t) (switch.returns t) (switch.link-at-requires-2 t) (switch.find-start-requires t) (switch.list-requires t) (switch.after-switch-requires t) (switch.same-length-2 t) (switch.returns-2 t))

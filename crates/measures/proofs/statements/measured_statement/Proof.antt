@@ -3,16 +3,19 @@ use mathlib.Core.Path.{refl}
 use native.Mathlib.Omega.{arith}
 use Rattle.language.specs.Decode.{expressionAt}
 use Rattle.shapes.specs.ShapeLaws.{stated, optional}
+use Rattle.translation.specs.Uses.{direct}
 use Rattle.translation.specs.Translate.{atomOf, labels, statementLevels}
 use Rattle.translation.specs.TranslateSize.{statementSize}
 use Rattle.translation.specs.TranslateBounds.{taken-most}
 use Rattle.measure_table.specs.MeasureLaws.{slot-asks, link-asks}
-use Rattle.measures.proofs.StatementLaws.{absent-link, plain-measured, express-measured, block-measured, if-measured, while-shape, do-shape, for-measured, switch-measured, guarded-measured, rounds-shape}
+use Rattle.measures.proofs.StatementLaws.{absent-link, store-small, plain-measured, express-measured, block-measured, if-measured, while-shape, do-shape, for-measured, switch-measured, guarded-measured, rounds-shape, declare-measured}
 use borrow.Author.Needs.{needs}
 use Rattle.measures.proofs.statements.measured_statement.Statement.{statement}
 use Rattle.measures.proofs.statements.measured_statement.Tie as tie
+use Rattle.expression_measures.proofs.holders.store_rows.Reads as store-rows-reads
 use Rattle.expression_measures.proofs.holders.taken_at.Reads as taken-at-reads
 use Rattle.measures.proofs.statements.block_measures.Reads as block-measures-reads
+use Rattle.measures.proofs.statements.declare_measures.Reads as declare-measures-reads
 use Rattle.measures.proofs.statements.express_measures.Reads as express-measures-reads
 use Rattle.measures.proofs.statements.guarded_measures.Reads as guarded-measures-reads
 use Rattle.measures.proofs.statements.if_measures.Reads as if-measures-reads
@@ -112,6 +115,15 @@ enum-told-5 c = search needs
 plain-measures-requires-5 : tie.Need-plain-measures-requires-5
 plain-measures-requires-5 c κs = search needs
 
+enum-known-shape-10 : tie.Need-enum-known-shape-10
+enum-known-shape-10 c = search needs
+
+store-rows-requires : tie.Need-store-rows-requires
+store-rows-requires c κs = (c .before .before .before .before .before .pre .0 .source, (stated (c .before .before .before .statement-at .ensures) (c .before .shape10 .given .1)) .onward .1 .inside)
+
+declare-measures-requires : tie.Need-declare-measures-requires
+declare-measures-requires c κs = (slot-asks (c .before .before .before .before .before .before .pre .0) (optional ((stated (c .before .before .before .before .statement-at .ensures) (c .before .before .shape10 .given .1)) .onward .1)), store-small (direct (expressionAt (c .before .before .before .before .before .before .args .rows .now) (c .before .before .shape10 .given .0 .1 .0))) (c .store-rows .ensures))
+
 returns : tie.Need-returns
 unfolding statementSize statementLevels labels
 returns c = plain-measured (c .before .before .before .before .before .pre .0) (stated (c .before .before .before .statement-at .ensures) (c .before .enum-told .given .1)) refl refl refl (c .plain-measures .ensures)
@@ -159,6 +171,9 @@ returns-14 : tie.Need-returns-14
 unfolding statementSize statementLevels labels
 returns-14 c = plain-measured (c .before .before .before .before .before .pre .0) (stated (c .before .before .before .statement-at .ensures) (c .before .enum-told5 .given .1)) refl refl refl (c .plain-measures5 .ensures)
 
+returns-15 : tie.Need-returns-15
+returns-15 c = declare-measured (c .before .before .before .before .before .before .before .pre .0) (stated (c .before .before .before .before .before .statement-at .ensures) (c .before .before .before .shape10 .given .1)) (c .before .store-rows .ensures) (c .declare-measures .ensures)
+
 pub measured-statement-spec : {M : Type 1} → statement M
 measured-statement-spec =
     tie.close
@@ -193,6 +208,9 @@ measured-statement-spec =
     rounds-measures-requires
     enum-told-5
     plain-measures-requires-5
+    enum-known-shape-10
+    store-rows-requires
+    declare-measures-requires
     returns
     returns-2
     returns-3
@@ -206,4 +224,5 @@ measured-statement-spec =
     returns-11
     returns-12
     returns-13
-    returns-14)
+    returns-14
+    returns-15)

@@ -15,7 +15,7 @@ use Rattle.page_line.proofs.contents.lay_content.Statement.{statement}
 use Rattle.page_line.proofs.contents.lay_content.Tie as tie
 
 abbrev bytes : tie.Start → Line → List ℕ
-bytes c l = parted (lineWords (c .args .store) (lineTree (c .args .rows .now) l))
+bytes c l = parted (lineWords (c .args .sizes) (lineTree (c .args .rows .now) l))
 
 inside : (c : tie.Start) {l : Line} → c .args .line ≡ l → LineInside (rowCount (c .args .rows .now)) l
 inside c e = subst (λ (l : Line). LineInside (rowCount (c .args .rows .now)) l) e (c .pre .0 .1)
@@ -40,7 +40,7 @@ enum-known-line-2 c = search needs
 
 lay-goto-requires : tie.Need-lay-goto-requires
 lay-goto-requires c κs =
-    rw (c .before .before .line2 .given .1, ← goto-bytes (c .before .before .before .before .before .args .store) (c .before .before .line2 .given .0 .0)) at (c .before .before .before .before .before .pre .1)
+    rw (c .before .before .line2 .given .1, ← goto-bytes (c .before .before .before .before .before .args .sizes) (c .before .before .line2 .given .0 .0)) at (c .before .before .before .before .before .pre .1)
 
 enum-told-2 : tie.Need-enum-told-2
 enum-told-2 c = search needs
@@ -76,7 +76,7 @@ slice-aggregate-lay-test c = search needs
 
 lay-test-requires : tie.Need-lay-test-requires
 lay-test-requires c κs =
-    ((c .before .before .before .before .before .before .pre .0 .0, inside (c .before .before .before .before .before .before) (c .before .before .before .line4 .given .1)), rw (c .before .before .before .line4 .given .1, ← while-bytes (c .before .before .before .before .before .before .args .store) (expressionAt (c .before .before .before .before .before .before .args .rows .now) (c .before .before .before .line4 .given .0 .0))) at (c .before .before .before .before .before .before .pre .1))
+    ((c .before .before .before .before .before .before .pre .0 .0, inside (c .before .before .before .before .before .before) (c .before .before .before .line4 .given .1)), rw (c .before .before .before .line4 .given .1, ← while-bytes (c .before .before .before .before .before .before .args .sizes) (expressionAt (c .before .before .before .before .before .before .args .rows .now) (c .before .before .before .line4 .given .0 .0))) at (c .before .before .before .before .before .before .pre .1))
 
 enum-known-line-5 : tie.Need-enum-known-line-5
 enum-known-line-5 c = search needs
@@ -86,7 +86,7 @@ slice-aggregate-lay-test-2 c = search needs
 
 lay-test-requires-2 : tie.Need-lay-test-requires-2
 lay-test-requires-2 c κs =
-    ((c .before .before .before .before .before .before .pre .0 .0, inside (c .before .before .before .before .before .before) (c .before .before .before .line5 .given .1)), rw (c .before .before .before .line5 .given .1, ← if-bytes (c .before .before .before .before .before .before .args .store) (expressionAt (c .before .before .before .before .before .before .args .rows .now) (c .before .before .before .line5 .given .0 .0))) at (c .before .before .before .before .before .before .pre .1))
+    ((c .before .before .before .before .before .before .pre .0 .0, inside (c .before .before .before .before .before .before) (c .before .before .before .line5 .given .1)), rw (c .before .before .before .line5 .given .1, ← if-bytes (c .before .before .before .before .before .before .args .sizes) (expressionAt (c .before .before .before .before .before .before .args .rows .now) (c .before .before .before .line5 .given .0 .0))) at (c .before .before .before .before .before .before .pre .1))
 
 enum-told-4 : tie.Need-enum-told-4
 enum-told-4 c = search needs
@@ -127,7 +127,7 @@ same-length-3 c = search needs
 
 returns-3 : tie.Need-returns-3
 returns-3 c =
-    laid-of (bytes (c .before .before .before .before .before .before .before .before)) (c .before .before .before .before .before .line2 .given .1) (laid-as (goto-bytes (c .before .before .before .before .before .before .before .before .args .store) (c .before .before .before .before .before .line2 .given .0 .0)) (c .before .before .lay-goto .ensures))
+    laid-of (bytes (c .before .before .before .before .before .before .before .before)) (c .before .before .before .before .before .line2 .given .1) (laid-as (goto-bytes (c .before .before .before .before .before .before .before .before .args .sizes) (c .before .before .before .before .before .line2 .given .0 .0)) (c .before .before .lay-goto .ensures))
 
 same-length-4 : tie.Need-same-length-4
 same-length-4 c = search needs
@@ -157,14 +157,14 @@ same-length-7 c = search needs
 
 returns-7 : tie.Need-returns-7
 returns-7 c =
-    laid-of (bytes (c .before .before .before .before .before .before .before .before .before)) (c .before .before .before .before .before .before .line4 .given .1) (laid-as (while-bytes (c .before .before .before .before .before .before .before .before .before .args .store) (expressionAt (c .before .before .before .before .before .before .before .before .before .args .rows .now) (c .before .before .before .before .before .before .line4 .given .0 .0))) (c .before .before .lay-test .ensures))
+    laid-of (bytes (c .before .before .before .before .before .before .before .before .before)) (c .before .before .before .before .before .before .line4 .given .1) (laid-as (while-bytes (c .before .before .before .before .before .before .before .before .before .args .sizes) (expressionAt (c .before .before .before .before .before .before .before .before .before .args .rows .now) (c .before .before .before .before .before .before .line4 .given .0 .0))) (c .before .before .lay-test .ensures))
 
 same-length-8 : tie.Need-same-length-8
 same-length-8 c = search needs
 
 returns-8 : tie.Need-returns-8
 returns-8 c =
-    laid-of (bytes (c .before .before .before .before .before .before .before .before .before)) (c .before .before .before .before .before .before .line5 .given .1) (laid-as (if-bytes (c .before .before .before .before .before .before .before .before .before .args .store) (expressionAt (c .before .before .before .before .before .before .before .before .before .args .rows .now) (c .before .before .before .before .before .before .line5 .given .0 .0))) (c .before .before .lay-test2 .ensures))
+    laid-of (bytes (c .before .before .before .before .before .before .before .before .before)) (c .before .before .before .before .before .before .line5 .given .1) (laid-as (if-bytes (c .before .before .before .before .before .before .before .before .before .args .sizes) (expressionAt (c .before .before .before .before .before .before .before .before .before .args .rows .now) (c .before .before .before .before .before .before .line5 .given .0 .0))) (c .before .before .lay-test2 .ensures))
 
 same-length-9 : tie.Need-same-length-9
 same-length-9 c = search needs

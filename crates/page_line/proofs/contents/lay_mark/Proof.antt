@@ -12,7 +12,7 @@ use Rattle.page_line.proofs.contents.lay_mark.Statement.{statement}
 use Rattle.page_line.proofs.contents.lay_mark.Tie as tie
 
 abbrev bytes : tie.Start → MarkShape → List ℕ
-bytes c m = parted (markWords (c .args .store) (markTree [] m))
+bytes c m = parted (markWords (c .args .sizes) (markTree [] m))
 
 enum-told : tie.Need-enum-told
 enum-told c = search needs
@@ -25,7 +25,7 @@ enum-known-mark c = search needs
 
 lay-label-requires : tie.Need-lay-label-requires
 lay-label-requires c κs =
-    rw (c .before .before .mark .given .1, ← label-bytes (c .before .before .before .before .before .args .store) (c .before .before .mark .given .0 .0)) at (c .before .before .before .before .before .pre)
+    rw (c .before .before .mark .given .1, ← label-bytes (c .before .before .before .before .before .args .sizes) (c .before .before .mark .given .0 .0)) at (c .before .before .before .before .before .pre)
 
 returns : tie.Need-returns
 unfolding parted
@@ -42,7 +42,7 @@ same-length c = search needs
 
 returns-3 : tie.Need-returns-3
 returns-3 c =
-    laid-of (bytes (c .before .before .before .before .before .before .before .before)) (c .before .before .before .before .before .mark .given .1) (laid-as (label-bytes (c .before .before .before .before .before .before .before .before .args .store) (c .before .before .before .before .before .mark .given .0 .0)) (c .before .before .lay-label .ensures))
+    laid-of (bytes (c .before .before .before .before .before .before .before .before)) (c .before .before .before .before .before .mark .given .1) (laid-as (label-bytes (c .before .before .before .before .before .before .before .before .args .sizes) (c .before .before .before .before .before .mark .given .0 .0)) (c .before .before .lay-label .ensures))
 
 pub lay-mark-spec : {M : Type 1} → statement M
 lay-mark-spec =

@@ -12,7 +12,7 @@ use Rattle.page_line.proofs.expressions.lay_assignment.Statement.{state
 use Rattle.page_line.proofs.expressions.lay_assignment.Tie as tie
 
 abbrev bytes : tie.Start → Expression → List ℕ
-bytes c e = parted (assignmentWords (c .args .store) e)
+bytes c e = parted (assignmentWords (c .args .sizes) e)
 
 expression-at-requires : tie.Need-expression-at-requires
 expression-at-requires c κs = search needs
@@ -57,7 +57,7 @@ returns-3 c =
 returns-4 : tie.Need-returns-4
 returns-4 c =
     let f = read-as (c .before .before .expression-at .ensures) (c .enum-told3 .given .1) in
-    laid-nothing _ _ _ (ap (bytes (c .before .before .before .before)) (f .is) ∙ no-assignment-chosen (c .before .before .before .before .args .store) (c .before .before .before .before .args .rows .now) (c .enum-told3 .given .0 .0)) (c .before .before .before .before .pre .1)
+    laid-nothing _ _ _ (ap (bytes (c .before .before .before .before)) (f .is) ∙ no-assignment-chosen (c .before .before .before .before .args .sizes) (c .before .before .before .before .args .rows .now) (c .enum-told3 .given .0 .0)) (c .before .before .before .before .pre .1)
 
 pub lay-assignment-spec : {M : Type 1} → statement M
 lay-assignment-spec =

@@ -52,7 +52,7 @@ same-length c = search needs
 returns : tie.Need-returns
 returns c =
     let f = read-as (c .before .before .before .before .before .before .before .expression-at .ensures) (c .before .before .before .before .before .shape .given .1) in
-    laid-of (atomWord (c .before .before .before .before .before .before .before .before .before .args .store)) (f .is) (laid-of numberBytes (sym (back (c .before .before .before .before .before .shape .given .0 .0) (c .before .before .before .before .known-told .given .0 .1))) (c .before .before .lay-constant .ensures))
+    laid-of (atomWord (c .before .before .before .before .before .before .before .before .before .args .sizes)) (f .is) (laid-of numberBytes (sym (back (c .before .before .before .before .before .shape .given .0 .0) (c .before .before .before .before .known-told .given .0 .1))) (c .before .before .lay-constant .ensures))
 
 same-length-2 : tie.Need-same-length-2
 same-length-2 c = search needs
@@ -60,22 +60,22 @@ same-length-2 c = search needs
 returns-2 : tie.Need-returns-2
 returns-2 c =
     let f = read-as (c .before .before .before .before .before .before .before .before .before .before .expression-at .ensures) (c .before .before .before .before .before .before .before .before .shape2 .given .1 ∙ ap Read (c .before .before .before .before .before .place .given .1)) in
-    laid-of (atomWord (c .before .before .before .before .before .before .before .before .before .before .before .before .args .store)) (f .is) (c .before .before .lay-name .ensures)
+    laid-of (atomWord (c .before .before .before .before .before .before .before .before .before .before .before .before .args .sizes)) (f .is) (c .before .before .lay-name .ensures)
 
 returns-3 : tie.Need-returns-3
 returns-3 c =
     let f = read-as (c .before .before .before .before .before .expression-at .ensures) (c .before .before .before .shape2 .given .1 ∙ ap Read (c .enum-told .given .1)) in
-    laid-nothing _ _ _ (ap (atomWord (c .before .before .before .before .before .before .before .args .store)) (f .is)) (c .before .before .before .before .before .before .before .pre .1)
+    laid-nothing _ _ _ (ap (atomWord (c .before .before .before .before .before .before .before .args .sizes)) (f .is)) (c .before .before .before .before .before .before .before .pre .1)
 
 returns-4 : tie.Need-returns-4
 returns-4 c =
     let f = read-as (c .before .before .expression-at .ensures) (c .enum-told2 .given .1) in
-    laid-nothing _ _ _ (ap (atomWord (c .before .before .before .before .args .store)) (f .is) ∙ no-atom (c .before .before .before .before .args .store) (c .before .before .before .before .args .rows .now) (c .enum-told2 .given .0 .0)) (c .before .before .before .before .pre .1)
+    laid-nothing _ _ _ (ap (atomWord (c .before .before .before .before .args .sizes)) (f .is) ∙ no-atom (c .before .before .before .before .args .sizes) (c .before .before .before .before .args .rows .now) (c .enum-told2 .given .0 .0)) (c .before .before .before .before .pre .1)
 
 returns-5 : tie.Need-returns-5
 returns-5 c =
     let f = read-as (c .before .before .expression-at .ensures) (c .enum-told3 .given .1) in
-    laid-nothing _ _ _ (ap (atomWord (c .before .before .before .before .args .store)) (f .is) ∙ no-atom-chosen (c .before .before .before .before .args .store) (c .before .before .before .before .args .rows .now) (c .enum-told3 .given .0 .0)) (c .before .before .before .before .pre .1)
+    laid-nothing _ _ _ (ap (atomWord (c .before .before .before .before .args .sizes)) (f .is) ∙ no-atom-chosen (c .before .before .before .before .args .sizes) (c .before .before .before .before .args .rows .now) (c .enum-told3 .given .0 .0)) (c .before .before .before .before .pre .1)
 
 pub lay-atom-spec : {M : Type 1} → statement M
 lay-atom-spec =

@@ -15,12 +15,12 @@ use Rattle.page_line.proofs.expressions.lay_binary.Statement.{statement
 use Rattle.page_line.proofs.expressions.lay_binary.Tie as tie
 
 sizes : (c : tie.Start)
-    → length (led (ended (valueWords (c .args .store) (binary (c .args .operator) (expressionAt (c .args .rows .now) (c .args .left)) (expressionAt (c .args .rows .now) (c .args .right))))))
-    ≡ length (atomWord (c .args .store) (expressionAt (c .args .rows .now) (c .args .left))) + length (operatorWord (c .args .operator)) + length (atomWord (c .args .store) (expressionAt (c .args .rows .now) (c .args .right))) + 4
+    → length (led (ended (valueWords (c .args .sizes) (binary (c .args .operator) (expressionAt (c .args .rows .now) (c .args .left)) (expressionAt (c .args .rows .now) (c .args .right))))))
+    ≡ length (atomWord (c .args .sizes) (expressionAt (c .args .rows .now) (c .args .left))) + length (operatorWord (c .args .operator)) + length (atomWord (c .args .sizes) (expressionAt (c .args .rows .now) (c .args .right))) + 4
 unfolding ended parted
 sizes c =
-    let left = atomWord (c .args .store) (expressionAt (c .args .rows .now) (c .args .left)) in
-    let right = atomWord (c .args .store) (expressionAt (c .args .rows .now) (c .args .right)) in
+    let left = atomWord (c .args .sizes) (expressionAt (c .args .rows .now) (c .args .left)) in
+    let right = atomWord (c .args .sizes) (expressionAt (c .args .rows .now) (c .args .right)) in
     let word = operatorWord (c .args .operator) in
     omega (arith, length-append left (32 ∷ (word ++ (32 ∷ (right ++ (59 ∷ []))))), length-append word (32 ∷ (right ++ (59 ∷ []))), length-append right (59 ∷ []))
 
@@ -57,7 +57,7 @@ same-length c = search needs
 
 returns : tie.Need-returns
 returns c =
-    laid-as (binary-bytes (c .before .before .before .before .before .before .before .before .before .before .before .before .before .before .before .before .before .before .before .before .before .before .before .before .before .before .before .before .before .args .store) (c .before .before .before .before .before .before .before .before .before .before .before .before .before .before .before .before .before .before .before .before .before .before .before .before .before .before .before .before .before .args .operator) (expressionAt (c .before .before .before .before .before .before .before .before .before .before .before .before .before .before .before .before .before .before .before .before .before .before .before .before .before .before .before .before .before .args .rows .now) (c .before .before .before .before .before .before .before .before .before .before .before .before .before .before .before .before .before .before .before .before .before .before .before .before .before .before .before .before .before .args .left)) (expressionAt (c .before .before .before .before .before .before .before .before .before .before .before .before .before .before .before .before .before .before .before .before .before .before .before .before .before .before .before .before .before .args .rows .now) (c .before .before .before .before .before .before .before .before .before .before .before .before .before .before .before .before .before .before .before .before .before .before .before .before .before .before .before .before .before .args .right)))
+    laid-as (binary-bytes (c .before .before .before .before .before .before .before .before .before .before .before .before .before .before .before .before .before .before .before .before .before .before .before .before .before .before .before .before .before .args .sizes) (c .before .before .before .before .before .before .before .before .before .before .before .before .before .before .before .before .before .before .before .before .before .before .before .before .before .before .before .before .before .args .operator) (expressionAt (c .before .before .before .before .before .before .before .before .before .before .before .before .before .before .before .before .before .before .before .before .before .before .before .before .before .before .before .before .before .args .rows .now) (c .before .before .before .before .before .before .before .before .before .before .before .before .before .before .before .before .before .before .before .before .before .before .before .before .before .before .before .before .before .args .left)) (expressionAt (c .before .before .before .before .before .before .before .before .before .before .before .before .before .before .before .before .before .before .before .before .before .before .before .before .before .before .before .before .before .args .rows .now) (c .before .before .before .before .before .before .before .before .before .before .before .before .before .before .before .before .before .before .before .before .before .before .before .before .before .before .before .before .before .args .right)))
     (laid-next (c .before .before .before .before .before .before .before .before .before .before .before .before .before .before .before .before .before .before .before .before .before .before .before .before .before .before .lay-byte .ensures) (laid-next (c .before .before .before .before .before .before .before .before .before .before .before .before .before .before .before .before .before .before .before .before .before .before .lay-atom .ensures) (laid-next (c .before .before .before .before .before .before .before .before .before .before .before .before .before .before .before .before .before .before .lay-byte2 .ensures) (laid-next (c .before .before .before .before .before .before .before .before .before .before .before .before .before .before .lay-operator .ensures) (laid-next (c .before .before .before .before .before .before .before .before .before .before .lay-byte3 .ensures) (laid-next (c .before .before .before .before .before .before .lay-atom2 .ensures) (c .before .before .lay-byte4 .ensures)))))))
 
 pub lay-binary-spec : {M : Type 1} → statement M

@@ -14,9 +14,9 @@ use Rattle.page_line.proofs.expressions.lay_element.Statement.{statemen
 use Rattle.page_line.proofs.expressions.lay_element.Tie as tie
 
 sizes : (c : tie.Start)
-    → length (placeWord (c .args .store) (element (c .args .array) (expressionAt (c .args .rows .now) (c .args .index)))) ≡ length (digits (c .args .array)) + length (atomWord (c .args .store) (expressionAt (c .args .rows .now) (c .args .index))) + 3
+    → length (placeWord (c .args .sizes) (element (c .args .array) (expressionAt (c .args .rows .now) (c .args .index)))) ≡ length (digits (c .args .array)) + length (atomWord (c .args .sizes) (expressionAt (c .args .rows .now) (c .args .index))) + 3
 sizes c =
-    let atom = atomWord (c .args .store) (expressionAt (c .args .rows .now) (c .args .index)) in
+    let atom = atomWord (c .args .sizes) (expressionAt (c .args .rows .now) (c .args .index)) in
     omega (arith, length-append (digits (c .args .array)) (91 ∷ (atom ++ (93 ∷ []))), length-append atom (93 ∷ []))
 
 lay-lettered-requires : tie.Need-lay-lettered-requires

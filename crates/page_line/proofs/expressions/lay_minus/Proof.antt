@@ -15,9 +15,9 @@ use Rattle.page_line.proofs.expressions.lay_minus.Statement.{statement}
 use Rattle.page_line.proofs.expressions.lay_minus.Tie as tie
 
 sizes : (c : tie.Start)
-    → length (led (ended (valueWords (c .args .store) (minus (expressionAt (c .args .rows .now) (c .args .operand)))))) ≡ length (atomWord (c .args .store) (expressionAt (c .args .rows .now) (c .args .operand))) + 4
+    → length (led (ended (valueWords (c .args .sizes) (minus (expressionAt (c .args .rows .now) (c .args .operand)))))) ≡ length (atomWord (c .args .sizes) (expressionAt (c .args .rows .now) (c .args .operand))) + 4
 unfolding ended parted
-sizes c = omega (arith, length-append (atomWord (c .args .store) (expressionAt (c .args .rows .now) (c .args .operand))) (59 ∷ []))
+sizes c = omega (arith, length-append (atomWord (c .args .sizes) (expressionAt (c .args .rows .now) (c .args .operand))) (59 ∷ []))
 
 slice-aggregate-lay-bytes : tie.Need-slice-aggregate-lay-bytes
 slice-aggregate-lay-bytes c = search needs
@@ -39,7 +39,7 @@ same-length c = search needs
 
 returns : tie.Need-returns
 returns c =
-    laid-as (minus-bytes (c .before .before .before .before .before .before .before .before .before .before .before .before .before .before .args .store) (expressionAt (c .before .before .before .before .before .before .before .before .before .before .before .before .before .before .args .rows .now) (c .before .before .before .before .before .before .before .before .before .before .before .before .before .before .args .operand))) (laid-next (c .before .before .before .before .before .before .before .before .before .before .lay-bytes .ensures) (laid-next (c .before .before .before .before .before .before .lay-atom .ensures) (c .before .before .lay-byte .ensures)))
+    laid-as (minus-bytes (c .before .before .before .before .before .before .before .before .before .before .before .before .before .before .args .sizes) (expressionAt (c .before .before .before .before .before .before .before .before .before .before .before .before .before .before .args .rows .now) (c .before .before .before .before .before .before .before .before .before .before .before .before .before .before .args .operand))) (laid-next (c .before .before .before .before .before .before .before .before .before .before .lay-bytes .ensures) (laid-next (c .before .before .before .before .before .before .lay-atom .ensures) (c .before .before .lay-byte .ensures)))
 
 pub lay-minus-spec : {M : Type 1} → statement M
 lay-minus-spec =

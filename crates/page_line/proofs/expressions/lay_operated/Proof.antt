@@ -13,7 +13,7 @@ use Rattle.page_line.proofs.expressions.lay_operated.Statement.{stateme
 use Rattle.page_line.proofs.expressions.lay_operated.Tie as tie
 
 abbrev bytes : tie.Start → OperationShape → List ℕ
-bytes c o = parted (assignmentWords (c .args .store) (operationTree (c .args .rows .now) o))
+bytes c o = parted (assignmentWords (c .args .sizes) (operationTree (c .args .rows .now) o))
 
 enum-known-operation : tie.Need-enum-known-operation
 enum-known-operation c = search needs

@@ -14,7 +14,7 @@ use Rattle.page_line.proofs.expressions.lay_operation.Statement.{statem
 use Rattle.page_line.proofs.expressions.lay_operation.Tie as tie
 
 abbrev bytes : tie.Start → OperationShape → List ℕ
-bytes c o = led (ended (valueWords (c .args .store) (operationTree (c .args .rows .now) o)))
+bytes c o = led (ended (valueWords (c .args .sizes) (operationTree (c .args .rows .now) o)))
 
 enum-known-operation : tie.Need-enum-known-operation
 enum-known-operation c = search needs

@@ -29,14 +29,14 @@ same-length c = search needs
 
 returns : tie.Need-returns
 returns c =
-    laid-of (λ (p : PlaceShape). placeWord (c .before .before .before .before .before .before .before .before .args .store) (placeTree (c .before .before .before .before .before .before .before .before .args .rows .now) p)) (c .before .before .before .before .before .place .given .1) (c .before .before .lay-name .ensures)
+    laid-of (λ (p : PlaceShape). placeWord (c .before .before .before .before .before .before .before .before .args .sizes) (placeTree (c .before .before .before .before .before .before .before .before .args .rows .now) p)) (c .before .before .before .before .before .place .given .1) (c .before .before .lay-name .ensures)
 
 same-length-2 : tie.Need-same-length-2
 same-length-2 c = search needs
 
 returns-2 : tie.Need-returns-2
 returns-2 c =
-    laid-of (λ (p : PlaceShape). placeWord (c .before .before .before .before .before .before .before .before .args .store) (placeTree (c .before .before .before .before .before .before .before .before .args .rows .now) p)) (c .before .before .before .before .before .place2 .given .1) (c .before .before .lay-element .ensures)
+    laid-of (λ (p : PlaceShape). placeWord (c .before .before .before .before .before .before .before .before .args .sizes) (placeTree (c .before .before .before .before .before .before .before .before .args .rows .now) p)) (c .before .before .before .before .before .place2 .given .1) (c .before .before .lay-element .ensures)
 
 pub lay-read-spec : {M : Type 1} → statement M
 lay-read-spec =

@@ -14,11 +14,11 @@ lay-byte-requires c κs = search needs
 
 lay-read-requires : tie.Need-lay-read-requires
 lay-read-requires c κs =
-    (c .before .before .before .before .before .before .pre .0, omega (arith, length-append (placeWord (c .before .before .before .before .before .before .args .store) (placeTree (c .before .before .before .before .before .before .args .rows .now) (c .before .before .before .before .before .before .args .place))) (59 ∷ []), c .before .before .before .before .before .before .pre .1))
+    (c .before .before .before .before .before .before .pre .0, omega (arith, length-append (placeWord (c .before .before .before .before .before .before .args .sizes) (placeTree (c .before .before .before .before .before .before .args .rows .now) (c .before .before .before .before .before .before .args .place))) (59 ∷ []), c .before .before .before .before .before .before .pre .1))
 
 lay-byte-requires-2 : tie.Need-lay-byte-requires-2
 lay-byte-requires-2 c κs =
-    omega (arith, length-append (placeWord (c .before .before .before .before .before .before .before .before .before .before .args .store) (placeTree (c .before .before .before .before .before .before .before .before .before .before .args .rows .now) (c .before .before .before .before .before .before .before .before .before .before .args .place))) (59 ∷ []), c .before .before .before .before .before .before .before .before .before .before .pre .1)
+    omega (arith, length-append (placeWord (c .before .before .before .before .before .before .before .before .before .before .args .sizes) (placeTree (c .before .before .before .before .before .before .before .before .before .before .args .rows .now) (c .before .before .before .before .before .before .before .before .before .before .args .place))) (59 ∷ []), c .before .before .before .before .before .before .before .before .before .before .pre .1)
 
 same-length : tie.Need-same-length
 same-length c = search needs

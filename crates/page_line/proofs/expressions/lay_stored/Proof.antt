@@ -15,19 +15,19 @@ use Rattle.page_line.proofs.expressions.lay_stored.Statement.{statement
 use Rattle.page_line.proofs.expressions.lay_stored.Tie as tie
 
 sizes : (c : tie.Start)
-    → length (parted (assignmentWords (c .args .store) (assign (placeOf (expressionAt (c .args .rows .now) (c .args .place))) (expressionAt (c .args .rows .now) (c .args .value)))))
-    ≡ length (placeWord (c .args .store) (placeOf (expressionAt (c .args .rows .now) (c .args .place)))) + 2 + length (led (ended (valueWords (c .args .store) (expressionAt (c .args .rows .now) (c .args .value)))))
+    → length (parted (assignmentWords (c .args .sizes) (assign (placeOf (expressionAt (c .args .rows .now) (c .args .place))) (expressionAt (c .args .rows .now) (c .args .value)))))
+    ≡ length (placeWord (c .args .sizes) (placeOf (expressionAt (c .args .rows .now) (c .args .place)))) + 2 + length (led (ended (valueWords (c .args .sizes) (expressionAt (c .args .rows .now) (c .args .value)))))
 sizes c =
     let place = placeOf (expressionAt (c .args .rows .now) (c .args .place)) in
     let value = expressionAt (c .args .rows .now) (c .args .value) in
-    omega (arith, ap length (stored-bytes (c .args .store) place value), length-append (placeWord (c .args .store) place) (32 ∷ 61 ∷ led (ended (valueWords (c .args .store) value))))
+    omega (arith, ap length (stored-bytes (c .args .sizes) place value), length-append (placeWord (c .args .sizes) place) (32 ∷ 61 ∷ led (ended (valueWords (c .args .sizes) value))))
 
 place-at-requires : tie.Need-place-at-requires
 place-at-requires c κs = search needs
 
 lay-read-requires : tie.Need-lay-read-requires
 lay-read-requires c κs =
-    let room : c .before .before .before .args .at + length (placeWord (c .before .before .before .args .store) (placeOf (expressionAt (c .before .before .before .args .rows .now) (c .before .before .before .args .place)))) ≤ length (c .before .before .before .args .text .now) = omega (arith, sizes (c .before .before .before), c .before .before .before .pre .1) in
+    let room : c .before .before .before .args .at + length (placeWord (c .before .before .before .args .sizes) (placeOf (expressionAt (c .before .before .before .args .rows .now) (c .before .before .before .args .place)))) ≤ length (c .before .before .before .args .text .now) = omega (arith, sizes (c .before .before .before), c .before .before .before .pre .1) in
     ((c .before .before .before .pre .0 .0, c .before .place-at .ensures .inside), rw (c .before .place-at .ensures .is) at room)
 
 slice-aggregate-lay-bytes : tie.Need-slice-aggregate-lay-bytes
@@ -35,19 +35,19 @@ slice-aggregate-lay-bytes c = search needs
 
 lay-bytes-requires : tie.Need-lay-bytes-requires
 lay-bytes-requires c κs =
-    omega (arith, sizes (c .before .before .before .before .before .before .before .before), c .before .before .before .before .before .before .before .before .pre .1, ap (λ p. length (placeWord (c .before .before .before .before .before .before .before .before .args .store) p)) (c .before .before .before .before .before .before .place-at .ensures .is))
+    omega (arith, sizes (c .before .before .before .before .before .before .before .before), c .before .before .before .before .before .before .before .before .pre .1, ap (λ p. length (placeWord (c .before .before .before .before .before .before .before .before .args .sizes) p)) (c .before .before .before .before .before .before .place-at .ensures .is))
 
 lay-value-requires : tie.Need-lay-value-requires
 lay-value-requires c κs =
-    ((c .before .before .before .before .before .before .before .before .before .before .before .before .pre .0 .0, c .before .before .before .before .before .before .before .before .before .before .before .before .pre .0 .2), omega (arith, sizes (c .before .before .before .before .before .before .before .before .before .before .before .before), c .before .before .before .before .before .before .before .before .before .before .before .before .pre .1, ap (λ p. length (placeWord (c .before .before .before .before .before .before .before .before .before .before .before .before .args .store) p)) (c .before .before .before .before .before .before .before .before .before .before .place-at .ensures .is)))
+    ((c .before .before .before .before .before .before .before .before .before .before .before .before .pre .0 .0, c .before .before .before .before .before .before .before .before .before .before .before .before .pre .0 .2), omega (arith, sizes (c .before .before .before .before .before .before .before .before .before .before .before .before), c .before .before .before .before .before .before .before .before .before .before .before .before .pre .1, ap (λ p. length (placeWord (c .before .before .before .before .before .before .before .before .before .before .before .before .args .sizes) p)) (c .before .before .before .before .before .before .before .before .before .before .place-at .ensures .is)))
 
 same-length : tie.Need-same-length
 same-length c = search needs
 
 returns : tie.Need-returns
 returns c =
-    laid-as (stored-bytes (c .before .before .before .before .before .before .before .before .before .before .before .before .before .before .before .args .store) (placeOf (expressionAt (c .before .before .before .before .before .before .before .before .before .before .before .before .before .before .before .args .rows .now) (c .before .before .before .before .before .before .before .before .before .before .before .before .before .before .before .args .place))) (expressionAt (c .before .before .before .before .before .before .before .before .before .before .before .before .before .before .before .args .rows .now) (c .before .before .before .before .before .before .before .before .before .before .before .before .before .before .before .args .value)))
-    (laid-next (laid-of (placeWord (c .before .before .before .before .before .before .before .before .before .before .before .before .before .before .before .args .store)) (c .before .before .before .before .before .before .before .before .before .before .before .before .before .place-at .ensures .is) (c .before .before .before .before .before .before .before .before .before .before .before .lay-read .ensures)) (laid-next (c .before .before .before .before .before .before .lay-bytes .ensures) (c .before .before .lay-value .ensures)))
+    laid-as (stored-bytes (c .before .before .before .before .before .before .before .before .before .before .before .before .before .before .before .args .sizes) (placeOf (expressionAt (c .before .before .before .before .before .before .before .before .before .before .before .before .before .before .before .args .rows .now) (c .before .before .before .before .before .before .before .before .before .before .before .before .before .before .before .args .place))) (expressionAt (c .before .before .before .before .before .before .before .before .before .before .before .before .before .before .before .args .rows .now) (c .before .before .before .before .before .before .before .before .before .before .before .before .before .before .before .args .value)))
+    (laid-next (laid-of (placeWord (c .before .before .before .before .before .before .before .before .before .before .before .before .before .before .before .args .sizes)) (c .before .before .before .before .before .before .before .before .before .before .before .before .before .place-at .ensures .is) (c .before .before .before .before .before .before .before .before .before .before .before .lay-read .ensures)) (laid-next (c .before .before .before .before .before .before .lay-bytes .ensures) (c .before .before .lay-value .ensures)))
 
 pub lay-stored-spec : {M : Type 1} → statement M
 lay-stored-spec =

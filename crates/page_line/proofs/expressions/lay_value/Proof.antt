@@ -19,7 +19,7 @@ use Rattle.page_line.proofs.expressions.lay_value.Statement.{statement}
 use Rattle.page_line.proofs.expressions.lay_value.Tie as tie
 
 abbrev bytes : tie.Start → Expression → List ℕ
-bytes c e = led (ended (valueWords (c .args .store) e))
+bytes c e = led (ended (valueWords (c .args .sizes) e))
 
 expression-at-requires : tie.Need-expression-at-requires
 expression-at-requires c κs = search needs
@@ -82,7 +82,7 @@ returns-3 c =
 returns-4 : tie.Need-returns-4
 returns-4 c =
     let f = read-as (c .before .before .expression-at .ensures) (c .enum-told .given .1) in
-    laid-nothing _ _ _ (ap (bytes (c .before .before .before .before)) (f .is) ∙ no-value-chosen (c .before .before .before .before .args .store) (c .before .before .before .before .args .rows .now) (c .enum-told .given .0 .0)) (c .before .before .before .before .pre .1)
+    laid-nothing _ _ _ (ap (bytes (c .before .before .before .before)) (f .is) ∙ no-value-chosen (c .before .before .before .before .args .sizes) (c .before .before .before .before .args .rows .now) (c .enum-told .given .0 .0)) (c .before .before .before .before .pre .1)
 
 pub lay-value-spec : {M : Type 1} → statement M
 lay-value-spec =

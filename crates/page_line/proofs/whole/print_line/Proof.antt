@@ -59,7 +59,7 @@ returns : tie.Need-returns
 returns c =
     let start = c .before .before .before .before .before .before .before .before .before .before .before .before .before .before .before .before .before .before .before .before .before .before in
     let rest = 81 * start .args .done + 80 - c .before .before .before .before .before .before .before .before .before .before .lay-content .result in
-    line-printed (start .args .store) (start .args .done) (start .args .level) rest _ (lineTree (start .args .rows .now) (start .args .line)) _ _ (start .pre .few)
+    line-printed (start .args .sizes) (start .args .done) (start .args .level) rest _ (lineTree (start .args .rows .now) (start .args .line)) _ _ (start .pre .few)
     (omega (arith, number-five (start .args .done + 1) (start .pre .few), c .before .before .before .before .before .before .before .before .before .before .before .before .before .before .before .before .before .before .before .lay-line-number .ensures .reached, c .before .before .before .before .before .before .before .before .before .before .before .before .before .before .before .before .indent-of .ensures, length-blanks (c .before .before .before .before .before .before .before .before .before .before .before .before .before .before .before .before .indent-of .result + 1), c .before .before .before .before .before .before .before .before .before .before .before .before .before .before .lay-blanks .ensures .reached, c .before .before .before .before .before .before .before .before .before .before .lay-content .ensures .reached, start .pre .narrow))
     (laid-next (c .before .before .before .before .before .before .before .before .before .before .before .before .before .before .before .before .before .before .before .lay-line-number .ensures) (laid-next (laid-of (λ (n : ℕ). blanks (n + 1)) (sym (c .before .before .before .before .before .before .before .before .before .before .before .before .before .before .before .before .indent-of .ensures)) (c .before .before .before .before .before .before .before .before .before .before .before .before .before .before .lay-blanks .ensures)) (laid-next (c .before .before .before .before .before .before .before .before .before .before .lay-content .ensures) (laid-next (c .before .before .before .before .before .before .lay-blanks2 .ensures) (c .before .before .lay-byte .ensures)))))
 

@@ -50,6 +50,9 @@ enum-told-9 c = search needs
 enum-told-10 : tie.Need-enum-told-10
 enum-told-10 c = search needs
 
+enum-told-11 : tie.Need-enum-told-11
+enum-told-11 c = search needs
+
 returns : tie.Need-returns
 returns c =
     ap (statementOutline (c .before .before .args .row)) (sym (c .enum-told .given .1))
@@ -99,6 +102,9 @@ returns-14 : tie.Need-returns-14
 returns-14 c =
     ap (statementOutline (c .before .before .args .row)) (sym (c .enum-told10 .given .1))
 
+returns-15 : tie.Need-returns-15
+returns-15 c = search needs
+
 pub statement-outline-spec : {M : Type 1} → statement M
 statement-outline-spec =
     tie.close
@@ -118,6 +124,7 @@ statement-outline-spec =
     enum-told-8
     enum-told-9
     enum-told-10
+    enum-told-11
     returns
     returns-2
     returns-3
@@ -131,4 +138,5 @@ statement-outline-spec =
     returns-11
     returns-12
     returns-13
-    returns-14)
+    returns-14
+    returns-15)

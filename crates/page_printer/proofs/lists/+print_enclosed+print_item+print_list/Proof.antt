@@ -236,17 +236,17 @@ print-item-returns-4 t c =
     printed-of (c .before .before .before .before .args .rows .now) (c .before .before .before .before .args .level) (c .before .before .before .before .args .row) (sym (c .before .before .outline-at .ensures) ∙ c .enum-told .given .1) (printed-none (c .before .before .before .before .args .page .now) (c .before .before .before .before .args .done) (omega (arith, c .before .before .before .before .pre .1 .0 .room)))
 
 abbrev print-list-Inv-loop : print-list-lts.InvT-loop
-print-list-Inv-loop store rows first level done page₀ row₀ lines₀ page row lines =
-    Walked store rows (itemsLines level (listAt rows first)) level done page₀ row lines page
+print-list-Inv-loop sizes rows first level done page₀ row₀ lines₀ page row lines =
+    Walked sizes rows (itemsLines level (listAt rows first)) level done page₀ row lines page
 
 abbrev print-list-μ-loop : print-list-lts.MeasureT-loop
-print-list-μ-loop store rows first level done page₀ row₀ lines₀ page row lines =
+print-list-μ-loop sizes rows first level done page₀ row₀ lines₀ page row lines =
     ahead (rowCount rows) row
 
 print-list-loop-holds : (t : ℕ) → print-list-lts.Need-loop-holds (print-list-claims t) (print-list-at t) print-list.Post print-list-Inv-loop print-list-μ-loop
 print-list-loop-holds t c =
     let s = c .before in
-    walked-start (s .args .store) (s .args .rows .now) (s .args .level) (s .args .done) (s .args .first) (s .args .page .now) (omega (arith, s .pre .1 .0 .room)) (s .pre .1 .1)
+    walked-start (s .args .sizes) (s .args .rows .now) (s .args .level) (s .args .done) (s .args .first) (s .args .page .now) (omega (arith, s .pre .1 .0 .room)) (s .pre .1 .1)
 
 print-list-print-item-requires : (t : ℕ) → print-list-lts.Need-print-item-requires (print-list-claims t) (print-list-at t) print-list.Post print-list-Inv-loop print-list-μ-loop
 print-list-print-item-requires t c κs =

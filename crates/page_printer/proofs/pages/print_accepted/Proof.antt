@@ -42,13 +42,13 @@ returns c =
       refused-reads (s .args .header .now) (s .args .rows .now) (record { number = 10; place = 0 }) (s .args .page .now),
     )
 
-store-size-requires : tie.Need-store-size-requires
-store-size-requires c κs = c .before .before .before .before .before .pre .header-fits
+sizes-of-requires : tie.Need-sizes-of-requires
+sizes-of-requires c κs = c .before .before .before .before .before .pre .header-fits
 
 print-list-requires : tie.Need-print-list-requires
 print-list-requires c κs =
     let s = c .before .before .before .before .before .before .before in
-    rw (c .before .store-size .ensures, c .before .before .before .before .block-list .ensures)
+    rw (c .before .sizes-of .ensures, c .before .before .before .before .block-list .ensures)
     (table-ready (s .args .header .now) (s .args .rows .now) (s .pre) (c .before .before .before .before .before .pass-words .ensures .fits) (s .args .page .now) (omega (arith, counted (c .before .before .before), c .before .before .if1 .left)))
 
 same-length : tie.Need-same-length
@@ -59,7 +59,7 @@ returns-2 c =
     let s = c .before .before .before .before .before .before .before .before .before .before in
     let n = counted (c .before .before .before .before .before .before) in
     let known = c .before .before .before .before .before .before .before .before .pass-words .ensures .fits in
-    let printed = rw (c .before .before .before .before .store-size .ensures, c .before .before .before .before .before .before .before .block-list .ensures) at (c .before .before .print-list .ensures) in
+    let printed = rw (c .before .before .before .before .sizes-of .ensures, c .before .before .before .before .before .before .before .block-list .ensures) at (c .before .before .print-list .ensures) in
     rw n (
       whole-page (s .args .header .now) (s .args .rows .now) (s .pre) known (s .args .page .now) _ _ (omega (arith, n, c .before .before .before .before .before .if1 .left)) printed,
       whole-reads (s .args .header .now) (s .args .rows .now) (s .pre) known (s .args .page .now) _ _ printed,
@@ -68,4 +68,4 @@ returns-2 c =
 pub print-accepted-spec : {M : Type 1} → statement M
 print-accepted-spec =
     tie.close
-    (tie.spec pass-words-requires block-list-requires count-list-requires mul-size returns store-size-requires print-list-requires same-length returns-2)
+    (tie.spec pass-words-requires block-list-requires count-list-requires mul-size returns sizes-of-requires print-list-requires same-length returns-2)

@@ -9,11 +9,11 @@ use Rattle.page_reader.proofs.rows.write_rows.Statement.{statement}
 use Rattle.page_reader.proofs.rows.write_rows.Tie as tie
 
 abbrev Inv-loop : tie.InvT-loop
-Inv-loop names store page total rows₀ waiting₀ depth₀ follows₀ base₀ k₀ rows waiting depth follows base k =
-    Passing names store page total rows₀ rows waiting depth follows base k × (length waiting ≡ 81958)
+Inv-loop names sizes page total rows₀ waiting₀ depth₀ follows₀ base₀ k₀ rows waiting depth follows base k =
+    Passing names sizes page total rows₀ rows waiting depth follows base k × (length waiting ≡ 81958)
 
 abbrev μ-loop : tie.MeasureT-loop
-μ-loop names store page total rows₀ waiting₀ depth₀ follows₀ base₀ k₀ rows waiting depth follows base k =
+μ-loop names sizes page total rows₀ waiting₀ depth₀ follows₀ base₀ k₀ rows waiting depth follows base k =
     k
 
 line-count-requires : tie.Need-line-count-requires Inv-loop μ-loop
@@ -106,7 +106,7 @@ part-put-line-end c =
 
 put-line-requires : tie.Need-put-line-requires Inv-loop μ-loop
 put-line-requires c κs =
-    (line-room (c .before .before .before .before .before .before .before .before .before .before .before .before .loop .inv .0) (c .before .before .before .before .before .before .before .before .before .before .before .loop-test .taken) (c .before .before .before .before .before .before .before .before .before .statement-in .result) (c .before .before .before .before .before .before .before .before .before .statement-in .ensures) (c .before .before .before .before .before .before .before .read .given .0 .0) (c .before .before .before .before .before .before .before .read .given .1) (c .before .before .before .before .before .rows-of .result) (c .before .before .before .before .before .rows-of .ensures .0), c .before .before .before .before .before .before .before .before .before .before .before .before .loop .inv .0 .counted .small-store, c .before .before .before .waiting-row .ensures .1, c .before .waiting-row2 .ensures .1, line-fits (c .before .before .before .before .before .before .before .before .before .before .before .before .loop .inv .0) (c .before .before .before .before .before .before .before .before .before .before .before .loop-test .taken) (c .before .before .before .before .before .before .before .before .before .statement-in .result) (c .before .before .before .before .before .before .before .before .before .statement-in .ensures) (c .before .before .before .before .before .before .before .read .given .0 .0) (c .before .before .before .before .before .before .before .read .given .1))
+    (line-room (c .before .before .before .before .before .before .before .before .before .before .before .before .loop .inv .0) (c .before .before .before .before .before .before .before .before .before .before .before .loop-test .taken) (c .before .before .before .before .before .before .before .before .before .statement-in .result) (c .before .before .before .before .before .before .before .before .before .statement-in .ensures) (c .before .before .before .before .before .before .before .read .given .0 .0) (c .before .before .before .before .before .before .before .read .given .1) (c .before .before .before .before .before .rows-of .result) (c .before .before .before .before .before .rows-of .ensures .0), c .before .before .before .before .before .before .before .before .before .before .before .before .loop .inv .0 .counted .small-sizes, c .before .before .before .waiting-row .ensures .1, c .before .waiting-row2 .ensures .1, line-fits (c .before .before .before .before .before .before .before .before .before .before .before .before .loop .inv .0) (c .before .before .before .before .before .before .before .before .before .before .before .loop-test .taken) (c .before .before .before .before .before .before .before .before .before .statement-in .result) (c .before .before .before .before .before .before .before .before .before .statement-in .ensures) (c .before .before .before .before .before .before .before .read .given .0 .0) (c .before .before .before .before .before .before .before .read .given .1))
 
 left-before-requires : tie.Need-left-before-requires Inv-loop μ-loop
 left-before-requires c κs =

@@ -18,7 +18,7 @@ same-length c = search needs
 
 returns : tie.Need-returns
 returns c =
-    recoded _ _ _ _ _ _ (c .before .put-value .ensures) (ap (λ p. express (assign p (valueTree (c .before .before .before .before .args .store) (c .before .before .before .before .args .value))) then none) (sym (c .before .before .before .variable-number .ensures .0)))
+    recoded _ _ _ _ _ _ (c .before .put-value .ensures) (ap (λ p. express (assign p (valueTree (c .before .before .before .before .args .sizes) (c .before .before .before .before .args .value))) then none) (sym (c .before .before .before .variable-number .ensures .0)))
 
 pub put-named-spec : {M : Type 1} → statement M
 put-named-spec =

@@ -67,7 +67,7 @@ same-length c = search needs
 returns : tie.Need-returns
 returns c =
     recoded _ _ _ _ _ _ (c .before .put-copy .ensures)
-    (ap (λ x. express (assign (variable (c .before .before .before .before .before .before .before .args .number)) x) then none) (c .before .before .before .kernel-atom .ensures .0) ∙ ap (λ v. express (assign (variable (c .before .before .before .before .before .before .before .args .number)) (valueTree (c .before .before .before .before .before .before .before .args .store) v)) then none) (sym (c .before .before .before .before .before .value .given .1)))
+    (ap (λ x. express (assign (variable (c .before .before .before .before .before .before .before .args .number)) x) then none) (c .before .before .before .kernel-atom .ensures .0) ∙ ap (λ v. express (assign (variable (c .before .before .before .before .before .before .before .args .number)) (valueTree (c .before .before .before .before .before .before .before .args .sizes) v)) then none) (sym (c .before .before .before .before .before .value .given .1)))
 
 same-length-2 : tie.Need-same-length-2
 same-length-2 c = search needs
@@ -75,7 +75,7 @@ same-length-2 c = search needs
 returns-2 : tie.Need-returns-2
 returns-2 c =
     recoded _ _ _ _ _ _ (c .before .put-fetch .ensures)
-    (ap (λ x. express (assign (variable (c .before .before .before .before .before .before .before .args .number)) (read (element (c .before .before .before .before .before .value2 .given .0 .0) x))) then none) (c .before .before .before .kernel-atom2 .ensures .0) ∙ ap (λ v. express (assign (variable (c .before .before .before .before .before .before .before .args .number)) (valueTree (c .before .before .before .before .before .before .before .args .store) v)) then none) (sym (c .before .before .before .before .before .value2 .given .1)))
+    (ap (λ x. express (assign (variable (c .before .before .before .before .before .before .before .args .number)) (read (element (c .before .before .before .before .before .value2 .given .0 .0) x))) then none) (c .before .before .before .kernel-atom2 .ensures .0) ∙ ap (λ v. express (assign (variable (c .before .before .before .before .before .before .before .args .number)) (valueTree (c .before .before .before .before .before .before .before .args .sizes) v)) then none) (sym (c .before .before .before .before .before .value2 .given .1)))
 
 same-length-3 : tie.Need-same-length-3
 same-length-3 c = search needs
@@ -83,7 +83,7 @@ same-length-3 c = search needs
 returns-3 : tie.Need-returns-3
 returns-3 c =
     recoded _ _ _ _ _ _ (c .before .put-minus .ensures)
-    (ap (λ x. express (assign (variable (c .before .before .before .before .before .before .before .args .number)) (minus x)) then none) (c .before .before .before .kernel-atom3 .ensures .0) ∙ ap (λ v. express (assign (variable (c .before .before .before .before .before .before .before .args .number)) (valueTree (c .before .before .before .before .before .before .before .args .store) v)) then none) (sym (c .before .before .before .before .before .value3 .given .1)))
+    (ap (λ x. express (assign (variable (c .before .before .before .before .before .before .before .args .number)) (minus x)) then none) (c .before .before .before .kernel-atom3 .ensures .0) ∙ ap (λ v. express (assign (variable (c .before .before .before .before .before .before .before .args .number)) (valueTree (c .before .before .before .before .before .before .before .args .sizes) v)) then none) (sym (c .before .before .before .before .before .value3 .given .1)))
 
 same-length-4 : tie.Need-same-length-4
 same-length-4 c = search needs
@@ -91,7 +91,7 @@ same-length-4 c = search needs
 returns-4 : tie.Need-returns-4
 returns-4 c =
     recoded _ _ _ _ _ _ (c .before .put-binary .ensures)
-    (ap₂ (λ x y. express (assign (variable (c .before .before .before .before .before .before .before .before .args .number)) (binary (c .before .before .before .before .before .before .value4 .given .0 .0) x y)) then none) (c .before .before .before .before .kernel-atom4 .ensures .0) (c .before .before .before .kernel-atom5 .ensures .0) ∙ ap (λ v. express (assign (variable (c .before .before .before .before .before .before .before .before .args .number)) (valueTree (c .before .before .before .before .before .before .before .before .args .store) v)) then none) (sym (c .before .before .before .before .before .before .value4 .given .1)))
+    (ap₂ (λ x y. express (assign (variable (c .before .before .before .before .before .before .before .before .args .number)) (binary (c .before .before .before .before .before .before .value4 .given .0 .0) x y)) then none) (c .before .before .before .before .kernel-atom4 .ensures .0) (c .before .before .before .kernel-atom5 .ensures .0) ∙ ap (λ v. express (assign (variable (c .before .before .before .before .before .before .before .before .args .number)) (valueTree (c .before .before .before .before .before .before .before .before .args .sizes) v)) then none) (sym (c .before .before .before .before .before .before .value4 .given .1)))
 
 pub put-value-spec : {M : Type 1} → statement M
 put-value-spec =

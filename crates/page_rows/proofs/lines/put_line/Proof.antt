@@ -149,14 +149,14 @@ same-length-8 c = search needs
 
 returns-8 : tie.Need-returns-8
 returns-8 c =
-    while-line _ _ (c .before .before .before .before .before .before .before .args .store) (c .before .before .before .before .before .before .before .args .base) (c .before .before .before .before .before .before .before .args .follows) (c .before .before .before .before .before .before .before .args .first) (c .before .before .before .before .before .before .before .args .second) (c .before .before .before .before .before .before .before .args .line) _ (c .before .before .before .kernel-atom .result) (c .before .before .before .kernel-atom .ensures .0) (c .before .before .before .before .before .line5 .given .1) (c .before .put-while .ensures)
+    while-line _ _ (c .before .before .before .before .before .before .before .args .sizes) (c .before .before .before .before .before .before .before .args .base) (c .before .before .before .before .before .before .before .args .follows) (c .before .before .before .before .before .before .before .args .first) (c .before .before .before .before .before .before .before .args .second) (c .before .before .before .before .before .before .before .args .line) _ (c .before .before .before .kernel-atom .result) (c .before .before .before .kernel-atom .ensures .0) (c .before .before .before .before .before .line5 .given .1) (c .before .put-while .ensures)
 
 same-length-9 : tie.Need-same-length-9
 same-length-9 c = search needs
 
 returns-9 : tie.Need-returns-9
 returns-9 c =
-    if-line _ _ (c .before .before .before .before .before .before .before .args .store) (c .before .before .before .before .before .before .before .args .base) (c .before .before .before .before .before .before .before .args .follows) (c .before .before .before .before .before .before .before .args .first) (c .before .before .before .before .before .before .before .args .second) (c .before .before .before .before .before .before .before .args .line) _ (c .before .before .before .kernel-atom2 .result) (c .before .before .before .kernel-atom2 .ensures .0) (c .before .before .before .before .before .line6 .given .1) (c .before .put-branch .ensures)
+    if-line _ _ (c .before .before .before .before .before .before .before .args .sizes) (c .before .before .before .before .before .before .before .args .base) (c .before .before .before .before .before .before .before .args .follows) (c .before .before .before .before .before .before .before .args .first) (c .before .before .before .before .before .before .before .args .second) (c .before .before .before .before .before .before .before .args .line) _ (c .before .before .before .kernel-atom2 .result) (c .before .before .before .kernel-atom2 .ensures .0) (c .before .before .before .before .before .line6 .given .1) (c .before .put-branch .ensures)
 
 same-length-10 : tie.Need-same-length-10
 same-length-10 c = search needs

@@ -21,6 +21,9 @@ enum-known-named c = search needs
 enum-known-named-2 : tie.Need-enum-known-named-2
 enum-known-named-2 c = search needs
 
+enum-known-named-3 : tie.Need-enum-known-named-3
+enum-known-named-3 c = search needs
+
 returns-2 : tie.Need-returns-2
 returns-2 c = search needs
 
@@ -32,6 +35,10 @@ returns-4 : tie.Need-returns-4
 returns-4 c =
     rw (c .before .before .before .before .atom .given .1, c .before .named2 .given .1)
 
+returns-5 : tie.Need-returns-5
+returns-5 c =
+    rw (c .before .before .before .before .atom .given .1, c .before .named3 .given .1)
+
 pub name-of-spec : {M : Type 1} → statement M
 name-of-spec =
     tie.close
@@ -42,6 +49,8 @@ name-of-spec =
     enum-told-2
     enum-known-named
     enum-known-named-2
+    enum-known-named-3
     returns-2
     returns-3
-    returns-4)
+    returns-4
+    returns-5)

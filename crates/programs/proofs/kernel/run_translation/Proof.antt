@@ -1,4 +1,4 @@
--- `run_translation`: an accepted kernel program has at most 16,384 words of store and 40,980 rows.
+-- `run_translation`: an accepted kernel program has at most 16,448 words of store and 40,980 rows.
 use mathlib.Core.Path.{sym}
 use native.Mathlib.Omega.{arith}
 use lib.Seq.{length-take-le}
@@ -9,11 +9,11 @@ use borrow.Author.Needs.{needs}
 use Rattle.programs.proofs.kernel.run_translation.Statement.{statement}
 use Rattle.programs.proofs.kernel.run_translation.Tie as tie
 
-store-words-requires : tie.Need-store-words-requires
-store-words-requires c κs = accepted-header Kernel (c .args .header .now) (c .args .rows .now) (c .pre .0)
+header-store-requires : tie.Need-header-store-requires
+header-store-requires c κs = accepted-header Kernel (c .args .header .now) (c .args .rows .now) (c .pre .0)
 
 array-borrow-prefix-store : tie.Need-array-borrow-prefix-store
-array-borrow-prefix-store c = omega (arith, c .store-words .ensures, kernel-words (c .before .args .header .now) (c .before .args .rows .now) (c .before .pre .0))
+array-borrow-prefix-store c = omega (arith, c .header-store .ensures, kernel-words (c .before .args .header .now) (c .before .args .rows .now) (c .before .pre .0))
 
 slice-aggregate-run-from : tie.Need-slice-aggregate-run-from
 slice-aggregate-run-from c = sym (length-take-le _ _ (array-borrow-prefix-store (c .before)))
@@ -31,7 +31,7 @@ pub run-translation-spec : {M : Type 1} → statement M
 run-translation-spec =
     tie.close
     (tie.spec
-    store-words-requires
+    header-store-requires
     array-borrow-prefix-store
     slice-aggregate-run-from
     enough-requires

@@ -1,4 +1,4 @@
--- `answer_accepted`: an accepted program has at most 8,192 words of store.
+-- `answer_accepted`: an accepted program has at most 8,256 words of store.
 use mathlib.Core.Path.{sym}
 use native.Mathlib.Omega.{arith}
 use lib.Seq.{length-take-le}

@@ -2,10 +2,8 @@
 use native.Mathlib.Omega.{arith}
 use Prim.Native.Nat.{_<_}
 use Rattle.words.specs.Table.{rowCount}
-use Rattle.names.specs.Names.{linking}
 use Rattle.words.specs.Links.{target}
 use Rattle.structure.specs.WrittenLaws.{linked-inside, written-none, written-link}
-use Rattle.names.specs.LinkingLaws.{linking-length, linking-count}
 use borrow.Author.Needs.{needs}
 use Rattle.resolver.proofs.scopes.write_scope.Statement.{statement}
 use Rattle.resolver.proofs.scopes.write_scope.Tie as tie
@@ -15,18 +13,17 @@ mul-hand c = search needs
 
 slice-read-hand : tie.Need-slice-read-hand
 slice-read-hand c =
-    let room = c .before .before .before .pre .1 in let b = c .before .before .before .pre .2 in let whole = c .before .before .before .pre .0 .whole in let same = linking-length (c .before .before .before .args .rows .now) in omega arith
+    let room = c .before .before .before .pre .1 in let b = c .before .before .before .pre .2 in let whole = c .before .before .before .pre .0 .whole in omega arith
 
 hand-requires : tie.Need-hand-requires
 hand-requires c κs =
-    let t = c .before .before .before .pre .0 in let b = c .before .before .before .pre .2 in let whole = t .whole in let few = t .few in let same = linking-length (c .before .before .before .args .rows .now) in (omega arith, omega arith)
+    let t = c .before .before .before .pre .0 in let b = c .before .before .before .pre .2 in let whole = t .whole in let few = t .few in (omega arith, omega arith)
 
-linked : (c : tie.After-hand) → c .before .before .before .before .args .linked < rowCount (linking (c .before .before .before .before .args .rows .now))
+linked : (c : tie.After-hand) → c .before .before .before .before .args .linked < rowCount (c .before .before .before .before .args .rows .now)
 unfolding target
 linked c =
     let s = c .before .before .before .before in
-    let same = linking-length (s .args .rows .now) in
-    linked-inside _ (s .args .word) _ (s .pre .0) (omega (arith, same, s .pre .2)) (s .pre .3) (c .before .before .if1 .taken)
+    linked-inside _ (s .args .word) _ (s .pre .0) (omega (arith, s .pre .2)) (s .pre .3) (c .before .before .if1 .taken)
 
 mul-scopes : tie.Need-mul-scopes
 mul-scopes c =
@@ -34,7 +31,7 @@ mul-scopes c =
 
 slice-write-scopes : tie.Need-slice-write-scopes
 slice-write-scopes c =
-    let inside = linked c in let room = c .before .before .before .before .pre .1 in let same = linking-count (c .before .before .before .before .args .rows .now) in omega arith
+    let inside = linked c in let room = c .before .before .before .before .pre .1 in omega arith
 
 same-length : tie.Need-same-length
 same-length c = search needs

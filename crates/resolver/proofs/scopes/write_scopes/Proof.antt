@@ -3,7 +3,6 @@ use Prim.Native.Nat.{_-_, _≤_}
 use native.Mathlib.Omega.{arith}
 use lib.ListN.{length}
 use Rattle.words.specs.Links.{target}
-use Rattle.names.specs.LinkingLaws.{linking-length}
 use Rattle.resolver.specs.ScanLaws.{Scoping, scoping-begun, scoping-on, scoping-ended}
 use Rattle.resolver.proofs.scopes.write_scopes.Statement.{statement}
 use Rattle.resolver.proofs.scopes.write_scopes.Tie as tie
@@ -20,14 +19,14 @@ loop-holds : tie.Need-loop-holds Inv-loop μ-loop
 loop-holds c =
     (omega arith, scoping-begun (c .before .pre .1) (c .before .pre .2))
 
-linked-row-requires : tie.Need-linked-row-requires Inv-loop μ-loop
-linked-row-requires c κs =
-    let whole = c .before .before .before .pre .0 .whole in let same = linking-length (c .before .before .before .args .rows .now) in (omega arith, omega arith, c .before .before .before .pre .3)
+link-requires : tie.Need-link-requires Inv-loop μ-loop
+link-requires c κs =
+    let whole = c .before .before .before .pre .0 .whole in (omega arith, omega arith, c .before .before .before .pre .3)
 
 write-scope-requires : tie.Need-write-scope-requires Inv-loop μ-loop
 unfolding target
 write-scope-requires c κs =
-    let room = c .before .before .before .before .before .pre .1 in let same = c .before .before .before .loop .inv .1 .same in (c .before .before .before .before .before .pre .0, omega arith, omega arith, c .before .linked-row .ensures)
+    let room = c .before .before .before .before .before .pre .1 in let same = c .before .before .before .loop .inv .1 .same in (c .before .before .before .before .before .pre .0, omega arith, omega arith, c .before .link .ensures)
 
 add-word : tie.Need-add-word Inv-loop μ-loop
 add-word c =
@@ -56,7 +55,7 @@ write-scopes-spec =
     Inv-loop
     μ-loop
     loop-holds
-    linked-row-requires
+    link-requires
     write-scope-requires
     add-word
     loop-less

@@ -4,7 +4,6 @@ use Prim.Native.Nat.{ℕ, _+_, _-_, _≤_, _<_}
 use native.Mathlib.Omega.{arith}
 use Rattle.words.specs.Table.{rowCount}
 use Rattle.names.specs.Names.{scopeAt, meantFrom, meantAt}
-use Rattle.names.specs.LinkingLaws.{linking-length}
 use Rattle.resolver.specs.ScanLaws.{scope-room, scope-is, scope-inside}
 use Rattle.resolver.specs.MeantLaws.{meant-nothing, meant-here, meant-outward}
 use Rattle.resolver.proofs.store_words.meant.Statement.{statement}
@@ -41,7 +40,7 @@ returns c =
 
 number-at-requires : tie.Need-number-at-requires Inv-loop μ-loop
 number-at-requires c κs =
-    let whole = c .before .before .before .before .before .before .before .pre .0 .tree .whole in let same = linking-length (c .before .before .before .before .before .before .before .args .rows .now) in let n = c .before .before .loop .inv .1 in omega arith
+    let whole = c .before .before .before .before .before .before .before .pre .0 .tree .whole in let n = c .before .before .loop .inv .1 in omega arith
 
 returns-2 : tie.Need-returns-2 Inv-loop μ-loop
 returns-2 c =

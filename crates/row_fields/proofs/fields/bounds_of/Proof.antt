@@ -9,7 +9,7 @@ use lib.ListN.{length, getD}
 use mir.Syntax.{w32}
 use mir.Val.{toZ, ofZ}
 use Rattle.words.specs.Word.{natural}
-use Rattle.words.specs.Layout.{layoutOf, storeSize, storeWords}
+use Rattle.words.specs.Layout.{layoutOf, storeSize, headerStore}
 use Rattle.words.specs.declared.Form.{Form}
 use Rattle.row_fields.specs.declared.Bounds.{Bounds}
 use Rattle.words.specs.Laws.{back, headerFits-facts, number-of-arrays, leading-limits}
@@ -19,7 +19,7 @@ use Rattle.row_fields.proofs.fields.bounds_of.Statement.{statement}
 use Rattle.row_fields.proofs.fields.bounds_of.Tie as tie
 
 bounds-are : (form : Form) (header : List ℤ) (v a s w : ℕ) → v ≡ layoutOf form header .variables → a ≡ length (layoutOf form header .lengths)
-    → s ≡ storeSize (layoutOf form header) → w ≡ storeWords form header → _≡_ {A = Bounds} (record { variables = v; arrays = a; store = s; words = w }) (boundsOf form header)
+    → s ≡ storeSize (layoutOf form header) → w ≡ headerStore form header → _≡_ {A = Bounds} (record { variables = v; arrays = a; store = s; words = w }) (boundsOf form header)
 unfolding boundsOf
 bounds-are form header v a s w e f g h = rw (e, f, g, h)
 
@@ -44,8 +44,8 @@ sub-arrays c =
 store-size-requires : tie.Need-store-size-requires
 store-size-requires c κs = search needs
 
-store-words-requires : tie.Need-store-words-requires
-store-words-requires c κs = search needs
+header-store-requires : tie.Need-header-store-requires
+header-store-requires c κs = search needs
 
 returns : tie.Need-returns
 returns c =
@@ -54,7 +54,7 @@ returns c =
     bounds-are (s .args .form) (s .args .header .now) _ _ _ _
     (variables-are (s .args .header .now) (s .args .form) _ (c .before .before .before .before .natural-arg .given) (c .before .before .before .natural .ensures))
     (omega (arith, c .before .before .leading .ensures))
-    (c .before .store-size .ensures) (c .store-words .ensures)
+    (c .before .store-size .ensures) (c .header-store .ensures)
 
 pub bounds-of-spec : {M : Type 1} → statement M
 bounds-of-spec =
@@ -65,5 +65,5 @@ bounds-of-spec =
     leading-requires
     sub-arrays
     store-size-requires
-    store-words-requires
+    header-store-requires
     returns)

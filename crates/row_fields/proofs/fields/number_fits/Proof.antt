@@ -1,38 +1,40 @@
 -- `number_fits` makes its definition's tests in order.
-use borrow.Author.Tests.{lt-ltb, le-ltb, le-leb, lt-leb, eq-eqb, ne-eqb}
+use borrow.Author.Tests.{eq-eqb, ne-eqb}
+use borrow.Author.Needs.{needs}
 use Rattle.row_fields.specs.Fields.{numberFits}
 use Rattle.row_fields.proofs.fields.number_fits.Statement.{statement}
 use Rattle.row_fields.proofs.fields.number_fits.Tie as tie
 
+variable-fits-requires : tie.Need-variable-fits-requires
+variable-fits-requires c κs = search needs
+
 returns : tie.Need-returns
 unfolding numberFits
 returns c =
-    rw (eq-eqb _ _ (c .before .before .if1 .taken), lt-ltb _ _ (c .if2 .taken))
+    rw (eq-eqb _ _ (c .before .if1 .taken)) (c .variable-fits .ensures)
+
+variable-fits-requires-2 : tie.Need-variable-fits-requires-2
+variable-fits-requires-2 c κs = search needs
 
 returns-2 : tie.Need-returns-2
 unfolding numberFits
 returns-2 c =
-    rw (eq-eqb _ _ (c .before .before .before .before .before .if1 .taken), le-ltb _ _ (c .before .before .before .if2 .left), le-leb _ _ (c .before .if3 .taken))
+    rw (ne-eqb _ _ (c .before .before .if1 .left), eq-eqb _ _ (c .before .if2 .taken)) (c .variable-fits2 .ensures)
 
 returns-3 : tie.Need-returns-3
 unfolding numberFits
 returns-3 c =
-    rw (eq-eqb _ _ (c .before .before .before .before .if1 .taken), le-ltb _ _ (c .before .before .if2 .left), lt-leb _ _ (c .if3 .left))
+    rw (ne-eqb _ _ (c .before .before .before .if1 .left), ne-eqb _ _ (c .before .before .if2 .left), eq-eqb _ _ (c .before .if3 .taken))
 
 returns-4 : tie.Need-returns-4
 unfolding numberFits
 returns-4 c =
-    rw (ne-eqb _ _ (c .before .before .if1 .left), eq-eqb _ _ (c .before .if4 .taken))
+    rw (ne-eqb _ _ (c .before .before .before .if1 .left), ne-eqb _ _ (c .before .before .if2 .left), ne-eqb _ _ (c .before .if3 .left), eq-eqb _ _ (c .if4 .taken))
 
 returns-5 : tie.Need-returns-5
 unfolding numberFits
 returns-5 c =
-    rw (ne-eqb _ _ (c .before .before .if1 .left), ne-eqb _ _ (c .before .if4 .left), eq-eqb _ _ (c .if5 .taken))
-
-returns-6 : tie.Need-returns-6
-unfolding numberFits
-returns-6 c =
-    rw (ne-eqb _ _ (c .before .before .if1 .left), ne-eqb _ _ (c .before .if4 .left), ne-eqb _ _ (c .if5 .left))
+    rw (ne-eqb _ _ (c .before .before .before .if1 .left), ne-eqb _ _ (c .before .before .if2 .left), ne-eqb _ _ (c .before .if3 .left), ne-eqb _ _ (c .if4 .left))
 
 pub number-fits-spec : {M : Type 1} → statement M
-number-fits-spec = tie.close (tie.spec returns returns-2 returns-3 returns-4 returns-5 returns-6)
+number-fits-spec = tie.close (tie.spec variable-fits-requires returns variable-fits-requires-2 returns-2 returns-3 returns-4 returns-5)

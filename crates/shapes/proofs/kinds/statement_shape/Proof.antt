@@ -58,6 +58,9 @@ enum-told-13 c = search needs
 enum-told-14 : tie.Need-enum-told-14
 enum-told-14 c = search needs
 
+enum-told-15 : tie.Need-enum-told-15
+enum-told-15 c = search needs
+
 returns : tie.Need-returns
 returns c = statement-arm _ _ _ _ _ _ (c .enum-told .given .1) (c .before .before .before .before .before .number-at .ensures) (c .before .before .before .before .number-at2 .ensures) (c .before .before .before .number-at3 .ensures) (c .before .before .number-at4 .ensures)
 
@@ -100,6 +103,9 @@ returns-13 c = statement-arm _ _ _ _ _ _ (c .enum-told13 .given .1) (c .before .
 returns-14 : tie.Need-returns-14
 returns-14 c = statement-arm _ _ _ _ _ _ (c .enum-told14 .given .1) (c .before .before .before .before .before .number-at .ensures) (c .before .before .before .before .number-at2 .ensures) (c .before .before .before .number-at3 .ensures) (c .before .before .number-at4 .ensures)
 
+returns-15 : tie.Need-returns-15
+returns-15 c = statement-arm _ _ _ _ _ _ (c .enum-told15 .given .1) (c .before .before .before .before .before .number-at .ensures) (c .before .before .before .before .number-at2 .ensures) (c .before .before .before .number-at3 .ensures) (c .before .before .number-at4 .ensures)
+
 pub statement-shape-spec : {M : Type 1} → statement M
 statement-shape-spec =
     tie.close
@@ -122,6 +128,7 @@ statement-shape-spec =
     enum-told-12
     enum-told-13
     enum-told-14
+    enum-told-15
     returns
     returns-2
     returns-3
@@ -135,4 +142,5 @@ statement-shape-spec =
     returns-11
     returns-12
     returns-13
-    returns-14)
+    returns-14
+    returns-15)

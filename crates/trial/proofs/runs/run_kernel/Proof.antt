@@ -22,7 +22,7 @@ part-store-end : tie.Need-part-store-end
 part-store-end c = search needs
 
 run-kernel-on-requires : tie.Need-run-kernel-on-requires
-run-kernel-on-requires c κs = record { fits = c .before .before .before .before .pre; starts = zeros-part (c .before .before .store-words .result) 1536 (omega (arith, c .before .before .store-words .ensures, c .before .before .before .before .pre .few-words)) ∙ ap zeros (c .before .before .store-words .ensures) }
+run-kernel-on-requires c κs = record { fits = c .before .before .before .before .pre; starts = zeros-part (c .before .before .store-words .result) 1600 (omega (arith, c .before .before .store-words .ensures, c .before .before .before .before .pre .few-words)) ∙ ap zeros (c .before .before .store-words .ensures) }
 
 same-length : tie.Need-same-length
 same-length c = search needs

@@ -78,4 +78,5 @@ kind-of-spec =
     (λ c. arm _ 55 (c .match .keys46))
     (λ c. arm _ 56 (c .match .keys47))
     (λ c. arm _ 57 (c .match .keys48))
+    (λ c. arm _ 58 (c .match .keys49))
     (λ c. sym (no-line kinds _ _ (c .match .rest) .0)))

@@ -45,8 +45,8 @@ returns-3 c =
     let one = two .before in
     rw (← one .before .leading .ensures, le-leb _ _ (one .if1 .left), le-leb _ _ (two .if2 .left), ← variables (c .before), lt-leb _ _ (c .if3 .taken))
 
-temporaries-requires : tie.Need-temporaries-requires
-temporaries-requires c κs = search needs
+declared-requires : tie.Need-declared-requires
+declared-requires c κs = search needs
 
 returns-4 : tie.Need-returns-4
 unfolding headerFits layoutOf
@@ -54,7 +54,19 @@ returns-4 c =
     let three = c .before .before in
     let two = three .before .before .before in
     let one = two .before in
-    rw (← one .before .leading .ensures, le-leb _ _ (one .if1 .left), le-leb _ _ (two .if2 .left), ← variables (three .before), le-leb _ _ (three .if3 .left), ← c .before .temporaries .ensures, lt-leb _ _ (c .if4 .taken))
+    rw (← one .before .leading .ensures, le-leb _ _ (one .if1 .left), le-leb _ _ (two .if2 .left), ← variables (three .before), le-leb _ _ (three .if3 .left), ← c .before .declared .ensures, lt-leb _ _ (c .if4 .taken))
+
+temporaries-requires : tie.Need-temporaries-requires
+temporaries-requires c κs = search needs
+
+returns-5 : tie.Need-returns-5
+unfolding headerFits layoutOf
+returns-5 c =
+    let four = c .before .before in
+    let three = four .before .before in
+    let two = three .before .before .before in
+    let one = two .before in
+    rw (← one .before .leading .ensures, le-leb _ _ (one .if1 .left), le-leb _ _ (two .if2 .left), ← variables (three .before), le-leb _ _ (three .if3 .left), ← four .before .declared .ensures, le-leb _ _ (four .if4 .left), ← c .before .temporaries .ensures, lt-leb _ _ (c .if5 .taken))
 
 mul-lengths-fit : tie.Need-mul-lengths-fit
 mul-lengths-fit c = search needs
@@ -71,15 +83,16 @@ part-lengths-fit-end c = search needs
 lengths-fit-requires : tie.Need-lengths-fit-requires
 lengths-fit-requires c κs = search needs
 
-returns-5 : tie.Need-returns-5
+returns-6 : tie.Need-returns-6
 unfolding headerFits layoutOf storeSize
-returns-5 c =
-    let four = c .before .before in
+returns-6 c =
+    let five = c .before .before in
+    let four = five .before .before in
     let three = four .before .before in
     let two = three .before .before .before in
     let one = two .before in
     let s = one .before .before in
-    rw (← one .before .leading .ensures, le-leb _ _ (one .if1 .left), le-leb _ _ (two .if2 .left), ← variables (three .before), le-leb _ _ (three .if3 .left), ← four .before .temporaries .ensures, le-leb _ _ (four .if4 .left))
+    rw (← one .before .leading .ensures, le-leb _ _ (one .if1 .left), le-leb _ _ (two .if2 .left), ← variables (three .before), le-leb _ _ (three .if3 .left), ← four .before .declared .ensures, le-leb _ _ (four .if4 .left), ← five .before .temporaries .ensures, le-leb _ _ (five .if5 .left))
     (rw (part (s .args .header .now) (one .before .leading .result)) at (c .lengths-fit .ensures))
 
 pub header-fits-spec : {M : Type 1} → statement M
@@ -93,11 +106,13 @@ header-fits-spec =
     shared-slice-copy-out-natural
     natural-requires
     returns-3
-    temporaries-requires
+    declared-requires
     returns-4
+    temporaries-requires
+    returns-5
     mul-lengths-fit
     sub-lengths-fit
     part-lengths-fit-start
     part-lengths-fit-end
     lengths-fit-requires
-    returns-5)
+    returns-6)

@@ -1,4 +1,4 @@
--- `temporaries` is the second word of a kernel's header.
+-- `temporaries` is the third word of a kernel's header.
 use mathlib.Core.Path.{_≡_, sym, ap, _∙_}
 use native.Mathlib.Omega.{arith}
 use borrow.Author.Needs.{needs}
@@ -16,7 +16,7 @@ enum-told-2 : tie.Need-enum-told-2
 enum-told-2 c = search needs
 
 shared-slice-copy-out-natural : tie.Need-shared-slice-copy-out-natural
-shared-slice-copy-out-natural c = let kernel : leading (c .before .before .args .form) ≡ 2 = ap leading (c .enum-told2 .given .1) in omega (arith, c .before .before .pre)
+shared-slice-copy-out-natural c = let kernel : leading (c .before .before .args .form) ≡ 3 = ap leading (c .enum-told2 .given .1) in omega (arith, c .before .before .pre)
 
 natural-requires : tie.Need-natural-requires
 natural-requires c κs = search needs

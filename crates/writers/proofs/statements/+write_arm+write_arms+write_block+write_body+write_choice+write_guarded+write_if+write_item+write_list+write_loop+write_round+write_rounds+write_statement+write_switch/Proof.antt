@@ -76,5 +76,5 @@ pub +write-arm+write-arms+write-block+write-body+write-choice+write-guarded+writ
     (λ t. write-loop-lts.spec (write-loop-claims t) (write-loop-at t) write-loop-reads.Post (write-loop.operand-size-requires t) (write-loop.add-n t) (write-loop.round-size-requires t) (write-loop.add-m t) (write-loop.write-expression-requires t) (write-loop.add-put-loop t) (write-loop.mul-put-loop t) (write-loop.mul-put-loop-2 t) (write-loop.sub-put-loop t) (write-loop.part-put-loop-start t) (write-loop.part-put-loop-end t) (write-loop.put-loop-requires t) (write-loop.add-write-round t) (write-loop.mul-write-round t) (write-loop.mul-write-round-2 t) (write-loop.sub-write-round t) (write-loop.part-write-round-start t) (write-loop.part-write-round-end t) (write-loop.write-round-requires t) (write-loop.add-put-label t) (write-loop.mul-put-label t) (write-loop.mul-put-label-2 t) (write-loop.sub-put-label t) (write-loop.part-put-label-start t) (write-loop.part-put-label-end t) (write-loop.put-label-requires t) (write-loop.same-length t) (write-loop.returns t))
     (λ t. write-round-lts.spec (write-round-claims t) (write-round-at t) write-round-reads.Post (write-round.test-size-requires t) (write-round.statement-size-requires t) (write-round.add-n t) (write-round.add-write-statement t) (write-round.write-test-requires t) (write-round.add-write-statement-2 t) (write-round.add-write-statement-3 t) (write-round.mul-write-statement t) (write-round.mul-write-statement-2 t) (write-round.sub-write-statement t) (write-round.part-write-statement-start t) (write-round.part-write-statement-end t) (write-round.write-statement-requires t) (write-round.add-write-round-end t) (write-round.mul-write-round-end t) (write-round.mul-write-round-end-2 t) (write-round.sub-write-round-end t) (write-round.part-write-round-end-start t) (write-round.part-write-round-end-end t) (write-round.write-round-end-requires t) (write-round.same-length t) (write-round.returns t))
     (λ t. write-rounds-lts.spec (write-rounds-claims t) (write-rounds-at t) write-rounds-reads.Post (write-rounds.arms-size-requires t) (write-rounds.put-empty-requires t) (write-rounds.same-length t) (write-rounds.returns t) (write-rounds.add-m t) (write-rounds.add-put-loop t) (write-rounds.put-loop-requires t) (write-rounds.add-write-arms t) (write-rounds.add-write-arms-2 t) (write-rounds.add-write-arms-3 t) (write-rounds.sub-write-arms t) (write-rounds.part-write-arms-start t) (write-rounds.part-write-arms-end t) (write-rounds.write-arms-requires t) (write-rounds.add-put-rounds-end t) (write-rounds.mul-put-rounds-end t) (write-rounds.mul-put-rounds-end-2 t) (write-rounds.sub-put-rounds-end t) (write-rounds.part-put-rounds-end-start t) (write-rounds.part-put-rounds-end-end t) (write-rounds.put-rounds-end-requires t) (write-rounds.same-length-2 t) (write-rounds.returns-2 t))
-    (λ t. write-statement-lts.spec (write-statement-claims t) (write-statement-at t) write-statement-reads.Post (write-statement.statement-at-requires t) (write-statement.enum-told t) (write-statement.put-empty-requires t) (write-statement.enum-known-line t) (write-statement.write-express-requires t) (write-statement.enum-known-line-2 t) (write-statement.write-block-requires t) (write-statement.enum-known-line-3 t) (write-statement.write-if-requires t) (write-statement.enum-known-line-4 t) (write-statement.write-loop-requires t) (write-statement.enum-known-line-5 t) (write-statement.write-loop-requires-2 t) (write-statement.enum-known-line-6 t) (write-statement.write-loop-requires-3 t) (write-statement.enum-known-line-7 t) (write-statement.write-switch-requires t) (write-statement.enum-told-2 t) (write-statement.put-goto-requires t) (write-statement.enum-told-3 t) (write-statement.put-goto-requires-2 t) (write-statement.enum-told-4 t) (write-statement.put-empty-requires-2 t) (write-statement.enum-known-line-8 t) (write-statement.write-choice-requires t) (write-statement.enum-known-line-9 t) (write-statement.write-rounds-requires t) (write-statement.enum-told-5 t) (write-statement.put-empty-requires-3 t) (write-statement.same-length t) (write-statement.returns t) (write-statement.same-length-2 t) (write-statement.returns-2 t) (write-statement.same-length-3 t) (write-statement.returns-3 t) (write-statement.same-length-4 t) (write-statement.returns-4 t) (write-statement.same-length-5 t) (write-statement.returns-5 t) (write-statement.same-length-6 t) (write-statement.returns-6 t) (write-statement.same-length-7 t) (write-statement.returns-7 t) (write-statement.same-length-8 t) (write-statement.returns-8 t) (write-statement.same-length-9 t) (write-statement.returns-9 t) (write-statement.same-length-10 t) (write-statement.returns-10 t) (write-statement.same-length-11 t) (write-statement.returns-11 t) (write-statement.same-length-12 t) (write-statement.returns-12 t) (write-statement.same-length-13 t) (write-statement.returns-13 t) (write-statement.same-length-14 t) (write-statement.returns-14 t))
+    (λ t. write-statement-lts.spec (write-statement-claims t) (write-statement-at t) write-statement-reads.Post (write-statement.statement-at-requires t) (write-statement.enum-told t) (write-statement.put-empty-requires t) (write-statement.enum-known-line t) (write-statement.write-express-requires t) (write-statement.enum-known-line-2 t) (write-statement.write-block-requires t) (write-statement.enum-known-line-3 t) (write-statement.write-if-requires t) (write-statement.enum-known-line-4 t) (write-statement.write-loop-requires t) (write-statement.enum-known-line-5 t) (write-statement.write-loop-requires-2 t) (write-statement.enum-known-line-6 t) (write-statement.write-loop-requires-3 t) (write-statement.enum-known-line-7 t) (write-statement.write-switch-requires t) (write-statement.enum-told-2 t) (write-statement.put-goto-requires t) (write-statement.enum-told-3 t) (write-statement.put-goto-requires-2 t) (write-statement.enum-told-4 t) (write-statement.put-empty-requires-2 t) (write-statement.enum-known-line-8 t) (write-statement.write-choice-requires t) (write-statement.enum-known-line-9 t) (write-statement.write-rounds-requires t) (write-statement.enum-told-5 t) (write-statement.put-empty-requires-3 t) (write-statement.enum-known-line-10 t) (write-statement.write-declare-requires t) (write-statement.same-length t) (write-statement.returns t) (write-statement.same-length-2 t) (write-statement.returns-2 t) (write-statement.same-length-3 t) (write-statement.returns-3 t) (write-statement.same-length-4 t) (write-statement.returns-4 t) (write-statement.same-length-5 t) (write-statement.returns-5 t) (write-statement.same-length-6 t) (write-statement.returns-6 t) (write-statement.same-length-7 t) (write-statement.returns-7 t) (write-statement.same-length-8 t) (write-statement.returns-8 t) (write-statement.same-length-9 t) (write-statement.returns-9 t) (write-statement.same-length-10 t) (write-statement.returns-10 t) (write-statement.same-length-11 t) (write-statement.returns-11 t) (write-statement.same-length-12 t) (write-statement.returns-12 t) (write-statement.same-length-13 t) (write-statement.returns-13 t) (write-statement.same-length-14 t) (write-statement.returns-14 t) (write-statement.same-length-15 t) (write-statement.returns-15 t))
     (λ t. write-switch-lts.spec (write-switch-claims t) (write-switch-at t) write-switch-reads.Post (write-switch.operand-size-requires t) (write-switch.list-cases-requires t) (write-switch.mul-n t) (write-switch.add-n t) (write-switch.add-i t) (write-switch.list-size-requires t) (write-switch.add-m t) (write-switch.atom-at-requires t) (write-switch.taken-at-requires t) (write-switch.write-expression-requires t) (write-switch.add-write-cases t) (write-switch.add-write-cases-2 t) (write-switch.mul-write-cases t) (write-switch.mul-write-cases-2 t) (write-switch.sub-write-cases t) (write-switch.part-write-cases-start t) (write-switch.part-write-cases-end t) (write-switch.write-cases-requires t) (write-switch.add-default-label t) (write-switch.default-label-requires t) (write-switch.add-put-goto t) (write-switch.mul-put-goto t) (write-switch.mul-put-goto-2 t) (write-switch.sub-put-goto t) (write-switch.part-put-goto-start t) (write-switch.part-put-goto-end t) (write-switch.put-goto-requires t) (write-switch.add-write-list t) (write-switch.add-write-list-2 t) (write-switch.mul-write-list t) (write-switch.mul-write-list-2 t) (write-switch.sub-write-list t) (write-switch.part-write-list-start t) (write-switch.part-write-list-end t) (write-switch.write-list-requires t) (write-switch.add-put-label t) (write-switch.mul-put-label t) (write-switch.mul-put-label-2 t) (write-switch.sub-put-label t) (write-switch.part-put-label-start t) (write-switch.part-put-label-end t) (write-switch.put-label-requires t) (write-switch.same-length t) (write-switch.returns t))

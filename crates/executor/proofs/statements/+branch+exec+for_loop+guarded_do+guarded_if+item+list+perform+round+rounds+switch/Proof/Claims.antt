@@ -60,6 +60,7 @@ use Rattle.executor.proofs.flows.flow.Reads as flow-reads
 use Rattle.executor.proofs.flows.jump.Reads as jump-reads
 use Rattle.executor.proofs.lists.find_start.Reads as find-start-reads
 use Rattle.executor.proofs.lists.resume.Reads as resume-reads
+use Rattle.executor.proofs.statements.declare.Reads as declare-reads
 use Rattle.executor.proofs.statements.express.Reads as express-reads
 use Rattle.executor.proofs.statements.part.Reads as part-reads
 use Rattle.arithmetic.proofs.is_true.Reads as is-true-reads
@@ -190,7 +191,7 @@ abbrev pub guarded-do-μ-loop : guarded-do-lts.MeasureT-loop
 guarded-do-μ-loop rows bounds row store₀ left₀ first store left = left
 
 abbrev pub perform-claims : ℕ → perform-lts.Claims
-perform-claims t = (number-at-reads.Asked, number-at-reads.Learnt, express-reads.Asked, express-reads.Learnt, link-at-reads.Asked, link-at-reads.Learnt, list-below t, list.Post, branch-below t, branch.Post, rounds-below t, rounds.Post, for-loop-below t, for-loop.Post, switch-below t, switch.Post, word-at-reads.Asked, word-at-reads.Learnt, jump-reads.Asked, jump-reads.Learnt, guarded-if-below t, guarded-if.Post, guarded-do-below t, guarded-do.Post)
+perform-claims t = (number-at-reads.Asked, number-at-reads.Learnt, express-reads.Asked, express-reads.Learnt, link-at-reads.Asked, link-at-reads.Learnt, list-below t, list.Post, branch-below t, branch.Post, rounds-below t, rounds.Post, for-loop-below t, for-loop.Post, switch-below t, switch.Post, word-at-reads.Asked, word-at-reads.Learnt, jump-reads.Asked, jump-reads.Learnt, guarded-if-below t, guarded-if.Post, guarded-do-below t, guarded-do.Post, declare-reads.Asked, declare-reads.Learnt)
 
 abbrev pub round-claims : ℕ → round-lts.Claims
 round-claims t = (part-reads.Asked, part-reads.Learnt, operand-reads.Asked, operand-reads.Learnt, is-true-reads.Asked, is-true-reads.Learnt, exec-below t, exec.Post, after-body-reads.Asked, after-body-reads.Learnt, flow-reads.Asked, flow-reads.Learnt, after-last-reads.Asked, after-last-reads.Learnt)

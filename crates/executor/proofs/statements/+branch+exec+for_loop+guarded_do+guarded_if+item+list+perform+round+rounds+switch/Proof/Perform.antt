@@ -20,10 +20,10 @@ use Rattle.executor.proofs.statements.perform.Reads as reads
 use Rattle.executor.proofs.statements.+branch+exec+for_loop+guarded_do+guarded_if+item+list+perform+round+rounds+switch.Lts-perform as lts
 use Rattle.executor.proofs.statements.+branch+exec+for_loop+guarded_do+guarded_if+item+list+perform+round+rounds+switch.Proof.Claims.{perform-claims, perform-at}
 
--- the numbers that the match passed: 40 to 47, 50 to 52, 54, 55 and 57
-module _ {known : Type 0} (number : ℕ) (rest : Passed 57 1 number (Passed 54 2 number (Passed 50 3 number (Passed 40 8 number known)))) where
+-- the numbers that the match passed: 40 to 47, 50 to 52, 54, 55, 57 and 58
+module _ {known : Type 0} (number : ℕ) (rest : Passed 57 2 number (Passed 54 2 number (Passed 50 3 number (Passed 40 8 number known)))) where
   abbrev past-guarded : Passed 54 2 number (Passed 50 3 number (Passed 40 8 number known))
-  past-guarded = passed 57 1 number (Passed 54 2 number (Passed 50 3 number (Passed 40 8 number known))) rest .0
+  past-guarded = passed 57 2 number (Passed 54 2 number (Passed 50 3 number (Passed 40 8 number known))) rest .0
 
   abbrev past-jumps : Passed 50 3 number (Passed 40 8 number known)
   past-jumps = passed 54 2 number (Passed 50 3 number (Passed 40 8 number known)) past-guarded .0
@@ -37,8 +37,8 @@ module _ {known : Type 0} (number : ℕ) (rest : Passed 57 1 number (Passed 54 2
   not-guarded : (54 ≤ number) × (number ≤ 55) → ⊥
   not-guarded inside = omega (arith, inside .1, passed 54 2 number (Passed 50 3 number (Passed 40 8 number known)) past-guarded .1 (inside .0))
 
-  not-abort : number ≡ 57 → ⊥
-  not-abort e = omega (arith, passed 57 1 number (Passed 54 2 number (Passed 50 3 number (Passed 40 8 number known))) rest .1 (omega arith))
+  not-other : (57 ≤ number) × (number ≤ 58) → ⊥
+  not-other inside = omega (arith, inside .1, passed 57 2 number (Passed 54 2 number (Passed 50 3 number (Passed 40 8 number known))) rest .1 (inside .0))
 
 pub number-at-requires : (t : ℕ) → lts.Need-number-at-requires (perform-claims t) (perform-at t) reads.Post
 number-at-requires t c κs =
@@ -200,6 +200,15 @@ guarded-do-requires t c κs =
     let past-match = c .before .before .match in
     (omega (arith, start .pre .0), numbered here (past-number-at .ensures) 55 (past-match .keys13))
 
+pub declare-requires : (t : ℕ) → lts.Need-declare-requires (perform-claims t) (perform-at t) reads.Post
+unfolding kinds kindIn kindOf
+declare-requires t c κs =
+    let start = c .before .before .before .before .before in
+    let here = start .pre .1 in
+    let past-number-at = c .before .before .before .number-at in
+    let past-match = c .before .before .match in
+    numbered here (past-number-at .ensures) 58 (past-match .keys15)
+
 pub returns : (t : ℕ) → lts.Need-returns (perform-claims t) (perform-at t) reads.Post
 unfolding kinds kindIn kindOf
 returns t c =
@@ -340,12 +349,20 @@ returns-14 t c =
     let past-match = c .match in
     ran-guard _ _ ∙ sym (abort-row (numbered here (past-number-at .ensures) 57 (past-match .keys14)) (start .args .left .now) (start .args .store .now))
 
+pub same-length-10 : (t : ℕ) → lts.Need-same-length-10 (perform-claims t) (perform-at t) reads.Post
+same-length-10 t c = search needs
+
 pub returns-15 : (t : ℕ) → lts.Need-returns-15 (perform-claims t) (perform-at t) reads.Post
 returns-15 t c =
+    let past-declare = c .before .declare in
+    ran-handed (past-declare .result) _ _ (past-declare .ok) ∙ past-declare .ensures
+
+pub returns-16 : (t : ℕ) → lts.Need-returns-16 (perform-claims t) (perform-at t) reads.Post
+returns-16 t c =
     let start = c .before .before .before in
     let here = start .pre .1 in
     let past-number-at = c .before .number-at in
     let past-match = c .match in
     let number = past-number-at .result in
     let rest = past-match .rest in
-    ran-next _ _ ∙ sym (other-row here (past-number-at .ensures) (not-plain number rest) (not-jump number rest) (not-guarded number rest) (not-abort number rest) (start .args .left .now) (start .args .store .now))
+    ran-next _ _ ∙ sym (other-row here (past-number-at .ensures) (not-plain number rest) (not-jump number rest) (not-guarded number rest) (not-other number rest) (start .args .left .now) (start .args .store .now))

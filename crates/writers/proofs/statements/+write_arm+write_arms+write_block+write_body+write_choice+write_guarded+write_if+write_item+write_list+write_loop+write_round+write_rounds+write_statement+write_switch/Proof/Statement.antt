@@ -7,6 +7,7 @@ use lib.IntN.{ℤ}
 use native.Mathlib.Omega.{arith}
 use Rattle.language.specs.Trees.{Items}
 use Rattle.language.specs.Decode.{expressionAt, statementAt}
+use Rattle.translation.specs.declared.Use.the-variants.{Stored as stored}
 use Rattle.translation.specs.Translate.{labels, statementCode}
 use Rattle.translation.specs.TranslateSize.{statementSize}
 use Rattle.emission.specs.Emission.{emitItems}
@@ -15,7 +16,7 @@ use Rattle.words.specs.Over.{over}
 use Rattle.writers.specs.Code.{exitsOf}
 use Rattle.leaves.specs.Chain.{room-less}
 use Rattle.writers.proofs.ListLaws.{above-less, optional-inside}
-use Rattle.writers.proofs.StatementLaws.{line-done, if-size, if-labels, while-size, do-size, for-size, while-code, do-code, for-code}
+use Rattle.writers.proofs.StatementLaws.{line-done, part-size, if-size, if-labels, while-size, do-size, for-size, while-code, do-code, for-code}
 use Rattle.writers.proofs.statements.write_statement.Reads as reads
 use Rattle.writers.proofs.statements.+write_arm+write_arms+write_block+write_body+write_choice+write_guarded+write_if+write_item+write_list+write_loop+write_round+write_rounds+write_statement+write_switch.Lts-write_statement as lts
 use Rattle.writers.proofs.statements.+write_arm+write_arms+write_block+write_body+write_choice+write_guarded+write_if+write_item+write_list+write_loop+write_round+write_rounds+write_statement+write_switch.Proof.Claims.{write-statement-claims, write-statement-at}
@@ -342,6 +343,21 @@ put-empty-requires-3 t c κs =
     let asks = start .pre .1 .1 in
     rw (is-abort .is) at (asks .room)
 
+pub enum-known-line-10 : (t : ℕ) → lts.Need-enum-known-line-10 (write-statement-claims t) (write-statement-at t) reads.Post
+enum-known-line-10 t c = search needs
+
+pub write-declare-requires : (t : ℕ) → lts.Need-write-declare-requires (write-statement-claims t) (write-statement-at t) reads.Post
+unfolding statementSize
+write-declare-requires t c κs =
+    let past-statement-at = c .before .before .before .before .statement-at in
+    let past-line10 = c .before .before .line10 in
+    let is-declare = stated (past-statement-at .ensures) (past-line10 .given .1) in
+    let start = c .before .before .before .before .before .before in
+    let writing = start .pre .1 .0 in
+    let asks = start .pre .1 .1 in
+    let line = is-declare in
+    (writing, record { low = line .onward .0; some = omega (arith, line .onward .1 .later); inside = line .onward .1 .inside; room = room-less _ (rw (line .is) at (asks .room)) (omega (arith, part-size (stored (past-line10 .given .0 .0)) (start .args .rows .now) (past-line10 .given .0 .1 .0) (omega (arith, line .onward .1 .later)))) })
+
 pub same-length : (t : ℕ) → lts.Need-same-length (write-statement-claims t) (write-statement-at t) reads.Post
 same-length t c = c .before .put-empty .kept .1 .1 .0
 
@@ -533,3 +549,17 @@ returns-14 t c =
     let is-abort = stated (past-statement-at .ensures) (past-enum-told5 .given .1) in
     let past-put-empty3 = c .before .put-empty3 in
     line-done (args .store) (exitsOf (args .exits)) (args .label) (args .base) (args .follows) (args .out .now) is-abort (past-put-empty3 .ensures)
+
+pub same-length-15 : (t : ℕ) → lts.Need-same-length-15 (write-statement-claims t) (write-statement-at t) reads.Post
+same-length-15 t c = c .before .write-declare .kept .1 .1 .1 .1 .1 .1 .1 .0
+
+pub returns-15 : (t : ℕ) → lts.Need-returns-15 (write-statement-claims t) (write-statement-at t) reads.Post
+unfolding statementCode
+returns-15 t c =
+    let start = c .before .before .before .before .before .before .before .before in
+    let args = start .args in
+    let past-statement-at = c .before .before .before .before .before .before .statement-at in
+    let past-line10 = c .before .before .before .before .line10 in
+    let is-declare = stated (past-statement-at .ensures) (past-line10 .given .1) in
+    let past-write-declare = c .before .write-declare in
+    line-done (args .store) (exitsOf (args .exits)) (args .label) (args .base) (args .follows) (args .out .now) is-declare (past-write-declare .ensures)

@@ -4,10 +4,10 @@ use Prim.Native.Nat.{ℕ, _-_, _/_, _≤_}
 use native.Mathlib.Omega.{arith}
 use native.Mathlib.Numerals.{add-one}
 use lib.ListN.{length}
-use Rattle.names.specs.Names.{declarationsBefore, declarationCount}
-use Rattle.names.specs.ScopeLaws.{before-few}
-use Rattle.resolver.proofs.counts.declaration_count.Statement.{statement}
-use Rattle.resolver.proofs.counts.declaration_count.Tie as tie
+use Rattle.words.specs.Declarations.{declarationsBefore, declarationCount}
+use Rattle.words.specs.StoreLaws.{before-few}
+use Rattle.words.proofs.declarations.declaration_count.Statement.{statement}
+use Rattle.words.proofs.declarations.declaration_count.Tie as tie
 
 abbrev Inv-loop : tie.InvT-loop
 Inv-loop rows count₀ row₀ row-end count row =
@@ -24,7 +24,7 @@ loop-holds c =
 
 counted-requires : tie.Need-counted-requires Inv-loop μ-loop
 counted-requires c κs =
-    let few = c .before .before .pre in (omega arith, omega (arith, few, c .before .loop .inv .2, before-few (c .before .before .args .rows .now) (c .before .loop .row)))
+    (omega arith, omega (arith, c .before .loop .inv .2, before-few (c .before .before .args .rows .now) (c .before .loop .row)))
 
 add-row : tie.Need-add-row Inv-loop μ-loop
 add-row c =
@@ -39,14 +39,10 @@ unfolding declarationsBefore
 loop-again c =
     (omega arith, refl, rw (add-one, ← c .before .before .loop .inv .2) (c .counted .ensures))
 
-wide-requires : tie.Need-wide-requires Inv-loop μ-loop
-wide-requires c κs =
-    tt
-
 returns : tie.Need-returns Inv-loop μ-loop
 unfolding declarationCount
 returns c =
-    let e : c .before .before .loop .row ≡ length (c .before .before .before .args .rows .now) / 6 = omega arith in c .wide .ensures ∙ c .before .before .loop .inv .2 ∙ ap (declarationsBefore (c .before .before .before .args .rows .now)) e
+    let e : c .before .loop .row ≡ length (c .before .before .args .rows .now) / 6 = omega arith in c .before .loop .inv .2 ∙ ap (declarationsBefore (c .before .before .args .rows .now)) e
 
 pub declaration-count-spec : {M : Type 1} → statement M
 declaration-count-spec =
@@ -59,5 +55,4 @@ declaration-count-spec =
     add-row
     loop-less
     loop-again
-    wide-requires
     returns)

@@ -1,8 +1,8 @@
 -- `counted` makes one test.
 use native.Mathlib.Omega.{arith}
 use borrow.Author.Needs.{needs}
-use Rattle.resolver.proofs.counts.counted.Statement.{statement}
-use Rattle.resolver.proofs.counts.counted.Tie as tie
+use Rattle.words.proofs.declarations.counted.Statement.{statement}
+use Rattle.words.proofs.declarations.counted.Tie as tie
 
 is-declaration-requires : tie.Need-is-declaration-requires
 is-declaration-requires c κs = search needs

@@ -1,8 +1,8 @@
 -- `is_declaration` asks for the number of the row's kind.
-use Rattle.names.specs.Names.{isDeclaration}
+use Rattle.words.specs.Declarations.{isDeclaration}
 use borrow.Author.Needs.{needs}
-use Rattle.resolver.proofs.scopes.is_declaration.Statement.{statement}
-use Rattle.resolver.proofs.scopes.is_declaration.Tie as tie
+use Rattle.words.proofs.declarations.is_declaration.Statement.{statement}
+use Rattle.words.proofs.declarations.is_declaration.Tie as tie
 
 number-at-requires : tie.Need-number-at-requires
 number-at-requires c κs = search needs

@@ -1,0 +1,74 @@
+-- Declarations: the code of a declaration, its value and then the assignment to its word; it has a row.
+use mathlib.Core.Path.{_≡_, refl, sym, ap, _∙_}
+use mathlib.Core.Bool.{Bool, true, false, false≢true}
+use mathlib.Core.List.{List}
+use Prim.Native.Nat.{ℕ, zero, suc, _+_, _≤_, _<_}
+use native.Mathlib.Omega.{arith}
+use lib.IntN.{ℤ}
+use Rattle.words.specs.Word.{pick}
+use Rattle.words.specs.Over.{over}
+use Rattle.words.specs.Laws.{by-cases}
+use Rattle.language.specs.Trees.{Expression, constant, read, minus, not, binary, and, or, comma, conditional, assign, compound, prefix, postfix, variable, element, declare, Items, _⧺_}
+use Rattle.language.specs.Sizes.{itemsRows}
+use Rattle.language.specs.Decode.{expressionAt, partAt}
+use Rattle.translation.specs.Uses.{direct}
+use Rattle.translation.specs.declared.Use.{Use}
+use Rattle.translation.specs.declared.Use.the-variants.{Stored as stored}
+use Rattle.translation.specs.Translate.{atomOf, atom, storeCode, operandCode, expressionCode, exits, statementCode}
+use Rattle.translation.specs.TranslateSize.{storeRows, expressionSize, operandSize, statementSize}
+use Rattle.translation.specs.TranslateRows.{rows-append, rows-expression, rows-statement}
+use Rattle.emission.specs.Emission.{emitItems}
+use Rattle.leaves.specs.Room.{moreRows}
+use Rattle.leaves.specs.Straight.{straightCode}
+use Rattle.leaves.specs.Chain.{part, back-in, Wrote}
+use Rattle.straight_writers.specs.AtomLaws.{stored-straight, stored-copy}
+use Rattle.writers.specs.Code.{declaredCode}
+use Rattle.writers.proofs.Sequence.{wrote-behind, more-rows}
+
+-- A value that goes straight into a variable has code.
+direct-some : (e : Expression) (u : Use) → direct e ≡ true → 1 ≤ expressionSize e u
+unfolding direct expressionSize
+direct-some (constant v) u d = absurd (false≢true d)
+direct-some (read (variable i)) u d = absurd (false≢true d)
+direct-some (read (element array e)) u d = omega arith
+direct-some (minus e) u d = omega arith
+direct-some (not e) u d = omega arith
+direct-some (binary operator a b) u d = omega arith
+direct-some (and a b) u d = absurd (false≢true d)
+direct-some (or a b) u d = absurd (false≢true d)
+direct-some (comma a b) u d = absurd (false≢true d)
+direct-some (conditional c a b) u d = absurd (false≢true d)
+direct-some (assign p e) u d = absurd (false≢true d)
+direct-some (compound operator p e) u d = absurd (false≢true d)
+direct-some (prefix operator p) u d = absurd (false≢true d)
+direct-some (postfix operator p) u d = absurd (false≢true d)
+
+-- So has every declaration.
+pub declared-some : (i : ℕ) (e : Expression) → 1 ≤ storeRows (variable i) (direct e) + expressionSize e (stored i)
+declared-some i e = by-cases (direct e) (λ d. rw d (omega (arith, direct-some e (stored i) d))) (λ d. rw d (omega arith))
+
+module _ (S i : ℕ) (e : Expression) where
+  -- The assignment behind the value, as the writer of assignments has it.
+  last-is : (u : Use) → straightCode S (assign (variable i) e) u 0 ≡ storeCode S (variable i) (direct e) (atom S 0 (atomOf e))
+  last-is u = by-cases (direct e) (λ d. sym (stored-straight S i e u 0 d) ∙ rw d) (λ d. sym (stored-copy S i e u 0 d refl) ∙ rw d)
+
+  last-rows : itemsRows (storeCode S (variable i) (direct e) (atom S 0 (atomOf e))) ≡ storeRows (variable i) (direct e)
+  unfolding statementCode statementSize
+  last-rows =
+      omega (arith, rows-statement S (declare i e) (exits 0 0) 0, rows-append (expressionCode S e (stored i) 0) (storeCode S (variable i) (direct e) (atom S 0 (atomOf e))), rows-expression S e (stored i) 0)
+
+-- The value, and what stands behind it.
+pub declared-done : (S : ℕ) (rows : List ℤ) (i value base : ℕ) (follows : Bool) (l : List ℤ) (u : Use) {n last : ℕ} {then : Bool} {l1 l2 : List ℤ} → 0 < value
+    → n ≡ operandSize (partAt rows value) (stored i) → last ≡ pick (direct (expressionAt rows value)) 0 4 → then ≡ moreRows follows last
+    → l1 ≡ over (emitItems then (operandCode S (partAt rows value) (stored i) 0) base) l
+    → l2 ≡ over (emitItems follows (straightCode S (assign (variable i) (expressionAt rows value)) u 0) (base + n)) (part n l1)
+    → back-in n l1 l2 ≡ over (emitItems follows (declaredCode S i (expressionAt rows value)) base) l
+declared-done S rows i zero base follows l u some en el et t1 t2 = absurd (omega arith)
+declared-done S rows i (suc value) base follows l u {n} {last} {then} {l1} {l2} some en el et t1 t2 =
+    let e = expressionAt rows (suc value) in
+    let E = expressionCode S e (stored i) 0 in
+    let C = storeCode S (variable i) (direct e) (atom S 0 (atomOf e)) in
+    let size : itemsRows C ≡ last = last-rows S i e ∙ sym el in
+    let w1 : Wrote then E base n l l1 = record { table = t1; size = rows-expression S e (stored i) 0 ∙ sym en } in
+    let w2 : Wrote follows C (base + n) last (part n l1) l2 = record { table = t2 ∙ ap (λ (xs : Items). over (emitItems follows xs (base + n)) (part n l1)) (last-is S i e u); size = size } in
+    wrote-behind (n + last) refl (et ∙ more-rows follows C last size) refl w1 w2 .table

@@ -50,7 +50,7 @@ enum clight_cause {
     CLIGHT_REPEATED_MARK = 8,     /* second equal case, or second default, in one switch; the later row */
     CLIGHT_DEPTH = 9,             /* depth over the limit; the row */
     CLIGHT_OUTPUT_TOO_SHORT = 10, /* output table or text shorter than its result needs; place 0 */
-    CLIGHT_STORE = 11,            /* store not S (source, dispatcher) or S+T (kernel, flat list) words; place 0 */
+    CLIGHT_STORE = 11,            /* store not S (source, dispatcher) or S+D+T (kernel, flat list) words; place 0 */
     CLIGHT_KERNEL_FORM = 12,      /* statement not of kernel form; the statement's row */
     CLIGHT_LABEL = 13,            /* goto without its label ahead, or label repeated; the row of the goto or the later label */
     CLIGHT_TEXT = 14,             /* text or page malformed; the line, from 1 */
@@ -69,12 +69,12 @@ enum clight_ending {
     CLIGHT_GUARD = 5 /* no guard true in a guarded if, or an abort of the kernel */
 };
 
-/* Limits. n source rows give at most CLIGHT_KERNEL_ROWS(n) kernel rows, and the kernel header has one word more. */
+/* Limits. n source rows give at most CLIGHT_KERNEL_ROWS(n) kernel rows, and the kernel header has two words more. */
 enum clight_limit {
     CLIGHT_ROW_WORDS = 6,
     CLIGHT_LINE_WORDS = 5,
     CLIGHT_SOURCE_HEADER_WORDS = 33,
-    CLIGHT_KERNEL_HEADER_WORDS = 34,
+    CLIGHT_KERNEL_HEADER_WORDS = 35,
     CLIGHT_SOURCE_ROWS_LIMIT = 2048,
     CLIGHT_KERNEL_ROWS_LIMIT = 40980
 };
@@ -113,14 +113,14 @@ clight_answer clight_join(const int32_t *header, size_t header_words, const int3
 /* The check of kernel programs. Done: the program is legal; first and second are 0. Causes 1 to 6, 9, 12, 13. */
 clight_answer clight_kernel_check(const int32_t *header, size_t header_words, const int32_t *rows, size_t row_words);
 
-/* Runs a kernel program on the store, which has S+T words: variables, the arrays in order, temporaries. Done: as clight_run.
- * Causes 1 to 6, 9, 12, 13, then 11. */
+/* Runs a kernel program on the store, which has S+D+T words: variables, the arrays in order, declared words, temporaries. Done: as
+ * clight_run. Causes 1 to 6, 9, 12, 13, then 11. */
 clight_answer clight_kernel_run(const int32_t *header, size_t header_words, const int32_t *rows, size_t row_words, int32_t *store,
                                 size_t store_words, uint32_t budget);
 
-/* Runs a kernel program on the S words that a dispatcher sees: variables, then the arrays in order. The temporaries begin as zeros and
- * are kept inside. Done: first is the ending, second is 0, and the words are as the run left them. Of a translation, what the temporaries
- * of clight_kernel_run begin with does not show here, at any budget. Causes 1 to 6, 9, 12, 13, then 11. */
+/* Runs a kernel program on the S words that a dispatcher sees: variables, then the arrays in order. The declared words and the
+ * temporaries begin as zeros and are kept inside. Done: first is the ending, second is 0, and the words are as the run left them. Of a
+ * translation, what the temporaries of clight_kernel_run begin with does not show here, at any budget. Causes 1 to 6, 9, 12, 13, then 11. */
 clight_answer clight_dispatcher_run(const int32_t *header, size_t header_words, const int32_t *rows, size_t row_words, int32_t *words,
                                     size_t word_count, uint32_t budget);
 
@@ -131,9 +131,9 @@ clight_answer clight_dispatcher_run(const int32_t *header, size_t header_words, 
 clight_answer clight_flatten(const int32_t *header, size_t header_words, const int32_t *rows, size_t row_words, int32_t *list,
                              size_t list_words);
 
-/* Runs a flat list, lines of five words (docs/FLAT.md), with a kernel header, on the store, which has S+T words: variables, the arrays in
- * order, temporaries. Lines are numbered from 0. Done: first is the ending, second the count of lines, at most budget, and the store is
- * as the run left it. Causes 1, 2, 3, 4, 6, then 11. */
+/* Runs a flat list, lines of five words (docs/FLAT.md), with a kernel header, on the store, which has S+D+T words: variables, the arrays in
+ * order, declared words, temporaries. Lines are numbered from 0. Done: first is the ending, second the count of lines, at most budget, and
+ * the store is as the run left it. Causes 1, 2, 3, 4, 6, then 11. */
 clight_answer clight_flat_run(const int32_t *header, size_t header_words, const int32_t *list, size_t list_words, int32_t *store,
                               size_t store_words, uint32_t budget);
 

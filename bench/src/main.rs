@@ -166,7 +166,7 @@ fn check(entries: &Entries, program: &Program) -> Row {
 /// The interpreter has no translation; the column of the interpreter holds its check.
 fn translate(program: &Program) -> Row {
     let (header, rows) = (&program.header, &program.rows);
-    let mut kernel_header = vec![0; header.len() + 1];
+    let mut kernel_header = vec![0; header.len() + 2];
     let mut kernel_rows = vec![0; 6 * clight::kernel_rows(program.row_count())];
     let times = both(
         || {

@@ -29,7 +29,7 @@ fn program(name: &str, header: &[i32], items: Vec<Tree>) -> Program {
 
 /// The translation of a source program, by the library.
 pub fn translated(program: &Program) -> Program {
-    let mut header = vec![0; program.header.len() + 1];
+    let mut header = vec![0; program.header.len() + 2];
     let mut rows = vec![0; WORDS * clight::kernel_rows(program.row_count())];
     let tables = clight::translate(&program.header, &program.rows, &mut header, &mut rows).unwrap();
     rows.truncate(tables.row_words);
@@ -220,7 +220,8 @@ fn filled(mut table: Vec<Row>, rows: usize) -> Program {
         table.push([EMPTY, 0, 0, 0, 0, at + 1]);
     }
     table[rows - 1][NEXT] = 0;
-    let made = Program { name: format!("{rows} rows"), header: vec![1, 0], rows: table.concat() };
+    let made =
+        Program { name: format!("{rows} rows"), header: vec![1, 0, 0], rows: table.concat() };
     assert_eq!(check(Kernel, &made.header, &made.rows), Ok(()));
     made
 }

@@ -167,15 +167,14 @@ fn call_preview(_: &Entries, program: &Program) {
 }
 
 fn call_translate(_: &Entries, program: &Program) {
-    let mut header = vec![0; program.header.len() + 1];
+    let mut header = vec![0; program.header.len() + 2];
     let mut rows = vec![0; 6 * clight::kernel_rows(program.row_count())];
     clight::translate(&program.header, &program.rows, &mut header, &mut rows).unwrap();
 }
 
-/// The words that a dispatcher sees: the store without the temporaries.
+/// The words that a dispatcher sees: the first S.
 fn call_dispatcher_run(_: &Entries, program: &Program) {
-    let temporaries = program.header[1] as usize;
-    let mut words = vec![1; Kernel.store_words(&program.header) - temporaries];
+    let mut words = vec![1; Kernel.size(&program.header) as usize];
     clight::dispatcher_run(&program.header, &program.rows, &mut words, 10_000).unwrap();
 }
 

@@ -58,10 +58,10 @@ int main(void) {
     if (refused(kernel))
         return 1;
 
-    /* S words and T temporaries, T at most 4 a source row. */
+    /* S words, D declared words (none here) and T temporaries, T at most 4 a source row. */
     int32_t kernel_store[STORE_WORDS + 4 * SOURCE_ROWS] = {0};
     run = clight_kernel_run(kernel_header, kernel.first, kernel_rows, kernel.second, kernel_store,
-                            STORE_WORDS + (size_t)kernel_header[1], BUDGET);
+                            STORE_WORDS + (size_t)(kernel_header[1] + kernel_header[2]), BUDGET);
     if (refused(run))
         return 1;
     printf("kernel %s", endings[run.first]);

@@ -46,8 +46,8 @@ fn main() -> Result<(), Refusal> {
         &kernel_rows[..kernel.row_words],
     );
 
-    // S+T: the temporaries behind the arrays.
-    let mut kernel_store = vec![0; size + kernel_header[1] as usize];
+    // S+D+T: the declared words and temporaries behind the arrays.
+    let mut kernel_store = vec![0; size + (kernel_header[1] + kernel_header[2]) as usize];
     let ran = clight::kernel_run(kernel_header, kernel_rows, &mut kernel_store, BUDGET)?;
     println!("kernel {}{}", ran.ending, words(&kernel_store[..size]));
     Ok(())

@@ -119,16 +119,16 @@ pub fn write_lines(form: Form, case: &Case) -> String {
 }
 
 /// A case of the source form and its translation's text, held to both sentences
-/// of change 14; the temporaries start from values that are not 0.
+/// of change 14; the words behind the first S start from values that are not 0.
 pub fn compare_writes(source: &Case, translation: &[u8]) -> Result<Compared, String> {
     let refused = |refusal: Refusal| refusal.to_string();
     let program = text::read(Source, &source.text).map_err(refused)?;
     let kernel = text::read(Kernel, translation).map_err(refused)?;
     let store = start(Source, &program.0, source);
     let values = [7, -1, i32::MIN, 1, i32::MAX, -2];
-    let count = Kernel.temporaries(&kernel.0) as usize;
-    let temporaries: Vec<i32> = values.iter().copied().cycle().take(count).collect();
-    compare(&program, &kernel, &store, &temporaries)
+    let count = Kernel.behind(&kernel.0) as usize;
+    let behind: Vec<i32> = values.iter().copied().cycle().take(count).collect();
+    compare(&program, &kernel, &store, &behind)
 }
 
 /// What is printed for the join of two texts.

@@ -44,6 +44,7 @@ fn refuse_row(number: u32, row: Option<usize>) -> Result<(), Refusal> {
 pub fn check_header(form: Form, header: &[i32]) -> Result<(), Refusal> {
     let well = header.len() >= form.leading_words()
         && (0..=MAX_VARIABLES).contains(&header[0])
+        && (0..=MAX_DECLARED).contains(&form.declared_by_header(header))
         && (0..=MAX_TEMPORARIES).contains(&form.temporaries(header))
         && form.lengths(header).len() <= MAX_ARRAYS
         && form.lengths(header).iter().all(|n| (1..=MAX_LENGTH).contains(n))
@@ -158,14 +159,13 @@ fn check_linked_once(rows: &[Row]) -> Result<Vec<Standing>, Refusal> {
     }
 }
 
-/// Cause 6. A temporary is a variable number from S on; V to S-1 name nothing.
+/// Cause 6. Declared words and temporaries are variable numbers from S on; V to S-1 name nothing.
 fn check_numbers(form: Form, header: &[i32], rows: &[Row]) -> Result<(), Refusal> {
     let variables = 0..header[0];
-    let size = form.size(header) as i32;
-    let temporaries = size..size + form.temporaries(header);
+    let behind = form.numbers_behind(header);
     let arrays = 0..form.lengths(header).len() as i32;
     let within = |row: &Row| match row[0] {
-        VARIABLE => variables.contains(&row[1]) || temporaries.contains(&row[1]),
+        VARIABLE => variables.contains(&row[1]) || behind.contains(&row[1]),
         ELEMENT => arrays.contains(&row[1]),
         GOTO | LABEL => (0..LABELS).contains(&row[1]),
         _ => true,

@@ -82,7 +82,7 @@ pub fn case(seed: u64, number: u64) -> Case {
     let mut bytes = text::write(&header, &rows);
     for &pick in &picks {
         match pick {
-            Damage::Text => damage_text(random, &mut bytes),
+            Damage::Text => damage_text(Source, random, &mut bytes),
             Damage::Words => damage_words(Source, random, &header, &mut words),
             _ => {}
         }

@@ -95,8 +95,8 @@ fn distance_fits(lines: &[Line], at: usize) -> bool {
 }
 
 fn numbers_fit(header: &[i32], line: &Line) -> bool {
-    let size = Kernel.size(header) as i32;
-    let variable = |n| (0..header[0]).contains(&n) || (size..size + header[1]).contains(&n);
+    let behind = Kernel.numbers_behind(header);
+    let variable = |n| (0..header[0]).contains(&n) || behind.contains(&n);
     let array = |n| (0..Kernel.lengths(header).len() as i32).contains(&n);
     let Some((kind, left, right)) = parts(line[0]) else { return false };
     let Some((holds, _)) = shape(kind) else { return false };
@@ -123,7 +123,7 @@ pub fn run(
     Ok(run_checked(header, list, store, budget))
 }
 
-/// Runs a list that the check accepts, on a store of S+T words.
+/// Runs a list that the check accepts, on a store of S+D+T words.
 pub fn run_checked(header: &[i32], list: &[i32], store: &mut [i32], budget: u32) -> Outcome {
     let arrays = Array::all(header[0], Kernel.lengths(header));
     let lines = lines_of(list);

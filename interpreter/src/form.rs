@@ -2,12 +2,13 @@
 //! the header, the limits and the kinds.
 
 use crate::table::*;
+use std::ops::Range;
 
 #[derive(Clone, Copy, Debug, PartialEq, Eq)]
 pub enum Form {
     /// C-light. A header has V, then the array lengths.
     Source,
-    /// What a translation is written in. A header has V, T, then the lengths.
+    /// What a translation is written in. A header has V, D, T, then the lengths.
     Kernel,
 }
 
@@ -32,7 +33,7 @@ impl Form {
     pub fn leading_words(self) -> usize {
         match self {
             Source => 1,
-            Kernel => 2,
+            Kernel => 3,
         }
     }
 
@@ -41,12 +42,25 @@ impl Form {
         &header[self.leading_words()..]
     }
 
-    /// T, the number of temporaries.
-    pub fn temporaries(self, header: &[i32]) -> i32 {
+    /// D, the number of declared words, as a kernel header says it; a source header says none.
+    pub fn declared_by_header(self, header: &[i32]) -> i32 {
         match self {
             Source => 0,
             Kernel => header[1],
         }
+    }
+
+    /// T, the number of temporaries.
+    pub fn temporaries(self, header: &[i32]) -> i32 {
+        match self {
+            Source => 0,
+            Kernel => header[2],
+        }
+    }
+
+    /// The words behind the first S that a header gives: declared words, then temporaries.
+    pub fn behind(self, header: &[i32]) -> i64 {
+        i64::from(self.declared_by_header(header)) + i64::from(self.temporaries(header))
     }
 
     /// S, the number of words of the variables and the arrays.
@@ -54,9 +68,14 @@ impl Form {
         i64::from(header[0]) + self.lengths(header).iter().map(|&n| i64::from(n)).sum::<i64>()
     }
 
-    /// The words of the store: S, or S+T where there are temporaries.
+    /// The words of the store: S, and in the kernel form the D+T behind them.
     pub fn store_words(self, header: &[i32]) -> usize {
-        (self.size(header) + i64::from(self.temporaries(header))) as usize
+        (self.size(header) + self.behind(header)) as usize
+    }
+
+    /// The variable numbers that a header gives from S on, in the kernel form.
+    pub fn numbers_behind(self, header: &[i32]) -> Range<i32> {
+        self.size(header) as i32..self.store_words(header) as i32
     }
 
     /// The fields a to d of a kind; none where the kind is not in the language.

@@ -2,6 +2,7 @@
 //! them longer than the program reads.
 
 use crate::damage::{self, damage_text};
+use crate::form::Form::Source;
 use crate::generate::{self, end_value, Size};
 use crate::random::Random;
 
@@ -23,7 +24,7 @@ pub fn input(seed: u64, number: u64) -> Vec<u8> {
     let mut behind = line(&setting);
     days.iter().for_each(|day| behind.extend(line(day)));
     if random.chance(15) {
-        damage_text(random, &mut behind);
+        damage_text(Source, random, &mut behind);
     }
     if random.chance(4) {
         behind.pop();

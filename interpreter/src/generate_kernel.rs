@@ -37,17 +37,24 @@ pub fn damaged_case(seed: u64, number: u64) -> Case {
     }
     let mut bytes = text::write(&header, &rows);
     if random.chance(15) {
-        damage_text(random, &mut bytes);
+        damage_text(Kernel, random, &mut bytes);
     }
     Case { budget, words, text: bytes }
 }
 
-pub fn program(random: &mut Random) -> Program {
-    let arrays = random.below(3);
-    let mut header = vec![random.between(0, 4), random.between(0, 4)];
-    for _ in 0..arrays {
+/// V, D, T and up to two array lengths: a few of each, now and then as many declared words as can be.
+pub fn kernel_header(random: &mut Random) -> Vec<i32> {
+    let declared = random.weighted(&[(35, 0), (25, 1), (20, 2), (15, 3), (5, MAX_DECLARED)]);
+    let mut header = vec![random.between(0, 4), declared, random.between(0, 4)];
+    for _ in 0..random.below(3) {
         header.push(random.between(1, 5));
     }
+    header
+}
+
+pub fn program(random: &mut Random) -> Program {
+    let header = kernel_header(random);
+    let arrays = Kernel.lengths(&header).len();
     let numbers = variable_numbers(&header);
     let size = random.pick(&[3, 10, 10, 40, 200]);
     let mut writer = Writer { random, arrays, numbers, rows: Vec::new(), labels: 0, left: size };
@@ -55,10 +62,9 @@ pub fn program(random: &mut Random) -> Program {
     Program { rows: writer.rows, header }
 }
 
-/// The numbers that name a variable or a temporary.
+/// The numbers that name a variable, a declared word or a temporary.
 fn variable_numbers(header: &[i32]) -> Vec<i32> {
-    let size = Kernel.size(header) as i32;
-    (0..header[0]).chain(size..size + header[1]).collect()
+    (0..header[0]).chain(Kernel.numbers_behind(header)).collect()
 }
 
 struct Writer<'a> {
@@ -222,7 +228,7 @@ pub fn damage(random: &mut Random, header: &mut Vec<i32>, rows: &mut Vec<i32>) {
         match random.below(24) {
             0 => {
                 let at = random.below(header.len());
-                header[at] = random.pick(&[-1, 0, 1, 257, 4097, 8193, i32::MIN]);
+                header[at] = random.pick(&[-1, 0, 1, 64, 65, 257, 4097, 8193, i32::MIN]);
             }
             1 => header.truncate(random.below(header.len() + 1)),
             2 => rows.truncate(random.below(rows.len() + 1)),

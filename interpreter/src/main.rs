@@ -11,73 +11,7 @@ use interpreter::{
 use std::io::{self, Read, Write};
 use std::process::ExitCode;
 
-const HELP: &str = "\
-interpreter: a C-light interpreter built apart from the translator.
-Texts and case files are read from standard input.
-
-  check                      ok, or refused NUMBER PLACE
-  run BUDGET [WORD ...]      ENDING COUNT WORDS, or refused NUMBER PLACE;
-                             the store starts from the words, else from zeros
-  preview BUDGET [WORD ...]  ENDING COUNT and how many words would differ; then
-                             PLACE: OLD NEW for each of them, lowest place first
-  writes N [WORD ...]        PLACE VALUE for each write to the first S words
-                             within N steps, in order, or refused NUMBER PLACE
-  join SECOND                the text that joins the one on standard input and
-                             that of the file SECOND, or refused NUMBER PLACE
-  can-write                  the numbers of the variables, and in a second line
-                             of the arrays, that the program can write, or
-                             refused NUMBER PLACE
-  kernel-check               check, run and writes for a text of the kernel form
-  kernel-run BUDGET [WORD ...]
-  kernel-writes N [WORD ...]
-  page                       the page of a kernel text, or refused NUMBER PLACE
-  flat-check                 check, run of the text of a flat list
-  flat-run BUDGET [WORD ...]
-  flatten                    the flat list of a kernel text, or refused NUMBER PLACE
-  read-page V T [LENGTH ...] reads a page; the kernel text of its rows with this
-                             header, or a refusal
-  trial                      the trial program's line for the source form, or
-                             its refusal. The kernel's line is not printed:
-                             there is no translation here, and whether its run
-                             stays within the budget is not known.
-  day                        what the day program prints for its input
-  generate-day SEED NUMBER   the input of one day, legal or damaged
-  generate SEED COUNT        generated cases, numbers 0 to COUNT - 1
-  generate SEED COUNT FIRST  the same, from number FIRST on
-  generate SEED COUNT large  of 300 to 2,048 rows
-  generate SEED COUNT endless [FIRST]
-                             of programs that do not end, and store on and on
-  damage SEED COUNT [FIRST]  damaged cases
-  kernel-generate SEED COUNT [FIRST]
-  kernel-damage SEED COUNT [FIRST]
-                             generated and damaged cases of the kernel form
-  rules                      the rules on the shelf and more, as cases
-  rules names                their names and expected answers, one a line
-  answers                    reads cases; of each its refusal, or the line of
-                             the source's run and, unless that is spent, of the
-                             kernel's, given steps enough
-  different FILE             reads cases; the first that FILE, which another
-                             program printed, answers otherwise
-  compare-writes             reads cases two by two, a program and then its
-                             translation's text; whether each makes the writes
-                             that the other has made as its first ones, at many
-                             numbers of steps: same PROGRAMS ENDLESS WRITES, or
-                             different NUMBER: and what is not made
-  joins SEED COUNT [FIRST]   pairs of cases to join, legal and damaged
-  compare-joins              reads cases three by three, two programs and what
-                             was printed for their join; whether that is the
-                             join, or its refusal, and whether its runs follow
-                             those of both at many budgets: same PAIRS JOINED
-                             RUNS, or different NUMBER: and what
-  tally                      reads cases; counts of answers, kinds and sizes
-
-With --tally the counts are printed in place of cases. `answers`, `different`
-and `tally` read cases of the source form.
-
-A case is a line BUDGET LENGTH [WORD ...], parted by tabs, and then LENGTH
-bytes of program text. Without words the store starts from zeros.
-Endings: ended, spent, overflow, zero, index, guard.
-";
+const HELP: &str = include_str!("help.txt");
 
 fn main() -> ExitCode {
     let mut arguments: Vec<String> = std::env::args().skip(1).collect();

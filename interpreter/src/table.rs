@@ -10,6 +10,7 @@ pub const MAX_STORE: i64 = 8192;
 pub const MAX_ROWS: usize = 2048;
 pub const MAX_DEPTH: u32 = 64;
 
+pub const MAX_DECLARED: i32 = 64;
 pub const MAX_TEMPORARIES: i32 = 8192;
 pub const MAX_KERNEL_ROWS: usize = 40_980;
 pub const MAX_KERNEL_DEPTH: u32 = 512;

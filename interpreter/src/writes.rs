@@ -53,20 +53,20 @@ pub struct Compared {
     pub writes: usize,
 }
 
-/// Holds a translation to both sentences, from this store of the source and these temporaries. The
-/// error tells the first number of steps at which one does not hold.
+/// Holds a translation to both sentences, from this store of the source and these words
+/// behind the translation's first S. The error tells the first number of steps at which one does not hold.
 pub fn compare(
     source: &Program,
     kernel: &Program,
     store: &[i32],
-    temporaries: &[i32],
+    behind: &[i32],
 ) -> Result<Compared, String> {
     let rows = (kernel.1.len() / WORDS) as u32;
     // A round of a loop takes the kernel a step at least, and the source at most its rows.
     let large = (LARGEST + 1) * (source.1.len() / WORDS) as u32;
     let (outcome, of_source) =
         writes(Source, &source.0, &source.1, &mut store.to_vec(), large).map_err(refused)?;
-    let mut kernel_store = [store, temporaries].concat();
+    let mut kernel_store = [store, behind].concat();
     let (_, of_kernel) =
         writes(Kernel, &kernel.0, &kernel.1, &mut kernel_store, rows * LARGEST).map_err(refused)?;
     for number in numbers() {

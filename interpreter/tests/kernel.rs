@@ -30,39 +30,64 @@ fn generated_programs_are_legal() {
 fn labels() {
     let label = |number, next| [53, number, 0, 0, 0, next];
     let goto = |number, next| [52, number, 0, 0, 0, next];
-    assert_eq!(refused(&[0, 0], &[block(1), goto(3, 2), label(3, 0)]), (0, 0));
-    assert_eq!(refused(&[0, 0], &[block(1), label(3, 2), goto(3, 0)]), (13, 2));
-    assert_eq!(refused(&[0, 0], &[block(1), label(3, 2), label(3, 0)]), (13, 2));
-    assert_eq!(refused(&[0, 0], &[block(1), label(3, 2), goto(3, 3), label(3, 0)]), (13, 3));
-    assert_eq!(refused(&[0, 0], &[block(1), goto(40_980, 0)]), (6, 1));
+    assert_eq!(refused(&[0, 0, 0], &[block(1), goto(3, 2), label(3, 0)]), (0, 0));
+    assert_eq!(refused(&[0, 0, 0], &[block(1), label(3, 2), goto(3, 0)]), (13, 2));
+    assert_eq!(refused(&[0, 0, 0], &[block(1), label(3, 2), label(3, 0)]), (13, 2));
+    assert_eq!(refused(&[0, 0, 0], &[block(1), label(3, 2), goto(3, 3), label(3, 0)]), (13, 3));
+    assert_eq!(refused(&[0, 0, 0], &[block(1), goto(40_980, 0)]), (6, 1));
     // A label inside a later block is not ahead.
     let inner = [block(1), goto(3, 2), [42, 3, 0, 0, 0, 0], label(3, 0)];
-    assert_eq!(refused(&[0, 0], &inner), (13, 1));
+    assert_eq!(refused(&[0, 0, 0], &inner), (13, 1));
     // One outside the block that holds the goto is.
     let outer = [block(1), [42, 2, 0, 0, 0, 3], goto(3, 0), label(3, 0)];
-    assert_eq!(refused(&[0, 0], &outer), (0, 0));
+    assert_eq!(refused(&[0, 0, 0], &outer), (0, 0));
 }
 
 #[test]
 fn forms() {
     // An if without else, and a while with a body that is no block.
     let test = [1, 1, 0, 0, 0, 0];
-    assert_eq!(refused(&[0, 0], &[block(1), [43, 2, 3, 0, 0, 0], test, block(0)]), (12, 1));
+    assert_eq!(refused(&[0, 0, 0], &[block(1), [43, 2, 3, 0, 0, 0], test, block(0)]), (12, 1));
     assert_eq!(
-        refused(&[0, 0], &[block(1), [44, 2, 3, 0, 0, 0], test, [40, 0, 0, 0, 0, 0]]),
+        refused(&[0, 0, 0], &[block(1), [44, 2, 3, 0, 0, 0], test, [40, 0, 0, 0, 0, 0]]),
         (12, 1)
     );
-    assert_eq!(refused(&[0, 0], &[block(1), [44, 2, 3, 0, 0, 0], test, block(0)]), (0, 0));
-    assert_eq!(refused(&[0, 0], &[block(1), [41, 2, 0, 0, 0, 0], test]), (12, 1));
-    assert_eq!(refused(&[0, 0], &[block(1), [5, 0, 0, 0, 0, 0]]), (3, 1));
-    // V to S-1 name nothing; S to S+T-1 are temporaries.
+    assert_eq!(refused(&[0, 0, 0], &[block(1), [44, 2, 3, 0, 0, 0], test, block(0)]), (0, 0));
+    assert_eq!(refused(&[0, 0, 0], &[block(1), [41, 2, 0, 0, 0, 0], test]), (12, 1));
+    assert_eq!(refused(&[0, 0, 0], &[block(1), [5, 0, 0, 0, 0, 0]]), (3, 1));
+    // V to S-1 name nothing; S to S+D-1 are declared words, S+D to S+D+T-1 temporaries.
     let set = |number| {
         [block(1), [41, 2, 0, 0, 0, 0], [21, 3, 4, 0, 0, 0], [2, number, 0, 0, 0, 0], test]
     };
-    let verdicts: Vec<(u32, u32)> =
-        (0..7).map(|number| refused(&[1, 2, 3], &set(number))).collect();
     let outside = (6, 3);
-    assert_eq!(verdicts, [(0, 0), outside, outside, outside, (0, 0), (0, 0), outside]);
+    for (declared, temporaries) in [(0, 2), (1, 1), (2, 0)] {
+        let header = [1, declared, temporaries, 3];
+        let verdicts: Vec<(u32, u32)> =
+            (0..7).map(|number| refused(&header, &set(number))).collect();
+        assert_eq!(verdicts, [(0, 0), outside, outside, outside, (0, 0), (0, 0), outside]);
+    }
+}
+
+/// V, D, T and up to 32 lengths; the limits of D, and the words of the store.
+#[test]
+fn headers() {
+    let lone = |header: &[i32]| refused(header, &[block(0)]);
+    assert_eq!(lone(&[0, 0]), (1, 0));
+    for declared in [0, 1, 64] {
+        assert_eq!(lone(&[0, declared, 0]), (0, 0));
+    }
+    for declared in [-1, 65, i32::MIN, i32::MAX] {
+        assert_eq!(lone(&[0, declared, 0]), (1, 0));
+    }
+    assert_eq!(lone(&[256, 64, 8_192, 3_968, 3_968]), (0, 0));
+    assert_eq!(lone(&[256, 64, 8_192, 3_968, 3_969]), (1, 0));
+    assert_eq!(lone(&[1; 35]), (0, 0));
+    assert_eq!(lone(&[1; 36]), (1, 0));
+    for (words, well) in [(5, false), (8, false), (9, true), (10, false)] {
+        let ran = run(Kernel, &[1, 2, 4, 2], &block(0), &mut vec![0; words], 1);
+        assert_eq!(ran.is_ok(), well);
+        assert_eq!(ran.err().map_or(11, |refusal| refusal.number), 11);
+    }
 }
 
 #[test]
@@ -88,11 +113,11 @@ fn a_goto_goes_on_at_its_label() {
     ]
     .concat();
     let mut store = [0];
-    let outcome = run(Kernel, &[1, 0], &rows, &mut store, 100).unwrap();
+    let outcome = run(Kernel, &[1, 0, 0], &rows, &mut store, 100).unwrap();
     // The block, four rows of the first item, the inner block, the goto, the label.
     assert_eq!((outcome.ending, outcome.count, store), (Ending::Ended, 8, [1]));
     let mut store = [0];
-    let outcome = run(Kernel, &[1, 0], &rows, &mut store, 7).unwrap();
+    let outcome = run(Kernel, &[1, 0, 0], &rows, &mut store, 7).unwrap();
     assert_eq!((outcome.ending, outcome.count, store), (Ending::Spent, 7, [1]));
 }
 
@@ -107,16 +132,16 @@ fn an_abort_fails() {
         (2, Ending::Fault(Fault::Guard), 2),
         (100, Ending::Fault(Fault::Guard), 2),
     ] {
-        let outcome = run(Kernel, &[0, 0], &rows, &mut store, budget).unwrap();
+        let outcome = run(Kernel, &[0, 0, 0], &rows, &mut store, budget).unwrap();
         assert_eq!((outcome.ending, outcome.count), (ending, count));
     }
     // { goto 5; abort; label 5; }
     let rows = [block(1), [52, 5, 0, 0, 0, 2], abort(3), [53, 5, 0, 0, 0, 0]].concat();
-    let outcome = run(Kernel, &[0, 0], &rows, &mut store, 100).unwrap();
+    let outcome = run(Kernel, &[0, 0, 0], &rows, &mut store, 100).unwrap();
     assert_eq!((outcome.ending, outcome.count), (Ending::Ended, 3));
-    assert_eq!(refused(&[0, 0], &[block(1), [57, 0, 0, 0, 1, 0]]), (3, 1));
+    assert_eq!(refused(&[0, 0, 0], &[block(1), [57, 0, 0, 0, 1, 0]]), (3, 1));
     for kind in [54, 55, 56] {
-        assert_eq!(refused(&[0, 0], &[block(1), [kind, 0, 0, 0, 0, 0]]), (3, 1));
+        assert_eq!(refused(&[0, 0, 0], &[block(1), [kind, 0, 0, 0, 0, 0]]), (3, 1));
     }
 }
 

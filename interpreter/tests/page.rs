@@ -1,9 +1,10 @@
 //! Pages: what is printed is read back, and damage is never read as the same program.
 
+use interpreter::check;
 use interpreter::generate_kernel::program;
 use interpreter::page::{print, read, COLUMNS};
 use interpreter::random::Random;
-use interpreter::table::{rows_of, Row, NEXT};
+use interpreter::table::*;
 use interpreter::Form::Kernel;
 
 /// The rows numbered in the order of the page: a statement's row, then its parts in the order of their fields, then the row behind it.
@@ -54,7 +55,7 @@ fn damaged_pages() {
         let page = print(&program.header, &rows);
         let whole = read(&program.header, &page);
         for at in 0..page.len().min(4 * (COLUMNS + 1)) {
-            for byte in *b" 019vatL;:{}[]()=-+<%\n\0" {
+            for byte in *b" 019vatlL;:{}[]()=-+<%\n\0" {
                 if page[at] == byte {
                     continue;
                 }
@@ -80,4 +81,34 @@ fn damaged_pages() {
         }
     }
     assert!(refused > 10_000 && other > 100, "{refused} refused, {other} others");
+}
+
+/// Declared words are l from 0, temporaries t from 0.
+#[test]
+fn names_of_words() {
+    let set = |at: i32, number, next| {
+        [
+            [EXPRESSION, at + 1, 0, 0, 0, next],
+            [ASSIGN, at + 2, at + 3, 0, 0, 0],
+            [VARIABLE, number, 0, 0, 0, 0],
+            [CONSTANT, number, 0, 0, 0, 0],
+        ]
+        .concat()
+    };
+    let header = [1, 2, 1, 3];
+    let numbers = [0, 4, 5, 6];
+    let mut rows = vec![BLOCK, 1, 0, 0, 0, 0];
+    for (i, &number) in numbers.iter().enumerate() {
+        let at = 1 + 4 * i as i32;
+        rows.extend(set(at, number, if i < 3 { at + 4 } else { 0 }));
+    }
+    assert_eq!(check(Kernel, &header, &rows), Ok(()));
+    let page = print(&header, &rows);
+    let lines: Vec<&str> =
+        std::str::from_utf8(&page).unwrap().lines().map(|l| l[6..].trim()).collect();
+    assert_eq!(lines, ["v0 = 0;", "l0 = 4;", "l1 = 5;", "t0 = 6;"]);
+    assert_eq!(read(&header, &page), Ok(rows));
+    for fewer in [[0, 2, 1, 3], [1, 1, 1, 3], [1, 2, 0, 3]] {
+        assert!(read(&fewer, &page).is_err());
+    }
 }

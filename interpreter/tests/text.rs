@@ -109,19 +109,21 @@ fn bytes_and_rows_come_back() {
     assert_eq!(read(Source, &write(&[256, 4096], &rows)), Ok((vec![256, 4096], rows.to_vec())));
 }
 
-/// A kernel text has one number more in line 1, and more rows.
+/// A kernel text has two numbers more in line 1, and more rows.
 #[test]
 fn kernel_texts() {
     let refused = |text: &str| read(Kernel, text.as_bytes()).err().map(|r| (r.number, r.place));
     let row = "42\t0\t0\t0\t0\t0\n";
-    assert_eq!(refused(&format!("1\n{row}")), Some((14, 1)));
-    assert_eq!(refused(&format!("1\t8192\n{row}")), None);
-    assert_eq!(refused(&format!("1\t8193\n{row}")), Some((1, 0)));
+    assert_eq!(refused(&format!("1\t0\n{row}")), Some((14, 1)));
+    assert_eq!(refused(&format!("1\t0\t8192\n{row}")), None);
+    assert_eq!(refused(&format!("1\t0\t8193\n{row}")), Some((1, 0)));
     let ones = |count: usize| format!("{}\n{row}", vec!["1"; count].join("\t"));
-    assert_eq!(refused(&ones(34)), None);
-    assert_eq!(refused(&ones(35)), Some((14, 1)));
-    assert_eq!(refused(&format!("0\t0\n{}", row.repeat(40_980))), None);
-    assert_eq!(refused(&format!("0\t0\n{}", row.repeat(40_981))), Some((2, 0)));
+    assert_eq!(refused(&format!("1\t64\t0\n{row}")), None);
+    assert_eq!(refused(&format!("1\t65\t0\n{row}")), Some((1, 0)));
+    assert_eq!(refused(&ones(35)), None);
+    assert_eq!(refused(&ones(36)), Some((14, 1)));
+    assert_eq!(refused(&format!("0\t0\t0\n{}", row.repeat(40_980))), None);
+    assert_eq!(refused(&format!("0\t0\t0\n{}", row.repeat(40_981))), Some((2, 0)));
 }
 
 fn empties(header: &[i32], rows: usize) -> Vec<u8> {

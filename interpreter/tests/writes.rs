@@ -24,7 +24,7 @@ const ENDLESS: &str =
 /// The same in kernel form, with a temporary: while (1) { v1 = ONE; v0 = TWO; }
 fn kernel(one: &str, two: &str) -> String {
     format!(
-        "1 1\n42 1 0 0 0 0\n44 2 3 0 0 0\n1 1 0 0 0 0\n42 4 0 0 0 0\n\
+        "1 0 1\n42 1 0 0 0 0\n44 2 3 0 0 0\n1 1 0 0 0 0\n42 4 0 0 0 0\n\
          41 5 0 0 0 8\n21 6 7 0 0 0\n2 1 0 0 0 0\n{one}\n\
          41 9 0 0 0 0\n21 10 11 0 0 0\n2 0 0 0 0 0\n{two}\n"
     )
@@ -85,7 +85,7 @@ fn pairs_are_told_apart() {
     assert_eq!(differs, Err("the source's writes within 7 steps".to_string()));
     // A write too many, which has the value that the word holds: the source ends, and its one write comes first.
     let once = "1\n42 1 0 0 0 0\n41 2 0 0 0 0\n21 3 4 0 0 0\n2 0 0 0 0 0\n1 0 0 0 0 0\n";
-    let twice = "1 0\n42 1 0 0 0 0\n41 2 0 0 0 5\n21 3 4 0 0 0\n2 0 0 0 0 0\n1 0 0 0 0 0\n\
+    let twice = "1 0 0\n42 1 0 0 0 0\n41 2 0 0 0 5\n21 3 4 0 0 0\n2 0 0 0 0 0\n1 0 0 0 0 0\n\
         41 6 0 0 0 0\n21 7 8 0 0 0\n2 0 0 0 0 0\n1 0 0 0 0 0\n";
     let source = Case { budget: 0, words: Vec::new(), text: once.replace(' ', "\t").into() };
     let differs = compare_writes(&source, twice.replace(' ', "\t").as_bytes());

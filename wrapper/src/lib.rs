@@ -18,8 +18,8 @@ use foreign::{Answer, PreviewAnswer};
 pub const ROW_WORDS: usize = 6;
 /// V and up to 32 array lengths.
 pub const SOURCE_HEADER_WORDS: usize = 33;
-/// V, T and up to 32 array lengths.
-pub const KERNEL_HEADER_WORDS: usize = 34;
+/// V, D, T and up to 32 array lengths.
+pub const KERNEL_HEADER_WORDS: usize = 35;
 pub const SOURCE_ROWS_LIMIT: usize = 2048;
 pub const KERNEL_ROWS_LIMIT: usize = 40_980;
 
@@ -252,7 +252,7 @@ pub fn preview(
     .preview()
 }
 
-/// Runs a kernel program on a store of S+T words.
+/// Runs a kernel program on a store of S+D+T words.
 pub fn kernel_run(
     header: &[i32],
     rows: &[i32],
@@ -262,7 +262,7 @@ pub fn kernel_run(
     run_by(foreign::clight_kernel_run, header, rows, store, budget)
 }
 
-/// Runs a kernel program on the S words that a dispatcher sees; its
+/// Runs a kernel program on the S words that a dispatcher sees; its declared words and
 /// temporaries begin as zeros and are kept inside. There is no count.
 pub fn dispatcher_run(
     header: &[i32],
@@ -288,7 +288,7 @@ pub fn flatten(header: &[i32], rows: &[i32], list: &mut [i32]) -> Result<usize, 
 }
 
 /// Runs a flat list, lines of five words with a kernel header, on a store of
-/// S+T words. The budget and the count are of lines.
+/// S+D+T words. The budget and the count are of lines.
 pub fn flat_run(
     header: &[i32],
     list: &[i32],
@@ -342,7 +342,7 @@ pub fn read_page(header: &[i32], page: &[u8], rows: &mut [i32]) -> Result<usize,
 /// shares its fate and makes its writes, in order, also where neither run ends;
 /// words of both tables beyond the result keep their content.
 /// `kernel_rows(n)` rows are enough for n source rows, and the kernel header
-/// has one word more than the source's.
+/// has two words more than the source's.
 pub fn translate(
     header: &[i32],
     rows: &[i32],

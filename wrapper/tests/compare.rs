@@ -69,7 +69,7 @@ fn translated_programs() {
         let random = &mut Random::new(40, number);
         let case = generate::case(41, number, Size::Mixed);
         let (header, rows) = interpreter::text::read(Source, &case.text).unwrap();
-        let mut kernel_header = vec![0; header.len() + 1];
+        let mut kernel_header = vec![0; header.len() + 2];
         let mut kernel_rows = vec![0; 6 * clight::kernel_rows(rows.len() / 6)];
         let tables =
             clight::translate(&header, &rows, &mut kernel_header, &mut kernel_rows).unwrap();
@@ -88,7 +88,7 @@ fn deep_kernel_programs() {
     for depth in [1, 2, 511, 512, 513, 514, 5_000] {
         let mut rows: Vec<[i32; 6]> = (1..=depth).map(|next| [42, next, 0, 0, 0, 0]).collect();
         rows[depth as usize - 1][1] = 0;
-        kernel_program(&mut Random::new(38, 0), &[1, 1], &rows.concat(), &mut tally);
+        kernel_program(&mut Random::new(38, 0), &[1, 1, 1], &rows.concat(), &mut tally);
     }
     tally.expect(&[0, 9, 11]);
 }
@@ -109,7 +109,7 @@ fn random_tables() {
                 })
                 .collect()
         };
-        let header = words(random, 4);
+        let header = words(random, 5);
         let rows = words(random, 26);
         kernel_program(random, &header, &rows, &mut tally);
         source_tables(&header, &rows, &mut vec![7; random.below(9)], 50, &mut tally);
@@ -137,12 +137,12 @@ fn long_texts() {
     let mut tally = Tally::default();
     let row = "40\t0\t0\t0\t0\t0\n";
     for rows in [2_047, 2_048, 2_049, 40_979, 40_980, 40_981] {
-        let text = format!("0\t0\n{}", row.repeat(rows));
+        let text = format!("0\t0\t0\n{}", row.repeat(rows));
         reader(&KERNEL, text.as_bytes(), &mut tally);
-        reader(&SOURCE, text[2..].as_bytes(), &mut tally);
+        reader(&SOURCE, text[4..].as_bytes(), &mut tally);
         let broken = format!("{text}40\t0\t0\t0\t0\n{row}");
         reader(&KERNEL, broken.as_bytes(), &mut tally);
-        reader(&SOURCE, broken[2..].as_bytes(), &mut tally);
+        reader(&SOURCE, broken[4..].as_bytes(), &mut tally);
     }
     tally.expect(&[0, 2, 14]);
 }

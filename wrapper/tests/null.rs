@@ -6,10 +6,10 @@ use std::ptr::{null, null_mut};
 
 /// A legal program of one block, on no words.
 const HEADER: [i32; 1] = [0];
-const KERNEL_HEADER: [i32; 2] = [0, 0];
+const KERNEL_HEADER: [i32; 3] = [0, 0, 0];
 const ROWS: [i32; 6] = [42, 0, 0, 0, 0, 0];
 const TEXT: &[u8] = b"0\n42\t0\t0\t0\t0\t0\n";
-const KERNEL_TEXT: &[u8] = b"0\t0\n42\t0\t0\t0\t0\t0\n";
+const KERNEL_TEXT: &[u8] = b"0\t0\t0\n42\t0\t0\t0\t0\t0\n";
 
 fn refused(cause: u32, place: usize) -> Answer {
     Answer { cause, first: place, second: 0 }
@@ -53,15 +53,15 @@ fn no_rows() {
     unsafe {
         let (header, kernel) = (HEADER.as_ptr(), KERNEL_HEADER.as_ptr());
         assert_eq!(clight_check(header, 1, null(), 0), refused(2, 0));
-        assert_eq!(clight_kernel_check(kernel, 2, null(), 0), refused(2, 0));
+        assert_eq!(clight_kernel_check(kernel, 3, null(), 0), refused(2, 0));
         assert_eq!(clight_run(header, 1, null(), 0, null_mut(), 0, 9), refused(2, 0));
-        assert_eq!(clight_kernel_run(kernel, 2, null(), 0, null_mut(), 0, 9), refused(2, 0));
-        assert_eq!(clight_dispatcher_run(kernel, 2, null(), 0, null_mut(), 0, 9), refused(2, 0));
-        assert_eq!(clight_flatten(kernel, 2, null(), 0, null_mut(), 0), refused(2, 0));
+        assert_eq!(clight_kernel_run(kernel, 3, null(), 0, null_mut(), 0, 9), refused(2, 0));
+        assert_eq!(clight_dispatcher_run(kernel, 3, null(), 0, null_mut(), 0, 9), refused(2, 0));
+        assert_eq!(clight_flatten(kernel, 3, null(), 0, null_mut(), 0), refused(2, 0));
         let answer = clight_preview(header, 1, null(), 0, null(), 0, 9, null_mut(), 0);
         assert_eq!(answer, previewed(refused(2, 0)));
         assert_eq!(clight_write_source(header, 1, null(), 0, null_mut(), 0), refused(2, 0));
-        assert_eq!(clight_write_kernel(kernel, 2, null(), 0, null_mut(), 0), refused(2, 0));
+        assert_eq!(clight_write_kernel(kernel, 3, null(), 0, null_mut(), 0), refused(2, 0));
         let answer = clight_translate(header, 1, null(), 0, null_mut(), 0, null_mut(), 0);
         assert_eq!(answer, refused(2, 0));
         let answer = clight_join(header, 1, null(), 0, header, 1, null(), 0, null_mut(), 0);
@@ -86,14 +86,14 @@ fn nothing_lent() {
         assert_eq!(clight_run(header, 1, rows, 6, null_mut(), 0, 0), done(1, 0));
         let answer = clight_preview(header, 1, rows, 6, null(), 0, 9, null_mut(), 0);
         assert_eq!(answer, previewed(done(0, 1)));
-        assert_eq!(clight_kernel_run(kernel, 2, rows, 6, null_mut(), 0, 9), done(0, 1));
-        assert_eq!(clight_dispatcher_run(kernel, 2, rows, 6, null_mut(), 0, 9), done(0, 0));
-        assert_eq!(clight_dispatcher_run(kernel, 2, rows, 6, null_mut(), 0, 0), done(1, 0));
+        assert_eq!(clight_kernel_run(kernel, 3, rows, 6, null_mut(), 0, 9), done(0, 1));
+        assert_eq!(clight_dispatcher_run(kernel, 3, rows, 6, null_mut(), 0, 9), done(0, 0));
+        assert_eq!(clight_dispatcher_run(kernel, 3, rows, 6, null_mut(), 0, 0), done(1, 0));
         // a block without items has no lines
-        assert_eq!(clight_flatten(kernel, 2, rows, 6, null_mut(), 0), done(0, 0));
-        assert_eq!(clight_flat_run(kernel, 2, null(), 0, null_mut(), 0, 0), done(0, 0));
+        assert_eq!(clight_flatten(kernel, 3, rows, 6, null_mut(), 0), done(0, 0));
+        assert_eq!(clight_flat_run(kernel, 3, null(), 0, null_mut(), 0, 0), done(0, 0));
         assert_eq!(clight_write_source(header, 1, rows, 6, null_mut(), 0), refused(10, 0));
-        assert_eq!(clight_write_kernel(kernel, 2, rows, 6, null_mut(), 0), refused(10, 0));
+        assert_eq!(clight_write_kernel(kernel, 3, rows, 6, null_mut(), 0), refused(10, 0));
         let answer = clight_translate(header, 1, rows, 6, null_mut(), 0, null_mut(), 0);
         assert_eq!(answer, refused(10, 0));
         let answer = clight_join(header, 1, rows, 6, header, 1, rows, 6, null_mut(), 0);
@@ -103,6 +103,6 @@ fn nothing_lent() {
         let (text, n) = (KERNEL_TEXT.as_ptr(), KERNEL_TEXT.len());
         assert_eq!(clight_read_kernel(text, n, null_mut(), 0, null_mut(), 0), refused(10, 0));
         // an empty page is that of a block without items
-        assert_eq!(clight_read_page(kernel, 2, null(), 0, null_mut(), 0), refused(10, 0));
+        assert_eq!(clight_read_page(kernel, 3, null(), 0, null_mut(), 0), refused(10, 0));
     }
 }

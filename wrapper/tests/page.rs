@@ -81,7 +81,7 @@ fn translations() {
     for number in 0..1_000 {
         let case = generate::case(63, number, if number < 980 { Size::Mixed } else { Size::Large });
         let (header, rows) = interpreter::text::read(Source, &case.text).unwrap();
-        let mut kernel_header = vec![0; header.len() + 1];
+        let mut kernel_header = vec![0; header.len() + 2];
         let mut kernel_rows = vec![0; 6 * clight::kernel_rows(rows.len() / 6)];
         let tables =
             clight::translate(&header, &rows, &mut kernel_header, &mut kernel_rows).unwrap();
@@ -99,7 +99,7 @@ fn damaged_pages() {
         let program = generate_kernel::program(&mut Random::new(64, number));
         let page = print(&program.header, &program.rows.concat());
         for at in 0..page.len().min(3 * 81) {
-            for byte in *b" 19vatL;{}-+<" {
+            for byte in *b" 19vatlL;{}-+<" {
                 let mut damaged = page.clone();
                 damaged[at] = byte;
                 let Ok(rows) = read(&program.header, &damaged) else { continue };
@@ -123,10 +123,10 @@ fn limits() {
             _ => [42, 0, 0, 0, 0, at + 1],
         })
         .collect();
-    let page = compare(&[0, 0], &rows);
+    let page = compare(&[0, 0, 0], &rows);
     assert_eq!(page.len(), 81 * 81_958);
     assert_eq!(rows_of(&rows).len(), 40_980);
     let deep: Vec<i32> =
         (0..512).flat_map(|at| [42, if at < 511 { at + 1 } else { 0 }, 0, 0, 0, 0]).collect();
-    assert_eq!(compare(&[0, 0], &deep).len(), 81 * 2 * 511);
+    assert_eq!(compare(&[0, 0, 0], &deep).len(), 81 * 2 * 511);
 }

@@ -71,7 +71,7 @@ fn stored_programs() {
         if check(Source, &header, &rows).is_err() {
             continue;
         }
-        let mut kernel_header = vec![0; header.len() + 1];
+        let mut kernel_header = vec![0; header.len() + 2];
         let mut kernel_rows = vec![0; 6 * clight::kernel_rows(rows.len() / 6)];
         let tables =
             clight::translate(&header, &rows, &mut kernel_header, &mut kernel_rows).unwrap();
@@ -91,7 +91,7 @@ fn damaged_columns() {
         let program = generate_kernel::program(&mut Random::new(66, number));
         let page = print(&program.header, &program.rows.concat());
         for at in 0..page.len().min(4 * LINE) {
-            for byte in *b" 0189vatL;:{}[]()=-+<%\n\0\xff" {
+            for byte in *b" 0189vatlL;:{}[]()=-+<%\n\0\xff" {
                 let mut damaged = page.clone();
                 damaged[at] = byte;
                 match compare(&program.header, &damaged) {
@@ -132,11 +132,12 @@ fn damaged_pages() {
             swapped.swap(at, lines.len() - 1 - at);
             let _ = compare(&program.header, &renumbered(&swapped));
         }
-        for (place, word) in [(0, 0), (0, 257), (1, 0), (1, 8_193), (0, -1)] {
+        for (place, word) in [(0, 0), (0, 257), (1, 0), (1, 65), (2, 0), (2, 8_193), (0, -1)] {
             let mut header = program.header.clone();
             header[place] = word;
             let _ = compare(&header, &page);
         }
+        let _ = compare(&program.header[..3], &page);
         let _ = compare(&program.header[..2], &page);
         let _ = compare(&program.header[..1], &page);
         let _ = compare(&[], &page);
@@ -168,7 +169,7 @@ fn page_of(lines: usize, statement: impl Fn(usize) -> (usize, &'static str)) -> 
 /// The most rows and lines, one more of each, and the deepest blocks.
 #[test]
 fn limits() {
-    let header = [1, 0];
+    let header = [1, 0, 0];
     let blocks = |at: usize| (0, if at % 2 == 0 { "{" } else { "}" });
     assert_eq!(compare(&header, &page_of(MAX_LINES, blocks)).unwrap().len(), 6 * 40_980);
     let refused = |number: u32, place: usize| Err(format!("refused {number} {place}"));

@@ -2,6 +2,7 @@
 
 use crate::form::Form;
 use crate::random::Random;
+use crate::table::MAX_ARRAYS;
 
 /// Fields that are no numbers of the text form.
 const BAD_FIELDS: [&str; 24] = [
@@ -44,7 +45,8 @@ fn field_ends(bytes: &[u8]) -> Vec<(usize, usize)> {
     ends
 }
 
-pub fn damage_text(random: &mut Random, bytes: &mut Vec<u8>) {
+/// Damages a text; the first line's limits are those of the form.
+pub fn damage_text(form: Form, random: &mut Random, bytes: &mut Vec<u8>) {
     let ends = field_ends(bytes);
     if ends.is_empty() {
         return;
@@ -63,7 +65,7 @@ pub fn damage_text(random: &mut Random, bytes: &mut Vec<u8>) {
             damage_field(random, bytes, choice, start, end)
         }
         19 => bytes.truncate(random.pick(&[0, 0, 1, 2, line, end])),
-        choice => damage_lines(random, bytes, choice, line),
+        choice => damage_lines(form, random, bytes, choice, line),
     }
 }
 
@@ -91,14 +93,14 @@ fn damage_field(random: &mut Random, bytes: &mut Vec<u8>, choice: usize, start: 
 }
 
 /// Damages to the lines; one of them starts at the given byte.
-fn damage_lines(random: &mut Random, bytes: &mut Vec<u8>, choice: usize, line: usize) {
+fn damage_lines(form: Form, random: &mut Random, bytes: &mut Vec<u8>, choice: usize, line: usize) {
     match choice {
         8 => {
             bytes.pop();
         }
         9 => bytes.push(b'\n'),
         14 => bytes.insert(line, b'\n'),
-        17 => lengthen_first_line(random, bytes),
+        17 => lengthen_first_line(form, random, bytes),
         18 => {
             bytes.splice(0..0, *b"\xEF\xBB\xBF");
         }
@@ -118,18 +120,19 @@ fn damage_lines(random: &mut Random, bytes: &mut Vec<u8>, choice: usize, line: u
     }
 }
 
-/// A first line of 33, 34 or 35 numbers; 33 are well formed in the source form, 34 in the kernel's.
-fn lengthen_first_line(random: &mut Random, bytes: &mut Vec<u8>) {
+/// A first line of the most numbers that are well formed, or of one or two more.
+fn lengthen_first_line(form: Form, random: &mut Random, bytes: &mut Vec<u8>) {
     let end = bytes.iter().position(|&byte| byte == b'\n').unwrap_or(0);
     let present = bytes[..end].iter().filter(|&&byte| byte == b'\t').count() + 1;
-    let wanted = random.pick(&[33, 34, 34, 35]);
+    let most = form.leading_words() + MAX_ARRAYS;
+    let wanted = random.pick(&[most, most + 1, most + 1, most + 2]);
     let more = b"\t1".repeat(wanted - present.min(wanted));
     bytes.splice(end..end, more);
 }
 
 /// Start words that are too few or too many, mostly.
 pub fn damage_words(form: Form, random: &mut Random, header: &[i32], words: &mut Vec<i32>) {
-    let store = form.size(header) + i64::from(form.temporaries(header));
+    let store = form.size(header) + form.behind(header);
     let size = store.clamp(0, 300) as usize;
     let wanted = match random.below(4) {
         0 => size.saturating_sub(1),

@@ -10,7 +10,7 @@ pub fn damage(random: &mut Random, header: &mut Vec<i32>, list: &mut Vec<i32>) {
         match random.below(24) {
             0 => {
                 let at = random.below(header.len());
-                header[at] = random.pick(&[-1, 0, 1, 257, 4_097, 8_193, i32::MIN]);
+                header[at] = random.pick(&[-1, 0, 1, 64, 65, 257, 4_097, 8_193, i32::MIN]);
             }
             1 => header.truncate(random.below(header.len() + 1)),
             2 => list.truncate(random.below(list.len() + 1)),

@@ -3,6 +3,7 @@
 
 use super::{shape, Holds, Line, JUMP_OTHER, JUMP_ZERO, LEFT, RIGHT};
 use crate::form::Form::Kernel;
+use crate::generate_kernel::kernel_header;
 use crate::random::Random;
 
 /// A header and the words of a list.
@@ -15,10 +16,7 @@ pub struct List {
 const PLAIN: [(usize, i32); 4] = [(6, JUMP_ZERO), (5, JUMP_OTHER), (5, 52), (1, 57)];
 
 pub fn list(random: &mut Random) -> List {
-    let mut header = vec![random.between(0, 4), random.between(0, 4)];
-    for _ in 0..random.below(3) {
-        header.push(random.between(1, 5));
-    }
+    let header = kernel_header(random);
     let count = random.pick(&[0, 1, 3, 10, 10, 40, 200]);
     let words = (0..count).flat_map(|at| line(random, &header, at, count)).collect();
     List { header, words }
@@ -26,8 +24,7 @@ pub fn list(random: &mut Random) -> List {
 
 /// A line at a place of a list of so many.
 fn line(random: &mut Random, header: &[i32], at: usize, count: usize) -> Line {
-    let size = Kernel.size(header) as i32;
-    let variables: Vec<i32> = (0..header[0]).chain(size..size + header[1]).collect();
+    let variables: Vec<i32> = (0..header[0]).chain(Kernel.numbers_behind(header)).collect();
     let arrays = Kernel.lengths(header).len() as i32;
     let mut kinds = PLAIN.to_vec();
     if !variables.is_empty() {

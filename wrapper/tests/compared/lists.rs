@@ -65,7 +65,7 @@ fn random_lists() {
                 })
                 .collect()
         };
-        let (header, list) = (words(random, 4), words(random, 22));
+        let (header, list) = (words(random, 5), words(random, 22));
         flat_list(random, &header, &list, &mut tally);
     }
     tally.expect(&[0, 1, 2, 3, 4, 6]);
@@ -91,7 +91,7 @@ fn lists_of_translations() {
         let random = &mut Random::new(55, number);
         let case = generate::case(56, number, Size::Mixed);
         let (header, rows) = text::read(Source, &case.text).unwrap();
-        let mut kernel_header = vec![0; header.len() + 1];
+        let mut kernel_header = vec![0; header.len() + 2];
         let mut kernel_rows = vec![0; 6 * clight::kernel_rows(rows.len() / 6)];
         let tables =
             clight::translate(&header, &rows, &mut kernel_header, &mut kernel_rows).unwrap();
@@ -154,7 +154,7 @@ fn lists_of_damaged_programs() {
 #[test]
 fn lists_at_the_limits() {
     let mut tally = Tally::default();
-    let header = [0, 0];
+    let header = [0, 0, 0];
     let last = 40_979;
     let aborts: Vec<i32> = (0..=last)
         .flat_map(|at| match at {

@@ -127,20 +127,21 @@ fn run(
     assert_eq!(*store, other);
 }
 
-/// The dispatcher's run on so many words, beside the kernel run of the interpreter whose temporaries
-/// begin as zeros; 11 where the words are not S.
+/// The dispatcher's run on so many words, beside the kernel run of the interpreter whose declared words
+/// and temporaries begin as zeros; 11 where the words are not S.
 fn dispatcher(header: &[i32], rows: &[i32], room: usize, budget: u32, tally: &mut Tally) {
-    let temporaries = header.get(1).map_or(0, |&words| words.max(0) as usize);
-    for count in [room, room.saturating_sub(temporaries)] {
+    let part = |place: usize| header.get(place).map_or(0, |&words| words.max(0) as usize);
+    let behind = part(1) + part(2);
+    for count in [room, room.saturating_sub(behind)] {
         let mut words: Vec<i32> = (0..count).map(|place| place as i32 - 2).collect();
         let kept = words.clone();
         let shown = mine(clight::dispatcher_run(header, rows, &mut words, budget), tally);
         let checked = theirs(interpreter::check(Kernel, header, rows));
-        let size = checked.map_or(0, |()| Kernel.store_words(header) - temporaries);
+        let size = checked.map_or(0, |()| Kernel.store_words(header) - behind);
         let expected = match checked {
             Ok(()) if count == size => {
                 let mut store = kept.clone();
-                store.resize(size + temporaries, 0);
+                store.resize(size + behind, 0);
                 let outcome = run_checked(Kernel, header, rows, &mut store, budget);
                 assert_eq!(words, store[..size]);
                 Ok(outcome.ending)
@@ -206,8 +207,11 @@ fn translation(header: &[i32], rows: &[i32], checked: Plain<()>, tally: &mut Tal
 /// What holds of a translation: its header, its sizes, that it is legal, and that both runs share
 /// their fate, from stores of any content. The interpreter checks and runs both.
 fn kernel_form(header: &[i32], rows: &[i32], kernel_header: &[i32], kernel_rows: &[i32]) {
-    let temporaries = kernel_header[1] as usize;
-    assert_eq!((kernel_header[0], &kernel_header[2..]), (header[0], &header[1..]));
+    let temporaries = kernel_header[2] as usize;
+    assert_eq!(
+        (kernel_header[0], kernel_header[1], &kernel_header[3..]),
+        (header[0], 0, &header[1..])
+    );
     assert!(temporaries <= 4 * rows.len() / 6);
     assert_eq!(interpreter::check(Kernel, kernel_header, kernel_rows), Ok(()));
     let size = Source.store_words(header);
@@ -226,10 +230,10 @@ fn kernel_form(header: &[i32], rows: &[i32], kernel_header: &[i32], kernel_rows:
     assert_eq!(kernel_store[..size], store);
 }
 
-/// Kernel runs of a translation that start alike but for the temporaries show a dispatcher the same,
-/// at every budget: temporaries of zeros, of the extremes and of random words.
+/// Kernel runs of a translation that start alike but for the words behind the first S show a dispatcher
+/// the same, at every budget: words of zeros, of the extremes and of random ones.
 fn shown_alike(random: &mut Random, header: &[i32], rows: &[i32], store: &[i32]) {
-    let temporaries = header[1] as usize;
+    let behind = Kernel.behind(header) as usize;
     for _ in 0..6 {
         let budget = random.pick(&[3, 30, 300, 3_000]);
         let budget = random.below(budget) as u32;
@@ -237,7 +241,7 @@ fn shown_alike(random: &mut Random, header: &[i32], rows: &[i32], store: &[i32])
         let shown = clight::dispatcher_run(header, rows, &mut words, budget);
         for fill in [0, i32::MIN, i32::MAX, random.word() as i32] {
             let mut whole = store.to_vec();
-            whole.extend((0..temporaries).map(|place| fill.wrapping_mul(place as i32 + 1)));
+            whole.extend((0..behind).map(|place| fill.wrapping_mul(place as i32 + 1)));
             let run = clight::kernel_run(header, rows, &mut whole, budget);
             assert_eq!(run.map(|run| run.ending), shown);
             assert_eq!(whole[..store.len()], words);

@@ -32,3 +32,5 @@ pub mod Places
 pub mod Endings
 -- Source: what a legal source program gives to its users.
 pub mod Source
+-- Resolved: what a legal source program gives of its resolved table.
+pub mod Resolved

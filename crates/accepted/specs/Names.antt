@@ -1,21 +1,21 @@
 -- Names: every variable and array number in the tree of a structured table names one. By recursion on the rows.
 use mathlib.Core.Path.{_≡_, refl}
 use mathlib.Core.List.{List}
-use mathlib.Core.Logic.{⊎-elim}
-use Prim.Native.Nat.{ℕ, _<_}
+use mathlib.Core.Logic.{inl, inr, ⊎-elim}
+use Prim.Native.Nat.{ℕ, _≤_, _<_}
 use native.Mathlib.Omega.{arith}
 use lib.IntN.{ℤ}
 use Rattle.words.specs.Table.{rowCount, numberAt}
 use Rattle.words.specs.Kinds.{kindAt, kindRow, expressionFields, statementFields, markFields, memberFields, sortIn}
-use Rattle.words.specs.Layout.{layoutOf, headerStore}
+use Rattle.words.specs.Layout.{Layout, layoutOf, storeSize, headerStore}
 use Rattle.words.specs.declared.Form.{Form}
 use Rattle.words.specs.declared.Form.the-variants.{Source}
 use Rattle.words.specs.declared.Kind.the-variants.{OfExpression}
 use Rattle.words.specs.declared.ExpressionKind.the-variants.{Variable}
 use Rattle.language.specs.Decode.{expressionAt, statementAt, decode, listAt, armListAt, partAt}
 use Rattle.language.specs.Program.{contents}
-use Rattle.language.specs.WellFormed.{NamedExpression, NamedPart, NamedStatement, NamedArms, NamedItems}
-use Rattle.row_fields.specs.Fields.{boundsOf}
+use Rattle.language.specs.WellFormed.{NamedExpression, NamedPart, NamedStatement, NamedArms, NamedItems, SourceName}
+use Rattle.row_fields.specs.Fields.{boundsIn, boundsOf}
 use Rattle.row_fields.specs.declared.Bounds.{Bounds}
 use Rattle.structure.specs.Structured.{Structured}
 use Rattle.accepted.specs.Fields.{NamesVariable, stays, names-variable, names-declared}
@@ -89,6 +89,11 @@ pub structured-named : (form : Form) (bounds : Bounds) (rows : List ℤ) → Str
     → NamedStatement (NamesVariable bounds) (bounds .arrays) (decode rows)
 unfolding NamedStatement
 structured-named form bounds rows s = rw (program-block form bounds rows s) (named-contents form bounds rows s (NamesVariable bounds) (λ number n. n))
+
+-- They name words of the source that no array has.
+pub source-name : (L : Layout) (words : ℕ) → storeSize L ≤ words → (number : ℕ) → NamesVariable (boundsIn L words) number → SourceName L words number
+unfolding storeSize
+source-name L words fits number = ⊎-elim (λ b. record { inside = omega arith; apart = inl b }) (λ b. record { inside = b .1; apart = inr (b .0) })
 
 -- The source has no temporaries.
 pub source-variable : (header : List ℤ) (number : ℕ) → NamesVariable (boundsOf Source header) number → number < layoutOf Source header .variables

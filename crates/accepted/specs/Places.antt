@@ -19,12 +19,11 @@ use Rattle.language.specs.WellFormed.{Placed, PlacedArms, PlacedItems}
 use Rattle.words.specs.Links.{link}
 use Rattle.structure.specs.LinkLaws.{linker-of}
 use Rattle.structure.specs.StructuredLaws.{structured-tree}
-use Rattle.row_fields.specs.Fields.{boundsOf}
 use Rattle.row_fields.specs.declared.Bounds.{Bounds}
 use Rattle.structure.specs.Structured.{Leads, Structured, Tree}
 use Rattle.list_items.specs.Items.{ListItem, first, next}
 use Rattle.statement_places.specs.Places.{isLoop, isLoopOrSwitch, isMark}
-use Rattle.source_check.specs.Legal.{Inside, part, along, SwitchItem, Legal}
+use Rattle.source_check.specs.Legal.{Inside, part, along, SwitchItem, Placed as PlacedRow}
 use Rattle.accepted.specs.Sorts.{between-true, statementNumber, number-is, in-language}
 use Rattle.accepted.specs.Fields.{leads-on}
 use Rattle.accepted.specs.Statements.{StatementRow, empty-row, express-row, block-row, ifThen-row, ifElse-row, while-row, doWhile-row, for-row, switch-row, case-row, default-row, break-row, continue-row, goto-row, label-row, guardedIf-row, guardedDo-row, abort-row, declare-row, ArmsRow, no-arms, arm-row, ListRow, no-items, item, case-item, default-item, label-item, root-inside, root-row, program-block}
@@ -62,13 +61,8 @@ module _ (rows : List ℤ) (t : Tree rows) where
       let same = same-owner other 5 row field (omega arith) f m l e in
       inr (sym (same .1), subst (ListItem rows 47 2) (same .0) i)
 
-module _ (header rows : List ℤ) (legal : Legal header rows) where
-  abbrev bounds : Bounds
-  bounds = boundsOf Source header
-
-  s : Structured Source bounds rows
-  s = legal .structured
-
+-- `placed` is what legality says of each row's place.
+module _ (bounds : Bounds) (rows : List ℤ) (s : Structured Source bounds rows) (placed : (row : ℕ) → row < rowCount rows → PlacedRow rows row) where
   t : Tree rows
   t = structured-tree Source bounds rows s
 
@@ -148,7 +142,7 @@ module _ (header rows : List ℤ) (legal : Legal header rows) where
 
   -- a case or default
   mark-allowed : {row : ℕ} {kind : Kind} {inSwitch mayBreak mayContinue : Bool} → AroundItem inSwitch mayBreak mayContinue row → kindAt rows row ≡ kind → between statementRow armRow (sortIn kind 0) ≡ true → isMark (statementNumber kind) ≡ true → inSwitch ≡ true
-  mark-allowed {row} a k e m = let inside = a .around .inside in a .own (legal .placed row inside .mark-inside (rw (number-is rows row k e) m))
+  mark-allowed {row} a k e m = let inside = a .around .inside in a .own (placed row inside .mark-inside (rw (number-is rows row k e) m))
 
   -- the same of a link that may be absent
   through-any : {row : ℕ} {kind : Kind} {mayBreak mayContinue : Bool} → kindAt rows row ≡ kind → between statementRow armRow (sortIn kind 0) ≡ true
@@ -178,8 +172,8 @@ module _ (header rows : List ℤ) (legal : Legal header rows) where
     placed-statement (switch-row k p e x y) b c a = rw e (placed-list y true true c (first-in-switch k a))
     placed-statement (case-row k e) b c a = rw e tt
     placed-statement (default-row k e) b c a = rw e tt
-    placed-statement {row} (break-row k e) b c a = rw e (a .breaks (legal .placed row (a .inside) .break-inside (number-is rows row k refl)))
-    placed-statement {row} (continue-row k e) b c a = rw e (a .continues (legal .placed row (a .inside) .continue-inside (number-is rows row k refl)))
+    placed-statement {row} (break-row k e) b c a = rw e (a .breaks (placed row (a .inside) .break-inside (number-is rows row k refl)))
+    placed-statement {row} (continue-row k e) b c a = rw e (a .continues (placed row (a .inside) .continue-inside (number-is rows row k refl)))
     placed-statement (goto-row k e) b c a = absurd (not-in-source (a .inside) k refl)
     placed-statement (label-row k e) b c a = rw e tt
     placed-statement (guardedIf-row k e x) b c a = rw e (placed-arms x b c (through-any k refl refl refl a 1 refl))

@@ -1,21 +1,23 @@
 -- Source: what a legal source program gives to its users.
 use mathlib.Core.Path.{_≡_}
 use mathlib.Core.List.{List}
+use mathlib.Core.Logic.{inl}
 use Prim.Native.Nat.{ℕ, _^_, _≤_, _<_}
+use native.Mathlib.Omega.{arith}
 use lib.IntN.{ℤ, pos}
 use lib.ListN.{getD, length}
 use lib.Signed.{mag}
 use Rattle.words.specs.Table.{rowCount}
-use Rattle.words.specs.Layout.{layoutOf, headerStore}
+use Rattle.words.specs.Layout.{layoutOf, storeSize, headerStore}
 use Rattle.words.specs.declared.Form.the-variants.{Source}
 use Rattle.computation.specs.Run.{Limit, start}
 use Rattle.language.specs.Trees.{block}
 use Rattle.language.specs.Decode.{decode}
 use Rattle.language.specs.Meaning.{next}
-use Rattle.language.specs.Program.{contents, programOf, runUnder}
+use Rattle.language.specs.Program.{contents, tableProgram, runTableUnder}
 use Rattle.language.specs.Sizes.{statementRows, statementDepth}
 use Rattle.language.specs.Sound.{Sound}
-use Rattle.language.specs.WellFormed.{NamedItems, SourceTree}
+use Rattle.language.specs.WellFormed.{NamedItems, SourceName, SourceTree}
 use Rattle.row_fields.specs.Fields.{boundsOf}
 use Rattle.source_check.specs.Legal.{Legal}
 use Rattle.accepted.specs.Statements.{program-block}
@@ -31,9 +33,11 @@ use Rattle.accepted.specs.Words.{structured-worded}
 
 module _ (header rows : List ℤ) (legal : Legal header rows) where
   -- Numbers within the bounds of a source header are those of its variables and arrays.
-  numbers-named : NamedItems (λ i. i < layoutOf Source header .variables) (length (layoutOf Source header .lengths)) (contents rows)
-  unfolding boundsOf
-  numbers-named = named-contents Source (boundsOf Source header) rows (legal .structured) (λ i. i < layoutOf Source header .variables) (source-variable header)
+  numbers-named : (first : ℕ) → storeSize (layoutOf Source header) ≤ first → NamedItems (SourceName (layoutOf Source header) first) (length (layoutOf Source header .lengths)) (contents rows)
+  unfolding boundsOf storeSize
+  numbers-named first fits =
+      named-contents Source (boundsOf Source header) rows (legal .structured) (SourceName (layoutOf Source header) first)
+      (λ number n. let below = source-variable header number n in record { inside = omega arith; apart = inl below })
 
   -- A run may walk its rows.
   pub legal-sound : Sound rows (layoutOf Source header) (headerStore Source header)
@@ -43,11 +47,11 @@ module _ (header rows : List ℤ) (legal : Legal header rows) where
   pub legal-block : decode rows ≡ block (contents rows)
   legal-block = program-block Source _ rows (legal .structured)
 
-  -- Their numbers are in range, their jumps in place.
-  pub legal-tree : SourceTree (layoutOf Source header) (contents rows)
-  legal-tree = record {
-    named = numbers-named;
-    placed = placed-contents header rows legal;
+  -- Their numbers are in range, their jumps in place, wherever the temporaries begin.
+  pub legal-tree : (first : ℕ) → storeSize (layoutOf Source header) ≤ first → SourceTree (layoutOf Source header) first (contents rows)
+  legal-tree first fits = record {
+    named = numbers-named first fits;
+    placed = placed-contents _ rows (legal .structured) (legal .placed);
   }
 
   -- Its tree has as many rows as the table.
@@ -64,6 +68,6 @@ module _ (header rows : List ℤ) (legal : Legal header rows) where
 
   -- A run that comes to its end is not on its way out of a loop or switch, nor to a mark, under any limit and from any store: `Plain`
   -- says no less than document 01's "ends plainly".
-  pub legal-ends-normally : (limit : Limit) (store : List ℤ) → Gives (λ signal. signal ≡ next) (runUnder limit Source header rows store)
-  unfolding runUnder programOf
-  legal-ends-normally limit store = rw legal-block (program-ends (layoutOf Source header) limit (contents rows) (placed-contents header rows legal) (start store))
+  pub legal-ends-normally : (limit : Limit) (store : List ℤ) → Gives (λ signal. signal ≡ next) (runTableUnder limit Source header rows store)
+  unfolding runTableUnder tableProgram
+  legal-ends-normally limit store = rw legal-block (program-ends (layoutOf Source header) limit (contents rows) (placed-contents _ rows (legal .structured) (legal .placed)) (start store))

@@ -10,7 +10,7 @@ use Rattle.computation.specs.Run.{Limit, start}
 use Rattle.language.specs.Trees.{block, none}
 use Rattle.language.specs.Decode.{decode}
 use Rattle.language.specs.Meaning.{next}
-use Rattle.language.specs.Program.{contents, programOf, runUnder}
+use Rattle.language.specs.Program.{contents, tableProgram, runTableUnder}
 use Rattle.language.specs.Sizes.{statementRows, statementDepth}
 use Rattle.language.specs.Sound.{Sound}
 use Rattle.translation.specs.KernelForm.{KernelItems}
@@ -43,6 +43,6 @@ module _ (header rows : List ℤ) (legal : Legal header rows) where
   legal-depth = rw legal-block at (structured-depth Kernel _ rows (legal .structured) (legal .shallow))
 
   -- "Goto: the run goes on at its label": a run that comes to its end is not on its way to a label, under any limit and from any store.
-  pub legal-jumps : (limit : Limit) (store : List ℤ) → Gives (λ signal. signal ≡ next) (runUnder limit Kernel header rows store)
-  unfolding runUnder programOf
+  pub legal-jumps : (limit : Limit) (store : List ℤ) → Gives (λ signal. signal ≡ next) (runTableUnder limit Kernel header rows store)
+  unfolding runTableUnder tableProgram
   legal-jumps limit store = rw legal-block (program-lands (layoutOf Kernel header) limit (contents rows) legal-form (start store))

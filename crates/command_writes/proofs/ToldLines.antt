@@ -11,10 +11,10 @@ use Rattle.words.specs.declared.Verdict.{Verdict}
 use Rattle.text_numbers.specs.Number.{digits}
 use Rattle.text_lines.specs.Line.{newline}
 use Rattle.report.specs.Lines.{blank, refusedLine}
-use Rattle.write_sets.specs.Sets.{variableBits, arrayBits, member, memberArray}
-use Rattle.program_writes.specs.ProgramWrites.{programWrites, programWritesArray}
+use Rattle.write_sets.specs.Sets.{variableBits, arrayBits, variableBit, memberArray}
+use Rattle.program_writes.specs.ProgramWrites.{variablesWritten, programWritesArray}
 use Rattle.program_writes.specs.declared.Writes.{Writes}
-use Rattle.writes.specs.Told.{Told, sets, refusal}
+use Rattle.writes.specs.Told.{sizeOf, Told, sets, refusal}
 use Rattle.writes.specs.declared.WritesVerdict.the-variants.{Written, Refused}
 use Rattle.written_lines.specs.Lines.{numbers, variablesLine, arraysLine, bothLines}
 use Rattle.command_request.specs.Ascii.{ascii}
@@ -25,11 +25,11 @@ unfolding numbers
 numbers-same zero p q h = refl
 numbers-same (suc k) p q h = ap₂ _++_ (numbers-same k p q (λ i l. h i (omega arith))) (ap (λ (b : Bool). pick b (blank ∷ digits k) []) (h k (omega arith)))
 
-pub told-lines : {rows : List ℤ} {v : Verdict} {w : Writes} → Told rows v (Written w) → bothLines (member (w .variables)) (memberArray (w .arrays)) ≡ verdictWrites v rows
-told-lines {rows} {v} {w} (sets x) =
+pub told-lines : {header rows : List ℤ} {v : Verdict} {w : Writes} → Told header rows v (Written w) → bothLines (variableBit (w .variables)) (memberArray (w .arrays)) ≡ verdictWrites v header rows
+told-lines {header} {rows} {v} {w} (sets x) =
     ap₂ _++_
-    (ap (λ (l : List ℕ). (ascii "variables" ++ l) ++ (newline ∷ [])) (numbers-same variableBits (member (w .variables)) (programWrites rows) (λ i h. x .variables .is i h)))
+    (ap (λ (l : List ℕ). (ascii "variables" ++ l) ++ (newline ∷ [])) (numbers-same variableBits (variableBit (w .variables)) (variablesWritten (sizeOf header) rows) (λ i h. x .variables .variables i h)))
     (ap (λ (l : List ℕ). (ascii "arrays" ++ l) ++ (newline ∷ [])) (numbers-same arrayBits (memberArray (w .arrays)) (programWritesArray rows) (λ i h. x .arrays .are i)))
 
-pub told-refused : {rows : List ℤ} {v : Verdict} {r : Refusal} → Told rows v (Refused r) → refusedLine (r .number) (r .place) ≡ verdictWrites v rows
+pub told-refused : {header rows : List ℤ} {v : Verdict} {r : Refusal} → Told header rows v (Refused r) → refusedLine (r .number) (r .place) ≡ verdictWrites v header rows
 told-refused refusal = refl

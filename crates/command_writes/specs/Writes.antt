@@ -6,18 +6,19 @@ use Rattle.words.specs.declared.Form.the-variants.{Source}
 use Rattle.words.specs.declared.Verdict.{Verdict}
 use Rattle.words.specs.declared.Verdict.the-variants.{Accepted, Refused}
 use Rattle.report.specs.Lines.{refusedLine}
-use Rattle.program_writes.specs.ProgramWrites.{programWrites, programWritesArray}
+use Rattle.program_writes.specs.ProgramWrites.{variablesWritten, programWritesArray}
+use Rattle.writes.specs.Told.{sizeOf}
 use Rattle.written_lines.specs.Lines.{bothLines}
 use Rattle.program_runs.specs.Runs.{refusalOf}
 use Rattle.command_text.specs.Texts.{textOutput}
 
 -- What the program can write, by number: its variables, then the arrays of which it can write an element.
-abbrev pub verdictWrites : Verdict → (rows : List ℤ) → List ℕ
-verdictWrites (Refused refusal) rows = refusedLine (refusal .number) (refusal .place)
-verdictWrites Accepted rows = bothLines (programWrites rows) (programWritesArray rows)
+abbrev pub verdictWrites : Verdict → (header rows : List ℤ) → List ℕ
+verdictWrites (Refused refusal) header rows = refusedLine (refusal .number) (refusal .place)
+verdictWrites Accepted header rows = bothLines (variablesWritten (sizeOf header) rows) (programWritesArray rows)
 
 abbrev pub writesLines : (header rows : List ℤ) → List ℕ
-writesLines header rows = verdictWrites (refusalOf Source header rows) rows
+writesLines header rows = verdictWrites (refusalOf Source header rows) header rows
 
 unfoldable pub writesOutput : List ℕ → List ℕ
 writesOutput text = textOutput Source text writesLines

@@ -10,14 +10,14 @@ ghost use Prim.Native.Nat.{_≤_};
 ghost use lib.ListN.{length};
 ghost use Rattle.words.specs.declared.Form.the-variants.{Source};
 ghost use Rattle.text_numbers.specs.Writer.{Put};
-ghost use Rattle.write_sets.specs.Sets.{member, memberArray};
+ghost use Rattle.write_sets.specs.Sets.{variableBit, memberArray};
 ghost use Rattle.written_lines.specs.Lines.{bothLines, writesRoom};
 ghost use Rattle.command_text.specs.Texts.{Roomy, outputRoom};
 ghost use Rattle.command_writes.specs.Writes.{writesLines, writesOutput};
 
 fn put_sets(writes: Writes, out: &mut [u8]) -> usize
     requires { ⌜ writesRoom ≤ length (now out) ⌝ }
-    ensures { λ r. ⌜ Put (bothLines (member (writes .variables)) (memberArray (writes .arrays))) (now (out .entry)) r (now (out .exit)) ⌝ }
+    ensures { λ r. ⌜ Put (bothLines (variableBit (writes .variables)) (memberArray (writes .arrays))) (now (out .entry)) r (now (out .exit)) ⌝ }
 {
     let set = writes.variables;
     both_lines(set, writes.arrays, out)

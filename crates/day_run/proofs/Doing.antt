@@ -10,7 +10,7 @@ use Rattle.words.specs.declared.Ending.{Ending}
 use Rattle.words.specs.declared.Ending.the-variants.{Plain, Spent, Fault}
 use Rattle.words.specs.declared.FaultSort.{FaultSort}
 use Rattle.words.specs.declared.RunAnswer.{RunAnswer}
-use Rattle.language.specs.Program.{runProgram}
+use Rattle.program_meaning.specs.Program.{runProgram}
 use Rattle.machine.specs.Whole.{finishedOf}
 use Rattle.text_lines.specs.Line.{Line, linesOf}
 use Rattle.text_lines.specs.LineLaws.{lines-none}

@@ -8,7 +8,7 @@ use lib.ListN.{length}
 use Rattle.words.specs.declared.Form.the-variants.{Source}
 use Rattle.words.specs.declared.Ending.{Ending}
 use Rattle.words.specs.declared.Ending.the-variants.{Plain, Spent, Fault}
-use Rattle.language.specs.Program.{runProgram}
+use Rattle.program_meaning.specs.Program.{runProgram}
 use Rattle.rule_text.specs.Rules.{budget}
 use Rattle.day_run.specs.Days.{Day, storePairs, unchanged, afterRun, doLine, doLines}
 

@@ -7,7 +7,7 @@ use Rattle.words.specs.Word.{natural}
 use Rattle.words.specs.declared.Form.the-variants.{Source}
 use Rattle.words.specs.declared.Ending.{Ending}
 use Rattle.words.specs.declared.Ending.the-variants.{Plain, Spent, Fault}
-use Rattle.language.specs.Program.{runProgram}
+use Rattle.program_meaning.specs.Program.{runProgram}
 use Rattle.text_lines.specs.Line.{Line}
 use Rattle.rule_text.specs.Rules.{budget}
 use Rattle.day_form.specs.Lines.{lineWords}

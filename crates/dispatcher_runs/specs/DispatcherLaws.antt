@@ -12,8 +12,9 @@ use Rattle.words.specs.Layout.{layoutOf, storeSize, headerStore, storeWords, be
 use Rattle.words.specs.StoreLaws.{kernel-store}
 use Rattle.words.specs.declared.Form.the-variants.{Kernel}
 use Rattle.words.specs.declared.RunAnswer.{RunAnswer}
-use Rattle.language.specs.Program.{Finished, runProgram}
-use Rattle.language.specs.ProgramLaws.{store-length}
+use Rattle.language.specs.Program.{Finished}
+use Rattle.program_meaning.specs.Program.{runProgram}
+use Rattle.program_meaning.specs.ProgramLaws.{store-length}
 use Rattle.machine.specs.Whole.{finishedOf}
 use Rattle.fate.specs.Views.{DispatcherView, dispatcherView}
 use Rattle.copying.specs.OverLaws.{over-whole}

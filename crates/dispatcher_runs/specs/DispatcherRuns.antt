@@ -13,7 +13,7 @@ use Rattle.words.specs.declared.Form.the-variants.{Kernel}
 use Rattle.words.specs.declared.Refusal.{Refusal}
 use Rattle.words.specs.declared.Verdict.{Verdict}
 use Rattle.words.specs.declared.Verdict.the-variants.{Accepted, Refused}
-use Rattle.language.specs.Program.{runProgram}
+use Rattle.program_meaning.specs.Program.{runProgram}
 use Rattle.fate.specs.Views.{DispatcherView, dispatcherView}
 use Rattle.program_runs.specs.Runs.{refusalOf}
 use Rattle.dispatcher_runs.specs.declared.DispatcherVerdict.{DispatcherVerdict}

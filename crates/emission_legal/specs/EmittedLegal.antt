@@ -70,8 +70,8 @@ kernel-legal header {program} fit k =
 
 -- "The translation of an accepted program is itself a legal kernel program": its header and its table, where the check has found the
 -- program's limits and its tree well formed.
-module _ (header : List ℤ) (program : Items) (fit : headerFits Source header ≡ true) (source : SourceTree (layoutOf Source header) program)
-    (few : statementRows (block program) ≤ 2048) (shallow : statementDepth (block program) ≤ 64) (D : ℕ) (declared : D ≤ 64) where
+module _ (header : List ℤ) (program : Items) (fit : headerFits Source header ≡ true) (few : statementRows (block program) ≤ 2048) (shallow : statementDepth (block program) ≤ 64)
+    (D : ℕ) (declared : D ≤ 64) (source : SourceTree (layoutOf Source header) (storeSize (layoutOf Source header) + D) program) where
   abbrev layout : Layout
   layout = layoutOf Source header
 

@@ -14,7 +14,7 @@ use Rattle.words.specs.declared.Verdict.{Verdict}
 use Rattle.words.specs.declared.Verdict.the-variants.{Accepted, Refused}
 use Rattle.structure.specs.Refusal.{at, unless, _next_}
 use Rattle.source_check.specs.Refusal.{refusal}
-use Rattle.join.specs.Join.{joinedRows, ownRefusal, joinRefusal}
+use Rattle.join.specs.Join.{joinedRows, rowsRefusal, ownRefusal, joinRefusal}
 use Rattle.joiner.specs.Joining.{JoinResult, answerAndRows, joinAfter, joinResult, WritesJoin}
 use Rattle.joiner.specs.declared.JoinAnswer.{JoinAnswer}
 use Rattle.joiner.specs.declared.JoinAnswer.the-variants.{Joined, Refused as JoinRefused}
@@ -49,12 +49,13 @@ at-caused cause Nothing some = accepted-caused
 
 module _ (header first secondHeader second out left : List ℤ) where
   caused : Caused (joinRefusal header first secondHeader second (length out))
-  unfolding joinRefusal ownRefusal
+  unfolding joinRefusal ownRefusal rowsRefusal
   caused =
       next-caused _ _ (check-caused Source header first)
       (next-caused _ _ (check-caused Source secondHeader second)
       (next-caused _ _
-      (next-caused _ _ (unless-caused _ 16 (λ e. omega arith)) (next-caused _ _ (unless-caused _ 17 (λ e. omega arith)) (at-caused 9 _ (λ e. omega arith))))
+      (next-caused _ _ (unless-caused _ 16 (λ e. omega arith)) (next-caused _ _ (unless-caused _ 17 (λ e. omega arith))
+      (next-caused _ _ (at-caused 9 _ (λ e. omega arith)) (at-caused 20 _ (λ e. omega arith)))))
       (unless-caused _ 10 (λ e. omega arith))))
 
   join-caused : (r : Refusal) → answerAndRows (JoinRefused r) left ≡ joinResult header first secondHeader second out → r .number ≡ 0 → ⊥

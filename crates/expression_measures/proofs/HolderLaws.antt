@@ -7,7 +7,7 @@ use lib.IntN.{ℤ}
 use Rattle.language.specs.Trees.{Place, variable, element}
 use Rattle.language.specs.Decode.{placeOf, expressionAt}
 use Rattle.shapes.specs.Shapes.{placeTree, operationTree, choiceTree, expressionTree, PlaceOnward}
-use Rattle.shapes.specs.Source.{mostVariables, mostArrays, PlaceAt, ExpressionAt}
+use Rattle.shapes.specs.Source.{Name, mostArrays, PlaceAt, ExpressionAt}
 use Rattle.shapes.specs.declared.PlaceShape.{PlaceShape}
 use Rattle.shapes.specs.declared.PlaceShape.the-variants.{Variable, Element}
 use Rattle.shapes.specs.declared.OperationShape.{OperationShape}
@@ -24,13 +24,13 @@ use Rattle.measure_table.specs.declared.Holder.{Holder}
 use Rattle.measure_table.specs.declared.Holder.the-variants.{Number as NumberHolder, Temporary}
 
 -- what holds the value that comes from a row
-pub held-as : {h : Atom} {x y : Holder} → Holding h x → x ≡ y → Holding h y
-held-as {h} a e = subst (Holding h) e a
+pub held-as : {rows : List ℤ} {h : Atom} {x y : Holder} → Holding rows h x → x ≡ y → Holding rows h y
+held-as {rows} {h} a e = subst (Holding rows h) e a
 
-pub held-same : {h h′ : Atom} {x : Holder} → Holding h x → h ≡ h′ → Holding h′ x
-held-same {x = x} a e = subst (λ (k : Atom). Holding k x) e a
+pub held-same : {rows : List ℤ} {h h′ : Atom} {x : Holder} → Holding rows h x → h ≡ h′ → Holding rows h′ x
+held-same {rows} {x = x} a e = subst (λ (k : Atom). Holding rows k x) e a
 
-pub place-holds : (rows : List ℤ) (row : ℕ) {x : Holder} (p : PlaceShape) → PlaceOnward rows row mostVariables mostArrays p → x ≡ placeHolder p → Holding (readAtom (placeTree rows p)) x
+pub place-holds : (rows : List ℤ) (row : ℕ) {x : Holder} (p : PlaceShape) → PlaceOnward rows row (Name rows) mostArrays p → x ≡ placeHolder p → Holding rows (readAtom (placeTree rows p)) x
 place-holds rows row (Variable i) o e = rw e (record { is = refl; fits = o })
 place-holds rows row (Element array index) o e = rw e (record { is = refl; fits = tt })
 
@@ -38,20 +38,20 @@ read-updated : (p : Place) → readAtom p ≡ updated p
 read-updated (variable i) = refl
 read-updated (element array e) = refl
 
-pub updated-holds : {rows : List ℤ} {row : ℕ} {p : PlaceShape} {x : Holder} → PlaceAt rows row p → x ≡ placeHolder p → Holding (updated (placeOf (expressionAt rows row))) x
+pub updated-holds : {rows : List ℤ} {row : ℕ} {p : PlaceShape} {x : Holder} → PlaceAt rows row p → x ≡ placeHolder p → Holding rows (updated (placeOf (expressionAt rows row))) x
 updated-holds {rows} {row} {p} f e = held-same (place-holds rows row p (f .onward) e) (read-updated (placeTree rows p) ∙ ap updated (sym (f .is)))
 
 -- a temporary, or what an expression of this shape gives
-pub plain-holds : {rows : List ℤ} {row : ℕ} {s : ExpressionShape} {x : Holder} → ExpressionAt rows row s → Holding (plainAtom (expressionTree rows s)) x → Holding (plainAtom (expressionAt rows row)) x
+pub plain-holds : {rows : List ℤ} {row : ℕ} {s : ExpressionShape} {x : Holder} → ExpressionAt rows row s → Holding rows (plainAtom (expressionTree rows s)) x → Holding rows (plainAtom (expressionAt rows row)) x
 plain-holds f a = held-same a (ap plainAtom (sym (f .is)))
 
-pub top-holds : {h : Atom} → h ≡ top → Holding h Temporary
+pub top-holds : {rows : List ℤ} {h : Atom} → h ≡ top → Holding rows h Temporary
 top-holds e = rw e (record { is = refl; fits = tt })
 
-pub number-holds : {z v : ℤ} → z ≡ v → Holding (number v) (NumberHolder z)
+pub number-holds : {rows : List ℤ} {z v : ℤ} → z ≡ v → Holding rows (number v) (NumberHolder z)
 number-holds e = record { is = ap number e; fits = tt }
 
-pub choice-holds : {rows : List ℤ} {row : ℕ} {c : ChoiceShape} → ExpressionAt rows row (Choice c) → Holding (plainAtom (expressionAt rows row)) Temporary
+pub choice-holds : {rows : List ℤ} {row : ℕ} {c : ChoiceShape} → ExpressionAt rows row (Choice c) → Holding rows (plainAtom (expressionAt rows row)) Temporary
 choice-holds {rows} {row} {c} f = plain-holds f (top-holds (choice-top rows c))
 
 -- ---- whether a value goes straight into a variable

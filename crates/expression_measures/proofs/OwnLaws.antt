@@ -293,7 +293,7 @@ module _ {rows : List ℤ} {row : ℕ} where
 
     -- an assignment to a variable
     pub store-asks : {place i v : ℕ} → row < rowCount rows → ExpressionAt rows row (Operation (Assign place v)) → PlaceAt rows place (Variable i) → StoreAsks rows table row i v
-    store-asks inside f g = record { measured = m; inside = inside; is = assign-tree f g; onward = f .onward .1; low = g .onward }
+    store-asks inside f g = record { measured = m; inside = inside; is = assign-tree f g; onward = f .onward .1; low = g .onward .low }
 
 -- the value of an assignment to a variable, and its rows
 landed-atom : (i : ℕ) (e : Expression) → atomOf (assign (variable i) e) ≡ pick (direct e) (word i) (atomOf e)

@@ -1,4 +1,5 @@
-// Which values are copied: a variable's that waits for its use while something is worked out that can write the variable.
+// Which values are copied: a variable's that waits for its use while something is worked out that can write the variable. The declared
+// words begin at `store`.
 use super::holders::holder_at;
 use measure_table::Holder;
 use row_writes::writes::set_at;
@@ -24,26 +25,33 @@ ghost use Rattle.row_writes.specs.WriteSets.{partWrites, setAt, SetHeld, Sets};
 ghost use Rattle.measure_table.specs.Measures.{width, MeasuredFrom, MeasuredRow};
 
 // 1 where the set of the row that a link leads to has the variable, else 0.
-fn written(sets: &[u64], link: usize, variable: usize) -> usize
+fn written(store: usize, sets: &[u64], link: usize, variable: usize) -> usize
     requires { ⌜ SetHeld (now sets) link ⌝ }
-    ensures { λ r. ⌜ r ≡ pick (member (setAt (now (sets .entry)) link) variable) 1 0 ⌝ }
+    ensures { λ r. ⌜ r ≡ pick (member store (setAt (now (sets .entry)) link) variable) 1 0 ⌝ }
 {
-    if has(set_at(sets, link), variable) {
+    if has(store, set_at(sets, link), variable) {
         return 1;
     }
     0
 }
 
 // 1 where the value of the expression at a row is copied, because it waits while the expression at a link is worked out; else 0.
-fn copied_over(rows: &[i32], sets: &[u64], table: &[usize], row: usize, meanwhile: usize) -> usize
-    requires { ⌜ Sets (now rows) (now sets) × (row < rowCount (now rows)) × (meanwhile < rowCount (now rows)) ⌝ }
+fn copied_over(
+    store: usize,
+    rows: &[i32],
+    sets: &[u64],
+    table: &[usize],
+    row: usize,
+    meanwhile: usize,
+) -> usize
+    requires { ⌜ Sets store (now rows) (now sets) × (row < rowCount (now rows)) × (meanwhile < rowCount (now rows)) ⌝ }
     requires { ⌜ (width * rowCount (now rows) ≤ length (now table)) × MeasuredRow (now rows) (now table) row ⌝ }
     ensures { λ r. ⌜ r ≡ copied (atomOf (expressionAt (now (rows .entry)) row)) (partWrites (partAt (now (rows .entry)) meanwhile)) ⌝ }
 {
     let holder = holder_at(rows, table, row);
     match holder {
         Holder::Number(_) => 0,
-        Holder::Variable(variable) => written(sets, meanwhile, variable),
+        Holder::Variable(variable) => written(store, sets, meanwhile, variable),
         Holder::Temporary => 0,
     }
 }
@@ -61,25 +69,26 @@ fn index_at(rows: &[i32], row: usize) -> usize
 }
 
 fn copied_operation(
+    store: usize,
     rows: &[i32],
     sets: &[u64],
     table: &[usize],
     row: usize,
     operation: OperationShape,
 ) -> usize
-    requires { ⌜ Sets (now rows) (now sets) × MeasuredFrom (now rows) (now table) (row + 1) × ExpressionAt (now rows) row (Operation operation) ⌝ }
+    requires { ⌜ Sets store (now rows) (now sets) × MeasuredFrom (now rows) (now table) (row + 1) × ExpressionAt (now rows) row (Operation operation) ⌝ }
     ensures { λ r. ⌜ r ≡ firstCopied (expressionAt (now (rows .entry)) row) ⌝ }
 {
     match operation {
         OperationShape::Minus(_) => 0,
         OperationShape::Not(_) => 0,
-        OperationShape::Binary(_, a, b) => copied_over(rows, sets, table, b, a),
+        OperationShape::Binary(_, a, b) => copied_over(store, rows, sets, table, b, a),
         OperationShape::Comma(_, _) => 0,
         OperationShape::Assign(place, e) => {
-            copied_over(rows, sets, table, e, index_at(rows, place))
+            copied_over(store, rows, sets, table, e, index_at(rows, place))
         }
         OperationShape::Compound(_, place, e) => {
-            copied_over(rows, sets, table, e, index_at(rows, place))
+            copied_over(store, rows, sets, table, e, index_at(rows, place))
         }
         OperationShape::Prefix(_, _) => 0,
         OperationShape::Postfix(_, _) => 0,
@@ -87,8 +96,8 @@ fn copied_operation(
 }
 
 // 1 where the expression at a row copies the value of its first operand, else 0.
-pub fn copied_at(rows: &[i32], sets: &[u64], table: &[usize], row: usize) -> usize
-    requires { ⌜ Sets (now rows) (now sets) × MeasuredFrom (now rows) (now table) (row + 1) × (row < rowCount (now rows)) ⌝ }
+pub fn copied_at(store: usize, rows: &[i32], sets: &[u64], table: &[usize], row: usize) -> usize
+    requires { ⌜ Sets store (now rows) (now sets) × MeasuredFrom (now rows) (now table) (row + 1) × (row < rowCount (now rows)) ⌝ }
     ensures { λ r. ⌜ r ≡ firstCopied (expressionAt (now (rows .entry)) row) ⌝ }
 {
     let shape = expression_at(rows, row);
@@ -96,7 +105,7 @@ pub fn copied_at(rows: &[i32], sets: &[u64], table: &[usize], row: usize) -> usi
         ExpressionShape::Number(_) => 0,
         ExpressionShape::Read(_) => 0,
         ExpressionShape::Operation(operation) => {
-            copied_operation(rows, sets, table, row, operation)
+            copied_operation(store, rows, sets, table, row, operation)
         }
         ExpressionShape::Choice(_) => 0,
     }

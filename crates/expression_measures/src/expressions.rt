@@ -56,15 +56,16 @@ fn expression_levels(rows: &[i32], table: &[usize], row: usize, own: Own, usage:
 }
 
 pub fn measured_expression(
+    store: usize,
     rows: &[i32],
     sets: &[u64],
     table: &[usize],
     row: usize,
 ) -> ExpressionMeasures
-    requires { ⌜ Sets (now rows) (now sets) × MeasuredFrom (now rows) (now table) (row + 1) × (row < rowCount (now rows)) ⌝ }
+    requires { ⌜ Sets store (now rows) (now sets) × MeasuredFrom (now rows) (now table) (row + 1) × (row < rowCount (now rows)) ⌝ }
     ensures { λ r. ⌜ ExpressionMeasured (now (rows .entry)) (expressionAt (now (rows .entry)) row) r ⌝ }
 {
-    let copied = copied_at(rows, sets, table, row);
+    let copied = copied_at(store, rows, sets, table, row);
     let own = own_at(rows, table, row, copied);
     ExpressionMeasures {
         rows: expression_rows(rows, table, row, own, Use::Wanted),

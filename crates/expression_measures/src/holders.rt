@@ -33,7 +33,7 @@ fn place_holder(place: PlaceShape) -> Holder
 // The place at a row, which an operation updates.
 fn updated_holder(rows: &[i32], row: usize) -> Holder
     requires { ⌜ Source (now rows) × (row < rowCount (now rows)) ⌝ }
-    ensures { λ r. ⌜ Holding (updated (placeOf (expressionAt (now (rows .entry)) row))) r ⌝ }
+    ensures { λ r. ⌜ Holding (now (rows .entry)) (updated (placeOf (expressionAt (now (rows .entry)) row))) r ⌝ }
 {
     let place = place_at(rows, row);
     place_holder(place)
@@ -42,7 +42,7 @@ fn updated_holder(rows: &[i32], row: usize) -> Holder
 // An operation whose value comes from its own row.
 fn operation_holder(rows: &[i32], row: usize, operation: OperationShape) -> Holder
     requires { ⌜ Source (now rows) × ExpressionAt (now rows) row (Operation operation) ⌝ }
-    ensures { λ r. ⌜ Holding (plainAtom (expressionAt (now (rows .entry)) row)) r ⌝ }
+    ensures { λ r. ⌜ Holding (now (rows .entry)) (plainAtom (expressionAt (now (rows .entry)) row)) r ⌝ }
 {
     match operation {
         OperationShape::Minus(_) => Holder::Temporary,
@@ -59,7 +59,7 @@ fn operation_holder(rows: &[i32], row: usize, operation: OperationShape) -> Hold
 // What holds the value that comes from a row.
 fn plain_holder(rows: &[i32], row: usize) -> Holder
     requires { ⌜ Source (now rows) × (row < rowCount (now rows)) ⌝ }
-    ensures { λ r. ⌜ Holding (plainAtom (expressionAt (now (rows .entry)) row)) r ⌝ }
+    ensures { λ r. ⌜ Holding (now (rows .entry)) (plainAtom (expressionAt (now (rows .entry)) row)) r ⌝ }
 {
     let shape = expression_at(rows, row);
     match shape {
@@ -73,7 +73,7 @@ fn plain_holder(rows: &[i32], row: usize) -> Holder
 // What holds the value of the expression at a row.
 pub fn holder_at(rows: &[i32], table: &[usize], row: usize) -> Holder
     requires { ⌜ Source (now rows) × (row < rowCount (now rows)) × (width * rowCount (now rows) ≤ length (now table)) × MeasuredRow (now rows) (now table) row ⌝ }
-    ensures { λ r. ⌜ Holding (atomOf (expressionAt (now (rows .entry)) row)) r ⌝ }
+    ensures { λ r. ⌜ Holding (now (rows .entry)) (atomOf (expressionAt (now (rows .entry)) row)) r ⌝ }
 {
     plain_holder(rows, table[WIDTH * row + VALUE])
 }

@@ -1,12 +1,12 @@
 -- The theorem: every accepted program has a kernel form that is legal, shares its fate, makes the same writes and hides its temporaries. From
 -- the theorems about trees (`translation-preserves`, `translation-writes`, `temporaries-hidden`, `translated-legal`), since decode reads both
--- tables.
+-- tables; and from the independence of declared words.
 use mathlib.Core.Path.{_≡_, refl, sym, ap, ap₂, _∙_}
-use mathlib.Core.List.{List, _++_}
+use mathlib.Core.List.{List, _++_, append-assoc}
 use Prim.Native.Nat.{ℕ, _+_, _*_, _≤_}
 use native.Mathlib.Omega.{arith}
 use lib.IntN.{ℤ}
-use lib.ListN.{length, take}
+use lib.ListN.{length, length-append, take}
 use lib.Seq.{take-at, take-take}
 use Rattle.words.specs.Table.{rowCount}
 use Rattle.words.specs.Declarations.{declarationCount}
@@ -19,10 +19,12 @@ use Rattle.words.specs.declared.Ending.the-variants.{Spent}
 use Rattle.computation.specs.Run.{Result, ok, stopped, spent, fault, steps, run, start, final, endingOf, Settled}
 use Rattle.computation.specs.RunLaws.{store-keeps-length}
 use Rattle.computation.specs.Unlimited.{Ends}
+use Rattle.computation.specs.WritesMade.{made}
 use Rattle.language.specs.Trees.{block, Items}
 use Rattle.language.specs.Decode.{decode}
 use Rattle.language.specs.Meaning.{Signal, exec}
-use Rattle.language.specs.Program.{contents, finished, programOf, runUnder, runProgram}
+use Rattle.language.specs.Program.{Finished, contents, finished, tableProgram, runTableUnder, runTable}
+use Rattle.program_meaning.specs.Program.{resolvedRows, runUnder, runProgram}
 use Rattle.language.specs.Sizes.{statementRows, statementDepth}
 use Rattle.language.specs.WellFormed.{SourceTree}
 use Rattle.translation.specs.Translate.{translate, temporaries}
@@ -39,10 +41,11 @@ use Rattle.source_check.specs.Legal.{Legal}
 use Rattle.source_check.specs.AcceptsLegal.{accepts-legal as source-accepts}
 use Rattle.source_check.specs.DeclarationLaws.{legal-declarations}
 use Rattle.kernel_check.specs.Accepts.{accepts-legal as kernel-accepts}
-use Rattle.accepted.specs.Source.{legal-block, legal-tree, legal-rows, legal-depth}
+use Rattle.accepted.specs.Resolved.{table-block, table-tree, table-rows, table-depth}
 use Rattle.fate.specs.Fate.{SourceEnds, KernelEnds, SharedFate}
 use Rattle.fate.specs.SameWrites.{SameWrites}
 use Rattle.fate.specs.Views.{DispatcherView, dispatcherView, HidesTemporaries}
+use Rattle.fate.specs.DeclaredWords.{declared-hidden, declared-write-alike}
 use Rattle.fate.specs.KernelForms.{kernelHeaderOf, kernelRowsOf, KernelFormOf, HasKernelForm}
 
 -- ---- ended is settled
@@ -71,13 +74,20 @@ module _ (header rows : List ℤ) (legal : Legal header rows) where
   L = layoutOf Source header
 
   abbrev program : Items
-  program = contents rows
+  program = contents (resolvedRows Source header rows)
 
-  tree : SourceTree L program
-  tree = legal-tree header rows legal
+  -- where the temporaries begin
+  abbrev first : ℕ
+  first = storeWords Source header rows
+
+  inside : storeSize L ≤ first
+  inside = size-least Source header rows
+
+  tree : SourceTree L first program
+  tree = rw (source-store header rows) (table-tree header rows legal)
 
   source-rows : statementRows (block program) ≡ rowCount rows
-  source-rows = legal-rows header rows legal
+  source-rows = table-rows header rows legal
 
   few-source-rows : rowCount rows ≤ 2048
   few-source-rows = let c = countFits-facts Source (length rows) (legal .structured .count-fits) in omega (arith, c .most)
@@ -86,7 +96,7 @@ module _ (header rows : List ℤ) (legal : Legal header rows) where
   few = omega (arith, source-rows, few-source-rows)
 
   shallow : statementDepth (block program) ≤ 64
-  shallow = legal-depth header rows legal
+  shallow = table-depth header rows legal
 
   -- ---- the kernel's tables say the translation
 
@@ -106,24 +116,22 @@ module _ (header rows : List ℤ) (legal : Legal header rows) where
   unfolding kernelHeaderOf
   kernel-declared = header-declared L (declarationCount rows) (temporaries program)
 
-  -- where the temporaries begin
-  abbrev first : ℕ
-  first = storeWords Source header rows
-
-  inside : storeSize L ≤ first
-  inside = size-least Source header rows
-
   kernel-tree : decode (kernelRowsOf header rows) ≡ block (translate first program)
   unfolding kernelRowsOf
-  kernel-tree = rw (source-store header rows) (translated-decodes header program (legal .header-fits) tree few shallow (declarationCount rows) declared)
+  kernel-tree = rw (source-store header rows) (translated-decodes header program (legal .header-fits) few shallow (declarationCount rows) declared (table-tree header rows legal))
 
   kernel-rows : rowCount (kernelRowsOf header rows) ≡ statementRows (block (translate first program))
   unfolding kernelRowsOf
   kernel-rows = let l = length-emit (block (translate first program)) in omega arith
 
+  -- ---- from one store of S+D words, the kernel with these temporaries
+
   module _ (store temporaryWords : List ℤ) (all-words : length store ≡ first) (enough : length temporaryWords ≡ temporariesOf Kernel (kernelHeaderOf header rows)) where
     trees : TreesShareFate L first program store temporaryWords
     trees = translation-preserves L first inside program store temporaryWords tree all-words (omega (arith, kernel-temporaries))
+
+    tree-writes : TreesWriteAlike L first program store temporaryWords
+    tree-writes = translation-writes L first inside program store temporaryWords tree all-words (omega (arith, kernel-temporaries))
 
     abbrev source : ℕ → Result Signal
     source b = run (steps b) (exec L (block program)) (start store)
@@ -132,58 +140,111 @@ module _ (header rows : List ℤ) (legal : Legal header rows) where
     kernel d = run (steps d) (exec L (block (translate first program))) (start (store ++ temporaryWords))
 
     source-under : (b : ℕ) → runUnder (steps b) Source header rows store ≡ source b
-    unfolding runUnder programOf
-    source-under b = rw (legal-block header rows legal)
+    unfolding runUnder runTableUnder tableProgram
+    source-under b = rw (table-block header rows legal)
 
     kernel-under : (d : ℕ) → runUnder (steps d) Kernel (kernelHeaderOf header rows) (kernelRowsOf header rows) (store ++ temporaryWords) ≡ kernel d
-    unfolding runUnder programOf
+    unfolding runUnder runTableUnder tableProgram
     kernel-under d = rw (kernel-layout, kernel-tree)
 
-    source-run : (b : ℕ) → runProgram Source header rows b store ≡ finished (source b)
-    unfolding runProgram
-    source-run b = rw (source-under b)
-
     kernel-run : (d : ℕ) → runProgram Kernel (kernelHeaderOf header rows) (kernelRowsOf header rows) d (store ++ temporaryWords) ≡ finished (kernel d)
-    unfolding runProgram
-    kernel-run d = rw (kernel-under d)
+    unfolding runTable runUnder runProgram
+    kernel-run d = ap finished (kernel-under d)
 
-    source-settled : (b : ℕ) → ((runProgram Source header rows b store) .ending ≡ Spent → ⊥) → Settled (source b)
-    source-settled b e = ends-settled (source b) (rw (source-run b) at e)
+    -- the first S words of all that are the same
+    cells : (b d : ℕ) → SameWords (statementRows (block (translate first program))) (length temporaryWords) (final (source b)) (final (kernel d))
+        → take (storeSize L) ((final (kernel d)) .store) ≡ take (storeSize L) ((final (source b)) .store)
+    cells b d w =
+        let keeps : length ((final (source b)) .store) ≡ first = store-keeps-length (steps b) (exec L (block program)) (start store) ∙ all-words in
+        sym (take-take (storeSize L) first ((final (kernel d)) .store) inside) ∙ ap (λ (words : List ℤ). take (storeSize L) (take first words)) (w .same-words)
+        ∙ ap (take (storeSize L)) (take-at ((final (source b)) .store) (w .left) first keeps)
 
-    kernel-settled : (d : ℕ) → ((runProgram Kernel (kernelHeaderOf header rows) (kernelRowsOf header rows) d (store ++ temporaryWords)) .ending ≡ Spent → ⊥) → Settled (kernel d)
-    kernel-settled d e = ends-settled (kernel d) (rw (kernel-run d) at e)
+  -- ---- "whatever the D words held at the start": the source on declared words of its own
 
-    source-ends : SourceEnds header rows (kernelHeaderOf header rows) (kernelRowsOf header rows) store temporaryWords → Ends (exec L (block program)) (start store)
+  module _ (store declaredWords kernelDeclared temporaryWords : List ℤ) (outer : length store ≡ storeSize L) (all : length declaredWords ≡ declarationCount rows)
+      (kernel-all : length kernelDeclared ≡ declarationCount rows) (enough : length temporaryWords ≡ temporariesOf Kernel (kernelHeaderOf header rows)) where
+    abbrev K : List ℤ
+    K = kernelHeaderOf header rows
+
+    abbrev R : List ℤ
+    R = kernelRowsOf header rows
+
+    -- the kernel's first words, on which the source is run too
+    abbrev common : List ℤ
+    common = store ++ kernelDeclared
+
+    common-words : length common ≡ first
+    common-words = omega (arith, length-append store kernelDeclared, source-store header rows)
+
+    abbrev sourceOn : ℕ → Result Signal
+    sourceOn = source common temporaryWords common-words enough
+
+    abbrev kernelOn : ℕ → Result Signal
+    kernelOn = kernel common temporaryWords common-words enough
+
+    fate : TreesShareFate L first program common temporaryWords
+    fate = trees common temporaryWords common-words enough
+
+    source-shown : (b : ℕ) → Shown (storeSize L) (runUnder (steps b) Source header rows (store ++ declaredWords)) (sourceOn b)
+    source-shown b = rw (source-under common temporaryWords common-words enough b) at (declared-hidden header rows legal store kernelDeclared declaredWords outer kernel-all all (steps b))
+
+    source-ending : (b : ℕ) → (runProgram Source header rows b (store ++ declaredWords)) .ending ≡ endingOf (sourceOn b)
+    unfolding runTable runUnder runProgram
+    source-ending b = source-shown b .same-ending
+
+    source-count : (b : ℕ) → (runProgram Source header rows b (store ++ declaredWords)) .count ≡ (final (sourceOn b)) .count
+    unfolding runTable runUnder runProgram
+    source-count b = source-shown b .same-count
+
+    source-cells : (b : ℕ) → take (storeSize L) ((runProgram Source header rows b (store ++ declaredWords)) .store) ≡ take (storeSize L) ((final (sourceOn b)) .store)
+    unfolding runTable runUnder runProgram
+    source-cells b = source-shown b .same-words
+
+    kernel-on-under : (d : ℕ) → runUnder (steps d) Kernel K R (store ++ (kernelDeclared ++ temporaryWords)) ≡ kernelOn d
+    kernel-on-under d = rw (← append-assoc store kernelDeclared temporaryWords) (kernel-under common temporaryWords common-words enough d)
+
+    kernel-on : (d : ℕ) → runProgram Kernel K R d (store ++ (kernelDeclared ++ temporaryWords)) ≡ finished (kernelOn d)
+    unfolding runTable runUnder runProgram
+    kernel-on d = ap finished (kernel-on-under d)
+
+    source-settled : (b : ℕ) → ((runProgram Source header rows b (store ++ declaredWords)) .ending ≡ Spent → ⊥) → Settled (sourceOn b)
+    source-settled b e = ends-settled (sourceOn b) (rw (source-ending b) at e)
+
+    kernel-settled : (d : ℕ) → ((runProgram Kernel K R d (store ++ (kernelDeclared ++ temporaryWords))) .ending ≡ Spent → ⊥) → Settled (kernelOn d)
+    kernel-settled d e = ends-settled (kernelOn d) (rw (kernel-on d) at e)
+
+    source-ends : SourceEnds header rows K R store declaredWords kernelDeclared temporaryWords → Ends (exec L (block program)) (start common)
     source-ends e = record { budget = e .budget; settled = source-settled (e .budget) (e .ends) }
 
-    ends-source : Ends (exec L (block program)) (start store) → SourceEnds header rows (kernelHeaderOf header rows) (kernelRowsOf header rows) store temporaryWords
-    ends-source e = record { budget = e .budget; ends = rw (source-run (e .budget)) (settled-ends (source (e .budget)) (e .settled)) }
+    ends-source : Ends (exec L (block program)) (start common) → SourceEnds header rows K R store declaredWords kernelDeclared temporaryWords
+    ends-source e = record { budget = e .budget; ends = rw (source-ending (e .budget)) (settled-ends (sourceOn (e .budget)) (e .settled)) }
 
-    kernel-ends : KernelEnds header rows (kernelHeaderOf header rows) (kernelRowsOf header rows) store temporaryWords → Ends (exec L (block (translate first program))) (start (store ++ temporaryWords))
+    kernel-ends : KernelEnds header rows K R store declaredWords kernelDeclared temporaryWords → Ends (exec L (block (translate first program))) (start (common ++ temporaryWords))
     kernel-ends e = record { budget = e .budget; settled = kernel-settled (e .budget) (e .ends) }
 
-    ends-kernel : Ends (exec L (block (translate first program))) (start (store ++ temporaryWords)) → KernelEnds header rows (kernelHeaderOf header rows) (kernelRowsOf header rows) store temporaryWords
-    ends-kernel e = record { budget = e .budget; ends = rw (kernel-run (e .budget)) (settled-ends (kernel (e .budget)) (e .settled)) }
+    ends-kernel : Ends (exec L (block (translate first program))) (start (common ++ temporaryWords)) → KernelEnds header rows K R store declaredWords kernelDeclared temporaryWords
+    ends-kernel e = record { budget = e .budget; ends = rw (kernel-on (e .budget)) (settled-ends (kernelOn (e .budget)) (e .settled)) }
 
-    shared-fate : SharedFate header rows (kernelHeaderOf header rows) (kernelRowsOf header rows) store temporaryWords
+    shared-fate : SharedFate header rows K R store declaredWords kernelDeclared temporaryWords
     shared-fate = record {
-      end-together = (λ e. ends-kernel (trees .ends-together .0 (source-ends e)), λ e. ends-source (trees .ends-together .1 (kernel-ends e)));
-      same-ending = λ b d s t. rw (source-run b, kernel-run d) (trees .same-ending b d (source-settled b s) (kernel-settled d t));
-      same-cells = λ b d s t. cells b d (trees .same-state b d (source-settled b s) (kernel-settled d t));
-      count-bound = λ b d s t. rw (source-run b, kernel-run d, kernel-rows) (trees .same-state b d (source-settled b s) (kernel-settled d t) .few-steps);
+      end-together = (λ e. ends-kernel (fate .ends-together .0 (source-ends e)), λ e. ends-source (fate .ends-together .1 (kernel-ends e)));
+      same-ending = λ b d s t. rw (source-ending b, kernel-on d) (fate .same-ending b d (source-settled b s) (kernel-settled d t));
+      same-cells = λ b d s t.
+          ap (λ (end : Finished). take (storeSize L) (end .store)) (kernel-on d)
+          ∙ cells common temporaryWords common-words enough b d (fate .same-state b d (source-settled b s) (kernel-settled d t)) ∙ sym (source-cells b);
+      count-bound = λ b d s t. rw (source-count b, kernel-on d, kernel-rows) (fate .same-state b d (source-settled b s) (kernel-settled d t) .few-steps);
     }
-      where
-        cells : (b d : ℕ) → SameWords (statementRows (block (translate first program))) (length temporaryWords) (final (source b)) (final (kernel d))
-            → take (length store) ((runProgram Kernel (kernelHeaderOf header rows) (kernelRowsOf header rows) d (store ++ temporaryWords)) .store) ≡ (runProgram Source header rows b store) .store
-        cells b d w = rw (source-run b, kernel-run d, w .same-words) (take-at ((final (source b)) .store) (w .left) (length store) (store-keeps-length (steps b) (exec L (block program)) (start store)))
 
-    tree-writes : TreesWriteAlike L first program store temporaryWords
-    tree-writes = translation-writes L first inside program store temporaryWords tree all-words (omega (arith, kernel-temporaries))
+    writes-on : TreesWriteAlike L first program common temporaryWords
+    writes-on = tree-writes common temporaryWords common-words enough
 
-    same-writes : SameWrites header rows (kernelHeaderOf header rows) (kernelRowsOf header rows) store temporaryWords
+    source-writes : (N : ℕ) → made (storeSize L) (runUnder (steps N) Source header rows (store ++ declaredWords)) ≡ made (storeSize L) (sourceOn N)
+    source-writes N = declared-write-alike header rows legal store kernelDeclared declaredWords outer kernel-all all (steps N) ∙ ap (made (storeSize L)) (source-under common temporaryWords common-words enough N)
+
+    same-writes : SameWrites header rows K R store declaredWords kernelDeclared temporaryWords
     same-writes = record {
-      kernel-follows = λ N. rw (kernel-rows, source-under N, kernel-under (statementRows (block (translate first program)) * N)) (tree-writes .kernel-follows N);
-      source-follows = λ N. record { within = tree-writes .sourceSteps N; as-first = rw (kernel-under N, source-under (tree-writes .sourceSteps N)) (tree-writes .source-follows N) };
+      kernel-follows = λ N. rw (kernel-rows, source-writes N, kernel-on-under (statementRows (block (translate first program)) * N)) (writes-on .kernel-follows N);
+      source-follows = λ N. record { within = writes-on .sourceSteps N; as-first = rw (kernel-on-under N, source-writes (writes-on .sourceSteps N)) (writes-on .source-follows N) };
     }
 
   hides-temporaries : HidesTemporaries (kernelHeaderOf header rows) (kernelRowsOf header rows)
@@ -194,14 +255,14 @@ module _ (header rows : List ℤ) (legal : Legal header rows) where
 
   copies-allowed : statementCopies first (decode (kernelRowsOf header rows)) ≡ total ownCopies program + total ownResults program
   unfolding statementCopies storeSize
-  copies-allowed = ap (statementCopies first) kernel-tree ∙ copies-exactly L first (omega (arith, inside)) program tree
+  copies-allowed = ap (statementCopies first) kernel-tree ∙ copies-exactly L first program tree
 
   kernel-form-of : KernelFormOf header rows (kernelHeaderOf header rows) (kernelRowsOf header rows)
   unfolding kernelHeaderOf kernelRowsOf
   kernel-form-of = record {
-    accepted = kernel-accepts (kernelHeaderOf header rows) (kernelRowsOf header rows) .1 (rw (source-store header rows) (translated-legal header program (legal .header-fits) tree few shallow (declarationCount rows) declared));
-    share-fate = λ store temporaryWords s t. shared-fate store temporaryWords s t;
-    write-alike = λ store temporaryWords s t. same-writes store temporaryWords s t;
+    accepted = kernel-accepts (kernelHeaderOf header rows) (kernelRowsOf header rows) .1 (rw (source-store header rows) (translated-legal header program (legal .header-fits) few shallow (declarationCount rows) declared (table-tree header rows legal)));
+    share-fate = λ store own others temporaryWords s d k t. shared-fate store own others temporaryWords s d k t;
+    write-alike = λ store own others temporaryWords s d k t. same-writes store own others temporaryWords s d k t;
     hides-temporaries = hides-temporaries;
     few-rows = omega (arith, kernel-rows, rows-bound first program, source-rows);
     few-temporaries = omega (arith, kernel-temporaries, temporaries-bound program, source-rows);

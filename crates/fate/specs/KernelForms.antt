@@ -11,6 +11,7 @@ use Rattle.words.specs.declared.Verdict.the-variants.{Accepted}
 use Rattle.language.specs.Trees.{block}
 use Rattle.language.specs.Decode.{decode}
 use Rattle.language.specs.Program.{contents}
+use Rattle.program_meaning.specs.Program.{resolvedRows}
 use Rattle.translation.specs.Translate.{translate, temporaries, kernelHeader}
 use Rattle.translation.specs.Copies.{statementCopies, ownCopies, ownResults, total}
 use Rattle.emission.specs.Emission.{emit}
@@ -20,12 +21,13 @@ use Rattle.fate.specs.Fate.{ShareFate}
 use Rattle.fate.specs.SameWrites.{WriteAlike}
 use Rattle.fate.specs.Views.{HidesTemporaries}
 
--- The rewriting of docs/REWRITING.md, written out: V, D, T, the array lengths; and the rows of the translation: "temporaries begin at S+D".
+-- The rewriting of docs/REWRITING.md, written out, of the table whose names are store words: V, D, T, the array lengths; and the rows of the
+-- translation: "The kernel names them S to S+D−1 .. and temporaries begin at S+D".
 unfoldable pub kernelHeaderOf : List ℤ → List ℤ → List ℤ
-kernelHeaderOf header rows = kernelHeader (layoutOf Source header) (declarationCount rows) (temporaries (contents rows))
+kernelHeaderOf header rows = kernelHeader (layoutOf Source header) (declarationCount rows) (temporaries (contents (resolvedRows Source header rows)))
 
 unfoldable pub kernelRowsOf : List ℤ → List ℤ → List ℤ
-kernelRowsOf header rows = emit (block (translate (storeWords Source header rows) (contents rows)))
+kernelRowsOf header rows = emit (block (translate (storeWords Source header rows) (contents (resolvedRows Source header rows))))
 
 -- What a kernel header and kernel rows have to be for a source program.
 pub record KernelFormOf (header rows kernelHeader kernelRows : List ℤ) : Type 0 where
@@ -42,7 +44,8 @@ pub record KernelFormOf (header rows kernelHeader kernelRows : List ℤ) : Type 
   pub few-temporaries : temporariesOf Kernel kernelHeader ≤ 4 * rowCount rows
   -- Change 1: "A variable used as an operand, index, test or selector is copied only if something evaluated after it, and before its use,
   -- can write that variable": the kernel's statements that move a variable into a temporary are those copies and the results.
-  pub copies-allowed : statementCopies (storeWords Source header rows) (decode kernelRows) ≡ total ownCopies (contents rows) + total ownResults (contents rows)
+  pub copies-allowed : statementCopies (storeWords Source header rows) (decode kernelRows)
+      ≡ total ownCopies (contents (resolvedRows Source header rows)) + total ownResults (contents (resolvedRows Source header rows))
 
 -- What holds of every source program that the check accepts.
 abbrev pub HasKernelForm : List ℤ → List ℤ → Type 0

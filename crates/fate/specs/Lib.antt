@@ -10,6 +10,8 @@ pub mod Views
 -- Kernel forms: the kernel header and rows of a source program, and what holds of them.
 pub mod KernelForms
 -- ---- laws
+-- Declared words: a source run does not hang on what they held at the start.
+pub mod DeclaredWords
 -- The theorem: every accepted program has such a kernel form.
 pub mod KernelFormLaws
 -- A legal kernel program that shows a temporary: the view hides them in translations, not in every kernel program.

@@ -17,7 +17,8 @@ use Rattle.computation.specs.Run.{run}
 use Rattle.language.specs.Rule.{row}
 use Rattle.language.specs.Decode.{expressionOf, expressionBy, expressionAt, statementOf, itemsOf, armsOf, treesOf, treesBy, statementAt, itemsAt, decode}
 use Rattle.language.specs.Meaning.{evaluate, perform}
-use Rattle.language.specs.Program.{programOf, runUnder, runProgram}
+use Rattle.language.specs.Program.{tableProgram, runTableUnder, runTable}
+use Rattle.program_meaning.specs.Program.{runProgram}
 use Rattle.row_fields.specs.Fields.{foreign, leadsRight, mislinked, boundsOf, numberFits, outside}
 use Rattle.structure.specs.Links.{linksAmong, linkCount, loneBlock, notOnce, deeper, depthAt, tooDeep}
 use Rattle.structure.specs.Refusal.{at, unless, _next_, rowCauses, structuralRefusal}
@@ -47,5 +48,5 @@ shownWord view = natural (getD (view .words) 0 (pos 0))
 
 -- Started with 0 and with 1 in the temporary, it shows 0 and 1.
 pub shows-temporary : HidesTemporaries showingHeader showingRows → ⊥
-unfolding isWord sameWord natural wordAt numberAt kinds kindIn kindOf kindAt layoutOf sum storeSize arrayLength arrayBase run expressionOf expressionBy expressionAt statementOf itemsOf armsOf treesOf treesBy statementAt itemsAt decode evaluate perform programOf runUnder runProgram
+unfolding isWord sameWord natural wordAt numberAt kinds kindIn kindOf kindAt layoutOf sum storeSize arrayLength arrayBase run expressionOf expressionBy expressionAt statementOf itemsOf armsOf treesOf treesBy statementAt itemsAt decode evaluate perform tableProgram runTableUnder runTable runProgram
 shows-temporary hides = let differ : _≡_ {A = ℕ} 0 1 = ap shownWord (hides (pos 0 ∷ []) (pos 0 ∷ []) (pos 1 ∷ []) refl refl refl 5) in omega arith

@@ -7,7 +7,8 @@ use lib.ListN.{length, take}
 use Rattle.words.specs.Layout.{layoutOf, storeSize, declaredOf, temporariesOf}
 use Rattle.words.specs.declared.Form.the-variants.{Kernel}
 use Rattle.words.specs.declared.Ending.{Ending}
-use Rattle.language.specs.Program.{Finished, runProgram}
+use Rattle.language.specs.Program.{Finished}
+use Rattle.program_meaning.specs.Program.{runProgram}
 
 -- "The dispatcher gets the ending and the first S words,"
 pub record DispatcherView : Type 0 where

@@ -14,7 +14,7 @@ use Rattle.flat.specs.Lines.{Operand, number, word, Operation, copy, min
 use Rattle.flat.specs.Words.{lineCount, lineParts, Written}
 
 module _ (bounds : Bounds) where
-  -- "T temporaries .., which are variable numbers S to S+T−1; numbers V to S−1 name nothing."
+  -- "T temporaries .., which are variable numbers S to S+T−1; numbers V to S−1 name nothing." Change 11: S to S+D+T−1.
   abbrev pub NamesVariable : ℕ → Type 0
   NamesVariable i = numberFits bounds variable i ≡ true
 

@@ -6,7 +6,7 @@ use Prim.Native.Nat.{ℕ, suc}
 use lib.IntN.{ℤ}
 use Rattle.words.specs.declared.Form.the-variants.{Kernel}
 use Rattle.words.specs.declared.Ending.the-variants.{Spent}
-use Rattle.language.specs.Program.{Finished, contents, runProgram}
+use Rattle.language.specs.Program.{Finished, contents, runTable}
 use Rattle.flat.specs.Lines.{Line}
 use Rattle.flat.specs.Words.{lineParts, fiveWords}
 use Rattle.flat.specs.Results.{runList}
@@ -24,7 +24,7 @@ flattened rows = wordsFrom 0 (flatOf (contents rows))
 -- A kernel program and a flat list with one header, "on equal stores".
 module _ (header rows list store : List ℤ) where
   abbrev pub kernelRun : ℕ → Finished
-  kernelRun budget = runProgram Kernel header rows budget store
+  kernelRun budget = runTable Kernel header rows budget store
 
   abbrev pub flatRun : ℕ → Finished
   flatRun budget = runList header list budget store

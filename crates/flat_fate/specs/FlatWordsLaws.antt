@@ -12,7 +12,7 @@ use Rattle.words.specs.declared.Ending.the-variants.{Spent}
 use Rattle.computation.specs.Run.{Result, ok, stopped, spent, fault, steps, run, start, endingOf, Settled}
 use Rattle.language.specs.Trees.{block, Items, none}
 use Rattle.language.specs.Meaning.{Signal, exec}
-use Rattle.language.specs.Program.{contents, finished, programOf, runUnder, runProgram}
+use Rattle.language.specs.Program.{contents, finished, tableProgram, runTableUnder, runTable}
 use Rattle.translation.specs.KernelForm.{itemsTimes, KernelItems}
 use Rattle.kernel_check.specs.Legal.{Legal}
 use Rattle.accepted_kernel.specs.Kernel.{legal-block, legal-form}
@@ -94,7 +94,7 @@ module _ (header rows : List ℤ) (legal : Legal header rows) (once : (l : ℕ) 
     kernel b = run (steps b) (exec L (block program)) (start store)
 
     kernel-run : (b : ℕ) → kernelRun header rows (flattened rows) store b ≡ finished (kernel b)
-    unfolding runProgram runUnder programOf
+    unfolding runTable runTableUnder tableProgram
     kernel-run b = rw (legal-block header rows legal)
 
     flat-run : (d : ℕ) → flatRun header rows (flattened rows) store d ≡ runFrom L (flatOf program) d 0 0 store

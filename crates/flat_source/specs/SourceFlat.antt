@@ -5,24 +5,27 @@ use mathlib.Core.List.{List, _++_}
 use Prim.Native.Nat.{ℕ}
 use lib.IntN.{ℤ}
 use lib.ListN.{length, take}
-use Rattle.words.specs.Layout.{storeWords, temporariesOf}
+use Rattle.words.specs.Declarations.{declarationCount}
+use Rattle.words.specs.Layout.{layoutOf, storeSize, temporariesOf}
 use Rattle.words.specs.declared.Form.the-variants.{Source, Kernel}
 use Rattle.words.specs.declared.Ending.the-variants.{Spent}
 use Rattle.words.specs.declared.Verdict.the-variants.{Accepted}
-use Rattle.language.specs.Program.{Finished, runProgram}
+use Rattle.language.specs.Program.{Finished}
+use Rattle.program_meaning.specs.Program.{runProgram}
 use Rattle.source_check.specs.Refusal.{refusal as sourceRefusal}
 use Rattle.fate.specs.KernelForms.{kernelHeaderOf, kernelRowsOf}
 use Rattle.flat.specs.Refusal.{refusal as flatRefusal}
 use Rattle.flat.specs.Results.{runList}
 use Rattle.flat_fate.specs.FlatWords.{flattened}
 
--- A source program and a flat list, started on the same variables, arrays and declared words, the list with these temporaries.
-module _ (header rows kernelHeader list store temporaries : List ℤ) where
+-- A source program and a flat list, started on the same variables and arrays; each on declared words of its own, the list with these
+-- temporaries.
+module _ (header rows kernelHeader list store declared flatDeclared temporaries : List ℤ) where
   abbrev pub sourceRun : ℕ → Finished
-  sourceRun budget = runProgram Source header rows budget store
+  sourceRun budget = runProgram Source header rows budget (store ++ declared)
 
   abbrev pub flatRun : ℕ → Finished
-  flatRun budget = runList kernelHeader list budget (store ++ temporaries)
+  flatRun budget = runList kernelHeader list budget (store ++ (flatDeclared ++ temporaries))
 
   pub record SourceEnds : Type 0 where
     pub budget : ℕ
@@ -35,15 +38,18 @@ module _ (header rows kernelHeader list store temporaries : List ℤ) where
   pub record SharedFate : Type 0 where
     pub end-together : SourceEnds ↔ FlatEnds
     pub same-ending : (b d : ℕ) → ((sourceRun b) .ending ≡ Spent → ⊥) → ((flatRun d) .ending ≡ Spent → ⊥) → (flatRun d) .ending ≡ (sourceRun b) .ending
-    pub same-cells : (b d : ℕ) → ((sourceRun b) .ending ≡ Spent → ⊥) → ((flatRun d) .ending ≡ Spent → ⊥) → take (length store) ((flatRun d) .store) ≡ (sourceRun b) .store
+    -- "every comparison of source with kernel .. are over the first S"
+    pub same-cells : (b d : ℕ) → ((sourceRun b) .ending ≡ Spent → ⊥) → ((flatRun d) .ending ≡ Spent → ⊥)
+        → take (storeSize (layoutOf Source header)) ((flatRun d) .store) ≡ take (storeSize (layoutOf Source header)) ((sourceRun b) .store)
 
 -- What a flat list has to be for a source program.
 pub record FlatFormOf (header rows kernelHeader list : List ℤ) : Type 0 where
   -- the list's own check takes it
   pub accepted : flatRefusal kernelHeader list ≡ Accepted
-  -- "whatever its variables and arrays hold and whatever stands in the temporaries"
-  pub share-fate : (store temporaries : List ℤ) → length store ≡ storeWords Source header rows → length temporaries ≡ temporariesOf Kernel kernelHeader
-      → SharedFate header rows kernelHeader list store temporaries
+  -- "whatever its variables and arrays hold and whatever stands in the temporaries"; "whatever the D words held at the start", in either run
+  pub share-fate : (store declared flatDeclared temporaries : List ℤ) → length store ≡ storeSize (layoutOf Source header)
+      → length declared ≡ declarationCount rows → length flatDeclared ≡ declarationCount rows → length temporaries ≡ temporariesOf Kernel kernelHeader
+      → SharedFate header rows kernelHeader list store declared flatDeclared temporaries
 
 -- What holds of every source program that the check accepts, and of the flat list of its translation.
 abbrev pub HasFlatForm : List ℤ → List ℤ → Type 0

@@ -1,4 +1,4 @@
--- Text: the text form of flat lists: line 1 as the kernel's, V, T and the array lengths; each further line is a line's five words.
+-- Text: the text form of flat lists: line 1 as the kernel's, V, D, T and the array lengths; each further line is a line's five words.
 use mathlib.Core.List.{List}
 use Prim.Native.Nat.{ℕ}
 use lib.IntN.{ℤ}

@@ -15,6 +15,7 @@ use Rattle.words.specs.declared.Verdict.{Verdict}
 use Rattle.grammar.specs.Grammar.{tabulate}
 use Rattle.structure.specs.Links.{tooDeep}
 use Rattle.structure.specs.Refusal.{at, unless, _next_}
+use Rattle.declaration_causes.specs.Causes.{oneTooMany}
 use Rattle.source_check.specs.Refusal.{refusal}
 
 -- ---- rows
@@ -53,13 +54,19 @@ sameHeader [] (v ∷ vs) = false
 sameHeader (w ∷ ws) [] = false
 sameHeader (w ∷ ws) (v ∷ vs) = sameWord w v && sameHeader ws vs
 
--- The causes of the join itself: "unequal headers get 16, joined rows over 2,048 get 17 (both place 0), and a join too deep 9 with its joined row".
+-- Of the joined rows: "a join too deep 9 with its joined row", then "a 65th declaration, in a join too, 20": the 65th of both together.
+unfoldable pub rowsRefusal : List ℤ → Verdict
+rowsRefusal joined =
+    at 9 (lowestRow joined (tooDeep Source joined))
+    next at 20 (lowestRow joined (oneTooMany joined))
+
+-- The causes of the join itself: "unequal headers get 16, joined rows over 2,048 get 17 (both place 0)", then those of its rows.
 unfoldable pub ownRefusal : List ℤ → List ℤ → List ℤ → List ℤ → Verdict
 ownRefusal header first secondHeader second =
     let joined = joinedRows first second in
     unless (sameHeader header secondHeader) 16
     next unless (leb (rowCount joined) (rowLimit Source)) 17
-    next at 9 (lowestRow joined (tooDeep Source joined))
+    next rowsRefusal joined
 
 -- "After the first's own causes, then the second's, and before 10": an output of `room` words is shorter than the joined rows.
 unfoldable pub joinRefusal : List ℤ → List ℤ → List ℤ → List ℤ → ℕ → Verdict

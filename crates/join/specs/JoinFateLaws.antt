@@ -1,24 +1,19 @@
 -- The fate of a join, from its run at every budget.
-use mathlib.Core.Path.{_≡_, refl, sym, _∙_, ap}
-use mathlib.Core.Bool.{Bool, true, false}
+use mathlib.Core.Path.{_≡_, refl, _∙_, ap}
 use mathlib.Core.List.{List}
 use Prim.Native.Nat.{ℕ, zero, suc, _+_, _-_, _≤_}
 use native.Mathlib.Omega.{arith}
 use lib.IntN.{ℤ}
-use Rattle.words.specs.declared.Form.the-variants.{Source}
 use Rattle.words.specs.declared.FaultSort.{FaultSort}
 use Rattle.words.specs.declared.Ending.{Ending}
 use Rattle.words.specs.declared.Ending.the-variants.{Plain, Spent, Fault}
+use Rattle.computation.specs.Computation.{Computation}
 use Rattle.computation.specs.Run.{Result, ok, stopped, spent, fault, Settled, start, steps, run}
 use Rattle.computation.specs.Unlimited.{enough-same, count-is-enough}
 use Rattle.language.specs.Meaning.{Signal}
-use Rattle.language.specs.Program.{Finished, finished, programOf, runUnder, runProgram}
-use Rattle.language.specs.ProgramLaws.{budget-zero}
-use Rattle.source_check.specs.Legal.{Legal}
-use Rattle.join.specs.Join.{joinedRows}
+use Rattle.language.specs.Program.{Finished, finished}
 use Rattle.join.specs.Followed.{raised, followed}
-use Rattle.join.specs.JoinFate.{EndsAs, NeverEnds, JoinFate}
-use Rattle.join.specs.JoinedProgram.{joined-run}
+use Rattle.join.specs.JoinFate.{EndsAs, NeverEnds, Fate}
 
 -- ---- what follows a run, by its ending
 
@@ -35,58 +30,46 @@ module _ (second : ℕ → List ℤ → Finished) (budget : ℕ) (first : Finish
   unfolding followed
   followed-fault sort e = rw e
 
--- ---- one program's run with more budget
+-- ---- one program's runs with more budget
+
+-- The runs of one program from one store with every budget: the count is budget enough, and they end in one way.
+pub record Steady (runs : ℕ → Finished) : Type 0 where
+  pub from-count : (b d : ℕ) → ((runs b) .ending ≡ Spent → ⊥) → (runs b) .count ≤ d → runs d ≡ runs b
+  pub same-end : (b d : ℕ) → ((runs b) .ending ≡ Spent → ⊥) → ((runs d) .ending ≡ Spent → ⊥) → runs b ≡ runs d
 
 settled : (r : Result Signal) → ((finished r) .ending ≡ Spent → ⊥) → Settled r
 settled (ok a σ) n = tt
 settled (stopped spent σ) n = n refl
 settled (stopped (fault sort) σ) n = tt
 
-module _ (header rows store : List ℤ) where
-  settled-run : (b : ℕ) → ((runProgram Source header rows b store) .ending ≡ Spent → ⊥) → Settled (run (steps b) (programOf Source header rows) (start store))
-  unfolding runProgram runUnder
-  settled-run b n = settled (run (steps b) (programOf Source header rows) (start store)) n
+pub run-steady : (m : Computation Signal) (store : List ℤ) → Steady (λ b. finished (run (steps b) m (start store)))
+run-steady m store = record {
+  from-count = λ b d n most. ap finished (count-is-enough m (start store) b d (settled (run (steps b) m (start store)) n) most);
+  same-end = λ b d n k. ap finished (enough-same m (start store) b d (settled (run (steps b) m (start store)) n) (settled (run (steps d) m (start store)) k));
+}
 
-  -- the count is budget enough
-  from-count : (b d : ℕ) → ((runProgram Source header rows b store) .ending ≡ Spent → ⊥) → (runProgram Source header rows b store) .count ≤ d
-      → runProgram Source header rows d store ≡ runProgram Source header rows b store
-  unfolding runProgram runUnder
-  from-count b d n most = ap finished (count-is-enough (programOf Source header rows) (start store) b d (settled-run b n) most)
+-- ---- the join, from its runs at every budget
 
-  same-end : (b d : ℕ) → ((runProgram Source header rows b store) .ending ≡ Spent → ⊥) → ((runProgram Source header rows d store) .ending ≡ Spent → ⊥)
-      → runProgram Source header rows b store ≡ runProgram Source header rows d store
-  unfolding runProgram runUnder
-  same-end b d n m = ap finished (enough-same (programOf Source header rows) (start store) b d (settled-run b n) (settled-run d m))
+module _ (first : ℕ → Finished) (second : List ℤ → ℕ → Finished) (joined : ℕ → Finished) (steady : Steady first) (at-zero : (joined 0) .ending ≡ Spent)
+    (at-budget : (budget : ℕ) → joined (suc budget) ≡ followed (λ rest left. second left rest) budget (first budget)) where
+  abbrev runSecond : ℕ → List ℤ → Finished
+  runSecond rest left = second left rest
 
   -- A run ends in one way.
-  pub ends-once : (b : ℕ) (end : Finished) → EndsAs header rows store end → ((runProgram Source header rows b store) .ending ≡ Spent → ⊥) → runProgram Source header rows b store ≡ end
-  ends-once b end e n = same-end b (e .budget) n (rw (e .is) (e .not-spent)) ∙ e .is
+  ends-once : (b : ℕ) (end : Finished) → EndsAs first end → ((first b) .ending ≡ Spent → ⊥) → first b ≡ end
+  ends-once b end e n = steady .same-end b (e .budget) n (rw (e .is) (e .not-spent)) ∙ e .is
 
--- ---- the join
-
-module _ (header first second : List ℤ) (legal-first : Legal header first) (legal-second : Legal header second) (store : List ℤ) where
-  abbrev joined : List ℤ
-  joined = joinedRows first second
-
-  abbrev runSecond : ℕ → List ℤ → Finished
-  runSecond = runProgram Source header second
-
-  at-budget : (budget : ℕ) → runProgram Source header joined (suc budget) store ≡ followed runSecond budget (runProgram Source header first budget store)
-  at-budget budget = joined-run header first second legal-first legal-second budget store
-
-  fault-first : (end : Finished) (sort : FaultSort) → EndsAs header first store end → end .ending ≡ Fault sort → EndsAs header joined store (raised 1 end)
+  fault-first : (end : Finished) (sort : FaultSort) → EndsAs first end → end .ending ≡ Fault sort → EndsAs joined (raised 1 end)
   fault-first end sort e f = record {
     budget = suc (e .budget);
     is = at-budget (e .budget) ∙ ap (followed runSecond (e .budget)) (e .is) ∙ followed-fault runSecond (e .budget) end sort f;
     not-spent = e .not-spent;
   }
 
-  plain-first : (left end : Finished) → EndsAs header first store left → left .ending ≡ Plain → EndsAs header second (left .store) end
-      → EndsAs header joined store (raised (suc (left .count)) end)
+  plain-first : (left end : Finished) → EndsAs first left → left .ending ≡ Plain → EndsAs (second (left .store)) end → EndsAs joined (raised (suc (left .count)) end)
   plain-first left end e p f =
       let budget : ℕ = left .count + f .budget in
-      let enough : runProgram Source header first budget store ≡ left =
-      from-count header first store (e .budget) budget (rw (e .is) (e .not-spent)) (rw (e .is) (omega arith)) ∙ e .is in
+      let enough : first budget ≡ left = steady .from-count (e .budget) budget (rw (e .is) (e .not-spent)) (rw (e .is) (omega arith)) ∙ e .is in
       let rest : budget - left .count ≡ f .budget = omega arith in
       record {
         budget = suc budget;
@@ -95,13 +78,13 @@ module _ (header first second : List ℤ) (legal-first : Legal header first) (le
         not-spent = f .not-spent;
       }
 
-  never-first : NeverEnds header first store → NeverEnds header joined store
-  never-first endless zero = ap (λ (run : Finished). run .ending) (budget-zero Source header joined store)
+  never-first : NeverEnds first → NeverEnds joined
+  never-first endless zero = at-zero
   never-first endless (suc budget) =
-      ap (λ (run : Finished). run .ending) (at-budget budget ∙ followed-spent runSecond budget (runProgram Source header first budget store) (endless budget)) ∙ endless budget
+      ap (λ (run : Finished). run .ending) (at-budget budget ∙ followed-spent runSecond budget (first budget) (endless budget)) ∙ endless budget
 
   -- behind a run of the first that has ended as it does, or is spent
-  behind : (left : Finished) → left .ending ≡ Plain → NeverEnds header second (left .store) → (budget : ℕ) (run : Finished) (ending : Ending) → run .ending ≡ ending
+  behind : (left : Finished) → left .ending ≡ Plain → NeverEnds (second (left .store)) → (budget : ℕ) (run : Finished) (ending : Ending) → run .ending ≡ ending
       → ((run .ending ≡ Spent → ⊥) → run ≡ left) → (followed runSecond budget run) .ending ≡ Spent
   behind left p endless budget run Spent e same = ap (λ (f : Finished). f .ending) (followed-spent runSecond budget run e) ∙ e
   behind left p endless budget run Plain e same =
@@ -111,11 +94,10 @@ module _ (header first second : List ℤ) (legal-first : Legal header first) (le
       let q : run ≡ left = same (λ s. let z : _≡_ {A = ℕ} 0 1 = cc in omega arith) in
       absurd (let z : _≡_ {A = ℕ} 0 1 = cc in omega arith)
 
-  never-second : (left : Finished) → EndsAs header first store left → left .ending ≡ Plain → NeverEnds header second (left .store) → NeverEnds header joined store
-  never-second left e p endless zero = ap (λ (run : Finished). run .ending) (budget-zero Source header joined store)
+  never-second : (left : Finished) → EndsAs first left → left .ending ≡ Plain → NeverEnds (second (left .store)) → NeverEnds joined
+  never-second left e p endless zero = at-zero
   never-second left e p endless (suc budget) =
-      ap (λ (run : Finished). run .ending) (at-budget budget)
-      ∙ behind left p endless budget (runProgram Source header first budget store) _ refl (ends-once header first store budget left e)
+      ap (λ (run : Finished). run .ending) (at-budget budget) ∙ behind left p endless budget (first budget) _ refl (ends-once budget left e)
 
-  pub join-fate : JoinFate header first second joined store
-  join-fate = record { as-first = fault-first; as-second = plain-first; endless-first = never-first; endless-second = never-second }
+  pub fate : Fate first second joined
+  fate = record { as-first = fault-first; as-second = plain-first; endless-first = never-first; endless-second = never-second }

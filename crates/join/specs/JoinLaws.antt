@@ -1,11 +1,10 @@
--- Laws of joins: a join worked by hand; the order of a join's own causes; what is not refused is joined as promised.
+-- Laws of joins: a join worked by hand; the order of a join's own causes; what is not refused is legal, and so is its join.
 use mathlib.Core.Path.{_≡_, refl, sym, ap₂, subst}
-use mathlib.Core.Bool.{Bool, true, false, false≢true}
+use mathlib.Core.Bool.{true, false, false≢true}
 use mathlib.Core.List.{List, [], _∷_}
-use Prim.Native.Nat.{ℕ, _≤_, _<_}
+use Prim.Native.Nat.{ℕ}
 use lib.Dec.{leb}
 use lib.IntN.{ℤ, pos}
-use lib.ListN.{length}
 use borrow.Author.Tests.{leb-true}
 use Rattle.words.specs.Word.{natural, sameWord}
 use Rattle.words.specs.Laws.{both, sameWord-equal}
@@ -15,18 +14,16 @@ use Rattle.words.specs.Kinds.{kinds, kindIn, kindOf, isLink, kindRow, expressio
 use Rattle.words.specs.Links.{link}
 use Rattle.words.specs.Search.{lowestRow}
 use Rattle.words.specs.declared.Form.the-variants.{Source}
-use Rattle.words.specs.declared.Found.the-variants.{At}
+use Rattle.words.specs.declared.Found.the-variants.{At, Nothing}
 use Rattle.words.specs.declared.Verdict.the-variants.{Accepted, Refused}
 use Rattle.structure.specs.Links.{tooDeep}
 use Rattle.structure.specs.Refusal.{at, unless, _next_}
 use Rattle.structure.specs.RefusalLaws.{next-accepts, at-accepts, unless-accepts}
+use Rattle.declaration_causes.specs.Causes.{oneTooMany}
 use Rattle.source_check.specs.Refusal.{refusal}
 use Rattle.source_check.specs.Legal.{Legal}
 use Rattle.source_check.specs.AcceptsLegal.{accepts-legal}
-use Rattle.join.specs.Join.{movedWord, movedRows, outerBlock, firstRows, joinedRows, sameHeader, ownRefusal, joinRefusal}
-use Rattle.join.specs.JoinFate.{Joins}
-use Rattle.join.specs.JoinedProgram.{joined-run}
-use Rattle.join.specs.JoinFateLaws.{join-fate}
+use Rattle.join.specs.Join.{movedWord, movedRows, outerBlock, firstRows, joinedRows, sameHeader, rowsRefusal, ownRefusal, joinRefusal}
 use Rattle.join.specs.JoinedLegal.{joined-legal}
 
 -- ---- a join worked by hand: v0 = 7, and a switch on v0 whose case 7 breaks
@@ -88,13 +85,24 @@ module _ (header first secondHeader second : List ℤ) where
 
   pub too-deep : (row : ℕ) → sameHeader header secondHeader ≡ true → leb (rowCount joined) 2048 ≡ true → lowestRow joined (tooDeep Source joined) ≡ At row
       → ownRefusal header first secondHeader second ≡ Refused (record { number = 9; place = row })
-  unfolding ownRefusal unless at _next_
+  unfolding ownRefusal rowsRefusal unless at _next_
   too-deep row e n d = rw (e, n, d)
 
-  -- What is not refused is joined as promised.
-  pub accepted-joins : (room : ℕ) → joinRefusal header first secondHeader second room ≡ Accepted → Joins header first second joined
-  unfolding joinRefusal ownRefusal
-  accepted-joins room e =
+  -- "a 65th declaration, in a join too, 20 .. with the declaration's row, after 9"
+  pub too-many-declarations : (row : ℕ) → sameHeader header secondHeader ≡ true → leb (rowCount joined) 2048 ≡ true → lowestRow joined (tooDeep Source joined) ≡ Nothing
+      → lowestRow joined (oneTooMany joined) ≡ At row → ownRefusal header first secondHeader second ≡ Refused (record { number = 20; place = row })
+  unfolding ownRefusal rowsRefusal unless at _next_
+  too-many-declarations row e n d m = rw (e, n, d, m)
+
+  -- The programs and their join, of what is not refused.
+  pub record AllLegal : Type 0 where
+    pub of-first : Legal header first
+    pub of-second : Legal header second
+    pub of-join : Legal header joined
+
+  pub accepted-legal : (room : ℕ) → joinRefusal header first secondHeader second room ≡ Accepted → AllLegal
+  unfolding joinRefusal ownRefusal rowsRefusal
+  accepted-legal room e =
       let ofFirst = next-accepts (refusal header first) _ e in
       let ofSecond = next-accepts (refusal secondHeader second) _ (ofFirst .1) in
       let ofJoin = next-accepts (ownRefusal header first secondHeader second) _ (ofSecond .1) in
@@ -102,11 +110,9 @@ module _ (header first secondHeader second : List ℤ) where
       let counts = next-accepts (unless (leb (rowCount joined) (rowLimit Source)) 17) _ (headers .1) in
       let same = same-header header secondHeader (unless-accepts _ 16 (headers .0)) in
       let few = leb-true (rowCount joined) (rowLimit Source) (unless-accepts _ 17 (counts .0)) in
-      let flat = at-accepts 9 _ (counts .1) in
+      let depths = next-accepts (at 9 (lowestRow joined (tooDeep Source joined))) _ (counts .1) in
+      let flat = at-accepts 9 _ (depths .0) in
+      let declarations = at-accepts 20 _ (depths .1) in
       let legal-first = accepts-legal header first .0 (ofFirst .0) in
       let legal-second : Legal header second = subst (λ (h : List ℤ). Legal h second) (sym same) (accepts-legal secondHeader second .0 (ofSecond .0)) in
-      record {
-        legal = joined-legal header first second legal-first legal-second few flat;
-        runs = joined-run header first second legal-first legal-second;
-        fate = join-fate header first second legal-first legal-second;
-      }
+      record { of-first = legal-first; of-second = legal-second; of-join = joined-legal header first second legal-first legal-second few flat declarations }

@@ -27,10 +27,10 @@ use Rattle.structure.specs.StructuredLaws.{structured-tree}
 use Rattle.row_fields.specs.declared.Bounds.{Bounds}
 use Rattle.words.specs.Declarations.{isDeclaration}
 use Rattle.statement_places.specs.Places.{isMark}
-use Rattle.declaration_causes.specs.DeclarationLaws.{block-undeclared}
+use Rattle.declaration_causes.specs.Causes.{oneTooMany}
+use Rattle.declaration_causes.specs.DeclarationLaws.{block-undeclared, none-too-many}
 use Rattle.declaration_causes.specs.Demands.{NotOwn, NotTwice}
 use Rattle.source_check.specs.Legal.{Placed, Distinct, Legal}
-use Rattle.source_check.specs.Undeclared.{structured-undeclared}
 use Rattle.join.specs.Join.{secondBegins, joinedRows}
 use Rattle.join.specs.JoinedRows.{length-joined}
 use Rattle.join.specs.MovedLegal.{link-named, known-held, unused-held, present-held, forward-held, fitting-held, named-held, placed-held, distinct-held}
@@ -224,10 +224,12 @@ module _ {bounds : Bounds} (first second : List ℤ) (s : Structured Source boun
         named = joined-named;
       }
 
--- "Join two legal source programs into a legal one": where their headers agree, its rows are not too many, and none of them is too deep.
+-- "Join two legal source programs into a legal one": where their headers agree, its rows are not too many, none of them is too deep, and it has
+-- no 65th declaration.
 pub joined-legal : (header first second : List ℤ) → Legal header first → Legal header second → rowCount (joinedRows first second) ≤ 2048
-    → lowestRow (joinedRows first second) (tooDeep Source (joinedRows first second)) ≡ Nothing → Legal header (joinedRows first second)
-joined-legal header first second l m few flat =
+    → lowestRow (joinedRows first second) (tooDeep Source (joinedRows first second)) ≡ Nothing → lowestRow (joinedRows first second) (oneTooMany (joinedRows first second)) ≡ Nothing
+    → Legal header (joinedRows first second)
+joined-legal header first second l m few flat declarations =
     let s = l .structured in
     let z = m .structured in
     let structured = joined-structured first second s z few in
@@ -248,6 +250,6 @@ joined-legal header first second l m few flat =
         not-twice = every-row first second s z (NotTwice (joinedRows first second)) (λ d. absurd (block-declares d))
             (λ r n. not-twice-held s (holds-first first second s z) (back-first first second s z) r n (l .well-declared .not-twice r n))
             (λ r n. not-twice-held z (holds-second first second s z) (back-second first second s z) r n (m .well-declared .not-twice r n));
-        few-declarations = omega (arith, structured-undeclared _ (joinedRows first second) structured);
+        few-declarations = none-too-many (joinedRows first second) declarations;
       };
     }

@@ -1,35 +1,26 @@
--- The joined program: its tree is both trees in a block, and its run the first's followed by the second's, at every budget.
-use mathlib.Core.Path.{_≡_, refl, sym, _∙_, ap, ap₂}
-use mathlib.Core.Bool.{Bool, true, false}
-use mathlib.Core.List.{List, []}
+-- The joined program: the tree of a table whose row 0 is a block of two blocks, as the joined rows are, whatever their names are resolved to.
+use mathlib.Core.Path.{_≡_, refl, sym, _∙_, ap}
+use mathlib.Core.List.{List}
 use Prim.Native.Nat.{ℕ, zero, suc, _+_, _<_}
 use native.Mathlib.Nat.{add-zero}
 use native.Mathlib.Omega.{arith}
-use lib.IntN.{ℤ, pos}
-use lib.ListN.{getD}
+use lib.IntN.{ℤ}
 use Rattle.words.specs.Word.{natural}
-use Rattle.words.specs.Table.{rowCount, Whole, numberAt}
-use Rattle.words.specs.Layout.{layoutOf}
+use Rattle.words.specs.Table.{Whole, numberAt}
 use Rattle.words.specs.Kinds.{kinds, kindIn, kindOf, kindAt, isStatementKind}
-use Rattle.words.specs.declared.Form.the-variants.{Source}
+use Rattle.words.specs.declared.Form.{Form}
 use Rattle.words.specs.declared.Kind.the-variants.{OfStatement}
 use Rattle.words.specs.declared.StatementKind.the-variants.{Block}
-use Rattle.computation.specs.Run.{steps}
-use Rattle.language.specs.Trees.{Statement, block, none, _then_}
+use Rattle.language.specs.Trees.{block, none, _then_}
 use Rattle.language.specs.Decode.{statementAt, itemsAt, listAt, decode}
 use Rattle.language.specs.DecodeLaws.{at-block, at-item}
-use Rattle.language.specs.Program.{programOf, runUnder, runProgram}
-use Rattle.row_fields.specs.Fields.{boundsOf}
+use Rattle.row_fields.specs.declared.Bounds.{Bounds}
 use Rattle.structure.specs.Structured.{Structured, Tree}
 use Rattle.structure.specs.StructuredLaws.{structured-tree}
-use Rattle.source_check.specs.Legal.{Legal}
-use Rattle.accepted.specs.Source.{legal-ends-normally}
 use Rattle.join.specs.Join.{outerBlock, secondBegins, joinedRows}
-use Rattle.join.specs.Followed.{followed}
 use Rattle.join.specs.Moved.{number-held}
-use Rattle.join.specs.MovedTrees.{moved-trees}
 use Rattle.join.specs.JoinedRows.{whole-joined, outer-number, first-holds, first-next, second-holds, second-next}
-use Rattle.join.specs.JoinedRun.{joinedTree, tree-run}
+use Rattle.join.specs.JoinedRun.{joinedTree}
 
 block-kind : (rows : List ℤ) (row : ℕ) → numberAt rows row 0 ≡ 42 → kindAt rows row ≡ OfStatement Block
 unfolding kindAt kindOf kindIn kinds
@@ -39,7 +30,45 @@ list-some : (rows : List ℤ) (l : ℕ) → 0 < l → listAt rows l ≡ itemsAt 
 list-some rows zero p = absurd (omega arith)
 list-some rows (suc l) p = refl
 
-module _ (header first second : List ℤ) (legal-first : Legal header first) (legal-second : Legal header second) where
+-- ---- a table whose row 0 is a block of two blocks
+
+pub record TwoBlocks (table : List ℤ) (begins : ℕ) : Type 0 where
+  pub whole : Whole table
+  -- row 0, and its first item
+  pub outer : numberAt table 0 0 ≡ 42
+  pub first-item : numberAt table 0 1 ≡ 1
+  pub first-block : numberAt table 1 0 ≡ 42
+  -- the item behind it, which is the last
+  pub behind : numberAt table 1 5 ≡ begins
+  pub later : 1 < begins
+  pub second-block : numberAt table begins 0 ≡ 42
+  pub last : numberAt table begins 5 ≡ 0
+
+module _ (table : List ℤ) (begins : ℕ) (t : TwoBlocks table begins) where
+  outer-is : statementAt table 0 ≡ block (itemsAt table 1)
+  outer-is = at-block table (t .whole) 0 (block-kind table 0 (t .outer)) (λ p. p) ∙ ap (λ (l : ℕ). block (listAt table l)) (t .first-item)
+
+  items-from-first : itemsAt table 1 ≡ statementAt table 1 then itemsAt table begins
+  items-from-first =
+      let behind = t .behind in
+      let later = t .later in
+      at-item table (t .whole) 1 (ap isStatementKind (block-kind table 1 (t .first-block))) (λ p. omega arith)
+      ∙ ap (λ (l : ℕ). statementAt table 1 then listAt table l) behind
+      ∙ ap (λ is. statementAt table 1 then is) (list-some table begins (omega arith))
+
+  items-from-second : itemsAt table begins ≡ statementAt table begins then none
+  items-from-second =
+      let last = t .last in
+      at-item table (t .whole) begins (ap isStatementKind (block-kind table begins (t .second-block))) (λ p. omega arith)
+      ∙ ap (λ (l : ℕ). statementAt table begins then listAt table l) last
+
+  pub decode-blocks : decode table ≡ joinedTree (statementAt table 1) (statementAt table begins)
+  unfolding decode
+  decode-blocks = outer-is ∙ ap block (items-from-first ∙ ap (λ is. statementAt table 1 then is) items-from-second)
+
+-- ---- the joined rows
+
+module _ {form : Form} {bounds : Bounds} (first second : List ℤ) (s : Structured form bounds first) (z : Structured form bounds second) where
   abbrev joined : List ℤ
   joined = joinedRows first second
 
@@ -47,10 +76,10 @@ module _ (header first second : List ℤ) (legal-first : Legal header first) (le
   begins = secondBegins first
 
   tree-first : Tree first
-  tree-first = structured-tree Source _ first (legal-first .structured)
+  tree-first = structured-tree form bounds first s
 
   tree-second : Tree second
-  tree-second = structured-tree Source _ second (legal-second .structured)
+  tree-second = structured-tree form bounds second z
 
   whole-first : Whole first
   whole-first = sym (tree-first .whole)
@@ -58,49 +87,18 @@ module _ (header first second : List ℤ) (legal-first : Legal header first) (le
   whole-second : Whole second
   whole-second = sym (tree-second .whole)
 
-  whole : Whole joined
-  whole = whole-joined first second whole-first whole-second (tree-first .some-rows)
+  second-root : numberAt joined (begins + 0) 0 ≡ 42
+  second-root = number-held (second-holds first second whole-first whole-second (tree-first .some-rows)) 0 (tree-second .some-rows) ∙ z .block
 
-  -- the outer block and its first item
-  outer-is : statementAt joined 0 ≡ block (itemsAt joined 1)
+  pub joined-blocks : TwoBlocks joined begins
   unfolding natural outerBlock
-  outer-is =
-      let one : numberAt joined 0 1 ≡ 1 = outer-number first second whole-first whole-second (tree-first .some-rows) 1 (omega arith) in
-      at-block joined whole 0 (block-kind joined 0 (outer-number first second whole-first whole-second (tree-first .some-rows) 0 (omega arith))) (λ p. p)
-      ∙ ap (λ (l : ℕ). block (listAt joined l)) one
-
-  -- the first's block, and behind it the second's
-  first-item : itemsAt joined 1 ≡ statementAt joined 1 then itemsAt joined begins
-  first-item =
-      let behind = first-next first second whole-first whole-second (tree-first .some-rows) in
-      let kind : numberAt joined 1 0 ≡ 42 = number-held (first-holds first second whole-first whole-second (tree-first .some-rows)) 0 (tree-first .some-rows) ∙ legal-first .structured .block in
-      let many = tree-first .some-rows in
-      at-item joined whole 1 (ap isStatementKind (block-kind joined 1 kind)) (λ p. omega arith)
-      ∙ ap (λ (l : ℕ). statementAt joined 1 then listAt joined l) behind
-      ∙ ap (λ is. statementAt joined 1 then is) (list-some joined begins (omega arith))
-
-  -- the second's block, and nothing behind it
-  second-item : itemsAt joined begins ≡ statementAt joined begins then none
-  second-item =
-      let behind = second-next first second whole-first whole-second (tree-first .some-rows) (tree-second .some-rows) (legal-second .structured .lone) in
-      let kind : numberAt joined (begins + 0) 0 ≡ 42 = number-held (second-holds first second whole-first whole-second (tree-first .some-rows)) 0 (tree-second .some-rows) ∙ legal-second .structured .block in
-      at-item joined whole begins (ap isStatementKind (block-kind joined begins (rw add-zero at kind))) (λ p. omega arith)
-      ∙ ap (λ (l : ℕ). statementAt joined begins then listAt joined l) behind
-
-  first-same : statementAt joined 1 ≡ statementAt first 0
-  first-same = moved-trees (legal-first .structured) (first-holds first second whole-first whole-second (tree-first .some-rows)) 0 (tree-first .some-rows) .statement
-
-  second-same : statementAt joined begins ≡ statementAt second 0
-  second-same =
-      ap (statementAt joined) (let e : begins ≡ begins + 0 = omega arith in e)
-      ∙ moved-trees (legal-second .structured) (second-holds first second whole-first whole-second (tree-first .some-rows)) 0 (tree-second .some-rows) .statement
-
-  -- The joined rows hold both programs as items of a new block.
-  pub decode-joined : decode joined ≡ joinedTree (decode first) (decode second)
-  unfolding decode
-  decode-joined = outer-is ∙ ap block (first-item ∙ ap₂ (λ (s : Statement) is. s then is) first-same (second-item ∙ ap (λ (s : Statement). s then none) second-same))
-
-  -- At every budget: a step for the new block, the first on the steps left, and then the second. (With budget 0 no program makes a step: `budget-zero`.)
-  pub joined-run : (budget : ℕ) (store : List ℤ) → runProgram Source header joined (suc budget) store ≡ followed (runProgram Source header second) budget (runProgram Source header first budget store)
-  unfolding runProgram runUnder programOf
-  joined-run budget store = rw decode-joined (tree-run (layoutOf Source header) (decode first) (decode second) budget store (legal-ends-normally header first legal-first (steps budget) store))
+  joined-blocks = record {
+    whole = whole-joined first second whole-first whole-second (tree-first .some-rows);
+    outer = outer-number first second whole-first whole-second (tree-first .some-rows) 0 (omega arith);
+    first-item = outer-number first second whole-first whole-second (tree-first .some-rows) 1 (omega arith);
+    first-block = number-held (first-holds first second whole-first whole-second (tree-first .some-rows)) 0 (tree-first .some-rows) ∙ s .block;
+    behind = first-next first second whole-first whole-second (tree-first .some-rows);
+    later = (let many = tree-first .some-rows in omega arith);
+    second-block = rw add-zero at second-root;
+    last = second-next first second whole-first whole-second (tree-first .some-rows) (tree-second .some-rows) (z .lone);
+  }

@@ -5,20 +5,20 @@
 pub mod Join
 -- Followed: one run behind another, on the steps left.
 pub mod Followed
--- JoinFate: how a join ends, in the request's words, and all that is promised of one.
+-- JoinFate: how a join ends, in the request's words, by the runs of three programs.
 pub mod JoinFate
 -- ---- laws
 -- Moved: a table that holds another one's rows at other places.
 pub mod Moved
--- MovedTrees: the trees at the new place of a row are those at its old one.
+-- MovedTrees: the trees at the new place of a row are those at its old one, with each word renamed.
 pub mod MovedTrees
 -- JoinedRows: the joined rows hold the first's and the second's.
 pub mod JoinedRows
 -- JoinedRun: the run of two trees in a block is the one followed by the other, at every budget.
 pub mod JoinedRun
--- JoinedProgram: the tree of the joined rows, and their run at every budget.
+-- JoinedProgram: the tree of a table of two blocks, as the joined rows are.
 pub mod JoinedProgram
--- JoinFateLaws: the fate of a join, from its run at every budget.
+-- JoinFateLaws: the fate of a join, from its runs at every budget.
 pub mod JoinFateLaws
 -- MovedLegal: what legality asks of a row holds at its new place.
 pub mod MovedLegal
@@ -28,5 +28,5 @@ pub mod MovedDeclarations
 pub mod JoinedLinks
 -- JoinedLegal: the join of two legal programs is legal.
 pub mod JoinedLegal
--- JoinLaws: a join worked by hand; the order of a join's own causes; what is not refused is joined as promised.
+-- JoinLaws: a join worked by hand; the order of a join's own causes; what is not refused is legal, and so is its join.
 pub mod JoinLaws

@@ -1,15 +1,19 @@
 -- Moved: a table that holds another one's rows at other places, with its links led along. Over any map of row numbers that grows along links.
 use mathlib.Core.Path.{_≡_, refl, ap, _∙_}
-use mathlib.Core.Bool.{Bool, true, false}
+use mathlib.Core.Bool.{Bool, true, false, _||_}
+use mathlib.Core.Logic.{⊎-elim}
 use mathlib.Core.List.{List}
 use Prim.Native.Nat.{ℕ, zero, suc, _+_, _≤_, _<_}
 use native.Mathlib.Omega.{arith}
 use native.Mathlib.Decide.{ℕ-discrete}
 use lib.Arith.{lt-of-le-ne}
+use lib.Dec.{eqb}
 use lib.IntN.{ℤ}
+use borrow.Author.Tests.{eqb-true}
 use Rattle.words.specs.Word.{natural, pick}
 use Rattle.words.specs.Table.{rowCount, Whole, wordAt, numberAt}
-use Rattle.words.specs.Kinds.{kindOf, kindAt, sortOf, sortAt, isLink}
+use Rattle.words.specs.Laws.{either}
+use Rattle.words.specs.Kinds.{kindOf, kindAt, sortOf, sortAt, variable, declaredNumber, isLink}
 use Rattle.words.specs.Links.{link}
 use Rattle.words.specs.declared.Form.{Form}
 use Rattle.grammar.specs.GrammarLaws.{kind-no-link, zero-links-none}
@@ -32,6 +36,21 @@ pub record Holds (joined rows : List ℤ) (ρ : ℕ → ℕ) : Type 0 where
   pub follows : (row field : ℕ) → row < rowCount rows → field < 6 → field < 5 + row → isLink (sortAt rows row field) ≡ true
       → numberAt joined (ρ row) field ≡ movedLink ρ (numberAt rows row field)
 
+-- A field of this sort names a store word, in a table whose names are resolved.
+abbrev pub namesWord : ℕ → Bool
+namesWord sort = eqb sort variable || eqb sort declaredNumber
+
+-- Row r of the table `rows` is row ρ r of the table `joined`, and names the word `π i` where it named the word i.
+pub record HoldsRenamed (π : ℕ → ℕ) (joined rows : List ℤ) (ρ : ℕ → ℕ) : Type 0 where
+  pub whole : Whole joined
+  pub grows : (row field : ℕ) → field < 6 → Leads rows row field → ρ row < ρ (link rows row field)
+  pub kind : (row : ℕ) → row < rowCount rows → numberAt joined (ρ row) 0 ≡ numberAt rows row 0
+  pub stays : (row field : ℕ) → row < rowCount rows → field < 6 → field < 5 + row → isLink (sortAt rows row field) ≡ false → namesWord (sortAt rows row field) ≡ false
+      → wordAt joined (ρ row) field ≡ wordAt rows row field
+  pub named : (row field : ℕ) → row < rowCount rows → field < 6 → field < 5 + row → namesWord (sortAt rows row field) ≡ true → numberAt joined (ρ row) field ≡ π (numberAt rows row field)
+  pub follows : (row field : ℕ) → row < rowCount rows → field < 6 → field < 5 + row → isLink (sortAt rows row field) ≡ true
+      → numberAt joined (ρ row) field ≡ movedLink ρ (numberAt rows row field)
+
 pub moved-some : (ρ : ℕ → ℕ) (l : ℕ) → 0 < l → movedLink ρ l ≡ ρ l
 moved-some ρ zero p = absurd (omega arith)
 moved-some ρ (suc l) p = refl
@@ -39,6 +58,11 @@ moved-some ρ (suc l) p = refl
 pub link-is : (rows : List ℤ) (row field : ℕ) → isLink (sortAt rows row field) ≡ true → link rows row field ≡ numberAt rows row field
 unfolding link
 link-is rows row field e = rw e
+
+-- a word's number is no link
+pub word-no-link : (sort : ℕ) → namesWord sort ≡ true → isLink sort ≡ false
+unfolding isLink
+word-no-link sort e = ⊎-elim (λ q. rw (eqb-true sort variable q)) (λ q. rw (eqb-true sort declaredNumber q)) (either (eqb sort variable) (eqb sort declaredNumber) e)
 
 -- ---- rows and their links
 
@@ -62,6 +86,18 @@ module _ {joined rows : List ℤ} {ρ : ℕ → ℕ} (h : Holds joined rows ρ) 
       by : (links : Bool) → isLink (sortAt rows row field) ≡ links → pick links (numberAt joined (ρ row) field) 0 ≡ movedLink ρ (pick links (numberAt rows row field) 0)
       by true e = h .follows row field n f own e
       by false e = refl
+
+  -- in a table whose numbers stay
+  pub holds-itself : HoldsRenamed (λ i. i) joined rows ρ
+  unfolding numberAt
+  holds-itself = record {
+    whole = h .whole;
+    grows = h .grows;
+    kind = number-held;
+    stays = λ row field n f own e k. h .stays row field n f own e;
+    named = λ row field n f own k. ap natural (h .stays row field n f own (word-no-link (sortAt rows row field) k));
+    follows = h .follows;
+  }
 
 -- ---- of a structured table
 

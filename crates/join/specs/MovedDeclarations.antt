@@ -30,22 +30,27 @@ leads-part rows row zero leads = absurd (let later : row < 0 = (rw (kind-no-link
 leads-part rows row (suc field) leads = omega arith
 
 module _ {form : Form} {bounds : Bounds} {joined rows : List ℤ} {ρ : ℕ → ℕ} (s : Structured form bounds rows) (h : Holds joined rows ρ) where
-  declaration-held : (row : ℕ) → row < rowCount rows → isDeclaration joined (ρ row) ≡ isDeclaration rows row
+  pub declaration-held : (row : ℕ) → row < rowCount rows → isDeclaration joined (ρ row) ≡ isDeclaration rows row
   unfolding isDeclaration
   declaration-held row n = rw (number-held h row n)
 
-  name-held : (row : ℕ) → row < rowCount rows → isName joined (ρ row) ≡ isName rows row
+  pub name-held : (row : ℕ) → row < rowCount rows → isName joined (ρ row) ≡ isName rows row
   unfolding isName
   name-held row n = rw (number-held h row n)
 
   -- the number that a declaration or a name has is no link, and stays
-  declared-number : (row : ℕ) → row < rowCount rows → isDeclaration rows row ≡ true → numberAt joined (ρ row) 1 ≡ numberAt rows row 1
+  pub declared-number : (row : ℕ) → row < rowCount rows → isDeclaration rows row ≡ true → numberAt joined (ρ row) 1 ≡ numberAt rows row 1
   unfolding isDeclaration numberAt sortAt sortOf sortIn kindOf kindIn kinds kindRow expressionFields statementFields markFields memberFields isLink
   declared-number row n d = ap natural (h .stays row 1 n (omega arith) (omega arith) (rw (eqb-true (numberAt rows row 0) declarationKind d)))
 
-  named-number : (row : ℕ) → row < rowCount rows → isName rows row ≡ true → numberAt joined (ρ row) 1 ≡ numberAt rows row 1
+  pub named-number : (row : ℕ) → row < rowCount rows → isName rows row ≡ true → numberAt joined (ρ row) 1 ≡ numberAt rows row 1
   unfolding isName numberAt sortAt sortOf sortIn kindOf kindIn kinds kindRow expressionFields statementFields markFields memberFields isLink
   named-number row n d = ap natural (h .stays row 1 n (omega arith) (omega arith) (rw (eqb-true (numberAt rows row 0) 2 d)))
+
+  -- a declaration is not row 0, which is a block
+  pub not-root : (row : ℕ) → isDeclaration rows row ≡ true → 0 < row
+  not-root zero d = absurd (true≢false (sym d ∙ block-undeclared rows 0 (s .block)))
+  not-root (suc row) d = omega arith
 
   -- ---- cause 18
 
@@ -83,11 +88,6 @@ module _ {form : Form} {bounds : Bounds} {joined rows : List ℤ} {ρ : ℕ → 
   -- ---- cause 19
 
   module _ (back : (row item : ℕ) → 0 < row → row < rowCount rows → Leads joined item 5 → link joined item 5 ≡ ρ row → Earlier s h row item) where
-    -- a declaration is not row 0, which is a block
-    not-root : (row : ℕ) → isDeclaration rows row ≡ true → 0 < row
-    not-root zero d = absurd (true≢false (sym d ∙ block-undeclared rows 0 (s .block)))
-    not-root (suc row) d = omega arith
-
     pub not-twice-held : (row : ℕ) → row < rowCount rows → NotTwice rows row → NotTwice joined (ρ row)
     not-twice-held row n once d earlier before k same =
         let declared : isDeclaration rows row ≡ true = sym (declaration-held row n) ∙ d in

@@ -1,14 +1,14 @@
 -- Legality of moved rows: what legality asks of a row holds at its new place. Of the next of row 0 the joined table speaks itself.
 use mathlib.Core.Path.{_≡_, refl, sym, _∙_, ap, subst}
 use mathlib.Core.Logic.{_↔_}
-use mathlib.Core.Bool.{Bool, true, false}
+use mathlib.Core.Bool.{true}
 use mathlib.Core.List.{List}
 use Prim.Native.Nat.{ℕ, zero, suc, _+_, _≤_, _<_}
 use native.Mathlib.Omega.{arith}
 use lib.Dec.{eqb}
 use lib.IntN.{ℤ}
 use borrow.Author.Tests.{ne-eqb}
-use Rattle.words.specs.Word.{natural, pick}
+use Rattle.words.specs.Word.{natural}
 use Rattle.words.specs.Laws.{by-cases}
 use Rattle.words.specs.Table.{rowCount, wordAt, numberAt}
 use Rattle.words.specs.Kinds.{kinds, kindIn, kindOf, unused, variable, array, label, declaredNumber, expression, optionalArm, isLink, isRequired, inLanguage, kindRow, expressionFields, statementFields, markFields, memberFields, sortIn, sortOf, sortAt}
@@ -19,10 +19,9 @@ use Rattle.row_fields.specs.Fields.{numberFits}
 use Rattle.structure.specs.Structured.{Leads, Structured}
 use Rattle.structure.specs.Lists.{Before, adjacent, further, before-later}
 use Rattle.row_fields.specs.declared.Bounds.{Bounds}
-use Rattle.words.specs.Declarations.{isDeclaration}
-use Rattle.list_items.specs.Items.{ListItem, first, next}
-use Rattle.source_check.specs.Legal.{Inside, part, along, Placed, Distinct}
-use Rattle.join.specs.Moved.{movedLink, Holds, number-held, sort-held, link-held, leads-own, link-leads, leads-held}
+use Rattle.source_check.specs.Carried.{Carries, placed-carried}
+use Rattle.source_check.specs.Legal.{Placed, Distinct}
+use Rattle.join.specs.Moved.{movedLink, Holds, number-held, sort-held, link-held, leads-own, link-leads, leads-held, holds-itself}
 use Rattle.join.specs.MovedTrees.{next-alike}
 
 -- a link names no variable, array or label
@@ -77,7 +76,7 @@ module _ {form : Form} {bounds : Bounds} {joined rows : List ℤ} {ρ : ℕ → 
 
   fits-held : (sort row : ℕ) → 0 < row → row < rowCount rows → fits joined sort (ρ row) ≡ fits rows sort row
   unfolding fits isExpression isPlace isStatement isBlock isArm
-  fits-held sort row p n = rw (sort-held h row 0 n, number-held h row n, zero-alike (numberAt joined (ρ row) 5) (numberAt rows row 5) (next-alike s h row p n))
+  fits-held sort row p n = rw (sort-held h row 0 n, number-held h row n, zero-alike (numberAt joined (ρ row) 5) (numberAt rows row 5) (next-alike s (holds-itself h) row p n))
 
   pub fitting-held : (row field : ℕ) → row < rowCount rows → 1 ≤ field → field < 6 → field < 5 + row → 0 < link joined (ρ row) field
       → fits joined (sortAt joined (ρ row) field) (link joined (ρ row) field) ≡ true
@@ -89,30 +88,11 @@ module _ {form : Form} {bounds : Bounds} {joined rows : List ℤ} {ρ : ℕ → 
 
   -- ---- cause 7: along the links
 
-  inside-held : (kinds : ℕ → Bool) {row : ℕ} → Inside rows kinds row → Inside joined kinds (ρ row)
-  inside-held kinds (part {row} {field} f leads k) =
-      let later = leads .later in
-      let below = leads .inside in
-      subst (Inside joined kinds) (link-leads s h row field (omega arith) leads) (part f (leads-held s h row field (omega arith) leads) (rw (number-held h row (omega arith)) k))
-  inside-held kinds (along {row} {field} f leads i) =
-      subst (Inside joined kinds) (link-leads s h row field f leads) (along f (leads-held s h row field f leads) (inside-held kinds i))
-
-  item-held : (kind start : ℕ) → start < 6 → {row : ℕ} → ListItem rows kind start row → ListItem joined kind start (ρ row)
-  item-held kind start f (first {row} k leads) =
-      let later = leads .later in
-      let below = leads .inside in
-      subst (ListItem joined kind start) (link-leads s h row start f leads) (first (number-held h row (omega arith) ∙ k) (leads-held s h row start f leads))
-  item-held kind start f (next {row} leads i) =
-      subst (ListItem joined kind start) (link-leads s h row 5 (omega arith) leads) (next (leads-held s h row 5 (omega arith) leads) (item-held kind start f i))
+  carries : Carries joined rows ρ
+  carries = record { kind = number-held h; leads = leads-held s h; to = link-leads s h }
 
   pub placed-held : (row : ℕ) → row < rowCount rows → Placed rows row → Placed joined (ρ row)
-  unfolding isDeclaration
-  placed-held row n p = record {
-    break-inside = λ k. inside-held _ (p .break-inside (sym (number-held h row n) ∙ k));
-    continue-inside = λ k. inside-held _ (p .continue-inside (sym (number-held h row n) ∙ k));
-    mark-inside = λ k. item-held 47 2 (omega arith) (p .mark-inside (rw (number-held h row n) at k));
-    declaration-inside = λ d. item-held 42 1 (omega arith) (p .declaration-inside (rw (number-held h row n) at d));
-  }
+  placed-held = placed-carried carries
 
   -- ---- cause 8: back along the lists
 

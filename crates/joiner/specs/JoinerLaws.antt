@@ -1,15 +1,15 @@
 -- Laws of what the code writes and tests: equal headers, rows written word by word, the order of causes, what the checks leave to the join.
 use mathlib.Core.Path.{_≡_, refl, sym, _∙_, ap, subst}
-use mathlib.Core.Bool.{Bool, true, false, _&&_}
+use mathlib.Core.Bool.{true, false}
 use mathlib.Core.List.{List, [], _∷_, _++_, append-assoc}
-use Prim.Native.Nat.{ℕ, zero, suc, _+_, _*_, _/_, _%_, _≤_, _<_}
+use Prim.Native.Nat.{ℕ, zero, suc, _+_, _/_, _%_, _≤_, _<_}
 use native.Mathlib.Omega.{arith}
 use native.Mathlib.Numerals.{add-one}
 use lib.Dec.{leb}
 use lib.IntN.{ℤ, pos}
 use lib.ListN.{length, getD, take, drop, set, length-set, length-append, length-drop, drop-of-length-le}
 use lib.Seq.{drop-cons, take-all, set-append-left}
-use borrow.Author.Tests.{leb-true, le-leb, lt-leb, ne-eqb}
+use borrow.Author.Tests.{le-leb, lt-leb, ne-eqb}
 use Rattle.words.specs.Word.{sameWord}
 use Rattle.words.specs.Laws.{by-cases, countFits-facts}
 use Rattle.words.specs.Over.{over}
@@ -22,23 +22,20 @@ use Rattle.words.specs.declared.Verdict.{Verdict}
 use Rattle.words.specs.declared.Verdict.the-variants.{Accepted, Refused}
 use Rattle.row_fields.specs.Fields.{boundsOf}
 use Rattle.grammar.specs.Grammar.{tabulate}
-use Rattle.structure.specs.Links.{tooDeep}
-use Rattle.structure.specs.Refusal.{at, unless, _next_}
+use Rattle.structure.specs.Refusal.{unless, _next_}
 use Rattle.structure.specs.RefusalLaws.{next-accepts}
 use Rattle.row_fields.specs.declared.Bounds.{Bounds}
-use Rattle.words.specs.Search.{lowestRow}
 use Rattle.structure.specs.Structured.{Structured, Tree}
 use Rattle.structure.specs.StructuredLaws.{structured-tree}
 use Rattle.source_check.specs.Refusal.{refusal}
-use Rattle.source_check.specs.Legal.{Legal}
 use Rattle.source_check.specs.AcceptsLegal.{accepts-legal}
-use Rattle.join.specs.Join.{movedWord, movedRows, outerBlock, firstRows, joinedRows, secondBegins, sameHeader, ownRefusal, joinRefusal}
-use Rattle.join.specs.JoinFate.{Joins}
-use Rattle.join.specs.JoinLaws.{same-header, accepted-joins}
+use Rattle.join.specs.Join.{movedWord, movedRows, outerBlock, firstRows, joinedRows, secondBegins, sameHeader, rowsRefusal, ownRefusal, joinRefusal}
+use Rattle.join.specs.JoinLaws.{same-header}
+use Rattle.joined_names.specs.JoinedFateLaws.{accepted-joins}
 use Rattle.join.specs.JoinedLegal.{joined-structured}
 use Rattle.join.specs.JoinedRows.{length-tabulate, length-moved, length-first, length-joined, count-joined}
 use Rattle.joiner.specs.Joinable.{Parts, Joinable}
-use Rattle.joiner.specs.Joining.{JoinResult, answerAndRows, joinAfter, joinResult, WroteJoin, WritesJoin}
+use Rattle.joiner.specs.Joining.{JoinResult, answerAndRows, joinAfter, joinResult, WritesJoin}
 use Rattle.joiner.specs.declared.JoinAnswer.{JoinAnswer}
 use Rattle.joiner.specs.declared.JoinAnswer.the-variants.{Joined, Refused as JoinRefused}
 
@@ -179,10 +176,10 @@ module _ (header first secondHeader second : List ℤ) (accepted : refusal heade
 -- ---- causes in order
 
 -- a join with equal headers and few rows
-pub own-deep : (header first secondHeader second : List ℤ) → sameHeader header secondHeader ≡ true → leb (rowCount (joinedRows first second)) 2048 ≡ true
-    → ownRefusal header first secondHeader second ≡ at 9 (lowestRow (joinedRows first second) (tooDeep Source (joinedRows first second)))
+pub own-rows : (header first secondHeader second : List ℤ) → sameHeader header secondHeader ≡ true → leb (rowCount (joinedRows first second)) 2048 ≡ true
+    → ownRefusal header first secondHeader second ≡ rowsRefusal (joinedRows first second)
 unfolding ownRefusal unless _next_
-own-deep header first secondHeader second e n = rw (e, n)
+own-rows header first secondHeader second e n = rw (e, n)
 
 -- one cause behind a chain of three
 chain : (a b c d : Verdict) → (a next b next c next d) ≡ ((a next b next c) next d)

@@ -13,6 +13,7 @@ ghost use Rattle.joiner.specs.Joinable.{Parts};
 ghost use Rattle.joiner.specs.Joining.{answerAndRows, joinAfter, joinResult, WritesJoin};
 
 pub mod causes; // causes.rt: what a join refuses, before it writes
+pub mod declarations; // declarations.rt: the 65th declaration
 pub mod headers; // headers.rt: equal headers
 pub mod rows; // rows.rt: the joined rows
 

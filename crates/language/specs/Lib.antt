@@ -7,7 +7,7 @@ pub mod Trees
 pub mod Decode
 -- Meaning: what trees do, one clause a kind, under the sentence of the papers that it states.
 pub mod Meaning
--- Programs: the items of a table of rows, and its run.
+-- Programs: the items of a table of rows, and the run of a table.
 pub mod Program
 -- Rules: what a rule on the shelf is; document 01's starred rules; orders that surprise; rules that pin each clause, by subject; all as
 -- one table, those in kernel form as another, those with declarations as a third.
@@ -45,5 +45,3 @@ pub mod Untouched
 pub mod DecodeLaws
 -- Laws of sound tables: what a row's field holds, by the row's kind.
 pub mod SoundLaws
--- Laws of the runs of programs: enough budget.
-pub mod ProgramLaws

@@ -1,4 +1,4 @@
--- Programs: the items of a table of rows, and its run.
+-- Programs: the items of a table of rows, and the run of a table in which every name stands for its store word.
 use mathlib.Core.List.{List}
 use Prim.Native.Nat.{ℕ}
 use lib.IntN.{ℤ}
@@ -25,13 +25,14 @@ pub record Finished : Type 0 where
 abbrev pub finished : {A : Type 0} → Result A → Finished
 finished r = record { ending = endingOf r; count = (final r) .count; store = (final r) .store }
 
-unfoldable pub programOf : Form → List ℤ → List ℤ → Computation Signal
-programOf form header rows = exec (layoutOf form header) (decode rows)
+-- What a table does: a number of a variable is its store word.
+unfoldable pub tableProgram : Form → List ℤ → List ℤ → Computation Signal
+tableProgram form header rows = exec (layoutOf form header) (decode rows)
 
--- The run of a program under a limit, from a store.
-unfoldable pub runUnder : Limit → Form → List ℤ → List ℤ → List ℤ → Result Signal
-runUnder limit form header rows store = run limit (programOf form header rows) (start store)
+-- The run of a table under a limit, from a store.
+unfoldable pub runTableUnder : Limit → Form → List ℤ → List ℤ → List ℤ → Result Signal
+runTableUnder limit form header rows store = run limit (tableProgram form header rows) (start store)
 
 -- The run with a budget, any natural number.
-unfoldable pub runProgram : Form → List ℤ → List ℤ → ℕ → List ℤ → Finished
-runProgram form header rows budget store = finished (runUnder (steps budget) form header rows store)
+unfoldable pub runTable : Form → List ℤ → List ℤ → ℕ → List ℤ → Finished
+runTable form header rows budget store = finished (runTableUnder (steps budget) form header rows store)

@@ -12,7 +12,7 @@ use Rattle.computation.specs.Run.{run}
 use Rattle.language.specs.Trees.{sameMark, has}
 use Rattle.language.specs.Decode.{expressionOf, expressionBy, expressionAt, statementOf, itemsOf, armsOf, treesOf, treesBy, statementAt, itemsAt, decode}
 use Rattle.language.specs.Meaning.{evaluate, perform}
-use Rattle.language.specs.Program.{Finished, programOf, runUnder, runProgram}
+use Rattle.language.specs.Program.{Finished, tableProgram, runTableUnder, runTable}
 use Rattle.language.specs.Rule.{Rule}
 use Rattle.language.specs.KernelRules.{kernelTable}
 use Rattle.language.specs.DeclarationRules.{declarationTable}
@@ -20,7 +20,7 @@ use Rattle.language.specs.Rules.{table}
 
 -- What the run of a rule's rows comes to, by the definitions.
 abbrev pub runs : Form → Rule → Finished
-runs form rule = runProgram form (rule .header) (rule .rows) (rule .budget) (rule .store)
+runs form rule = runTable form (rule .header) (rule .rows) (rule .budget) (rule .store)
 
 abbrev pub expected : Rule → Finished
 expected rule = rule .comes-to
@@ -31,5 +31,5 @@ pub record RulesHold : Type 0 where
   pub declarations : map (runs Source) declarationTable ≡ map expected declarationTable
 
 pub rules-hold : RulesHold
-unfolding isWord sameWord natural wordAt numberAt kinds kindIn kindOf kindAt layoutOf sum arrayLength arrayBase inWord isTrue bit truth logicalNot minus dividing remainderBy apply element run sameMark has expressionOf expressionBy expressionAt statementOf itemsOf armsOf treesOf treesBy statementAt itemsAt decode evaluate perform programOf runUnder runProgram
+unfolding isWord sameWord natural wordAt numberAt kinds kindIn kindOf kindAt layoutOf sum arrayLength arrayBase inWord isTrue bit truth logicalNot minus dividing remainderBy apply element run sameMark has expressionOf expressionBy expressionAt statementOf itemsOf armsOf treesOf treesBy statementAt itemsAt decode evaluate perform tableProgram runTableUnder runTable
 rules-hold = record { source = refl; kernel = refl; declarations = refl }

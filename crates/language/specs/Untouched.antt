@@ -2,16 +2,18 @@
 -- rules for computations, and then by induction on the expression.
 use mathlib.Core.Path.{_≡_, refl, sym, _∙_}
 use mathlib.Core.Bool.{Bool, true, false, true≢false, _||_}
-use Prim.Native.Nat.{ℕ, _<_}
+use mathlib.Core.Logic.{⊎-elim}
+use Prim.Native.Nat.{ℕ, _+_, _<_, _≤_}
 use native.Mathlib.Omega.{arith}
+use native.Mathlib.Decide.{decLt}
 use lib.Dec.{eqb}
 use borrow.Author.Tests.{eq-eqb}
 use lib.IntN.{ℤ, pos}
-use lib.ListN.{getD}
+use lib.ListN.{length, getD, List·getD-eq-default}
 use lib.Seq.{getD-set-other}
 use Rattle.words.specs.Word.{pick}
-use Rattle.words.specs.Layout.{Layout, arrayBase, arrayLength}
-use Rattle.words.specs.Laws.{neither}
+use Rattle.words.specs.Layout.{Layout, storeSize, arrayBase, arrayLength}
+use Rattle.words.specs.Laws.{neither, array-in-store}
 use Rattle.arithmetic.specs.Laws.{element-inside}
 use Rattle.arithmetic.specs.Arithmetic.{Outcome, value, fault, isTrue, apply, minus as minusWord, element as elementWord}
 use Rattle.words.specs.declared.Operator.{Operator}
@@ -19,6 +21,7 @@ use Rattle.computation.specs.Computation.{Computation, ret, _>>=_, step, load, 
 use Rattle.computation.specs.Run.{State, stepped, Stop, spent, Result, ok, stopped, Limit, hasRoom, andThen, run}
 use Rattle.language.specs.Trees.{Expression, constant, read, minus, not, binary, and, or, comma, conditional, assign, compound, prefix, postfix, Place, variable, element}
 use Rattle.language.specs.Meaning.{enter, update, evaluate, locate}
+use Rattle.language.specs.WellFormed.{SourceName}
 use Rattle.language.specs.Writes.{isVariable, writes, indexWrites}
 
 -- ---- computations
@@ -91,9 +94,22 @@ other-variable j i e f = true≢false (sym (eq-eqb j i (sym f)) ∙ e)
 abbrev pub NoElement : Layout → ℕ → Type 0
 NoElement L i = (array : ℕ) (index : ℤ) (position : ℕ) → elementWord (arrayBase L array) (arrayLength L array) index ≡ value position → i ≡ position → ⊥
 
-pub variable-apart : (L : Layout) (i : ℕ) → i < L .variables → NoElement L i
+-- "Variables, then the arrays in order": every element lies in the first S words, behind the variables.
+element-in-store : (L : Layout) (array position : ℕ) → arrayBase L array ≤ position → position < arrayBase L array + arrayLength L array → position < storeSize L
+unfolding arrayLength
+element-in-store L array position least most = go (decLt array (length (L .lengths)))
+  where
+    go : Dec (array < length (L .lengths)) → position < storeSize L
+    go (yes n) = omega (arith, array-in-store L array n)
+    go (no n) = absurd (omega (arith, List·getD-eq-default (L .lengths) 0 {n = array} (omega (arith, n))))
+
+-- So none is a word that a source program names.
+pub name-apart : (L : Layout) (first i : ℕ) → SourceName L first i → NoElement L i
 unfolding arrayBase
-variable-apart L i b array index position h f = omega (arith, element-inside _ _ index position h .least)
+name-apart L first i name array index position h f =
+    let within = element-inside (arrayBase L array) (arrayLength L array) index position h in
+    let below = element-in-store L array position (within .least) (within .most) in
+    ⊎-elim (λ variable. omega (arith, within .least)) (λ declared. omega arith) (name .apart)
 
 module _ (L : Layout) (i : ℕ) (apart : NoElement L i) where
   mutual

@@ -2,9 +2,10 @@
 -- what the translation asks.
 use mathlib.Core.Path.{_≡_}
 use mathlib.Core.Bool.{Bool, true, false}
-use Prim.Native.Nat.{ℕ, _<_}
+use mathlib.Core.Logic.{_⊎_}
+use Prim.Native.Nat.{ℕ, _<_, _≤_}
 use lib.ListN.{length}
-use Rattle.words.specs.Layout.{Layout}
+use Rattle.words.specs.Layout.{Layout, storeSize}
 use Rattle.language.specs.Trees.{Expression, constant, read, minus, not, binary, and, or, comma, conditional, assign, compound, prefix, postfix, Place, variable, element, Part, absent, present, Mark, case, default, label, Statement, empty, express, block, ifThen, ifElse, while, doWhile, for, switch, break, continue, goto, guardedIf, guardedDo, abort, declare, Arms, noArm, arm, Items, none, _then_, _here_}
 
 -- Every variable that a tree names satisfies Names, and every array is below `arrays`.
@@ -99,7 +100,12 @@ unfoldable mutual
   PlacedItems inSwitch mayBreak mayContinue (s then is) = Placed mayBreak mayContinue s × PlacedItems inSwitch mayBreak mayContinue is
   PlacedItems inSwitch mayBreak mayContinue (m here is) = (markAllowed inSwitch m ≡ true) × PlacedItems inSwitch mayBreak mayContinue is
 
+-- The word that a source program names: a variable's or a declaration's, none of an array. `first` is where the temporaries begin.
+pub record SourceName (L : Layout) (first i : ℕ) : Type 0 where
+  pub inside : i < first
+  pub apart : (i < L .variables) ⊎ (storeSize L ≤ i)
+
 -- The items of a source program: their numbers in range, their jumps in place.
-pub record SourceTree (L : Layout) (program : Items) : Type 0 where
-  pub named : NamedItems (λ i. i < L .variables) (length (L .lengths)) program
+pub record SourceTree (L : Layout) (first : ℕ) (program : Items) : Type 0 where
+  pub named : NamedItems (SourceName L first) (length (L .lengths)) program
   pub placed : PlacedItems false false false program

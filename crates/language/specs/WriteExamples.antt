@@ -15,14 +15,14 @@ use Rattle.computation.specs.Run.{steps, run}
 use Rattle.computation.specs.WritesMade.{Stored, visible, made}
 use Rattle.language.specs.Decode.{expressionOf, expressionBy, expressionAt, statementOf, itemsOf, treesOf, treesBy, statementAt, itemsAt, decode}
 use Rattle.language.specs.Meaning.{evaluate, perform}
-use Rattle.language.specs.Program.{programOf, runUnder}
+use Rattle.language.specs.Program.{tableProgram, runTableUnder}
 use Rattle.language.specs.Rule.{Rule, row, constant}
 use Rattle.language.specs.StarredRules.{worked-ends}
 use Rattle.language.specs.KernelRules.{temporaries}
 
 -- The writes to the first S words that a rule's run makes within N steps.
 abbrev writesOf : Form → Rule → ℕ → ℕ → List Stored
-writesOf form rule S N = made S (runUnder (steps N) form (rule .header) (rule .rows) (rule .store))
+writesOf form rule S N = made S (runTableUnder (steps N) form (rule .header) (rule .rows) (rule .store))
 
 abbrev write : ℕ → ℕ → Stored
 write place value = record { place = place; value = pos value }
@@ -32,7 +32,7 @@ abbrev endless : List ℤ
 endless = row 42 1 0 0 0 0 ++ row 44 2 3 0 0 0 ++ constant (pos 1) ++ row 41 4 0 0 0 0 ++ row 21 5 6 0 0 0 ++ row 2 0 0 0 0 0 ++ constant (pos 0)
 
 abbrev endlessWrites : ℕ → List Stored
-endlessWrites N = made 1 (runUnder (steps N) Source (pos 1 ∷ []) endless (pos 0 ∷ []))
+endlessWrites N = made 1 (runTableUnder (steps N) Source (pos 1 ∷ []) endless (pos 0 ∷ []))
 
 pub record WriteExamples : Type 0 where
   -- v0 = 2; a[v0 -= 1] = v0++; the step that fell due at 12 comes before the last two
@@ -45,5 +45,5 @@ pub record WriteExamples : Type 0 where
   pub no-write-yet : endlessWrites 6 ≡ []
 
 pub write-examples : WriteExamples
-unfolding isWord sameWord natural wordAt numberAt kinds kindIn kindOf kindAt layoutOf sum arrayLength arrayBase inWord isTrue apply element run visible expressionOf expressionBy expressionAt statementOf itemsOf treesOf treesBy statementAt itemsAt decode evaluate perform programOf runUnder
+unfolding isWord sameWord natural wordAt numberAt kinds kindIn kindOf kindAt layoutOf sum arrayLength arrayBase inWord isTrue apply element run visible expressionOf expressionBy expressionAt statementOf itemsOf treesOf treesBy statementAt itemsAt decode evaluate perform tableProgram runTableUnder
 write-examples = record { worked-at-12 = refl; worked-at-13 = refl; temporaries-left-out = refl; equal-value-is-written = refl; no-write-yet = refl }

@@ -16,7 +16,7 @@ use Rattle.words.proofs.Lengths.{Read, rest, sum-rest, part, size-is}
 use Rattle.computation.specs.Remaining.{spend}
 use Rattle.language.specs.Decode.{statementAt, decode}
 use Rattle.language.specs.Meaning.{exec}
-use Rattle.language.specs.Program.{programOf}
+use Rattle.language.specs.Program.{tableProgram}
 use Rattle.operations.specs.Bounds.{boundsFrom, boundsOf, lengthsFrom, lengthsOf, layoutFrom}
 use Rattle.machine.specs.Whole.{wholeAt, Startable, Runnable}
 
@@ -118,6 +118,6 @@ module _ {form : Form} {header rows store : List ℤ} (r : Runnable form header 
   }
 
   -- the statement at row 0 is the program
-  pub whole-program : (b : ℕ) (s : List ℤ) → spend (wholeAt lent variables rows) b s ≡ spend (programOf form header rows) b s
-  unfolding programOf decode
+  pub whole-program : (b : ℕ) (s : List ℤ) → spend (wholeAt lent variables rows) b s ≡ spend (tableProgram form header rows) b s
+  unfolding tableProgram decode
   whole-program b s = ap (λ (L : Layout). spend (exec L (statementAt rows 0)) b s) layout-lent

@@ -17,7 +17,7 @@ ghost use lib.ListN.{length};
 ghost use Rattle.words.specs.Word.{natural as naturalOf};
 ghost use Rattle.words.specs.Layout.{sum};
 ghost use Rattle.computation.specs.Remaining.{spend};
-ghost use Rattle.language.specs.Program.{runProgram};
+ghost use Rattle.language.specs.Program.{runTable};
 ghost use Rattle.operations.specs.Bounds.{boundsFrom};
 ghost use Rattle.executor.specs.Flows.{ran};
 ghost use Rattle.machine.specs.Whole.{endingOfAnswer, finishedOf, wholeAt, Runnable, Startable};
@@ -67,10 +67,10 @@ fn start(
     exec(&*rows, &*bounds, 0, store, left)
 }
 
-// The run of a program with a budget.
+// The run of a table with a budget.
 pub fn run(form: Form, header: &[i32], rows: &[i32], store: &mut [i32], budget: u32) -> RunAnswer
     requires { ⌜ Runnable form (now header) (now rows) (now store) ⌝ }
-    ensures { λ r. ⌜ finishedOf r (now (store .exit)) ≡ runProgram form (now (header .entry)) (now (rows .entry)) budget (now (store .entry)) ⌝ }
+    ensures { λ r. ⌜ finishedOf r (now (store .exit)) ≡ runTable form (now (header .entry)) (now (rows .entry)) budget (now (store .entry)) ⌝ }
 {
     let first = leading(form);
     let n = header.len() - first + 1;

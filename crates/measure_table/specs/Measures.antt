@@ -14,7 +14,7 @@ use Rattle.translation.specs.declared.Use.the-variants.{Dropped as dropped, Wan
 use Rattle.translation.specs.Translate.{atomOf, labels, armsLabels, itemsLabels, expressionLevels, statementLevels, armsLevels, itemsLevels}
 use Rattle.translation.specs.TranslateSize.{expressionSize, statementSize, armsSize, itemsSize, cases}
 use Rattle.shapes.specs.Shapes.{Onward}
-use Rattle.shapes.specs.Source.{mostVariables, Source}
+use Rattle.shapes.specs.Source.{mostWords, Source}
 use Rattle.measure_table.specs.Parts.{firstCopied, plainAtom}
 use Rattle.measure_table.specs.declared.ExpressionMeasures.{ExpressionMeasures}
 use Rattle.measure_table.specs.declared.StatementMeasures.{StatementMeasures}
@@ -221,7 +221,7 @@ pub record StoreAsks (rows : List ℤ) (table : List ℕ) (row i e : ℕ) : Type
   pub inside : row < rowCount rows
   pub is : expressionAt rows row ≡ assign (variable i) (expressionAt rows e)
   pub onward : Onward rows row e
-  pub low : i < mostVariables
+  pub low : i < mostWords
 
 pub record PostfixAt (rows : List ℤ) (row place : ℕ) : Type 0 where
   pub operator : Operator

@@ -11,7 +11,7 @@ use Rattle.language.specs.Trees.{Expression, constant, read, minus, not, binary
 use Rattle.language.specs.Decode.{placeOf, expressionAt, partAt}
 use Rattle.language.specs.Writes.{writes, indexWrites}
 use Rattle.shapes.specs.Shapes.{OptionalOnward}
-use Rattle.shapes.specs.Source.{mostVariables}
+use Rattle.shapes.specs.Source.{mostWords, Name}
 use Rattle.shapes.specs.declared.PlaceShape.{PlaceShape}
 use Rattle.shapes.specs.declared.PlaceShape.the-variants.{Variable as VariableShape, Element as ElementShape}
 use Rattle.shapes.specs.declared.OperationShape.{OperationShape}
@@ -177,11 +177,11 @@ stepOwn value =
 abbrev pub usePassed : Bool → Use → Use
 usePassed passes u = pick passes (passedOn u) wanted
 
--- The variable that stores a value is one of the source.
+-- The variable that stores a value is one that a source can name.
 abbrev pub UseFits : Use → Type 0
 UseFits dropped = Unit {0}
 UseFits wanted = Unit {0}
-UseFits (stored i) = i < mostVariables
+UseFits (stored i) = i < mostWords
 
 -- What an own row brings, by the use of its value.
 abbrev pub rowsBy : Own → Use → ℕ
@@ -235,10 +235,10 @@ holderAtom (Number v) = number v
 holderAtom (Variable i) = word i
 holderAtom Temporary = top
 
-abbrev pub HolderFits : Holder → Type 0
-HolderFits (Number v) = Unit {0}
-HolderFits (Variable i) = i < mostVariables
-HolderFits Temporary = Unit {0}
+abbrev pub HolderFits : List ℤ → Holder → Type 0
+HolderFits rows (Number v) = Unit {0}
+HolderFits rows (Variable i) = Name rows i
+HolderFits rows Temporary = Unit {0}
 
 -- A variable holds its own value; an element's goes into the temporary.
 abbrev pub placeHolder : PlaceShape → Holder
@@ -256,6 +256,6 @@ directOperation (Compound operator p e) = false
 directOperation (Prefix operator p) = false
 directOperation (Postfix operator p) = false
 
-pub record Holding (h : Atom) (r : Holder) : Type 0 where
+pub record Holding (rows : List ℤ) (h : Atom) (r : Holder) : Type 0 where
   pub is : holderAtom r ≡ h
-  pub fits : HolderFits r
+  pub fits : HolderFits rows r

@@ -1,9 +1,10 @@
--- Laws of the resolved table: its length, kinds, sorts and links are the table's; only the names change; a table without declarations is
--- its own resolved table.
+-- Laws of the resolved table: its length, kinds, sorts, links, depths and lists are the table's; only the names change; a table without
+-- declarations is its own resolved table.
 use mathlib.Core.Path.{_≡_, refl, sym, ap, _∙_}
 use mathlib.Core.Bool.{Bool, true, false, true≢false}
+use mathlib.Core.Logic.{_↔_}
 use mathlib.Core.List.{List}
-use Prim.Native.Nat.{ℕ, zero, suc, _+_, _*_, _/_, _%_, _<_}
+use Prim.Native.Nat.{ℕ, _+_, _*_, _<_}
 use native.Mathlib.Omega.{arith}
 use native.Mathlib.Decide.{ℕ-discrete, decLt}
 use lib.Dec.{eqb}
@@ -16,39 +17,15 @@ use Rattle.words.specs.Laws.{by-cases, countFits-facts}
 use Rattle.words.specs.declared.Form.{Form}
 use Rattle.words.specs.Kinds.{kinds, kindIn, kindOf, isLink, inLanguage, sortAt, sortOf, sortIn, kindRow, expressionFields, statementFields}
 use Rattle.words.specs.KindLaws.{declaration-foreign}
-use Rattle.words.specs.Links.{link, target}
-use Rattle.structure.specs.Links.{linksAmong, linkCount}
-use Rattle.structure.specs.Structured.{Leads, Tree, Structured}
+use Rattle.words.specs.Links.{link}
+use Rattle.structure.specs.Structured.{Tree, Structured, Depth, Shallow}
+use Rattle.structure.specs.Lists.{Before}
 use Rattle.row_fields.specs.declared.Bounds.{Bounds}
 use Rattle.names.specs.Names.{NoDeclaration, isName, variableWord, resolvedName, resolvedWord, resolved}
 use Rattle.words.specs.Declarations.{declarationKind, isDeclaration}
+use Rattle.names.specs.SameLinks.{same-tree, same-depth, same-before}
 use Rattle.names.specs.TableLaws.{table-length, table-word, table-all, word-beyond, made-of-itself}
 use Rattle.names.specs.ScopeLaws.{declaration-beyond, meant-none}
-
--- ---- two tables with the same links
-
-module _ (rows other : List ℤ) (same-length : length other ≡ length rows) (same-links : (row field : ℕ) → field < 6 → link other row field ≡ link rows row field) where
-  same-count : rowCount other ≡ rowCount rows
-  same-count = ap (λ (n : ℕ). n / 6) same-length
-
-  same-among : (words row : ℕ) → linksAmong other words row ≡ linksAmong rows words row
-  unfolding linksAmong target
-  same-among zero row = refl
-  same-among (suc word) row = rw (same-among word row, same-links (word / 6) (word % 6) (omega arith))
-
-  pub same-tree : Tree rows → Tree other
-  unfolding linkCount
-  same-tree t =
-      record {
-        whole = rw (same-length) (t .whole);
-        few = rw (same-length) (t .few);
-        some-rows = rw (same-length) (t .some-rows);
-        once = λ row p n. rw (same-count) (same-among (6 * rowCount rows) row ∙ t .once row p (rw (same-count) at n));
-        forward = λ row field n h l. forward row field h (t .forward row field (rw (same-count) at n) h (rw (same-links row field h) at l));
-      }
-    where
-      forward : (row field : ℕ) → field < 6 → Leads rows row field → Leads other row field
-      forward row field h leads = record { later = rw (same-links row field h) (leads .later); inside = rw (same-links row field h, same-count) (leads .inside) }
 
 -- ---- the resolved table
 
@@ -109,6 +86,16 @@ module _ (S : ℕ) (rows : List ℤ) where
   -- the rows form the same tree
   pub resolved-tree : Tree rows → Tree (resolved S rows)
   resolved-tree t = same-tree rows (resolved S rows) resolved-length resolved-link t
+
+  -- it is as deep, and items stand in the same order
+  pub resolved-depth : {row depth : ℕ} → Depth rows row depth ↔ Depth (resolved S rows) row depth
+  resolved-depth = (same-depth rows (resolved S rows) resolved-length resolved-link, same-depth (resolved S rows) rows (sym resolved-length) (λ row field h. sym (resolved-link row field h)))
+
+  pub resolved-shallow : (form : Form) → Shallow form rows → Shallow form (resolved S rows)
+  resolved-shallow form shallow row depth d = shallow row depth (resolved-depth .1 d)
+
+  pub resolved-before : {item row : ℕ} → Before rows item row ↔ Before (resolved S rows) item row
+  resolved-before = (same-before rows (resolved S rows) resolved-length resolved-link, same-before (resolved S rows) rows (sym resolved-length) (λ row field h. sym (resolved-link row field h)))
 
   pub resolved-none : NoDeclaration rows → resolved S rows ≡ rows
   unfolding resolved resolvedWord resolvedName variableWord

@@ -132,8 +132,8 @@ emitted-gives-back header program legal decodes words =
     page-gives header rows legal words ∙ ap (λ s. some (emit s)) (sym (legal-block header rows legal) ∙ decodes)
 
 -- So does every translation: its header and its table, where the check has found the program's limits and its tree well formed.
-module _ (header : List ℤ) (program : Items) (fit : headerFits Source header ≡ true) (source : SourceTree (layoutOf Source header) program)
-    (few : statementRows (block program) ≤ 2048) (shallow : statementDepth (block program) ≤ 64) (D : ℕ) (declared : D ≤ 64) where
+module _ (header : List ℤ) (program : Items) (fit : headerFits Source header ≡ true) (few : statementRows (block program) ≤ 2048) (shallow : statementDepth (block program) ≤ 64)
+    (D : ℕ) (declared : D ≤ 64) (source : SourceTree (layoutOf Source header) (storeSize (layoutOf Source header) + D) program) where
   abbrev layout : Layout
   layout = layoutOf Source header
 
@@ -144,4 +144,4 @@ module _ (header : List ℤ) (program : Items) (fit : headerFits Source header �
   headerOfKernel = kernelHeader layout D (temporaries program)
 
   pub translation-gives-back : ((i : ℕ) → mag (getD kernelRows i (pos 0)) < 2 ^ 31) → readTable headerOfKernel (tablePage headerOfKernel kernelRows) ≡ some kernelRows
-  translation-gives-back = emitted-gives-back headerOfKernel (translate (storeSize layout + D) program) (translated-legal header program fit source few shallow D declared) (translated-decodes header program fit source few shallow D declared)
+  translation-gives-back = emitted-gives-back headerOfKernel (translate (storeSize layout + D) program) (translated-legal header program fit few shallow D declared source) (translated-decodes header program fit few shallow D declared source)

@@ -5,7 +5,7 @@ use Prim.Native.Nat.{ℕ, _+_, _*_, _<_}
 use native.Mathlib.Omega.{arith}
 use lib.IntN.{ℤ}
 use lib.ListN.{length}
-use Rattle.words.specs.Table.{rowCount, numberAt}
+use Rattle.words.specs.Table.{rowCount}
 use Rattle.language.specs.Decode.{expressionAt, placeOf}
 use Rattle.language.specs.Trees.{variable}
 use Rattle.shapes.specs.Shapes.{expressionIn, placeIn, shapeAt, placeTree, operationTree, choiceTree, OperationOnward, PlaceOnward, ExpressionOnward, ExpressionWithin}
@@ -22,9 +22,9 @@ use Rattle.shapes.specs.declared.Shape.{Shape}
 use Rattle.page_line.specs.Reads.{Readable, PlaceInside, OperationInside, ExpressionInside, PlaceRead, ExpressionRead}
 
 module _ (rows : List ℤ) (row : ℕ) where
-  place-inside : (variables arrays : ℕ) (p : PlaceShape) → PlaceOnward rows row variables arrays p → PlaceInside (rowCount rows) p
-  place-inside variables arrays (Variable i) o = tt
-  place-inside variables arrays (Element array index) o = o .1 .inside
+  place-inside : (name : ℕ → Type 0) (arrays : ℕ) (p : PlaceShape) → PlaceOnward rows row name arrays p → PlaceInside (rowCount rows) p
+  place-inside name arrays (Variable i) o = tt
+  place-inside name arrays (Element array index) o = o .1 .inside
 
   operation-inside : (o : OperationShape) → OperationOnward rows row o → OperationInside (rowCount rows) o
   operation-inside (Minus a) o = o .inside
@@ -36,21 +36,25 @@ module _ (rows : List ℤ) (row : ℕ) where
   operation-inside (Prefix operator p) o = o .inside
   operation-inside (Postfix operator p) o = o .inside
 
-  expression-inside : (variables arrays : ℕ) (s : ExpressionShape) → ExpressionOnward rows row variables arrays s → ExpressionInside (rowCount rows) s
-  expression-inside variables arrays (Number v) o = tt
-  expression-inside variables arrays (Read p) o = place-inside variables arrays p o
-  expression-inside variables arrays (Operation s) o = operation-inside s o
-  expression-inside variables arrays (Choice c) o = tt
+  expression-inside : (name : ℕ → Type 0) (arrays : ℕ) (s : ExpressionShape) → ExpressionOnward rows row name arrays s → ExpressionInside (rowCount rows) s
+  expression-inside name arrays (Number v) o = tt
+  expression-inside name arrays (Read p) o = place-inside name arrays p o
+  expression-inside name arrays (Operation s) o = operation-inside s o
+  expression-inside name arrays (Choice c) o = tt
 
 module _ {rows : List ℤ} {row : ℕ} where
   module _ (readable : Readable rows) (inside : row < rowCount rows) where
-    found : ExpressionWithin rows row (numberAt rows row 1 + 1) (length (readable .layout .lengths)) (expressionIn (shapeAt rows row))
-    found = expression-found (readable .sound) inside (λ k. omega arith) (omega arith)
+    -- any number is a name here
+    abbrev Any : ℕ → Type 0
+    Any i = Unit {0}
+
+    found : ExpressionWithin rows row Any (length (readable .layout .lengths)) (expressionIn (shapeAt rows row))
+    found = expression-found (readable .sound) inside Any (λ k. tt) (omega arith)
 
     pub expression-read : {shape : Shape} {e : ExpressionShape} → shape ≡ shapeAt rows row → e ≡ expressionIn shape → ExpressionRead rows row e
     expression-read {shape} {e} h g =
         subst (λ (x : ExpressionShape). ExpressionRead rows row x) (sym (g ∙ ap expressionIn h))
-        (record { is = found .is; inside = expression-inside rows row (numberAt rows row 1 + 1) (length (readable .layout .lengths)) (expressionIn (shapeAt rows row)) (found .onward) })
+        (record { is = found .is; inside = expression-inside rows row Any (length (readable .layout .lengths)) (expressionIn (shapeAt rows row)) (found .onward) })
 
     -- a row has six words
     pub row-words : 6 * row + 5 < length rows

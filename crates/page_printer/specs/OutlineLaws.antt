@@ -1,7 +1,7 @@
 -- Laws of outlines: an item's lines are those of its outline, and its blocks are rows of the table.
 use mathlib.Core.Path.{_≡_, refl, sym, ap, subst, _∙_}
 use mathlib.Core.List.{List, [], _∷_, _++_}
-use Prim.Native.Nat.{ℕ, zero, suc, _+_, _<_}
+use Prim.Native.Nat.{ℕ, zero, suc, _<_}
 use native.Mathlib.Omega.{arith}
 use lib.IntN.{ℤ}
 use Rattle.words.specs.Table.{rowCount, numberAt}
@@ -29,12 +29,12 @@ mark-same rows Default = refl
 mark-same rows (Label l) = refl
 
 module _ {rows : List ℤ} (readable : Readable rows) {row : ℕ} (inside : row < rowCount rows) where
-  -- more than a declaration's number
-  abbrev variables : ℕ
-  variables = numberAt rows row 1 + 1
+  -- any number is a name here
+  abbrev Any : ℕ → Type 0
+  Any i = Unit {0}
 
-  at-statement : (s : Shape) → shapeAt rows row ≡ s → StatementWithin rows row variables (statementIn s)
-  at-statement s e = stated (statement-found (readable .sound) inside (λ k. omega arith)) (ap statementIn e)
+  at-statement : (s : Shape) → shapeAt rows row ≡ s → StatementWithin rows row Any (statementIn s)
+  at-statement s e = stated (statement-found (readable .sound) inside Any (λ k. tt)) (ap statementIn e)
 
   -- ---- lines
 
@@ -124,7 +124,7 @@ module _ {rows : List ℤ} (readable : Readable rows) {row : ℕ} (inside : row 
   pub next-later : 0 < numberAt rows row 5 → row < numberAt rows row 5
   next-later h = item-found (readable .sound) inside .onward h .later
 
-  statement-inside : (s : StatementShape) → StatementOnward rows row variables s → OutlineInside (rowCount rows) (statementOutline row s)
+  statement-inside : (s : StatementShape) → StatementOnward rows row Any s → OutlineInside (rowCount rows) (statementOutline row s)
   statement-inside statement.Empty o = tt
   statement-inside (statement.Express a) o = o .inside
   statement-inside (statement.Block list) o = (tt, inside)
@@ -153,7 +153,7 @@ module _ {rows : List ℤ} (readable : Readable rows) {row : ℕ} (inside : row 
       go (OfArm guard body) e = tt
       go Other e = tt
 
-  list-inside : (s : StatementShape) → StatementOnward rows row variables s → listOf s < rowCount rows
+  list-inside : (s : StatementShape) → StatementOnward rows row Any s → listOf s < rowCount rows
   list-inside statement.Empty o = omega arith
   list-inside (statement.Express a) o = omega arith
   list-inside (statement.Block list) o = optional-inside list o

@@ -22,8 +22,9 @@ use Rattle.words.specs.declared.Verdict.the-variants.{Accepted, Refused}
 use Rattle.words.specs.declared.RunAnswer.{RunAnswer}
 use Rattle.words.specs.declared.RunVerdict.{RunVerdict}
 use Rattle.words.specs.declared.RunVerdict.the-variants.{Ran, Refused as RunRefused}
-use Rattle.language.specs.Program.{Finished, runProgram}
-use Rattle.language.specs.ProgramLaws.{store-length, budget-zero}
+use Rattle.language.specs.Program.{Finished}
+use Rattle.program_meaning.specs.Program.{runProgram}
+use Rattle.program_meaning.specs.ProgramLaws.{store-length, budget-zero}
 use Rattle.machine.specs.Whole.{finishedOf}
 use Rattle.program_runs.specs.Runs.{RunResult, ran, runRefused, runAfter, runResult, refusalOf}
 use Rattle.program_previews.specs.Previews.{oneUnless, difference, differences, toldRun, tallyOf, PreviewResult, answerAndWords, previewRefused, previewOf, previewIf, previewAfter, previewOfRun, previewResult, acceptedPreview, Foretells, NoneIfEqual, RunAsPreviewed}

@@ -12,7 +12,7 @@ ghost use lib.ListN.{length};
 ghost use Rattle.words.specs.Layout.{storeWords};
 ghost use Rattle.words.specs.declared.Form.the-variants.{Source};
 ghost use Rattle.words.specs.declared.Verdict.the-variants.{Accepted};
-ghost use Rattle.language.specs.Program.{runProgram};
+ghost use Rattle.program_meaning.specs.Program.{runProgram};
 ghost use Rattle.program_runs.specs.Runs.{refusalOf};
 ghost use Rattle.program_previews.specs.Previews.{difference, differences, answerAndWords, previewResult, acceptedPreview, Foretells};
 

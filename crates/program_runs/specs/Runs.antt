@@ -14,7 +14,8 @@ use Rattle.words.specs.declared.Verdict.{Verdict}
 use Rattle.words.specs.declared.Verdict.the-variants.{Accepted, Refused}
 use Rattle.words.specs.declared.RunVerdict.{RunVerdict}
 use Rattle.words.specs.declared.RunVerdict.the-variants.{Ran, Refused as RunRefused}
-use Rattle.language.specs.Program.{Finished, runProgram}
+use Rattle.language.specs.Program.{Finished}
+use Rattle.program_meaning.specs.Program.{runProgram}
 use Rattle.source_check.specs.Refusal.{refusal as sourceRefusal}
 use Rattle.kernel_check.specs.Refusal.{refusal as kernelRefusal}
 

@@ -1,9 +1,11 @@
 // Check and run of both forms.
+use resolver::resolve;
 use words::Form;
 use words::Refusal;
 use words::RunAnswer;
 use words::RunVerdict;
 use words::Verdict;
+use words::layout::store_size;
 use words::layout::store_words;
 ghost use mathlib.Core.Path.{_≡_};
 ghost use lib.ListN.{length};
@@ -11,7 +13,7 @@ ghost use Rattle.words.specs.Layout.{storeWords};
 ghost use Rattle.words.specs.Numbers.{verdictNumbers};
 ghost use Rattle.words.specs.declared.Form.the-variants.{Source, Kernel};
 ghost use Rattle.words.specs.declared.Verdict.the-variants.{Accepted};
-ghost use Rattle.language.specs.Program.{runProgram};
+ghost use Rattle.program_meaning.specs.Program.{runProgram};
 ghost use Rattle.machine.specs.Whole.{finishedOf};
 ghost use Rattle.program_runs.specs.Acceptance.{AcceptsLegal, NoCauseIfLegal};
 ghost use Rattle.program_runs.specs.Runs.{refusalOf, runResult, runAfter, answerAndStore};
@@ -35,6 +37,31 @@ pub fn kernel_check(header: &[i32], rows: &[i32]) -> Verdict
     kernel_check::check(header, rows)
 }
 
+// Runs an accepted source program: the machine walks its resolved table, which stands in this frame alone.
+fn run_resolved(header: &[i32], rows: &[i32], store: &mut [i32], budget: u32) -> RunAnswer
+    requires { ⌜ refusalOf Source (now header) (now rows) ≡ Accepted ⌝ }
+    requires { ⌜ length (now store) ≡ storeWords Source (now header) (now rows) ⌝ }
+    ensures { λ r. ⌜ finishedOf r (now (store .exit)) ≡ runProgram Source (now (header .entry)) (now (rows .entry)) budget (now (store .entry)) ⌝ }
+{
+    let size = store_size(Form::Source, header);
+    let words = rows.len();
+    let mut table = [0i32; 12288];
+    resolve(size, rows, &mut table);
+    machine::whole::run(Form::Source, header, &table[0..words], store, budget)
+}
+
+// The same. A store of S words is that of a program without declarations, which is its own resolved table.
+fn run_source(header: &[i32], rows: &[i32], store: &mut [i32], budget: u32) -> RunAnswer
+    requires { ⌜ refusalOf Source (now header) (now rows) ≡ Accepted ⌝ }
+    requires { ⌜ length (now store) ≡ storeWords Source (now header) (now rows) ⌝ }
+    ensures { λ r. ⌜ finishedOf r (now (store .exit)) ≡ runProgram Source (now (header .entry)) (now (rows .entry)) budget (now (store .entry)) ⌝ }
+{
+    if store.len() == store_size(Form::Source, header) {
+        return machine::whole::run(Form::Source, header, rows, store, budget);
+    }
+    run_resolved(header, rows, store, budget)
+}
+
 // Runs an accepted program on a store of its size, for a caller that has the check's answer: nothing is tested again.
 pub fn run_accepted(
     form: Form,
@@ -47,7 +74,10 @@ pub fn run_accepted(
     requires { ⌜ length (now store) ≡ storeWords form (now header) (now rows) ⌝ }
     ensures { λ r. ⌜ finishedOf r (now (store .exit)) ≡ runProgram form (now (header .entry)) (now (rows .entry)) budget (now (store .entry)) ⌝ }
 {
-    machine::whole::run(form, header, rows, store, budget)
+    match form {
+        Form::Source => run_source(header, rows, store, budget),
+        Form::Kernel => machine::whole::run(form, header, rows, store, budget),
+    }
 }
 
 // An accepted program on a store of any size: cause 11, then the run.

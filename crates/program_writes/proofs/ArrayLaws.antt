@@ -14,7 +14,7 @@ use Rattle.words.specs.Table.{rowCount}
 use Rattle.language.specs.Trees.{Expression, Place}
 use Rattle.language.specs.Decode.{placeOf, expressionAt}
 use Rattle.shapes.specs.Shapes.{placeTree, expressionTree, Onward, OptionalOnward, ExpressionOnward}
-use Rattle.shapes.specs.Source.{mostVariables, mostArrays, Source, PlaceAt, ExpressionAt}
+use Rattle.shapes.specs.Source.{Name, mostArrays, Source, PlaceAt, ExpressionAt}
 use Rattle.shapes.specs.declared.PlaceShape.the-variants.{Variable, Element}
 use Rattle.shapes.specs.declared.OperationShape.the-variants.{Minus, Not, Binary, Comma, Assign, Compound, Prefix, Postfix}
 use Rattle.shapes.specs.declared.ChoiceShape.the-variants.{And, Or, Conditional}
@@ -86,7 +86,7 @@ module _ {rows : List ℤ} {row : ℕ} where
   here : {link : ℕ} → Onward rows row link → OptionalOnward rows row link
   here o h = o
 
-  links-onward : (sh : ExpressionShape) → ExpressionOnward rows row mostVariables mostArrays sh → LinksOnward rows row (linksOf sh)
+  links-onward : (sh : ExpressionShape) → ExpressionOnward rows row (Name rows) mostArrays sh → LinksOnward rows row (linksOf sh)
   links-onward (Number v) o = record { first = absent; second = absent; third = absent; place = absent }
   links-onward (Read (Variable i)) o = record { first = absent; second = absent; third = absent; place = absent }
   links-onward (Read (Element array index)) o = record { first = here (o .1); second = absent; third = absent; place = absent }
@@ -116,7 +116,7 @@ module _ {rows : List ℤ} {row : ℕ} where
   stepped : (n : ℕ) {p : ℕ} → Onward rows row p → (storedArrays rows p n || false) ≡ placeWritesArray (placeOf (expressionAt rows p)) n
   stepped n {p} o = or-none _ ∙ stored-is rows p n (omega (arith, o .later))
 
-links-write : (rows : List ℤ) (row n : ℕ) (sh : ExpressionShape) → ExpressionOnward rows row mostVariables mostArrays sh → linksWrite rows (linksOf sh) n ≡ writesArray (expressionTree rows sh) n
+links-write : (rows : List ℤ) (row n : ℕ) (sh : ExpressionShape) → ExpressionOnward rows row (Name rows) mostArrays sh → linksWrite rows (linksOf sh) n ≡ writesArray (expressionTree rows sh) n
 unfolding writesArray indexWritesArray
 links-write rows row n (Number v) o = refl
 links-write rows row n (Read (Variable i)) o = refl

@@ -1,23 +1,24 @@
--- A bit of a program's sets is 1 exactly where some row of it has that variable, or an element of that array, as the place of a kind 21 to 30.
+-- A bit of a program's sets is 1 exactly where some row of it has that variable, or an element of that array, as the place of a kind 21 to 30,
+-- or is the declaration of that word.
 use mathlib.Core.Path.{_≡_, refl, sym, ap, _∙_}
-use mathlib.Core.Bool.{Bool, true, false, _||_, false≢true}
-use mathlib.Core.Logic.{_↔_, ⊎-elim}
+use mathlib.Core.Bool.{Bool, true, false, _&&_, _||_, false≢true}
+use mathlib.Core.Logic.{_↔_, _⊎_, inl, inr, ⊎-elim}
 use mathlib.Core.List.{List}
-use Prim.Native.Nat.{ℕ, zero, suc, _<_}
+use Prim.Native.Nat.{ℕ, zero, suc, _+_, _<_}
 use native.Mathlib.Decide.{ℕ-discrete}
 use native.Mathlib.Omega.{arith}
 use lib.IntN.{ℤ}
-use Rattle.words.specs.Laws.{either, or-right}
+use borrow.Author.Tests.{eqb-true, eq-eqb, lt-ltb}
+use Rattle.words.specs.Laws.{both, either, or-right}
 use Rattle.words.specs.Table.{rowCount}
 use Rattle.language.specs.Trees.{Expression}
 use Rattle.language.specs.Decode.{expressionAt}
 use Rattle.language.specs.Writes.{HasAsPlace, writes}
 use Rattle.language.specs.WriteLaws.{writes-exactly}
-use Rattle.shapes.specs.Source.{mostVariables}
-use Rattle.write_sets.specs.Sets.{member, memberArray}
+use Rattle.write_sets.specs.Sets.{variableBits, declaredBits, variableBit, declaredBit, memberArray}
 use Rattle.program_writes.specs.ArrayWrites.{HasElementAsPlace, writesArray}
 use Rattle.program_writes.specs.ArrayWriteLaws.{array-exactly}
-use Rattle.program_writes.specs.ProgramWrites.{SomeRow, anyBelow, programWrites, programWritesArray, WritesAre}
+use Rattle.program_writes.specs.ProgramWrites.{SomeRow, SomeDeclaration, anyBelow, declares, programWrites, programWritesArray, WritesAre}
 use Rattle.program_writes.specs.declared.Writes.{Writes}
 
 -- ---- a test of some number below k
@@ -54,12 +55,35 @@ some-row rows W P x = (
   λ s. any-found _ _ (s .row) (s .inside) (x (expressionAt rows (s .row)) .1 (s .holds)),
 )
 
+-- ---- some row that writes the word, or some declaration of it
+
+declared-row : (rows : List ℤ) (row i : ℕ) → row < rowCount rows → declares rows row i ≡ true → SomeDeclaration rows i
+declared-row rows row i h d = let p = both _ _ d in record { row = row; inside = h; declaration = p .0; word = eqb-true _ _ (p .1) }
+
+declaration-writes : (rows : List ℤ) (i : ℕ) (d : SomeDeclaration rows i) → declares rows (d .row) i ≡ true
+declaration-writes rows i d = rw (d .declaration, eq-eqb _ _ (d .word))
+
+pub program-exactly : (rows : List ℤ) (i : ℕ) → (programWrites rows i ≡ true) ↔ (SomeRow rows (HasAsPlace i) ⊎ SomeDeclaration rows i)
+unfolding programWrites
+program-exactly rows i = (
+  λ h.
+      let f = found _ _ h in
+      ⊎-elim (λ w. inl (record { row = f .at; inside = f .below; holds = writes-exactly i (expressionAt rows (f .at)) .0 w })) (λ d. inr (declared-row rows (f .at) i (f .below) d)) (either _ _ (f .passes)),
+  ⊎-elim (λ s. any-found _ _ (s .row) (s .inside) (or-left _ _ (writes-exactly i (expressionAt rows (s .row)) .1 (s .holds))))
+      (λ d. any-found _ _ (d .row) (d .inside) (or-right (writes (expressionAt rows (d .row)) i) _ (declaration-writes rows i d))),
+)
+
 -- ---- the sets
 
-module _ {w : Writes} {rows : List ℤ} (is : WritesAre w rows) where
-  pub variable-bit : (i : ℕ) → i < mostVariables → (member (w .variables) i ≡ true) ↔ SomeRow rows (HasAsPlace i)
-  unfolding programWrites
-  variable-bit i h = let x = some-row rows (λ e. writes e i) (HasAsPlace i) (writes-exactly i) in let b = is .variables .is i h in (λ t. x .0 (sym b ∙ t), λ s. b ∙ x .1 s)
+module _ {S : ℕ} {w : Writes} {rows : List ℤ} (is : WritesAre S w rows) where
+  pub variable-bit : (i : ℕ) → i < variableBits → i < S → (variableBit (w .variables) i ≡ true) ↔ (SomeRow rows (HasAsPlace i) ⊎ SomeDeclaration rows i)
+  variable-bit i h k =
+      let x = program-exactly rows i in
+      let b = is .variables .variables i h ∙ ap (λ (below : Bool). below && programWrites rows i) (lt-ltb i S k) in
+      (λ t. x .0 (sym b ∙ t), λ s. b ∙ x .1 s)
+
+  pub declared-bit : (i : ℕ) → i < declaredBits → (declaredBit (w .variables) i ≡ true) ↔ (SomeRow rows (HasAsPlace (S + i)) ⊎ SomeDeclaration rows (S + i))
+  declared-bit i h = let x = program-exactly rows (S + i) in let b = is .variables .declared i h in (λ t. x .0 (sym b ∙ t), λ s. b ∙ x .1 s)
 
   pub array-bit : (n : ℕ) → (memberArray (w .arrays) n ≡ true) ↔ SomeRow rows (HasElementAsPlace n)
   unfolding programWritesArray

@@ -1,4 +1,4 @@
-// What a program can write: the variables and the arrays, a bit each, by its rows.
+// What a program can write: the variables, the declared words and the arrays, a bit each, by its rows.
 use write_sets::WriteSet;
 
 pub mod arrays; // arrays.rt: which arrays the expression at each row can write an element of
@@ -13,7 +13,7 @@ pub struct Links {
     pub place: usize,
 }
 
-// The variables in four 64-bit words, the arrays in one 32-bit word.
+// The variables in four 64-bit words, the declared words in a fifth, the arrays in one 32-bit word.
 pub struct Writes {
     pub variables: WriteSet,
     pub arrays: u32,

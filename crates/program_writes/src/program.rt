@@ -1,43 +1,59 @@
-// What any row of a program can write: the sets of its rows joined.
+// What any row of a program can write: the sets of its rows joined, and the words of its declarations. The declared words begin at `store`.
 use super::Writes;
 use super::arrays::fill_arrays;
 use row_writes::writes::fill_sets;
+use words::declarations::is_declaration;
+use words::table::number_at;
 use write_sets::WriteSet;
 use write_sets::arrays::join_arrays;
 use write_sets::count;
 use write_sets::join;
 use write_sets::nothing;
+use write_sets::single;
 ghost use mathlib.Core.Path.{_≡_};
-ghost use Prim.Native.Nat.{_+_, _*_, _≤_};
+ghost use Prim.Native.Nat.{_+_, _*_, _≤_, _<_};
 ghost use lib.ListN.{length};
 ghost use Rattle.words.specs.Table.{rowCount};
-ghost use Rattle.shapes.specs.Source.{Source};
+ghost use Rattle.shapes.specs.Source.{NamesFrom, Source};
 ghost use Rattle.row_writes.specs.WriteSets.{SetIs, Sets, setWidth, setOf};
 ghost use Rattle.program_writes.specs.Arrays.{ArraysAre, ArraysFrom};
-ghost use Rattle.program_writes.specs.ProgramWrites.{programWrites, programWritesArray, written, WritesAre};
+ghost use Rattle.program_writes.specs.ProgramWrites.{declares, programWrites, programWritesArray, written, WritesAre};
 
 // The set of a row.
 fn row_set(sets: &[u64], row: usize) -> WriteSet
     requires { ⌜ setWidth * row + setWidth ≤ length (now sets) ⌝ }
     ensures { λ r. ⌜ r ≡ setOf (now (sets .entry)) row ⌝ }
 {
-    let at = 4 * row;
+    let at = 5 * row;
     WriteSet {
         word0: sets[at],
         word1: sets[at + 1],
         word2: sets[at + 2],
         word3: sets[at + 3],
+        word4: sets[at + 4],
     }
 }
 
-fn any_variables(rows: &[i32], sets: &[u64]) -> WriteSet
-    requires { ⌜ Sets (now rows) (now sets) ⌝ }
-    ensures { λ r. ⌜ SetIs r (programWrites (now (rows .entry))) ⌝ }
+// The word of a row that is a declaration.
+fn declared_set(store: usize, rows: &[i32], row: usize) -> WriteSet
+    requires { ⌜ Source (now rows) × NamesFrom store (now rows) × (row < rowCount (now rows)) ⌝ }
+    ensures { λ r. ⌜ SetIs store r (declares (now (rows .entry)) row) ⌝ }
+{
+    if is_declaration(rows, row) {
+        return single(store, number_at(rows, row, 1));
+    }
+    nothing()
+}
+
+fn any_variables(store: usize, rows: &[i32], sets: &[u64]) -> WriteSet
+    requires { ⌜ Sets store (now rows) (now sets) ⌝ }
+    ensures { λ r. ⌜ SetIs store r (programWrites (now (rows .entry))) ⌝ }
 {
     let mut any = nothing();
     let mut row: usize = 0;
     while row < rows.len() / 6 {
-        any = join(any, row_set(sets, row));
+        let written = join(row_set(sets, row), declared_set(store, rows, row));
+        any = join(any, written);
         row += 1;
     }
     any
@@ -56,13 +72,13 @@ fn any_arrays(rows: &[i32], arrays: &[u32]) -> u32
     any
 }
 
-fn variables_written(rows: &[i32]) -> WriteSet
-    requires { ⌜ Source (now rows) ⌝ }
-    ensures { λ r. ⌜ SetIs r (programWrites (now (rows .entry))) ⌝ }
+fn variables_written(store: usize, rows: &[i32]) -> WriteSet
+    requires { ⌜ Source (now rows) × NamesFrom store (now rows) ⌝ }
+    ensures { λ r. ⌜ SetIs store r (programWrites (now (rows .entry))) ⌝ }
 {
-    let mut sets = [0u64; 8192];
-    fill_sets(rows, &mut sets);
-    any_variables(rows, &sets)
+    let mut sets = [0u64; 10240];
+    fill_sets(store, rows, &mut sets);
+    any_variables(store, rows, &sets)
 }
 
 fn arrays_written(rows: &[i32]) -> u32
@@ -75,19 +91,19 @@ fn arrays_written(rows: &[i32]) -> u32
 }
 
 // What the program can write.
-pub fn program_writes(rows: &[i32]) -> Writes
-    requires { ⌜ Source (now rows) ⌝ }
-    ensures { λ r. ⌜ WritesAre r (now (rows .entry)) ⌝ }
+pub fn program_writes(store: usize, rows: &[i32]) -> Writes
+    requires { ⌜ Source (now rows) × NamesFrom store (now rows) ⌝ }
+    ensures { λ r. ⌜ WritesAre store r (now (rows .entry)) ⌝ }
 {
-    let variables = variables_written(rows);
+    let variables = variables_written(store, rows);
     let arrays = arrays_written(rows);
     Writes { variables, arrays }
 }
 
-// How many variables it can write: the ones in the four words.
-pub fn written_count(rows: &[i32]) -> u32
-    requires { ⌜ Source (now rows) ⌝ }
-    ensures { λ r. ⌜ r ≡ written (now (rows .entry)) ⌝ }
+// How many variables and declared words it can write: the ones in the five words.
+pub fn written_count(store: usize, rows: &[i32]) -> u32
+    requires { ⌜ Source (now rows) × NamesFrom store (now rows) ⌝ }
+    ensures { λ r. ⌜ r ≡ written store (now (rows .entry)) ⌝ }
 {
-    count(variables_written(rows))
+    count(variables_written(store, rows))
 }

@@ -1,13 +1,14 @@
 -- The sets of the rows, clause by clause of `writes`; a row's set put into the table; and which values are copied by them.
 use mathlib.Core.Path.{_≡_, refl, sym, ap, ap₂, subst, _∙_}
-use mathlib.Core.Bool.{Bool, true, false, _||_}
+use mathlib.Core.Bool.{Bool, true, false, _&&_, _||_, and-false}
 use mathlib.Core.List.{List, [], _∷_, _++_}
 use Prim.Native.Nat.{ℕ, zero, suc, _+_, _*_, _-_, _≤_, _<_}
 use native.Mathlib.Nat.{suc-add}
 use native.Mathlib.Decide.{ℕ-discrete}
 use native.Mathlib.Omega.{arith}
 use lib.Arith.{lt-of-le-ne}
-use lib.Dec.{eqb}
+use borrow.Author.Tests.{ltb-true, ltb-false}
+use lib.Dec.{eqb, ltb}
 use lib.IntN.{ℤ}
 use lib.ListN.{length, take, drop, set, getD}
 use Rattle.words.specs.Word.{pick}
@@ -21,15 +22,16 @@ use Rattle.language.specs.DecodeLaws.{part-some}
 use Rattle.translation.specs.Translate.{Atom, number, word, top, atomOf}
 use Rattle.translation.specs.TranslateSize.{copied}
 use Rattle.shapes.specs.Shapes.{choiceTree, expressionTree, Onward, OptionalOnward}
-use Rattle.shapes.specs.Source.{mostVariables, Source, PlaceAt, ExpressionAt}
+use Rattle.shapes.specs.Source.{NamesFrom, Source, Name, PlaceAt, ExpressionAt}
 use Rattle.shapes.specs.declared.PlaceShape.the-variants.{Variable, Element}
 use Rattle.shapes.specs.declared.OperationShape.the-variants.{Minus, Not, Binary, Comma, Assign, Compound, Prefix, Postfix}
 use Rattle.shapes.specs.declared.ChoiceShape.{ChoiceShape}
 use Rattle.shapes.specs.declared.ChoiceShape.the-variants.{And, Or, Conditional}
 use Rattle.shapes.specs.declared.ExpressionShape.{ExpressionShape}
 use Rattle.shapes.specs.declared.ExpressionShape.the-variants.{Number, Read, Operation, Choice}
-use Rattle.write_sets.specs.Sets.{member, nothing, join, single}
-use Rattle.write_sets.specs.SetLaws.{member-join, member-nothing, member-single}
+use Rattle.write_sets.specs.Named.{Named}
+use Rattle.write_sets.specs.Sets.{member, variableBit, declaredBit, nothing, join, single}
+use Rattle.write_sets.specs.SetLaws.{member-variable, member-declared, variable-join, declared-join, variable-nothing, declared-nothing, variable-single, declared-single}
 use Rattle.write_sets.specs.declared.WriteSet.{WriteSet}
 use Rattle.measure_table.specs.Parts.{indexOf, firstCopied, Operand}
 use Rattle.row_writes.specs.WriteSets.{SetIs, placeWrites, partWrites, setWidth, setOf, setAt, SetHeld, setWords, SetsFrom, Sets}
@@ -45,17 +47,40 @@ or-none : (a : Bool) → (a || false) ≡ a
 or-none true = refl
 or-none false = refl
 
-set-as : {s : WriteSet} (X W : ℕ → Bool) → SetIs s X → ((i : ℕ) → X i ≡ W i) → SetIs s W
-set-as X W x e = record { is = λ i h. x .is i h ∙ e i }
+or-and : (a b c : Bool) → ((a && b) || (a && c)) ≡ (a && (b || c))
+or-and true b c = refl
+or-and false b c = refl
 
-pub set-nothing : {s : WriteSet} → s ≡ nothing → SetIs s (λ i. false)
-set-nothing e = record { is = λ i h. ap (λ (z : WriteSet). member z i) e ∙ member-nothing i }
+set-as : {S : ℕ} {s : WriteSet} (X W : ℕ → Bool) → SetIs S s X → ((i : ℕ) → X i ≡ W i) → SetIs S s W
+set-as {S} X W x e = record { variables = λ i h. x .variables i h ∙ ap (λ (b : Bool). ltb i S && b) (e i); declared = λ i h. x .declared i h ∙ e (S + i) }
 
-set-single : (j : ℕ) {s : WriteSet} → s ≡ single j → SetIs s (λ i. eqb j i)
-set-single j e = record { is = λ i h. ap (λ (z : WriteSet). member z i) e ∙ member-single j i h }
+pub set-nothing : {S : ℕ} {s : WriteSet} → s ≡ nothing → SetIs S s (λ i. false)
+set-nothing {S} e = record {
+  variables = λ i h. ap (λ (z : WriteSet). variableBit z i) e ∙ variable-nothing i ∙ sym (and-false (ltb i S));
+  declared = λ i h. ap (λ (z : WriteSet). declaredBit z i) e ∙ declared-nothing i;
+}
 
-set-join : {s : WriteSet} (a b : WriteSet) (X W : ℕ → Bool) → SetIs a X → SetIs b W → s ≡ join a b → SetIs s (λ i. X i || W i)
-set-join a b X W x y e = record { is = λ i h. ap (λ (z : WriteSet). member z i) e ∙ member-join a b i ∙ ap₂ _||_ (x .is i h) (y .is i h) }
+pub set-single : {S : ℕ} (j : ℕ) {s : WriteSet} → Named S j → s ≡ single S j → SetIs S s (λ i. eqb j i)
+set-single {S} j n e = record {
+  variables = λ i h. ap (λ (z : WriteSet). variableBit z i) e ∙ variable-single S j i n h;
+  declared = λ i h. ap (λ (z : WriteSet). declaredBit z i) e ∙ declared-single S j i n h;
+}
+
+pub set-join : {S : ℕ} {s : WriteSet} (a b : WriteSet) (X W : ℕ → Bool) → SetIs S a X → SetIs S b W → s ≡ join a b → SetIs S s (λ i. X i || W i)
+set-join {S} a b X W x y e = record {
+  variables = λ i h. ap (λ (z : WriteSet). variableBit z i) e ∙ variable-join a b i ∙ ap₂ _||_ (x .variables i h) (y .variables i h) ∙ or-and (ltb i S) (X i) (W i);
+  declared = λ i h. ap (λ (z : WriteSet). declaredBit z i) e ∙ declared-join a b i ∙ ap₂ _||_ (x .declared i h) (y .declared i h);
+}
+
+-- what a name means is in the set, or not
+pub set-member : {S : ℕ} {s : WriteSet} (W : ℕ → Bool) (i : ℕ) → SetIs S s W → Named S i → member S s i ≡ W i
+set-member {S} {s} W i x n = by-cases (ltb i S)
+    (λ e. let below = ltb-true i S e in member-variable S s i below ∙ x .variables i (n .variable below) ∙ ap (λ (b : Bool). b && W i) e)
+    (λ e.
+    let behind = ltb-false i S e in
+    let place : i - S < 64 = omega (arith, n .within) in
+    let same : i ≡ S + (i - S) = omega arith in
+    ap (member S s) same ∙ member-declared S s (i - S) place ∙ x .declared (i - S) place ∙ sym (ap W same))
 
 -- ---- the sets of a row's operands
 
@@ -63,110 +88,111 @@ pub set-some : (sets : List ℕ) (link : ℕ) → 0 < link → setAt sets link �
 set-some sets zero h = absurd (omega arith)
 set-some sets (suc link) h = refl
 
-pub sets-less : {rows : List ℤ} {sets : List ℕ} {k : ℕ} (j : ℕ) → SetsFrom rows sets k → k ≤ j → SetsFrom rows sets j
-sets-less j m h = record { source = m .source; room = m .room; row-set = λ row l. m .row-set row (omega arith) }
+pub sets-less : {S : ℕ} {rows : List ℤ} {sets : List ℕ} {k : ℕ} (j : ℕ) → SetsFrom S rows sets k → k ≤ j → SetsFrom S rows sets j
+sets-less j m h = record { source = m .source; names = m .names; room = m .room; row-set = λ row l. m .row-set row (omega arith) }
 
-module _ {rows : List ℤ} {sets : List ℕ} {row : ℕ} (m : SetsFrom rows sets (row + 1)) where
+module _ {S : ℕ} {rows : List ℤ} {sets : List ℕ} {row : ℕ} (m : SetsFrom S rows sets (row + 1)) where
   pub link-held : {link : ℕ} → Onward rows row link → SetHeld sets link
   link-held o h = omega (arith, m .room, o .inside)
 
-  link-set : {link : ℕ} {s : WriteSet} → Onward rows row link → s ≡ setAt sets link → SetIs s (writes (expressionAt rows link))
+  link-set : {link : ℕ} {s : WriteSet} → Onward rows row link → s ≡ setAt sets link → SetIs S s (writes (expressionAt rows link))
   link-set {link} {s} o e =
-      subst (λ (z : WriteSet). SetIs z (writes (expressionAt rows link))) (sym (e ∙ set-some sets link (omega (arith, o .later)))) (m .row-set link (omega (arith, o .later)) (o .inside))
+      subst (λ (z : WriteSet). SetIs S z (writes (expressionAt rows link))) (sym (e ∙ set-some sets link (omega (arith, o .later)))) (m .row-set link (omega (arith, o .later)) (o .inside))
 
   -- ---- places
 
-  pub variable-writes : {i : ℕ} {s : WriteSet} → PlaceAt rows row (Variable i) → s ≡ single i → SetIs s (placeWrites (placeOf (expressionAt rows row)))
+  pub variable-writes : {i : ℕ} {s : WriteSet} → PlaceAt rows row (Variable i) → s ≡ single S i → SetIs S s (placeWrites (placeOf (expressionAt rows row)))
   unfolding indexWrites
-  variable-writes {i} f e = rw (f .is) (set-as (λ j. eqb i j) _ (set-single i e) (λ j. sym (or-none (eqb i j))))
+  variable-writes {i} f e = rw (f .is) (set-as (λ j. eqb i j) _ (set-single i (f .onward .named S (m .names)) e) (λ j. sym (or-none (eqb i j))))
 
-  pub element-writes : {array index : ℕ} {s : WriteSet} → PlaceAt rows row (Element array index) → s ≡ setAt sets index → SetIs s (placeWrites (placeOf (expressionAt rows row)))
+  pub element-writes : {array index : ℕ} {s : WriteSet} → PlaceAt rows row (Element array index) → s ≡ setAt sets index → SetIs S s (placeWrites (placeOf (expressionAt rows row)))
   unfolding indexWrites
   element-writes {array} {index} f e = rw (f .is) (set-as (writes (expressionAt rows index)) _ (link-set (f .onward .1) e) (λ j. refl))
 
   -- ---- expressions, a clause of `writes` each
 
-  shaped : {sh : ExpressionShape} {s : WriteSet} → ExpressionAt rows row sh → SetIs s (writes (expressionTree rows sh)) → SetIs s (writes (expressionAt rows row))
-  shaped {sh} {s} f x = subst (λ (e : Expression). SetIs s (writes e)) (sym (f .is)) x
+  shaped : {sh : ExpressionShape} {s : WriteSet} → ExpressionAt rows row sh → SetIs S s (writes (expressionTree rows sh)) → SetIs S s (writes (expressionAt rows row))
+  shaped {sh} {s} f x = subst (λ (e : Expression). SetIs S s (writes e)) (sym (f .is)) x
 
-  pub number-set : {v : ℤ} {s : WriteSet} → ExpressionAt rows row (Number v) → s ≡ nothing → SetIs s (writes (expressionAt rows row))
+  pub number-set : {v : ℤ} {s : WriteSet} → ExpressionAt rows row (Number v) → s ≡ nothing → SetIs S s (writes (expressionAt rows row))
   unfolding writes
   number-set f e = shaped f (set-as (λ i. false) _ (set-nothing e) (λ i. refl))
 
-  pub variable-set : {j : ℕ} {s : WriteSet} → ExpressionAt rows row (Read (Variable j)) → s ≡ nothing → SetIs s (writes (expressionAt rows row))
+  pub variable-set : {j : ℕ} {s : WriteSet} → ExpressionAt rows row (Read (Variable j)) → s ≡ nothing → SetIs S s (writes (expressionAt rows row))
   unfolding writes indexWrites
   variable-set f e = shaped f (set-as (λ i. false) _ (set-nothing e) (λ i. refl))
 
-  pub element-set : {array index : ℕ} {s : WriteSet} → ExpressionAt rows row (Read (Element array index)) → s ≡ setAt sets index → SetIs s (writes (expressionAt rows row))
+  pub element-set : {array index : ℕ} {s : WriteSet} → ExpressionAt rows row (Read (Element array index)) → s ≡ setAt sets index → SetIs S s (writes (expressionAt rows row))
   unfolding writes indexWrites
   element-set {array} {index} f e = shaped f (set-as (writes (expressionAt rows index)) _ (link-set (f .onward .1) e) (λ i. refl))
 
-  pub minus-set : {a : ℕ} {s : WriteSet} → ExpressionAt rows row (Operation (Minus a)) → s ≡ setAt sets a → SetIs s (writes (expressionAt rows row))
+  pub minus-set : {a : ℕ} {s : WriteSet} → ExpressionAt rows row (Operation (Minus a)) → s ≡ setAt sets a → SetIs S s (writes (expressionAt rows row))
   unfolding writes
   minus-set {a} f e = shaped f (set-as (writes (expressionAt rows a)) _ (link-set (f .onward) e) (λ i. refl))
 
-  pub not-set : {a : ℕ} {s : WriteSet} → ExpressionAt rows row (Operation (Not a)) → s ≡ setAt sets a → SetIs s (writes (expressionAt rows row))
+  pub not-set : {a : ℕ} {s : WriteSet} → ExpressionAt rows row (Operation (Not a)) → s ≡ setAt sets a → SetIs S s (writes (expressionAt rows row))
   unfolding writes
   not-set {a} f e = shaped f (set-as (writes (expressionAt rows a)) _ (link-set (f .onward) e) (λ i. refl))
 
   -- the sets of two operands joined
-  two-sets : {a b : ℕ} {x y s : WriteSet} → Onward rows row a → Onward rows row b → x ≡ setAt sets a → y ≡ setAt sets b → s ≡ join x y → SetIs s (λ i. writes (expressionAt rows a) i || writes (expressionAt rows b) i)
+  two-sets : {a b : ℕ} {x y s : WriteSet} → Onward rows row a → Onward rows row b → x ≡ setAt sets a → y ≡ setAt sets b → s ≡ join x y → SetIs S s (λ i. writes (expressionAt rows a) i || writes (expressionAt rows b) i)
   two-sets {a} {b} {x} {y} oa ob ex ey e = set-join x y (writes (expressionAt rows a)) (writes (expressionAt rows b)) (link-set oa ex) (link-set ob ey) e
 
-  pub binary-set : {operator : Operator} {a b : ℕ} {x y s : WriteSet} → ExpressionAt rows row (Operation (Binary operator a b)) → x ≡ setAt sets a → y ≡ setAt sets b → s ≡ join x y → SetIs s (writes (expressionAt rows row))
+  pub binary-set : {operator : Operator} {a b : ℕ} {x y s : WriteSet} → ExpressionAt rows row (Operation (Binary operator a b)) → x ≡ setAt sets a → y ≡ setAt sets b → s ≡ join x y → SetIs S s (writes (expressionAt rows row))
   unfolding writes
   binary-set f ex ey e = shaped f (set-as _ _ (two-sets (f .onward .0) (f .onward .1) ex ey e) (λ i. refl))
 
-  pub comma-set : {a b : ℕ} {x y s : WriteSet} → ExpressionAt rows row (Operation (Comma a b)) → x ≡ setAt sets a → y ≡ setAt sets b → s ≡ join x y → SetIs s (writes (expressionAt rows row))
+  pub comma-set : {a b : ℕ} {x y s : WriteSet} → ExpressionAt rows row (Operation (Comma a b)) → x ≡ setAt sets a → y ≡ setAt sets b → s ≡ join x y → SetIs S s (writes (expressionAt rows row))
   unfolding writes
   comma-set f ex ey e = shaped f (set-as _ _ (two-sets (f .onward .0) (f .onward .1) ex ey e) (λ i. refl))
 
-  pub and-set : {a b : ℕ} {x y s : WriteSet} → ExpressionAt rows row (Choice (And a b)) → x ≡ setAt sets a → y ≡ setAt sets b → s ≡ join x y → SetIs s (writes (expressionAt rows row))
+  pub and-set : {a b : ℕ} {x y s : WriteSet} → ExpressionAt rows row (Choice (And a b)) → x ≡ setAt sets a → y ≡ setAt sets b → s ≡ join x y → SetIs S s (writes (expressionAt rows row))
   unfolding writes
   and-set f ex ey e = shaped f (set-as _ _ (two-sets (f .onward .0) (f .onward .1) ex ey e) (λ i. refl))
 
-  pub or-set : {a b : ℕ} {x y s : WriteSet} → ExpressionAt rows row (Choice (Or a b)) → x ≡ setAt sets a → y ≡ setAt sets b → s ≡ join x y → SetIs s (writes (expressionAt rows row))
+  pub or-set : {a b : ℕ} {x y s : WriteSet} → ExpressionAt rows row (Choice (Or a b)) → x ≡ setAt sets a → y ≡ setAt sets b → s ≡ join x y → SetIs S s (writes (expressionAt rows row))
   unfolding writes
   or-set f ex ey e = shaped f (set-as _ _ (two-sets (f .onward .0) (f .onward .1) ex ey e) (λ i. refl))
 
-  pub conditional-set : {c a b : ℕ} {z x y branches s : WriteSet} → ExpressionAt rows row (Choice (Conditional c a b)) → x ≡ setAt sets a → y ≡ setAt sets b → branches ≡ join x y → z ≡ setAt sets c → s ≡ join z branches → SetIs s (writes (expressionAt rows row))
+  pub conditional-set : {c a b : ℕ} {z x y branches s : WriteSet} → ExpressionAt rows row (Choice (Conditional c a b)) → x ≡ setAt sets a → y ≡ setAt sets b → branches ≡ join x y → z ≡ setAt sets c → s ≡ join z branches → SetIs S s (writes (expressionAt rows row))
   unfolding writes
   conditional-set {c} {a} {b} {z} {x} {y} {branches} f ex ey eb ez e =
       shaped f (set-as _ _ (set-join z branches (writes (expressionAt rows c)) _ (link-set (f .onward .0) ez) (two-sets (f .onward .1) (f .onward .2) ex ey eb) e) (λ i. refl))
 
   -- the set of a place and that of a value joined
-  update-set : (place : ℕ) {v : ℕ} {x y s : WriteSet} → Onward rows row v → SetIs x (placeWrites (placeOf (expressionAt rows place))) → y ≡ setAt sets v → s ≡ join x y
-      → SetIs s (λ i. isVariable (placeOf (expressionAt rows place)) i || (indexWrites (placeOf (expressionAt rows place)) i || writes (expressionAt rows v) i))
+  update-set : (place : ℕ) {v : ℕ} {x y s : WriteSet} → Onward rows row v → SetIs S x (placeWrites (placeOf (expressionAt rows place))) → y ≡ setAt sets v → s ≡ join x y
+      → SetIs S s (λ i. isVariable (placeOf (expressionAt rows place)) i || (indexWrites (placeOf (expressionAt rows place)) i || writes (expressionAt rows v) i))
   update-set place {v} {x} {y} o p ey e =
       let q = placeOf (expressionAt rows place) in
       set-as _ _ (set-join x y (placeWrites q) (writes (expressionAt rows v)) p (link-set o ey) e) (λ i. or-assoc (isVariable q i) (indexWrites q i) (writes (expressionAt rows v) i))
 
-  pub assign-set : {place v : ℕ} {x y s : WriteSet} → ExpressionAt rows row (Operation (Assign place v)) → SetIs x (placeWrites (placeOf (expressionAt rows place))) → y ≡ setAt sets v → s ≡ join x y → SetIs s (writes (expressionAt rows row))
+  pub assign-set : {place v : ℕ} {x y s : WriteSet} → ExpressionAt rows row (Operation (Assign place v)) → SetIs S x (placeWrites (placeOf (expressionAt rows place))) → y ≡ setAt sets v → s ≡ join x y → SetIs S s (writes (expressionAt rows row))
   unfolding writes
   assign-set {place} f p ey e = shaped f (set-as _ _ (update-set place (f .onward .1) p ey e) (λ i. refl))
 
-  pub compound-set : {operator : Operator} {place v : ℕ} {x y s : WriteSet} → ExpressionAt rows row (Operation (Compound operator place v)) → SetIs x (placeWrites (placeOf (expressionAt rows place))) → y ≡ setAt sets v → s ≡ join x y → SetIs s (writes (expressionAt rows row))
+  pub compound-set : {operator : Operator} {place v : ℕ} {x y s : WriteSet} → ExpressionAt rows row (Operation (Compound operator place v)) → SetIs S x (placeWrites (placeOf (expressionAt rows place))) → y ≡ setAt sets v → s ≡ join x y → SetIs S s (writes (expressionAt rows row))
   unfolding writes
   compound-set {operator} {place} f p ey e = shaped f (set-as _ _ (update-set place (f .onward .1) p ey e) (λ i. refl))
 
-  pub prefix-set : {operator : Operator} {place : ℕ} {s : WriteSet} → ExpressionAt rows row (Operation (Prefix operator place)) → SetIs s (placeWrites (placeOf (expressionAt rows place))) → SetIs s (writes (expressionAt rows row))
+  pub prefix-set : {operator : Operator} {place : ℕ} {s : WriteSet} → ExpressionAt rows row (Operation (Prefix operator place)) → SetIs S s (placeWrites (placeOf (expressionAt rows place))) → SetIs S s (writes (expressionAt rows row))
   unfolding writes
   prefix-set f p = shaped f (set-as _ _ p (λ i. refl))
 
-  pub postfix-set : {operator : Operator} {place : ℕ} {s : WriteSet} → ExpressionAt rows row (Operation (Postfix operator place)) → SetIs s (placeWrites (placeOf (expressionAt rows place))) → SetIs s (writes (expressionAt rows row))
+  pub postfix-set : {operator : Operator} {place : ℕ} {s : WriteSet} → ExpressionAt rows row (Operation (Postfix operator place)) → SetIs S s (placeWrites (placeOf (expressionAt rows place))) → SetIs S s (writes (expressionAt rows row))
   unfolding writes
   postfix-set f p = shaped f (set-as _ _ p (λ i. refl))
 
 -- ---- the table
 
-pub four-stores : (l : List ℕ) (n a b c d : ℕ) → n + 4 ≤ length l
-    → set (set (set (set l n a) (n + 1) b) (n + 2) c) (n + 3) d ≡ (take n l ++ (a ∷ b ∷ c ∷ d ∷ [])) ++ drop (n + 4) l
-four-stores [] n a b c d p = absurd (omega arith)
-four-stores (x ∷ l) (suc n) a b c d p = rw (suc-add n 1, suc-add n 2, suc-add n 3, suc-add n 4) (ap (λ (r : List ℕ). x ∷ r) (four-stores l n a b c d (omega arith)))
-four-stores (x0 ∷ []) zero a b c d p = absurd (omega arith)
-four-stores (x0 ∷ x1 ∷ []) zero a b c d p = absurd (omega arith)
-four-stores (x0 ∷ x1 ∷ x2 ∷ []) zero a b c d p = absurd (omega arith)
-four-stores (x0 ∷ x1 ∷ x2 ∷ x3 ∷ l) zero a b c d p = refl
+pub five-stores : (l : List ℕ) (n a b c d e : ℕ) → n + 5 ≤ length l
+    → set (set (set (set (set l n a) (n + 1) b) (n + 2) c) (n + 3) d) (n + 4) e ≡ (take n l ++ (a ∷ b ∷ c ∷ d ∷ e ∷ [])) ++ drop (n + 5) l
+five-stores [] n a b c d e p = absurd (omega arith)
+five-stores (x ∷ l) (suc n) a b c d e p = rw (suc-add n 1, suc-add n 2, suc-add n 3, suc-add n 4, suc-add n 5) (ap (λ (r : List ℕ). x ∷ r) (five-stores l n a b c d e (omega arith)))
+five-stores (x0 ∷ []) zero a b c d e p = absurd (omega arith)
+five-stores (x0 ∷ x1 ∷ []) zero a b c d e p = absurd (omega arith)
+five-stores (x0 ∷ x1 ∷ x2 ∷ []) zero a b c d e p = absurd (omega arith)
+five-stores (x0 ∷ x1 ∷ x2 ∷ x3 ∷ []) zero a b c d e p = absurd (omega arith)
+five-stores (x0 ∷ x1 ∷ x2 ∷ x3 ∷ x4 ∷ l) zero a b c d e p = refl
 
 module _ (rows : List ℤ) (t u : List ℕ) (row : ℕ) (s : WriteSet) (fits : setWidth * row + setWidth ≤ length t) (is : u ≡ (take (setWidth * row) t ++ setWords s) ++ drop (setWidth * row + setWidth) t) where
   own : (k : ℕ) → k < setWidth → getD u (setWidth * row + k) 0 ≡ getD (setWords s) k 0
@@ -176,9 +202,10 @@ module _ (rows : List ℤ) (t u : List ℕ) (row : ℕ) (s : WriteSet) (fits : s
   others other k h = other-words setWidth t u (setWords s) row refl fits is (setWidth * other + k) (omega arith)
 
   -- with the row's words in, one more row has its set
-  pub one-set-more : SetIs s (writes (expressionAt rows row)) → SetsFrom rows t (row + 1) → SetsFrom rows u row
-  one-set-more x m = record {
+  pub one-set-more : {S : ℕ} → SetIs S s (writes (expressionAt rows row)) → SetsFrom S rows t (row + 1) → SetsFrom S rows u row
+  one-set-more {S} x m = record {
     source = m .source;
+    names = m .names;
     room = omega (arith, m .room, stored-length setWidth t u (setWords s) row refl fits is);
     row-set = λ r h b. by r h b (ℕ-discrete r row);
   }
@@ -187,19 +214,19 @@ module _ (rows : List ℤ) (t u : List ℕ) (row : ℕ) (s : WriteSet) (fits : s
       zero-more n = omega arith
 
       own-set : setOf u row ≡ s
-      own-set = rw (ap (λ (n : ℕ). getD u n 0) (zero-more (setWidth * row)) ∙ own 0 (omega arith), own 1 (omega arith), own 2 (omega arith), own 3 (omega arith))
+      own-set = rw (ap (λ (n : ℕ). getD u n 0) (zero-more (setWidth * row)) ∙ own 0 (omega arith), own 1 (omega arith), own 2 (omega arith), own 3 (omega arith), own 4 (omega arith))
 
       other-set : (other : ℕ) → row < other → setOf u other ≡ setOf t other
-      other-set other h = rw (ap (λ (n : ℕ). getD u n 0) (zero-more (setWidth * other)) ∙ others other 0 h ∙ sym (ap (λ (n : ℕ). getD t n 0) (zero-more (setWidth * other))), others other 1 h, others other 2 h, others other 3 h)
+      other-set other h = rw (ap (λ (n : ℕ). getD u n 0) (zero-more (setWidth * other)) ∙ others other 0 h ∙ sym (ap (λ (n : ℕ). getD t n 0) (zero-more (setWidth * other))), others other 1 h, others other 2 h, others other 3 h, others other 4 h)
 
-      by : (r : ℕ) → row ≤ r → r < rowCount rows → Dec (r ≡ row) → SetIs (setOf u r) (writes (expressionAt rows r))
-      by r h b (yes q) = subst (λ (r : ℕ). SetIs (setOf u r) (writes (expressionAt rows r))) (sym q) (subst (λ (z : WriteSet). SetIs z (writes (expressionAt rows row))) (sym own-set) x)
+      by : (r : ℕ) → row ≤ r → r < rowCount rows → Dec (r ≡ row) → SetIs S (setOf u r) (writes (expressionAt rows r))
+      by r h b (yes q) = subst (λ (r : ℕ). SetIs S (setOf u r) (writes (expressionAt rows r))) (sym q) (subst (λ (z : WriteSet). SetIs S z (writes (expressionAt rows row))) (sym own-set) x)
       by r h b (no q) =
           let k = lt-of-le-ne h (λ x. q (sym x)) in
-          subst (λ (z : WriteSet). SetIs z (writes (expressionAt rows r))) (sym (other-set r k)) (m .row-set r (omega arith) b)
+          subst (λ (z : WriteSet). SetIs S z (writes (expressionAt rows r))) (sym (other-set r k)) (m .row-set r (omega arith) b)
 
-pub sets-none : {rows : List ℤ} {sets : List ℕ} → Source rows → setWidth * rowCount rows ≤ length sets → SetsFrom rows sets (rowCount rows)
-sets-none s h = record { source = s; room = h; row-set = λ row l b. absurd (omega arith) }
+pub sets-none : {S : ℕ} {rows : List ℤ} {sets : List ℕ} → Source rows → NamesFrom S rows → setWidth * rowCount rows ≤ length sets → SetsFrom S rows sets (rowCount rows)
+sets-none s n h = record { source = s; names = n; room = h; row-set = λ row l b. absurd (omega arith) }
 
 -- ---- which values are copied
 
@@ -219,14 +246,14 @@ copied-word : (i : ℕ) (W : ℕ → Bool) → pick (W i) 1 0 ≡ copied (word i
 copied-word i W = by-cases (W i) (λ e. rw e) (λ e. rw e)
 
 -- the set at a link, as what the expression there writes
-pub part-set : {rows : List ℤ} {sets : List ℕ} (link i : ℕ) → Sets rows sets → link < rowCount rows → i < mostVariables → member (setAt sets link) i ≡ partWrites (partAt rows link) i
-part-set zero i m h l = member-nothing i
-part-set (suc link) i m h l = m .row-set (suc link) (omega arith) h .is i l
+pub part-set : {S : ℕ} {rows : List ℤ} {sets : List ℕ} (link i : ℕ) → Sets S rows sets → link < rowCount rows → Named S i → member S (setAt sets link) i ≡ partWrites (partAt rows link) i
+part-set zero i m h n = set-member (λ j. false) i (set-nothing refl) n
+part-set {rows = rows} (suc link) i m h n = set-member (writes (expressionAt rows (suc link))) i (m .row-set (suc link) (omega arith) h) n
 
-pub copied-variable : {rows : List ℤ} {sets : List ℕ} {link i r : ℕ} {h : Atom} → Sets rows sets → link < rowCount rows → i < mostVariables → word i ≡ h → r ≡ pick (member (setAt sets link) i) 1 0 → r ≡ copied h (partWrites (partAt rows link))
-copied-variable {rows} {sets} {link} {i} m h l e w =
+pub copied-variable : {S : ℕ} {rows : List ℤ} {sets : List ℕ} {link i r : ℕ} {h : Atom} → Sets S rows sets → link < rowCount rows → Name rows i → word i ≡ h → r ≡ pick (member S (setAt sets link) i) 1 0 → r ≡ copied h (partWrites (partAt rows link))
+copied-variable {S} {rows} {sets} {link} {i} m h n e w =
     let W = partWrites (partAt rows link) in
-    w ∙ ap (λ (b : Bool). pick b 1 0) (part-set link i m h l) ∙ copied-word i W ∙ ap (λ (x : Atom). copied x W) e
+    w ∙ ap (λ (b : Bool). pick b 1 0) (part-set link i m h (n .named S (m .names))) ∙ copied-word i W ∙ ap (λ (x : Atom). copied x W) e
 
 index-writes : (p : Place) (i : ℕ) → partWrites (indexOf p) i ≡ indexWrites p i
 unfolding indexWrites

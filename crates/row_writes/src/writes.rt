@@ -1,4 +1,5 @@
-// The write sets of the rows: which variables the expression at a row can write, found by a pass over the rows from the last to the first.
+// The write sets of the rows: which variables and declared words the expression at a row can write, found by a pass over the rows from the
+// last to the first. The declared words begin at `store`.
 use shapes::ChoiceShape;
 use shapes::ExpressionShape;
 use shapes::OperationShape;
@@ -16,12 +17,12 @@ ghost use lib.ListN.{length, take, drop};
 ghost use Rattle.words.specs.Table.{rowCount};
 ghost use Rattle.language.specs.Decode.{placeOf, expressionAt};
 ghost use Rattle.language.specs.Writes.{writes};
-ghost use Rattle.shapes.specs.Source.{Source, ExpressionAt};
+ghost use Rattle.shapes.specs.Source.{NamesFrom, Source, ExpressionAt};
 ghost use Rattle.shapes.specs.declared.ExpressionShape.the-variants.{Read, Operation, Choice};
 ghost use Rattle.row_writes.specs.WriteSets.{SetIs, placeWrites, setWidth, setAt, SetHeld, setWords, SetsFrom, Sets};
 
 // The words of a row in the table of write sets.
-const SET_WIDTH: usize = 4;
+const SET_WIDTH: usize = 5;
 
 // The set of the row that a link leads to; an absent link writes nothing.
 pub fn set_at(sets: &[u64], link: usize) -> WriteSet
@@ -37,24 +38,25 @@ pub fn set_at(sets: &[u64], link: usize) -> WriteSet
         word1: sets[at + 1],
         word2: sets[at + 2],
         word3: sets[at + 3],
+        word4: sets[at + 4],
     }
 }
 
 // What an update of the place at a row writes.
-fn place_writes(rows: &[i32], sets: &[u64], row: usize) -> WriteSet
-    requires { ⌜ SetsFrom (now rows) (now sets) (row + 1) × (row < rowCount (now rows)) ⌝ }
-    ensures { λ r. ⌜ SetIs r (placeWrites (placeOf (expressionAt (now (rows .entry)) row))) ⌝ }
+fn place_writes(store: usize, rows: &[i32], sets: &[u64], row: usize) -> WriteSet
+    requires { ⌜ SetsFrom store (now rows) (now sets) (row + 1) × (row < rowCount (now rows)) ⌝ }
+    ensures { λ r. ⌜ SetIs store r (placeWrites (placeOf (expressionAt (now (rows .entry)) row))) ⌝ }
 {
     let place = place_at(rows, row);
     match place {
-        PlaceShape::Variable(i) => single(i),
+        PlaceShape::Variable(i) => single(store, i),
         PlaceShape::Element(_, index) => set_at(sets, index),
     }
 }
 
-fn read_writes(rows: &[i32], sets: &[u64], row: usize, place: PlaceShape) -> WriteSet
-    requires { ⌜ SetsFrom (now rows) (now sets) (row + 1) × ExpressionAt (now rows) row (Read place) ⌝ }
-    ensures { λ r. ⌜ SetIs r (writes (expressionAt (now (rows .entry)) row)) ⌝ }
+fn read_writes(store: usize, rows: &[i32], sets: &[u64], row: usize, place: PlaceShape) -> WriteSet
+    requires { ⌜ SetsFrom store (now rows) (now sets) (row + 1) × ExpressionAt (now rows) row (Read place) ⌝ }
+    ensures { λ r. ⌜ SetIs store r (writes (expressionAt (now (rows .entry)) row)) ⌝ }
 {
     match place {
         PlaceShape::Variable(_) => nothing(),
@@ -62,27 +64,41 @@ fn read_writes(rows: &[i32], sets: &[u64], row: usize, place: PlaceShape) -> Wri
     }
 }
 
-fn operation_writes(rows: &[i32], sets: &[u64], row: usize, operation: OperationShape) -> WriteSet
-    requires { ⌜ SetsFrom (now rows) (now sets) (row + 1) × ExpressionAt (now rows) row (Operation operation) ⌝ }
-    ensures { λ r. ⌜ SetIs r (writes (expressionAt (now (rows .entry)) row)) ⌝ }
+fn operation_writes(
+    store: usize,
+    rows: &[i32],
+    sets: &[u64],
+    row: usize,
+    operation: OperationShape,
+) -> WriteSet
+    requires { ⌜ SetsFrom store (now rows) (now sets) (row + 1) × ExpressionAt (now rows) row (Operation operation) ⌝ }
+    ensures { λ r. ⌜ SetIs store r (writes (expressionAt (now (rows .entry)) row)) ⌝ }
 {
     match operation {
         OperationShape::Minus(a) => set_at(sets, a),
         OperationShape::Not(a) => set_at(sets, a),
         OperationShape::Binary(_, a, b) => join(set_at(sets, a), set_at(sets, b)),
         OperationShape::Comma(a, b) => join(set_at(sets, a), set_at(sets, b)),
-        OperationShape::Assign(place, e) => join(place_writes(rows, sets, place), set_at(sets, e)),
-        OperationShape::Compound(_, place, e) => {
-            join(place_writes(rows, sets, place), set_at(sets, e))
+        OperationShape::Assign(place, e) => {
+            join(place_writes(store, rows, sets, place), set_at(sets, e))
         }
-        OperationShape::Prefix(_, place) => place_writes(rows, sets, place),
-        OperationShape::Postfix(_, place) => place_writes(rows, sets, place),
+        OperationShape::Compound(_, place, e) => {
+            join(place_writes(store, rows, sets, place), set_at(sets, e))
+        }
+        OperationShape::Prefix(_, place) => place_writes(store, rows, sets, place),
+        OperationShape::Postfix(_, place) => place_writes(store, rows, sets, place),
     }
 }
 
-fn choice_writes(rows: &[i32], sets: &[u64], row: usize, choice: ChoiceShape) -> WriteSet
-    requires { ⌜ SetsFrom (now rows) (now sets) (row + 1) × ExpressionAt (now rows) row (Choice choice) ⌝ }
-    ensures { λ r. ⌜ SetIs r (writes (expressionAt (now (rows .entry)) row)) ⌝ }
+fn choice_writes(
+    store: usize,
+    rows: &[i32],
+    sets: &[u64],
+    row: usize,
+    choice: ChoiceShape,
+) -> WriteSet
+    requires { ⌜ SetsFrom store (now rows) (now sets) (row + 1) × ExpressionAt (now rows) row (Choice choice) ⌝ }
+    ensures { λ r. ⌜ SetIs store r (writes (expressionAt (now (rows .entry)) row)) ⌝ }
 {
     match choice {
         ChoiceShape::And(a, b) => join(set_at(sets, a), set_at(sets, b)),
@@ -95,16 +111,18 @@ fn choice_writes(rows: &[i32], sets: &[u64], row: usize, choice: ChoiceShape) ->
 }
 
 // What the expression at a row writes, from what its operands write.
-fn writes_at(rows: &[i32], sets: &[u64], row: usize) -> WriteSet
-    requires { ⌜ SetsFrom (now rows) (now sets) (row + 1) × (row < rowCount (now rows)) ⌝ }
-    ensures { λ r. ⌜ SetIs r (writes (expressionAt (now (rows .entry)) row)) ⌝ }
+fn writes_at(store: usize, rows: &[i32], sets: &[u64], row: usize) -> WriteSet
+    requires { ⌜ SetsFrom store (now rows) (now sets) (row + 1) × (row < rowCount (now rows)) ⌝ }
+    ensures { λ r. ⌜ SetIs store r (writes (expressionAt (now (rows .entry)) row)) ⌝ }
 {
     let shape = expression_at(rows, row);
     match shape {
         ExpressionShape::Number(_) => nothing(),
-        ExpressionShape::Read(place) => read_writes(rows, sets, row, place),
-        ExpressionShape::Operation(operation) => operation_writes(rows, sets, row, operation),
-        ExpressionShape::Choice(choice) => choice_writes(rows, sets, row, choice),
+        ExpressionShape::Read(place) => read_writes(store, rows, sets, row, place),
+        ExpressionShape::Operation(operation) => {
+            operation_writes(store, rows, sets, row, operation)
+        }
+        ExpressionShape::Choice(choice) => choice_writes(store, rows, sets, row, choice),
     }
 }
 
@@ -118,24 +136,25 @@ fn put_set(sets: &mut [u64], row: usize, set: WriteSet)
     sets[at + 1] = set.word1;
     sets[at + 2] = set.word2;
     sets[at + 3] = set.word3;
+    sets[at + 4] = set.word4;
 }
 
-fn fill_set(rows: &[i32], sets: &mut [u64], row: usize)
-    requires { ⌜ SetsFrom (now rows) (now sets) (row + 1) × (row < rowCount (now rows)) ⌝ }
-    ensures { λ _. ⌜ SetsFrom (now (rows .entry)) (now (sets .exit)) row ⌝ }
+fn fill_set(store: usize, rows: &[i32], sets: &mut [u64], row: usize)
+    requires { ⌜ SetsFrom store (now rows) (now sets) (row + 1) × (row < rowCount (now rows)) ⌝ }
+    ensures { λ _. ⌜ SetsFrom store (now (rows .entry)) (now (sets .exit)) row ⌝ }
 {
-    let set = writes_at(rows, sets, row);
+    let set = writes_at(store, rows, sets, row);
     put_set(sets, row, set);
 }
 
 // Fills the table of write sets.
-pub fn fill_sets(rows: &[i32], sets: &mut [u64])
-    requires { ⌜ Source (now rows) × (setWidth * rowCount (now rows) ≤ length (now sets)) ⌝ }
-    ensures { λ _. ⌜ Sets (now (rows .entry)) (now (sets .exit)) ⌝ }
+pub fn fill_sets(store: usize, rows: &[i32], sets: &mut [u64])
+    requires { ⌜ Source (now rows) × NamesFrom store (now rows) × (setWidth * rowCount (now rows) ≤ length (now sets)) ⌝ }
+    ensures { λ _. ⌜ Sets store (now (rows .entry)) (now (sets .exit)) ⌝ }
 {
     let mut row = rows.len() / 6;
     while row > 0 {
         row -= 1;
-        fill_set(rows, sets, row);
+        fill_set(store, rows, sets, row);
     }
 }

@@ -7,13 +7,16 @@ use lib.IntN.{ℤ}
 use Rattle.words.specs.Table.{rowCount, wordAt, numberAt}
 use Rattle.words.specs.Kinds.{kindAt}
 use Rattle.words.specs.declared.Kind.{Kind}
+use Rattle.words.specs.declared.Kind.the-variants.{OfExpression, OfStatement}
 use Rattle.words.specs.declared.ExpressionKind.{ExpressionKind}
+use Rattle.words.specs.declared.ExpressionKind.the-variants.{Variable}
 use Rattle.words.specs.declared.StatementKind.{StatementKind}
+use Rattle.words.specs.declared.StatementKind.the-variants.{Declare}
 use Rattle.words.specs.declared.MarkKind.{MarkKind}
 use Rattle.words.specs.declared.MemberKind.{MemberKind}
 use Rattle.words.specs.declared.MemberKind.the-variants.{Arm}
 use Rattle.shapes.specs.Shapes.{expressionShape, statementShape, markShape, expressionAs, statementAs, markAs, memberAs, shapeAs, shapeAt, expressionIn, placeIn, statementIn, itemIn, armIn, ItemAt, ArmAt}
-use Rattle.shapes.specs.Source.{Source, PlaceAt, ExpressionAt, StatementAt}
+use Rattle.shapes.specs.Source.{Source, Name, PlaceAt, ExpressionAt, StatementAt}
 use Rattle.shapes.specs.ShapeLaws.{expression-found, statement-found, item-found, arm-found, place-in}
 use Rattle.shapes.specs.declared.PlaceShape.{PlaceShape}
 use Rattle.shapes.specs.declared.ExpressionShape.{ExpressionShape}
@@ -46,11 +49,17 @@ module _ (rows : List ℤ) (row : ℕ) where
   shape-arm e g = ap (λ (x : Kind). shapeAs rows row x) (sym g ∙ e)
 
 module _ {rows : List ℤ} {row : ℕ} (source : Source rows) (inside : row < rowCount rows) where
+  variable-named : kindAt rows row ≡ OfExpression Variable → Name rows (numberAt rows row 1)
+  variable-named k = record { low = omega (arith, source .names .small, source .names .variables row inside k .within); named = λ S n. n .variables row inside k }
+
+  declared-named : kindAt rows row ≡ OfStatement Declare → Name rows (numberAt rows row 1)
+  declared-named k = record { low = omega (arith, source .names .small, source .names .declared row inside k .within); named = λ S n. n .declared row inside k }
+
   pub expression-read : {shape : Shape} {e : ExpressionShape} → shape ≡ shapeAt rows row → e ≡ expressionIn shape → ExpressionAt rows row e
-  expression-read {shape} {e} h g = subst (λ (x : ExpressionShape). ExpressionAt rows row x) (sym (g ∙ ap expressionIn h)) (expression-found (source .sound) inside (source .few-variables row inside) (source .few-arrays))
+  expression-read {shape} {e} h g = subst (λ (x : ExpressionShape). ExpressionAt rows row x) (sym (g ∙ ap expressionIn h)) (expression-found (source .sound) inside (Name rows) variable-named (source .few-arrays))
 
   pub statement-read : {shape : Shape} {s : StatementShape} → shape ≡ shapeAt rows row → s ≡ statementIn shape → StatementAt rows row s
-  statement-read {shape} {s} h g = subst (λ (x : StatementShape). StatementAt rows row x) (sym (g ∙ ap statementIn h)) (statement-found (source .sound) inside (source .few-declared row inside))
+  statement-read {shape} {s} h g = subst (λ (x : StatementShape). StatementAt rows row x) (sym (g ∙ ap statementIn h)) (statement-found (source .sound) inside (Name rows) declared-named)
 
   pub item-read : {shape : Shape} {i : Item} → shape ≡ shapeAt rows row → i ≡ itemIn shape → ItemAt rows row (numberAt rows row 5) i
   item-read {shape} {i} h g = subst (λ (x : Item). ItemAt rows row (numberAt rows row 5) x) (sym (g ∙ ap itemIn h)) (item-found (source .sound) inside)
@@ -58,5 +67,9 @@ module _ {rows : List ℤ} {row : ℕ} (source : Source rows) (inside : row < ro
   pub arm-read : {shape : Shape} {i : ArmShape} → shape ≡ shapeAt rows row → i ≡ armIn shape → ArmAt rows row (numberAt rows row 5) i
   arm-read {shape} {i} h g = subst (λ (x : ArmShape). ArmAt rows row (numberAt rows row 5) x) (sym (g ∙ ap armIn h)) (arm-found (source .sound) inside)
 
+-- what a row counts as that is no place
+first-name : {rows : List ℤ} → Name rows 0
+first-name = record { low = omega arith; named = λ S n. record { within = omega arith; variable = λ h. omega arith } }
+
 pub place-read : {rows : List ℤ} {row : ℕ} {e : ExpressionShape} {p : PlaceShape} → ExpressionAt rows row e → p ≡ placeIn e → PlaceAt rows row p
-place-read {rows} {row} {e} found g = subst (λ (x : PlaceShape). PlaceAt rows row x) (sym g) (place-in e (omega arith) found)
+place-read {rows} {row} {e} found g = subst (λ (x : PlaceShape). PlaceAt rows row x) (sym g) (place-in e first-name found)

@@ -63,16 +63,16 @@ module _ {rows : List ℤ} {L : Layout} {words : ℕ} (sound : Sound rows L word
   next : OptionalOnward rows row (f 5)
   next p = onward 5 (behind sound inside p)
 
-  -- ---- expressions: `variables` bounds the numbers of variables, `arrays` those of arrays
+  -- ---- expressions: the numbers of variables are names, `arrays` bounds those of arrays
 
-  module _ {variables arrays : ℕ} (few-variables : kindAt rows row ≡ group.OfExpression Variable → f 1 < variables) (few-arrays : length (L .lengths) ≤ arrays) where
+  module _ (name : ℕ → Type 0) {arrays : ℕ} (names : kindAt rows row ≡ group.OfExpression Variable → name (f 1)) (few-arrays : length (L .lengths) ≤ arrays) where
     abbrev E : ExpressionShape → Type 0
-    E s = ExpressionWithin rows row variables arrays s
+    E s = ExpressionWithin rows row name arrays s
 
     expression-of : (kind : ExpressionKind) → kindAt rows row ≡ group.OfExpression kind → E (expressionAs rows row kind)
     unfolding sortIn kindRow expressionFields isRequired
     expression-of Constant k = record { is = at-constant rows whole row k; onward = tt }
-    expression-of Variable k = record { is = at-variable rows whole row k; onward = few-variables k }
+    expression-of Variable k = record { is = at-variable rows whole row k; onward = names k }
     expression-of Element k =
         let b = required k 2 (omega arith) (omega arith) refl in
         record { is = at-element rows whole row k (b .later); onward = (omega (arith, field-of sound inside k 1 (omega arith) (omega arith) .names-array refl), b) }
@@ -122,11 +122,11 @@ module _ {rows : List ℤ} {L : Layout} {words : ℕ} (sound : Sound rows L word
         go (group.OfMember Arm) k = record { is = rw (expression-at rows whole row, k); onward = tt }
         go group.Other k = record { is = rw (expression-at rows whole row, k); onward = tt }
 
-  -- ---- statements: `variables` bounds the words of declarations
+  -- ---- statements: the words of declarations are names
 
-  module _ {variables : ℕ} (few-declared : kindAt rows row ≡ group.OfStatement Declare → f 1 < variables) where
+  module _ (name : ℕ → Type 0) (declares : kindAt rows row ≡ group.OfStatement Declare → name (f 1)) where
     abbrev S : StatementShape → Type 0
-    S s = StatementWithin rows row variables s
+    S s = StatementWithin rows row name s
 
     if-of : kindAt rows row ≡ group.OfStatement If → (n : ℕ) → f 3 ≡ n → S (statement.If (f 1) (f 2) (f 3))
     unfolding sortIn kindRow statementFields isRequired isLink
@@ -170,7 +170,7 @@ module _ {rows : List ℤ} {L : Layout} {words : ℕ} (sound : Sound rows L word
     statement-of GuardedIf k = let a = optional-link k 1 (omega arith) (omega arith) refl in record { is = at-guardedIf rows whole row k (forward 1 a); onward = a }
     statement-of GuardedDo k = let a = optional-link k 1 (omega arith) (omega arith) refl in record { is = at-guardedDo rows whole row k (forward 1 a); onward = a }
     statement-of Abort k = record { is = at-abort rows whole row k; onward = tt }
-    statement-of Declare k = let b = required k 2 (omega arith) (omega arith) refl in record { is = at-declare rows whole row k (b .later); onward = (few-declared k, b) }
+    statement-of Declare k = let b = required k 2 (omega arith) (omega arith) refl in record { is = at-declare rows whole row k (b .later); onward = (declares k, b) }
 
     -- What a row is as a statement; empty where it is none.
     pub statement-found : S (statementIn (shapeAt rows row))
@@ -238,7 +238,7 @@ no-place-chosen rows (choice.Or a b) = refl
 no-place-chosen rows (choice.Conditional c a b) = refl
 
 -- What a row is as a place; variable 0 where it is none.
-pub place-in : {rows : List ℤ} {row variables arrays : ℕ} (s : ExpressionShape) → 0 < variables → ExpressionWithin rows row variables arrays s → PlaceWithin rows row variables arrays (placeIn s)
+pub place-in : {rows : List ℤ} {row : ℕ} {name : ℕ → Type 0} {arrays : ℕ} (s : ExpressionShape) → name 0 → ExpressionWithin rows row name arrays s → PlaceWithin rows row name arrays (placeIn s)
 place-in (Number v) some found = record { is = ap placeOf (found .is); onward = some }
 place-in (Read p) some found = record { is = ap placeOf (found .is); onward = found .onward }
 place-in {rows} (Operation o) some found = record { is = ap placeOf (found .is) ∙ no-place rows o; onward = some }
@@ -246,14 +246,14 @@ place-in {rows} (Choice c) some found = record { is = ap placeOf (found .is) ∙
 
 -- ---- what a match tells
 
-pub expressed : {rows : List ℤ} {row variables arrays : ℕ} {s t : ExpressionShape} → ExpressionWithin rows row variables arrays s → s ≡ t → ExpressionWithin rows row variables arrays t
-expressed {rows} {row} {variables} {arrays} found e = subst (λ (s : ExpressionShape). ExpressionWithin rows row variables arrays s) e found
+pub expressed : {rows : List ℤ} {row : ℕ} {name : ℕ → Type 0} {arrays : ℕ} {s t : ExpressionShape} → ExpressionWithin rows row name arrays s → s ≡ t → ExpressionWithin rows row name arrays t
+expressed {rows} {row} {name} {arrays} found e = subst (λ (s : ExpressionShape). ExpressionWithin rows row name arrays s) e found
 
-pub placed : {rows : List ℤ} {row variables arrays : ℕ} {p q : PlaceShape} → PlaceWithin rows row variables arrays p → p ≡ q → PlaceWithin rows row variables arrays q
-placed {rows} {row} {variables} {arrays} found e = subst (λ (p : PlaceShape). PlaceWithin rows row variables arrays p) e found
+pub placed : {rows : List ℤ} {row : ℕ} {name : ℕ → Type 0} {arrays : ℕ} {p q : PlaceShape} → PlaceWithin rows row name arrays p → p ≡ q → PlaceWithin rows row name arrays q
+placed {rows} {row} {name} {arrays} found e = subst (λ (p : PlaceShape). PlaceWithin rows row name arrays p) e found
 
-pub stated : {rows : List ℤ} {row variables : ℕ} {s t : StatementShape} → StatementWithin rows row variables s → s ≡ t → StatementWithin rows row variables t
-stated {rows} {row} {variables} found e = subst (λ (s : StatementShape). StatementWithin rows row variables s) e found
+pub stated : {rows : List ℤ} {row : ℕ} {name : ℕ → Type 0} {s t : StatementShape} → StatementWithin rows row name s → s ≡ t → StatementWithin rows row name t
+stated {rows} {row} {name} found e = subst (λ (s : StatementShape). StatementWithin rows row name s) e found
 
 pub itemed : {rows : List ℤ} {row next : ℕ} {i j : Item} → ItemAt rows row next i → i ≡ j → ItemAt rows row next j
 itemed {rows} {row} {next} found e = subst (λ (i : Item). ItemAt rows row next i) e found
@@ -266,7 +266,7 @@ pub at-next : {rows : List ℤ} {row next read : ℕ} {i : Item} → read ≡ ne
 at-next {rows} {row} {next} {read} {i} e found = subst (λ (n : ℕ). ItemAt rows row n i) (sym e) found
 
 -- a measure of the statement at a row is that of its shape
-pub by-statement : {rows : List ℤ} {row variables : ℕ} {s : StatementShape} {x : ℕ} (g : Statement → ℕ) → StatementWithin rows row variables s → x ≡ g (statementTree rows s) → x ≡ g (statementAt rows row)
+pub by-statement : {rows : List ℤ} {row : ℕ} {name : ℕ → Type 0} {s : StatementShape} {x : ℕ} (g : Statement → ℕ) → StatementWithin rows row name s → x ≡ g (statementTree rows s) → x ≡ g (statementAt rows row)
 by-statement g found e = e ∙ sym (ap g (found .is))
 
 pub optional : {rows : List ℤ} {row link : ℕ} → Onward rows row link → OptionalOnward rows row link

@@ -214,10 +214,10 @@ module _ (rows : List ℤ) where
   module _ (row : ℕ) where
     -- ---- the links lead on
 
-    -- Numbers of variables are below `variables`, those of arrays below `arrays`.
-    abbrev pub PlaceOnward : ℕ → ℕ → PlaceShape → Type 0
-    PlaceOnward variables arrays (Variable i) = i < variables
-    PlaceOnward variables arrays (Element array index) = (array < arrays) × Onward rows row index
+    -- Numbers of variables are names, those of arrays below `arrays`.
+    abbrev pub PlaceOnward : (ℕ → Type 0) → ℕ → PlaceShape → Type 0
+    PlaceOnward name arrays (Variable i) = name i
+    PlaceOnward name arrays (Element array index) = (array < arrays) × Onward rows row index
 
     abbrev pub OperationOnward : OperationShape → Type 0
     OperationOnward (Minus a) = Onward rows row a
@@ -234,28 +234,28 @@ module _ (rows : List ℤ) where
     ChoiceOnward (Or a b) = Onward rows row a × Onward rows row b
     ChoiceOnward (Conditional c a b) = Onward rows row c × Onward rows row a × Onward rows row b
 
-    abbrev pub ExpressionOnward : ℕ → ℕ → ExpressionShape → Type 0
-    ExpressionOnward variables arrays (Number v) = Unit {0}
-    ExpressionOnward variables arrays (Read p) = PlaceOnward variables arrays p
-    ExpressionOnward variables arrays (Operation o) = OperationOnward o
-    ExpressionOnward variables arrays (Choice c) = ChoiceOnward c
+    abbrev pub ExpressionOnward : (ℕ → Type 0) → ℕ → ExpressionShape → Type 0
+    ExpressionOnward name arrays (Number v) = Unit {0}
+    ExpressionOnward name arrays (Read p) = PlaceOnward name arrays p
+    ExpressionOnward name arrays (Operation o) = OperationOnward o
+    ExpressionOnward name arrays (Choice c) = ChoiceOnward c
 
-    abbrev pub StatementOnward : ℕ → StatementShape → Type 0
-    StatementOnward variables Empty = Unit {0}
-    StatementOnward variables (Express e) = Onward rows row e
-    StatementOnward variables (Block list) = OptionalOnward rows row list
-    StatementOnward variables (If e onTrue onFalse) = Onward rows row e × Onward rows row onTrue × OptionalOnward rows row onFalse
-    StatementOnward variables (While e body) = Onward rows row e × Onward rows row body
-    StatementOnward variables (Do body e) = Onward rows row body × Onward rows row e
-    StatementOnward variables (For first test action body) = OptionalOnward rows row first × OptionalOnward rows row test × OptionalOnward rows row action × Onward rows row body
-    StatementOnward variables (Switch e list) = Onward rows row e × OptionalOnward rows row list
-    StatementOnward variables Break = Unit {0}
-    StatementOnward variables Continue = Unit {0}
-    StatementOnward variables (Goto l) = Unit {0}
-    StatementOnward variables (GuardedIf arms) = OptionalOnward rows row arms
-    StatementOnward variables (GuardedDo arms) = OptionalOnward rows row arms
-    StatementOnward variables Abort = Unit {0}
-    StatementOnward variables (Declare i e) = (i < variables) × Onward rows row e
+    abbrev pub StatementOnward : (ℕ → Type 0) → StatementShape → Type 0
+    StatementOnward name Empty = Unit {0}
+    StatementOnward name (Express e) = Onward rows row e
+    StatementOnward name (Block list) = OptionalOnward rows row list
+    StatementOnward name (If e onTrue onFalse) = Onward rows row e × Onward rows row onTrue × OptionalOnward rows row onFalse
+    StatementOnward name (While e body) = Onward rows row e × Onward rows row body
+    StatementOnward name (Do body e) = Onward rows row body × Onward rows row e
+    StatementOnward name (For first test action body) = OptionalOnward rows row first × OptionalOnward rows row test × OptionalOnward rows row action × Onward rows row body
+    StatementOnward name (Switch e list) = Onward rows row e × OptionalOnward rows row list
+    StatementOnward name Break = Unit {0}
+    StatementOnward name Continue = Unit {0}
+    StatementOnward name (Goto l) = Unit {0}
+    StatementOnward name (GuardedIf arms) = OptionalOnward rows row arms
+    StatementOnward name (GuardedDo arms) = OptionalOnward rows row arms
+    StatementOnward name Abort = Unit {0}
+    StatementOnward name (Declare i e) = name i × Onward rows row e
 
     abbrev pub ArmOnward : ArmShape → Type 0
     ArmOnward (Arm guard body) = Onward rows row guard × Onward rows row body
@@ -263,17 +263,17 @@ module _ (rows : List ℤ) where
 
     -- ---- what stands at a row
 
-    pub record PlaceWithin (variables arrays : ℕ) (place : PlaceShape) : Type 0 where
+    pub record PlaceWithin (name : ℕ → Type 0) (arrays : ℕ) (place : PlaceShape) : Type 0 where
       pub is : placeOf (expressionAt rows row) ≡ placeTree place
-      pub onward : PlaceOnward variables arrays place
+      pub onward : PlaceOnward name arrays place
 
-    pub record ExpressionWithin (variables arrays : ℕ) (shape : ExpressionShape) : Type 0 where
+    pub record ExpressionWithin (name : ℕ → Type 0) (arrays : ℕ) (shape : ExpressionShape) : Type 0 where
       pub is : expressionAt rows row ≡ expressionTree shape
-      pub onward : ExpressionOnward variables arrays shape
+      pub onward : ExpressionOnward name arrays shape
 
-    pub record StatementWithin (variables : ℕ) (shape : StatementShape) : Type 0 where
+    pub record StatementWithin (name : ℕ → Type 0) (shape : StatementShape) : Type 0 where
       pub is : statementAt rows row ≡ statementTree shape
-      pub onward : StatementOnward variables shape
+      pub onward : StatementOnward name shape
 
     -- `next` is the row behind.
     pub record ItemAt (next : ℕ) (item : Item) : Type 0 where

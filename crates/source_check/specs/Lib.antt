@@ -10,6 +10,8 @@ pub mod Lower
 -- ---- laws
 -- Laws of places: cause 7 is document 01's sentence on break, continue, case and default, and Change 11's on declarations.
 pub mod PlaceLaws
+-- Carried places: in another table that holds a table's rows with their kinds and links, as the resolved one does.
+pub mod Carried
 -- Laws of the lower row: a search for either of two properties.
 pub mod LowerLaws
 -- Laws of declarations: a legal source program has at most 64.

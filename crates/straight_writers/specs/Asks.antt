@@ -14,7 +14,7 @@ use Rattle.translation.specs.TranslateSize.{indexRows as indexRowsOf, storeRows
 use Rattle.translation.specs.HeldCode.{heldBy}
 use Rattle.measure_table.specs.Parts.{UseFits}
 use Rattle.measure_table.specs.Measures.{Measured}
-use Rattle.shapes.specs.Source.{mostVariables, mostArrays}
+use Rattle.shapes.specs.Source.{mostWords, mostArrays}
 use Rattle.shapes.specs.Shapes.{placeTree as placeShapeTree}
 use Rattle.shapes.specs.declared.PlaceShape.{PlaceShape}
 use Rattle.shapes.specs.declared.PlaceShape.the-variants.{Variable as VariableShape, Element as ElementShape}
@@ -55,7 +55,7 @@ pub record HeldAt (S : ℕ) (rows : List ℤ) (row copies t : ℕ) (x : Atom) : 
 
 -- The numbers and the index row of a place are inside.
 abbrev pub PlaceInside : List ℤ → PlaceShape → Type 0
-PlaceInside rows (VariableShape i) = i < mostVariables
+PlaceInside rows (VariableShape i) = i < mostWords
 PlaceInside rows (ElementShape array index) = (array < mostArrays) × (index < rowCount rows)
 
 -- A place whose index is held at level t.
@@ -88,7 +88,7 @@ pub record AssignmentAsks (rows : List ℤ) (table : List ℕ) (S place value co
 
 pub record VariableAsks (rows : List ℤ) (table : List ℕ) (S i value level base words : ℕ) : Type 0 where
   pub writing : Writing rows table S
-  pub low : i < mostVariables
+  pub low : i < mostWords
   pub value-inside : value < rowCount rows
   pub level-low : level ≤ 2048
   pub room : Room (storeRows (variable i) (direct (expressionAt rows value))) base words

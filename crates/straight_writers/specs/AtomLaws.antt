@@ -18,7 +18,7 @@ use Rattle.translation.specs.Translate.{Atom as Held, held, atomOf, taken, temp
 use Rattle.translation.specs.TranslateSize.{updateRows, postfixRows, copied}
 use Rattle.translation.specs.HeldCode.{taken-held, held-variable as held-no-index, heldBy, held-by, holdBy}
 use Rattle.shapes.specs.Shapes.{choiceTree, expressionTree, PlaceOnward}
-use Rattle.shapes.specs.Source.{mostVariables, mostArrays, ExpressionAt, PlaceAt as ShapePlaceAt}
+use Rattle.shapes.specs.Source.{Name, mostArrays, ExpressionAt, PlaceAt as ShapePlaceAt}
 use Rattle.measure_table.specs.Parts.{UseFits, Holding}
 use Rattle.measure_table.specs.declared.Holder.the-variants.{Number as NumberHolder, Variable as VariableHolder, Temporary}
 use Rattle.shapes.specs.declared.PlaceShape.{PlaceShape}
@@ -38,13 +38,13 @@ use Rattle.leaves.specs.declared.KernelPlace.the-variants.{Variable as Variable
 
 -- The atom of a value, by what holds it.
 module _ {S t : ℕ} {rows : List ℤ} {row : ℕ} where
-  pub atom-number : {z v : ℤ} → Holding (atomOf (expressionAt rows row)) (NumberHolder v) → z ≡ v → AtomAt S rows row t (Constant z)
+  pub atom-number : {z v : ℤ} → Holding rows (atomOf (expressionAt rows row)) (NumberHolder v) → z ≡ v → AtomAt S rows row t (Constant z)
   atom-number a e = record { is = ap constant e ∙ ap (atom S t) (a .is); fits = tt }
 
-  pub atom-variable : {i : ℕ} → Holding (atomOf (expressionAt rows row)) (VariableHolder i) → AtomAt S rows row t (Variable i)
-  atom-variable a = record { is = ap (atom S t) (a .is); fits = omega (arith, a .fits) }
+  pub atom-variable : {i : ℕ} → Holding rows (atomOf (expressionAt rows row)) (VariableHolder i) → AtomAt S rows row t (Variable i)
+  atom-variable a = record { is = ap (atom S t) (a .is); fits = omega (arith, a .fits .low) }
 
-  pub atom-temporary : Holding (atomOf (expressionAt rows row)) Temporary → S + t < 65536 → AtomAt S rows row t (Variable (S + t))
+  pub atom-temporary : Holding rows (atomOf (expressionAt rows row)) Temporary → S + t < 65536 → AtomAt S rows row t (Variable (S + t))
   atom-temporary a h = record { is = ap (atom S t) (a .is); fits = h }
 
 -- The word where a value goes, by its use.
@@ -90,8 +90,8 @@ atom-rows (Variable n) = refl
 
 -- ---- places
 
-pub onward-inside : (rows : List ℤ) (row : ℕ) (p : PlaceShape) → PlaceOnward rows row mostVariables mostArrays p → PlaceInside rows p
-onward-inside rows row (VariableShape i) f = f
+pub onward-inside : (rows : List ℤ) (row : ℕ) (p : PlaceShape) → PlaceOnward rows row (Name rows) mostArrays p → PlaceInside rows p
+onward-inside rows row (VariableShape i) f = f .low
 onward-inside rows row (ElementShape array index) f = (f .0, f .1 .inside)
 
 pub place-inside : {rows : List ℤ} {row : ℕ} (p : PlaceShape) → ShapePlaceAt rows row p → PlaceInside rows p

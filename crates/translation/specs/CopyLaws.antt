@@ -2,7 +2,7 @@
 -- adds up.
 use mathlib.Core.Path.{_≡_, refl, _∙_}
 use mathlib.Core.Bool.{Bool, true, false, not, _&&_, and-true, and-false}
-use Prim.Native.Nat.{ℕ, _+_, _*_, _-_, _≤_}
+use Prim.Native.Nat.{ℕ, _+_, _*_, _-_}
 use native.Mathlib.Omega.{arith}
 use lib.Dec.{leb}
 use lib.IntN.{pos}
@@ -71,7 +71,7 @@ landed-waiting (element array d) e = waiting-copied e (writes d)
 
 -- ---- the code's copies
 
-module _ (L : Layout) (S : ℕ) (inside : L .variables ≤ S) where
+module _ (L : Layout) (S : ℕ) where
   copies-append : (xs ys : Items) → copies S (xs ⧺ ys) ≡ copies S xs + copies S ys
   unfolding copies _⧺_
   copies-append none ys = omega arith
@@ -82,9 +82,9 @@ module _ (L : Layout) (S : ℕ) (inside : L .variables ≤ S) where
   a-temporary t = le-leb S (S + t) (omega arith)
 
   -- A place of the source is no temporary.
-  no-temporary : (p : Place) (t : ℕ) → PlaceInRange L p → isTemporary S (kernelPlace S p t) ≡ 0
+  no-temporary : (p : Place) (t : ℕ) → PlaceInRange L S p → isTemporary S (kernelPlace S p t) ≡ 0
   unfolding kernelPlace NamedPlace
-  no-temporary (variable i) t n = rw (lt-leb S i (omega arith))
+  no-temporary (variable i) t n = rw (lt-leb S i (n .inside))
   no-temporary (element array e) t n = refl
 
   copies-copy : (t : ℕ) (h : Atom) → copies S (copyCode S t h) ≡ copied h (λ i. true)
@@ -108,13 +108,13 @@ module _ (L : Layout) (S : ℕ) (inside : L .variables ≤ S) where
   copies-read (variable i) u t = refl
   copies-read (element array e) u t = omega arith
 
-  copies-store : (p : Place) (i : ℕ) (straight : Bool) (x : Expression) → PlaceInRange L p → copies S (storeCode S (kernelPlace S p i) straight x) ≡ 0
+  copies-store : (p : Place) (i : ℕ) (straight : Bool) (x : Expression) → PlaceInRange L S p → copies S (storeCode S (kernelPlace S p i) straight x) ≡ 0
   unfolding copies kernelPlace NamedPlace
   copies-store (variable j) i true x n = refl
-  copies-store (variable j) i false x n = rw (lt-leb S j (omega arith)) (omega arith)
+  copies-store (variable j) i false x n = rw (lt-leb S j (n .inside)) (omega arith)
   copies-store (element array e) i straight x n = omega arith
 
-  copies-update : (operator : Operator) (p : Place) (x : Expression) (t i u : ℕ) → PlaceInRange L p → copies S (updateCode S operator (kernelPlace S p i) x t u) ≡ 0
+  copies-update : (operator : Operator) (p : Place) (x : Expression) (t i u : ℕ) → PlaceInRange L S p → copies S (updateCode S operator (kernelPlace S p i) x t u) ≡ 0
   unfolding copies kernelPlace NamedPlace
   copies-update operator (variable j) x t i u n = omega arith
   copies-update operator (element array e) x t i u n = omega arith
@@ -140,7 +140,7 @@ module _ (L : Layout) (S : ℕ) (inside : L .variables ≤ S) where
     unfolding expressionCode copies kernelPlace expressionTotal NamedExpression
 
     -- Every expression's code makes the copies that the sentence allows, and moves the results.
-    pub copies-expression : (e : Expression) (u : Use) (t : ℕ) → InRange L e → copies S (expressionCode S e u t) ≡ expressionTotal ownCopies e u + expressionTotal ownResults e u
+    pub copies-expression : (e : Expression) (u : Use) (t : ℕ) → InRange L S e → copies S (expressionCode S e u t) ≡ expressionTotal ownCopies e u + expressionTotal ownResults e u
     copies-expression (constant v) u t n = refl
     copies-expression (read p) u t n = simp (copies-append, copies-read) (omega (arith, copies-index p t n))
     copies-expression (minus e) u t n = simp copies-append (omega (arith, copies-expression e wanted t n))
@@ -160,16 +160,16 @@ module _ (L : Layout) (S : ℕ) (inside : L .variables ≤ S) where
     copies-expression (prefix operator p) u t n = simp (copies-append, copies-update operator p (constant (pos 1)) t (t + 1) (t + 1 + placeTaken p) n) (omega (arith, copies-index p (t + 1) n))
     copies-expression (postfix operator p) u t n = simp (copies-append, copies-postfix operator p u t (t + 1) (t + 1 + placeTaken p)) (omega (arith, copies-index p (t + 1) n))
 
-    copies-index : (p : Place) (t : ℕ) → PlaceInRange L p → copies S (indexCode S p t) ≡ indexTotal ownCopies p + indexTotal ownResults p
+    copies-index : (p : Place) (t : ℕ) → PlaceInRange L S p → copies S (indexCode S p t) ≡ indexTotal ownCopies p + indexTotal ownResults p
     copies-index (variable i) t n = refl
     copies-index (element array e) t n = copies-expression e wanted t (n .1)
 
-  copies-part : (p : Part) → PartInRange L p → copies S (partCode S p) ≡ partTotal ownCopies p + partTotal ownResults p
+  copies-part : (p : Part) → PartInRange L S p → copies S (partCode S p) ≡ partTotal ownCopies p + partTotal ownResults p
   unfolding copies
   copies-part absent n = refl
   copies-part (present e) n = copies-expression e dropped 0 n
 
-  copies-test : (p : Part) (l : ℕ) (xs : Items) → PartInRange L p → copies S (testCode S p l xs) ≡ testTotal ownCopies p + testTotal ownResults p + copies S xs
+  copies-test : (p : Part) (l : ℕ) (xs : Items) → PartInRange L S p → copies S (testCode S p l xs) ≡ testTotal ownCopies p + testTotal ownResults p + copies S xs
   unfolding copies
   copies-test absent l xs n = omega arith
   copies-test (present e) l xs n = simp copies-append (omega (arith, copies-expression e wanted 0 n))
@@ -190,7 +190,7 @@ module _ (L : Layout) (S : ℕ) (inside : L .variables ≤ S) where
   mutual
     unfolding statementCode copies kernelPlace statementTotal NamedStatement NamedPlace
 
-    copies-statement : (s : Statement) (x : Exits) (l : ℕ) → StatementInRange L s → copies S (statementCode S s x l) ≡ statementTotal ownCopies s + statementTotal ownResults s
+    copies-statement : (s : Statement) (x : Exits) (l : ℕ) → StatementInRange L S s → copies S (statementCode S s x l) ≡ statementTotal ownCopies s + statementTotal ownResults s
     copies-statement empty x l n = refl
     copies-statement (express e) x l n = simp copies-empty (omega (arith, copies-expression e dropped 0 n))
     copies-statement (block is) x l n = omega (arith, copies-items is x l n)
@@ -212,16 +212,16 @@ module _ (L : Layout) (S : ℕ) (inside : L .variables ≤ S) where
     copies-statement abort x l n = refl
     copies-statement (declare i e) x l n = simp (copies-append, copies-store (variable i) 0 (direct e) (atom S 0 (atomOf e)) (n .0)) (omega (arith, copies-expression e (stored i) 0 (n .1)))
 
-    copies-arms : (arms : Arms) (x : Exits) (out l : ℕ) → ArmsInRange L arms → copies S (armsCode S arms x out l) ≡ armsTotal ownCopies arms + armsTotal ownResults arms
+    copies-arms : (arms : Arms) (x : Exits) (out l : ℕ) → ArmsInRange L S arms → copies S (armsCode S arms x out l) ≡ armsTotal ownCopies arms + armsTotal ownResults arms
     copies-arms noArm x out l n = refl
     copies-arms (arm e s arms) x out l n = simp copies-append (omega (arith, copies-expression e wanted 0 (n .0), copies-statement s x l (n .1), copies-arms arms x out (l + labels s) (n .2)))
 
-    copies-items : (is : Items) (x : Exits) (l : ℕ) → ItemsInRange L is → copies S (itemsCode S is x l) ≡ total ownCopies is + total ownResults is
+    copies-items : (is : Items) (x : Exits) (l : ℕ) → ItemsInRange L S is → copies S (itemsCode S is x l) ≡ total ownCopies is + total ownResults is
     copies-items none x l n = refl
     copies-items (s then is) x l n = simp copies-append (omega (arith, copies-statement s x l (n .0), copies-items is x (l + labels s) (n .1)))
     copies-items (m here is) x l n = omega (arith, copies-items is x (l + 1) n)
 
 -- "Copied only if": of the statements that copy a variable into a temporary, as many as the sentence allows; the others move a result.
-pub copies-exactly : (L : Layout) (first : ℕ) → L .variables ≤ first → (program : Items) → SourceTree L program → copies first (translate first program) ≡ total ownCopies program + total ownResults program
+pub copies-exactly : (L : Layout) (first : ℕ) (program : Items) → SourceTree L first program → copies first (translate first program) ≡ total ownCopies program + total ownResults program
 unfolding translate
-copies-exactly L first inside program tree = copies-items L first inside program (exits 0 0) 1 (tree .named)
+copies-exactly L first program tree = copies-items L first program (exits 0 0) 1 (tree .named)

@@ -18,6 +18,7 @@ use Rattle.computation.specs.Run.{State, written, Result, ok, rounds, run}
 use Rattle.language.specs.Trees.{constant, read, minus, binary, Place, variable, element, Items, none, _⧺_}
 use Rattle.language.specs.Meaning.{Signal, next, enter, ifTrue, update, oldValue, newValue, evaluate, perform, items}
 use Rattle.language.specs.Untouched.{Untouched, untouched-ok, Leaves, Any}
+use Rattle.language.specs.WellFormed.{SourceName}
 use Rattle.translation.specs.Uses.{passedOn}
 use Rattle.translation.specs.declared.Use.{Use}
 use Rattle.translation.specs.declared.Use.the-variants.{Dropped as dropped, Wanted as wanted, Stored as stored}
@@ -108,7 +109,7 @@ pub record HeldAtEnd (fr : Frame) (F : Stack ℤ) (h : Atom) (x : ℕ) (v : ℤ)
 module _ (fr : Frame) {C D : Type 0} {R : C → D → State → State → Type 0} {F : Stack ℤ} where
   -- A rule that holds whatever follows, of a computation that leaves alone the variables outside W.
   pub within : {m : Computation ℤ} {xs : Items} {h : Atom} (W : ℕ → Bool)
-      → ((x : ℕ) → Goes fr (HeldAtEnd fr F h x) 0 F m xs h) → ((i : ℕ) → i < fr .layout .variables → W i ≡ false → Leaves i Any m) → GoesWithin fr R W F m xs h
+      → ((x : ℕ) → Goes fr (HeldAtEnd fr F h x) 0 F m xs h) → ((i : ℕ) → SourceName (fr .layout) (fr .words) i → W i ≡ false → Leaves i Any m) → GoesWithin fr R W F m xs h
   within {m} {xs} {h} W p leaves = record {
     goes = λ x σ κ f g n k.
         let alone : Alike fr (HeldAtEnd fr F h x) (run (rounds (fr .rounds)) m σ) (run (rounds (fr .rounds)) (items (fr .layout) xs next) κ) =
@@ -147,7 +148,7 @@ module _ (fr : Frame) {C D : Type 0} {R : C → D → State → State → Type 0
   goes-constant v = record { goes = λ x y σ κ f g n le k. k v F σ κ holds-number (related-less (omega arith) n) }
 
   -- A variable stands for its own value: no code, no step.
-  pub goes-variable : (i : ℕ) → i < fr .layout .variables → Goes fr R 0 F (do position ← ret i; load position) none (word i)
+  pub goes-variable : (i : ℕ) → SourceName (fr .layout) (fr .words) i → Goes fr R 0 F (do position ← ret i; load position) none (word i)
   unfolding runThen items
   goes-variable i b = record { goes = λ x y σ κ f g n le k. k _ F σ κ (holds-word b refl) (related-less (omega arith) n) }
 
@@ -159,7 +160,7 @@ module _ (fr : Frame) {C D : Type 0} {R : C → D → State → State → Type 0
 abbrev pub UseRoom : Frame → Use → ℕ → Type 0
 UseRoom fr dropped t = t < fr .temporaries
 UseRoom fr wanted t = t < fr .temporaries
-UseRoom fr (stored i) t = i < fr .layout .variables
+UseRoom fr (stored i) t = SourceName (fr .layout) (fr .words) i
 
 module _ (fr : Frame) {C D : Type 0} {R : C → D → State → State → Type 0} {F : Stack ℤ} {t : ℕ} (at : depth F ≡ t) where
   -- The kernel has assigned a result.
@@ -170,8 +171,8 @@ module _ (fr : Frame) {C D : Type 0} {R : C → D → State → State → Type 0
   lands wanted entered room v x f g m k = k _ _ _ _ holds-top (related-push v at room m)
   lands (stored i) true room v x f g m k =
       let entered = related-step {y = x} (omega arith) m in
-      k _ _ _ _ (holds-saved fr room entered) (related-save i v (omega (arith, fr .variables-inside)) entered)
-  lands (stored i) false room v x f g m k = k _ _ _ _ (holds-saved fr room m) (related-save i v (omega (arith, fr .variables-inside)) m)
+      k _ _ _ _ (holds-saved fr room entered) (related-save i v (room .inside) entered)
+  lands (stored i) false room v x f g m k = k _ _ _ _ (holds-saved fr room m) (related-save i v (room .inside) m)
 
   pub points-element : {W : ℕ → Bool} {m : Computation ℤ} {xs : Items} {h : Atom} (array : ℕ) → arrayBase (fr .layout) array + arrayLength (fr .layout) array ≤ fr .words → GoesWithin fr R W F m xs h
       → Points fr R W F (do index ← m; settle (elementWord (arrayBase (fr .layout) array) (arrayLength (fr .layout) array) index)) xs (element array (atom (fr .words) t h)) 1 (taken h)
@@ -215,7 +216,7 @@ module _ (fr : Frame) {C D : Type 0} {R : C → D → State → State → Type 0
       → ((F'' : Stack ℤ) (ν' : State) → Holds fr F (pick b top (word i)) v F'' τ → Related fr F'' x τ ν' → Alike fr R r (g next ν'))
       → Alike fr R r (kernel fr (moveCode (fr .words) t (word i) (pick b top (word i))) next ν g)
   unfolding runThen items perform evaluate
-  hold-word true {i = i} room (holds-word b e) x y ν r g m le k = rw (related-load i (omega (arith, fr .variables-inside)) m, e) (k _ _ holds-top (related-push _ at (omega arith) (related-ran _ (omega arith) m)))
+  hold-word true {i = i} room (holds-word b e) x y ν r g m le k = rw (related-load i (b .inside) m, e) (k _ _ holds-top (related-push _ at (omega arith) (related-ran _ (omega arith) m)))
   hold-word false room holds x y ν r g m le k = k _ _ holds (related-less (omega arith) m)
 
   hold : (h : Atom) (W : ℕ → Bool) {v : ℤ} {F' : Stack ℤ} {τ : State} → t + taken (held h W) ≤ fr .temporaries → Holds fr F h v F' τ
@@ -283,7 +284,7 @@ module _ (fr : Frame) {C D : Type 0} {R : C → D → State → State → Type 0
     where
       copied : (h : Atom) {v : ℤ} {F' : Stack ℤ} {τ : State} → Holds fr F h v F' τ → (x y : ℕ) (ν : State) (f : ℤ → State → Result C) (g : Signal → State → Result D) → Related fr F' y τ ν → x + copyRows h ≤ y → ValueFollows fr R F top x f g → Alike fr R (f v τ) (kernel fr (copyCode (fr .words) t h) next ν g)
       copied (number v) holds-number x y ν f g m le k = k _ _ _ _ holds-top (related-push _ at room (related-ran _ (omega arith) m))
-      copied (word i) (holds-word b e) x y ν f g m le k = rw (related-load i (omega (arith, fr .variables-inside)) m, e) (k _ _ _ _ holds-top (related-push _ at room (related-ran _ (omega arith) m)))
+      copied (word i) (holds-word b e) x y ν f g m le k = rw (related-load i (b .inside) m, e) (k _ _ _ _ holds-top (related-push _ at room (related-ran _ (omega arith) m)))
       copied top holds-top x y ν f g m le k = k _ _ _ _ holds-top (related-less (omega arith) m)
 
   pub goes-conditional : {a b c : Computation ℤ} {xs ys zs : Items} {hc : Atom} {na nb : ℕ} → Goes fr R 0 F c zs hc → Goes fr R na F a xs top → Goes fr R nb F b ys top
@@ -318,27 +319,27 @@ module _ (fr : Frame) {C D : Type 0} {R : C → D → State → State → Type 0
   goes-straight i p = record { goes = λ x y σ κ f g n le k. p .goes x y σ κ f g n le k }
 
   -- A variable's new value goes straight there.
-  pub goes-replace : {b : Computation ℤ} {ys : Items} {h : Atom} (W : ℕ → Bool) (operator : Operator) (i : ℕ) → i < fr .layout .variables → t + taken (held h W) ≤ fr .temporaries → Goes fr R 0 F b ys h
+  pub goes-replace : {b : Computation ℤ} {ys : Items} {h : Atom} (W : ℕ → Bool) (operator : Operator) (i : ℕ) → SourceName (fr .layout) (fr .words) i → t + taken (held h W) ≤ fr .temporaries → Goes fr R 0 F b ys h
       → Goes fr R (6 + holdRows h W) F (do right ← b; position ← enter (ret i); update operator position right newValue)
       (ys ⧺ holdCode (fr .words) t h W ⧺ assigning (fr .words) (variable i) (binary operator (read (variable i)) (atom (fr .words) t (held h W))) none) (word i)
   unfolding runThen items perform evaluate
-  goes-replace {h = h} W operator i inside above p = record {
+  goes-replace {h = h} W operator i named above p = record {
     goes = λ x y σ κ f g n le k.
         rw kernel-append (p .goes y y _ _ _ _ n (omega arith) λ right F' τ ν holds m.
         rw kernel-append (hold h W above holds (x + 6) y ν _ _ m (omega arith) λ F' ν holds m.
         let entered = related-step {y = x + 6} (omega arith) m in
-        rw (see fr at holds m, related-load i (omega (arith, fr .variables-inside)) m, runThen) (by-outcome (apply operator (getD (τ .store) i (pos 0)) right)
-        (λ v e. rw (e, runThen) (k _ _ _ _ (holds-saved fr inside entered) (related-save i v (omega (arith, fr .variables-inside)) (release fr holds (related-ran _ (omega arith) entered)))))
+        rw (see fr at holds m, related-load i (named .inside) m, runThen) (by-outcome (apply operator (getD (τ .store) i (pos 0)) right)
+        (λ v e. rw (e, runThen) (k _ _ _ _ (holds-saved fr named entered) (related-save i v (named .inside) (release fr holds (related-ran _ (omega arith) entered)))))
         (λ _ e. rw (e, runThen) (alike-stop _ (omega arith) entered)))));
   }
 
   -- Where nobody uses the old value, e++ is ++e.
-  pub goes-step : {entered : Bool} (operator : Operator) (i : ℕ) → i < fr .layout .variables → t ≤ fr .temporaries
+  pub goes-step : {entered : Bool} (operator : Operator) (i : ℕ) → SourceName (fr .layout) (fr .words) i → t ≤ fr .temporaries
       → GoesFor fr R entered dropped false 6 F (do position ← enter (ret i); update operator position (pos 1) oldValue) (stepCode (fr .words) operator i dropped t) top
   unfolding runThen _⧺_
-  goes-step operator i inside room = record {
+  goes-step operator i named room = record {
     goes = λ x y σ κ f g n le k.
-        goes-replace {h = number (pos 1)} (λ _. false) operator i inside (omega arith) (goes-constant fr (pos 1)) .goes x y σ κ (λ _ τ. f (getD (σ .store) i (pos 0)) τ) g n (omega arith) (λ v F' τ ν holds m. k _ τ ν (release fr holds m));
+        goes-replace {h = number (pos 1)} (λ _. false) operator i named (omega arith) (goes-constant fr (pos 1)) .goes x y σ κ (λ _ τ. f (getD (σ .store) i (pos 0)) τ) g n (omega arith) (λ v F' τ ν holds m. k _ τ ν (release fr holds m));
   }
 
   -- An element: t is kept for the result, so the index stands above it, and above that the old value.

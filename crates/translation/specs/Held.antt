@@ -17,6 +17,7 @@ use Rattle.computation.specs.Computation.{Computation, ret, settle}
 use Rattle.computation.specs.Run.{Write, State, stepped, written, Result}
 use Rattle.language.specs.Trees.{Place, variable, element, Items, none, _then_, _here_, _⧺_}
 use Rattle.language.specs.Meaning.{Signal, next, entersStatement, entersMark, enter, evaluate, locate, perform, items}
+use Rattle.language.specs.WellFormed.{SourceName}
 use Rattle.translation.specs.Translate.{Atom, number, word, top, held, taken, atom}
 use Rattle.translation.specs.Stack.{Stack, _▹_, depth}
 use Rattle.translation.specs.RunThen.{runThen}
@@ -34,7 +35,7 @@ module _ (fr : Frame) where
   -- An atom holds v in the source's state σ: with the stack F below its level, and F' after.
   pub data Holds (F : Stack ℤ) : Atom → ℤ → Stack ℤ → State → Type 0 where
     holds-number : {v : ℤ} {σ : State} → Holds F (number v) v F σ
-    holds-word : {i : ℕ} {v : ℤ} {σ : State} → i < fr .layout .variables → getD (σ .store) i (pos 0) ≡ v → Holds F (word i) v F σ
+    holds-word : {i : ℕ} {v : ℤ} {σ : State} → SourceName (fr .layout) (fr .words) i → getD (σ .store) i (pos 0) ≡ v → Holds F (word i) v F σ
     holds-top : {v : ℤ} {σ : State} → Holds F top v (F ▹ v) σ
 
   pub holds-depth : {F F' : Stack ℤ} {h : Atom} {v : ℤ} {t : ℕ} {σ : State} → depth F ≡ t → Holds F h v F' σ → depth F' ≡ t + taken h
@@ -44,7 +45,7 @@ module _ (fr : Frame) where
 
   -- From σ to τ the source's run wrote no variable but those of W.
   pub record Keeps (W : ℕ → Bool) (σ τ : State) : Type 0 where
-    pub keeps : (i : ℕ) → i < fr .layout .variables → W i ≡ false → getD (τ .store) i (pos 0) ≡ getD (σ .store) i (pos 0)
+    pub keeps : (i : ℕ) → SourceName (fr .layout) (fr .words) i → W i ≡ false → getD (τ .store) i (pos 0) ≡ getD (σ .store) i (pos 0)
 
   pub after-step : {W : ℕ → Bool} {σ τ : State} → Keeps W (stepped σ) τ → Keeps W σ τ
   after-step k = record { keeps = k .keeps }
@@ -66,8 +67,8 @@ module _ (fr : Frame) where
   holds-stored p holds-top = holds-top
 
   -- A variable holds what was stored in it.
-  pub holds-saved : {F G : Stack ℤ} {x i : ℕ} {v : ℤ} {σ κ : State} → i < fr .layout .variables → Related fr G x σ κ → Holds F (word i) v F (written i v σ)
-  holds-saved {i = i} {v = v} {σ = σ} b m = holds-word b (getD-set-same (σ .store) i v (pos 0) (omega (arith, m .source-words, fr .variables-inside)))
+  pub holds-saved : {F G : Stack ℤ} {x i : ℕ} {v : ℤ} {σ κ : State} → SourceName (fr .layout) (fr .words) i → Related fr G x σ κ → Holds F (word i) v F (written i v σ)
+  holds-saved {i = i} {v = v} {σ = σ} b m = holds-word b (getD-set-same (σ .store) i v (pos 0) (omega (arith, m .source-words, b .inside)))
 
   -- The source's computation, and the kernel's items after one that ended with a signal, each with what follows.
   abbrev pub source : {A C : Type 0} → Computation A → State → (A → State → Result C) → Result C
@@ -90,7 +91,7 @@ module _ (fr : Frame) where
       → source (evaluate (fr .layout) (atom (fr .words) t h)) (record { store = κ .store; count = u; writes = ws }) k ≡ k v (record { store = κ .store; count = u; writes = ws })
   unfolding runThen evaluate
   see at holds-number m u ws k = refl
-  see at (holds-word {i = i} b e) m u ws k = rw (related-load i (omega (arith, fr .variables-inside)) m, e)
+  see at (holds-word {i = i} b e) m u ws k = rw (related-load i (b .inside) m, e)
   see at holds-top m u ws k = rw (related-top at m)
 
   -- The atom's temporary is free again.

@@ -82,7 +82,8 @@ unfoldable mutual
   itemsTimes j (s then is) = statementTimes j s + itemsTimes j is
   itemsTimes j (m here is) = markTimes j m + itemsTimes j is
 
--- "T temporaries, which are variable numbers S to S+T−1; numbers V to S−1 name nothing." Change 11: S to S+D+T−1; T here is both.
+-- "T temporaries, which are variable numbers S to S+T−1; numbers V to S−1 name nothing." Change 11: S to S+D+T−1. Here T is the number of
+-- all words behind the first S: D declared words, then the temporaries.
 pub data KernelName (L : Layout) (T : ℕ) : ℕ → Type 0 where
   name-variable : {i : ℕ} → i < L .variables → KernelName L T i
   name-temporary : {t : ℕ} → t < T → KernelName L T (storeSize L + t)

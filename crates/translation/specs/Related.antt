@@ -23,7 +23,6 @@ pub record Frame : Type 0 where
   pub temporaries : ℕ
   pub rate : ℕ
   pub rounds : ℕ
-  pub variables-inside : layout .variables ≤ words
   pub arrays-inside : (array : ℕ) → array < length (layout .lengths) → arrayBase layout array + arrayLength layout array ≤ words
 
 -- The writes that both have made, the last first. The kernel's are the source's, in their order, each made within `rate` kernel steps to a

@@ -70,7 +70,7 @@ started r h = rw (r .writes-are, append-nil (r .added)) (timed-wider (omega arit
 
 -- ---- both directions
 
-module _ (L : Layout) (first : ℕ) (inside : storeSize L ≤ first) (program : Items) (store temporaryWords : List ℤ) (tree : SourceTree L program) (all-words : length store ≡ first) (enough : temporaries program ≤ length temporaryWords) where
+module _ (L : Layout) (first : ℕ) (inside : storeSize L ≤ first) (program : Items) (store temporaryWords : List ℤ) (tree : SourceTree L first program) (all-words : length store ≡ first) (enough : temporaries program ≤ length temporaryWords) where
   abbrev S : ℕ
   S = storeSize L
 

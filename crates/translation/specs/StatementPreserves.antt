@@ -1,7 +1,7 @@
 -- Every statement and its code go alike: the rules of StatementRules, put together by induction on the statement.
 use mathlib.Core.Path.{_≡_, refl}
 use mathlib.Core.Bool.{Bool, true, false}
-use Prim.Native.Nat.{ℕ, _+_, _*_, _≤_, _<_}
+use Prim.Native.Nat.{ℕ, _+_, _*_, _≤_}
 use native.Mathlib.Omega.{arith}
 use lib.ListN.{length}
 use Rattle.words.specs.Layout.{Layout}
@@ -9,7 +9,7 @@ use Rattle.computation.specs.Computation.{Computation, ret, _>>_, again}
 use Rattle.computation.specs.Run.{State}
 use Rattle.language.specs.Trees.{Expression, variable, Part, absent, present, label, has, Statement, empty, express, block, ifThen, ifElse, while, doWhile, for, switch, break, continue, goto, guardedIf, guardedDo, abort, declare, Arms, noArm, arm, Items, none, _then_, _here_, _⧺_}
 use Rattle.language.specs.Meaning.{Signal, enter, valueOf, rounds, perform, choose, choiceRounds}
-use Rattle.language.specs.WellFormed.{NamedPart, NamedStatement, NamedArms, NamedItems, Placed, PlacedArms, PlacedItems}
+use Rattle.language.specs.WellFormed.{NamedPart, NamedStatement, NamedArms, NamedItems, Placed, PlacedArms, PlacedItems, SourceName}
 use Rattle.translation.specs.Uses.{direct}
 use Rattle.translation.specs.declared.Use.the-variants.{Wanted as wanted, Stored as stored}
 use Rattle.translation.specs.Translate.{partCode, testCode, loopCode, labels, Exits, exits, roundsCode, statementCode, armsCode, itemsCode, partLevels, expressionLevels, statementLevels, armsLevels, itemsLevels}
@@ -67,25 +67,25 @@ own-statement abort = omega arith
 own-statement (declare i e) = omega arith
 
 -- The numbers of a source tree are in range.
-abbrev pub PartInRange : Layout → Part → Type 0
-PartInRange L p = NamedPart (λ i. i < L .variables) (length (L .lengths)) p
+abbrev pub PartInRange : Layout → ℕ → Part → Type 0
+PartInRange L first p = NamedPart (SourceName L first) (length (L .lengths)) p
 
-abbrev pub StatementInRange : Layout → Statement → Type 0
-StatementInRange L s = NamedStatement (λ i. i < L .variables) (length (L .lengths)) s
+abbrev pub StatementInRange : Layout → ℕ → Statement → Type 0
+StatementInRange L first s = NamedStatement (SourceName L first) (length (L .lengths)) s
 
-abbrev pub ArmsInRange : Layout → Arms → Type 0
-ArmsInRange L arms = NamedArms (λ i. i < L .variables) (length (L .lengths)) arms
+abbrev pub ArmsInRange : Layout → ℕ → Arms → Type 0
+ArmsInRange L first arms = NamedArms (SourceName L first) (length (L .lengths)) arms
 
-abbrev pub ItemsInRange : Layout → Items → Type 0
-ItemsInRange L is = NamedItems (λ i. i < L .variables) (length (L .lengths)) is
+abbrev pub ItemsInRange : Layout → ℕ → Items → Type 0
+ItemsInRange L first is = NamedItems (SourceName L first) (length (L .lengths)) is
 
 module _ (fr : Frame) {C D : Type 0} {R : C → D → State → State → Type 0} where
-  part-drops : (p : Part) → PartInRange (fr .layout) p → partLevels p ≤ fr .temporaries → partSize p ≤ fr .rate → Drops fr R (valueOf (fr .layout) p) (partCode (fr .words) p)
+  part-drops : (p : Part) → PartInRange (fr .layout) (fr .words) p → partLevels p ≤ fr .temporaries → partSize p ≤ fr .rate → Drops fr R (valueOf (fr .layout) p) (partCode (fr .words) p)
   part-drops absent h n r = drops-absent fr
   part-drops (present e) h n r = drops-present fr (dropped-goes fr e refl h (omega arith) r)
 
   -- The rounds of while and for, by the rules of the body; `l` is the label behind the loop.
-  module _ (l : ℕ) (action : Part) (h : PartInRange (fr .layout) action) (n : partLevels action ≤ fr .temporaries) (r : partSize action ≤ fr .rate) where
+  module _ (l : ℕ) (action : Part) (h : PartInRange (fr .layout) (fr .words) action) (n : partLevels action ≤ fr .temporaries) (r : partSize action ≤ fr .rate) where
     action-turns : Turns fr R 0 l (valueOf (fr .layout) action >> ret again) (partCode (fr .words) action)
     action-turns = turns-action fr (part-drops action h n r) (plain-part (fr .words) action (label l))
 
@@ -93,14 +93,14 @@ module _ (fr : Frame) {C D : Type 0} {R : C → D → State → State → Type 0
         → Runs fr R 2 x (rounds (fr .layout) absent action b) (loopCode (fr .words) (testCode (fr .words) absent l (bs ⧺ label (l + 1) here partCode (fr .words) action)) l)
     rounds-free free own enough p = runs-loop fr (omega arith) (turns-body fr free p action-turns)
 
-    rounds-tested : {x : Exits} {b : Computation Signal} {bs : Items} → has (label l) bs ≡ false → (e : Expression) → InRange (fr .layout) e → expressionLevels e wanted ≤ fr .temporaries → expressionSize e wanted + 7 ≤ fr .rate → Runs fr R 0 (exits l (l + 1)) (enter b) bs
+    rounds-tested : {x : Exits} {b : Computation Signal} {bs : Items} → has (label l) bs ≡ false → (e : Expression) → InRange (fr .layout) (fr .words) e → expressionLevels e wanted ≤ fr .temporaries → expressionSize e wanted + 7 ≤ fr .rate → Runs fr R 0 (exits l (l + 1)) (enter b) bs
         → Runs fr R 2 x (rounds (fr .layout) (present e) action b) (loopCode (fr .words) (testCode (fr .words) (present e) l (bs ⧺ label (l + 1) here partCode (fr .words) action)) l)
     rounds-tested free e he ne enough p = runs-loop fr (omega (arith, own-size e wanted)) (turns-test fr (plain-expression (fr .words) e wanted 0 (label l)) (wanted-goes fr e refl he (omega arith) (omega arith)) (turns-body fr free p action-turns))
 
   mutual
     unfolding perform statementCode statementLevels statementSize NamedStatement Placed
 
-    statement-runs : (s : Statement) (x : Exits) (l : ℕ) (mayBreak mayContinue : Bool) → Below x l → StatementInRange (fr .layout) s → Placed mayBreak mayContinue s → statementLevels s ≤ fr .temporaries → statementSize s ≤ fr .rate
+    statement-runs : (s : Statement) (x : Exits) (l : ℕ) (mayBreak mayContinue : Bool) → Below x l → StatementInRange (fr .layout) (fr .words) s → Placed mayBreak mayContinue s → statementLevels s ≤ fr .temporaries → statementSize s ≤ fr .rate
         → Runs fr R (ownSteps s) x (perform (fr .layout) s) (statementCode (fr .words) s x l)
     statement-runs empty x l b c u h p n r = runs-empty fr
     statement-runs (express e) x l b c u h p n r = runs-express fr (drops-present fr (dropped-goes fr e refl h (omega arith) (omega arith)))
@@ -130,21 +130,21 @@ module _ (fr : Frame) {C D : Type 0} {R : C → D → State → State → Type 0
     statement-runs (guardedIf arms) x l b c u h p n r = runs-guardedIf fr u (arms-choose arms x l (l + 1) b c (omega arith) h p n (omega arith))
     statement-runs (guardedDo arms) x l b c u h p n r = rounds-run arms x l b c u h p n r
     statement-runs abort x l b c u h p n r = absurd p
-    statement-runs (declare i e) x l b c u h p n r = runs-declare fr i (omega (arith, fr .variables-inside, h .0)) (direct e) (declared-goes fr i e refl (h .0) (h .1) (omega arith) (omega arith))
+    statement-runs (declare i e) x l b c u h p n r = runs-declare fr i (h .0 .inside) (direct e) (declared-goes fr i e refl (h .0) (h .1) (omega arith) (omega arith))
 
-    arms-choose : (arms : Arms) (x : Exits) (out l : ℕ) (mayBreak mayContinue : Bool) → Below x l → ArmsInRange (fr .layout) arms → PlacedArms mayBreak mayContinue arms → armsLevels arms ≤ fr .temporaries → armsSize arms ≤ fr .rate
+    arms-choose : (arms : Arms) (x : Exits) (out l : ℕ) (mayBreak mayContinue : Bool) → Below x l → ArmsInRange (fr .layout) (fr .words) arms → PlacedArms mayBreak mayContinue arms → armsLevels arms ≤ fr .temporaries → armsSize arms ≤ fr .rate
         → Chooses fr R 0 x out (choose (fr .layout) arms) (armsCode (fr .words) arms x out l)
     arms-choose noArm x out l b c u h p n r = chooses-none fr
     arms-choose (arm e s arms) x out l b c u h p n r = chooses-enter fr (omega arith) (chooses-arm fr (plain-arms (fr .words) arms x out (l + labels s)) (value-goes fr e refl (h .0) (omega arith) (omega arith))
         (pay-statement fr (omega (arith, own-statement s)) (statement-runs s x l b c u (h .1) (p .0) (omega arith) (omega arith))) (arms-choose arms x out (l + labels s) b c (omega arith) (h .2) (p .1) (omega arith) (omega arith)))
 
-    rounds-run : (arms : Arms) (x : Exits) (l : ℕ) (mayBreak mayContinue : Bool) → Below x l → ArmsInRange (fr .layout) arms → PlacedArms mayBreak mayContinue arms → armsLevels arms ≤ fr .temporaries → roundsRows arms + armsSize arms ≤ fr .rate
+    rounds-run : (arms : Arms) (x : Exits) (l : ℕ) (mayBreak mayContinue : Bool) → Below x l → ArmsInRange (fr .layout) (fr .words) arms → PlacedArms mayBreak mayContinue arms → armsLevels arms ≤ fr .temporaries → roundsRows arms + armsSize arms ≤ fr .rate
         → Runs fr R (roundsSteps arms) x (choiceRounds (fr .layout) arms) (roundsCode (fr .words) arms (armsCode (fr .words) arms x (l + 1) (l + 2)) l)
     rounds-run noArm x l b c u h p n r = runs-empty fr
     rounds-run (arm e s arms) x l b c u h p n r = runs-guardedDo fr (omega arith) u (chooses-arm fr (plain-arms (fr .words) arms x (l + 1) (l + 2 + labels s)) (value-goes fr e refl (h .0) (omega arith) (omega arith))
         (pay-statement fr (omega (arith, own-statement s)) (statement-runs s x (l + 2) b c (omega arith) (h .1) (p .0) (omega arith) (omega arith))) (arms-choose arms x (l + 1) (l + 2 + labels s) b c (omega arith) (h .2) (p .1) (omega arith) (omega arith)))
 
-    pub items-run : (is : Items) (x : Exits) (l : ℕ) (inSwitch mayBreak mayContinue : Bool) → Below x l → ItemsInRange (fr .layout) is → PlacedItems inSwitch mayBreak mayContinue is → itemsLevels is ≤ fr .temporaries → itemsSize is ≤ fr .rate
+    pub items-run : (is : Items) (x : Exits) (l : ℕ) (inSwitch mayBreak mayContinue : Bool) → Below x l → ItemsInRange (fr .layout) (fr .words) is → PlacedItems inSwitch mayBreak mayContinue is → itemsLevels is ≤ fr .temporaries → itemsSize is ≤ fr .rate
         → RunsOn fr R x l is (itemsCode (fr .words) is x l)
     items-run none x l s b c u h p n r = runs-none fr
     items-run (d then is) x l s b c u h p n r = runs-then fr u (λ j a. own-labels (fr .words) d x l j a)

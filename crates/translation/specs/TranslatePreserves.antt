@@ -110,7 +110,7 @@ same-end (alike-ok (ended n)) = both-plain (related-words n)
 same-end (alike-spent l) = neither
 same-end (alike-fault n) = both-fault (related-words n)
 
-module _ (L : Layout) (first : ℕ) (inside : storeSize L ≤ first) (program : Items) (store temporaryWords : List ℤ) (tree : SourceTree L program) (all-words : length store ≡ first) (enough : temporaries program ≤ length temporaryWords) where
+module _ (L : Layout) (first : ℕ) (inside : storeSize L ≤ first) (program : Items) (store temporaryWords : List ℤ) (tree : SourceTree L first program) (all-words : length store ≡ first) (enough : temporaries program ≤ length temporaryWords) where
   abbrev Rows : ℕ
   Rows = statementRows (block (translate first program))
 
@@ -122,7 +122,6 @@ module _ (L : Layout) (first : ℕ) (inside : storeSize L ≤ first) (program : 
     temporaries = length temporaryWords;
     rate = Rows;
     rounds = c;
-    variables-inside = omega arith;
     arrays-inside = λ array h. le-trans (array-in-store L array h) inside;
   }
 

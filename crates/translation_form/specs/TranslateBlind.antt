@@ -17,7 +17,7 @@ use Rattle.computation.specs.Agreement.{Words, _within_, Agree, Same, same-ok, 
 use Rattle.language.specs.Trees.{Expression, constant, read, minus, not, binary, and, or, comma, conditional, assign, compound, prefix, postfix, Place, variable, element, Part, absent, present, Mark, case, default, label, Statement, empty, express, block, ifThen, ifElse, while, doWhile, for, switch, break, continue, goto, guardedIf, guardedDo, abort, declare, Arms, noArm, arm, Items, none, _then_, _here_, _⧺_}
 use Rattle.language.specs.Meaning.{Signal, next, breaking, continuing, seeking, perform, exec}
 use Rattle.language.specs.Writes.{writes, indexWrites}
-use Rattle.language.specs.WellFormed.{NamedExpression, NamedPlace, NamedPart, NamedStatement, NamedArms, NamedItems, SourceTree}
+use Rattle.language.specs.WellFormed.{NamedExpression, NamedPlace, NamedPart, NamedStatement, NamedArms, NamedItems, SourceName, SourceTree}
 use Rattle.translation.specs.Uses.{useFor, passedOn, direct}
 use Rattle.translation.specs.declared.Use.{Use}
 use Rattle.translation.specs.declared.Use.the-variants.{Dropped as dropped, Wanted as wanted, Stored as stored}
@@ -25,12 +25,12 @@ use Rattle.translation.specs.Translate.{Atom, number, word, top, held, landed, 
 use Rattle.translation.specs.HeldCode.{holdCode}
 use Rattle.translation_form.specs.BlindCode.{And, old, new, and-more, Seen, Reads, reads-constant, reads-word, reads-element, reads-minus, reads-binary, reads-more, after, BlindItems, items-less, items-none, items-here, items-empty, items-assign, items-element, items-block, items-if, items-goto, items-abort, items-while, items-append}
 
-module _ (L : Layout) (S : ℕ) (variables-inside : L .variables ≤ S) (arrays-inside : (array : ℕ) → array < length (L .lengths) → arrayBase L array + arrayLength L array ≤ S) where
+module _ (L : Layout) (S : ℕ) (arrays-inside : (array : ℕ) → array < length (L .lengths) → arrayBase L array + arrayLength L array ≤ S) where
   abbrev InRange : Expression → Type 0
-  InRange e = NamedExpression (λ i. i < L .variables) (length (L .lengths)) e
+  InRange e = NamedExpression (SourceName L S) (length (L .lengths)) e
 
   abbrev PlaceInRange : Place → Type 0
-  PlaceInRange p = NamedPlace (λ i. i < L .variables) (length (L .lengths)) p
+  PlaceInRange p = NamedPlace (SourceName L S) (length (L .lengths)) p
 
   -- ---- what is known after code
 
@@ -131,7 +131,7 @@ module _ (L : Layout) (S : ℕ) (variables-inside : L .variables ≤ S) (arrays-
   update-blind : (operator : Operator) (P : Words) {Q : Words} (p : Place) {x : Expression} (t n v : ℕ) → PlaceInRange p → Seen L S within Q → holdingPlace P n p within Q → Reads L S Q x
       → BlindItems L S Q (holding Q t (updated p)) (updateCode S operator (kernelPlace S p n) x t v)
   unfolding kernelPlace holdingPlace NamedExpression
-  update-blind operator P (variable i) t n v h sees k r = items-assign L S i sees (reads-binary (reads-word (sees i (omega arith))) r) (items-none L S)
+  update-blind operator P (variable i) t n v h sees k r = items-assign L S i sees (reads-binary (reads-word (sees i (h .inside))) r) (items-none L S)
   update-blind operator P (element array e) t n v h sees k r =
       items-assign L S (S + v) sees (reads-element (arrays-inside array (h .0)) (atom-reads P n (atomOf e) k))
       (items-assign L S (S + t) (λ j s. old (sees j s)) (reads-binary (reads-word (new refl)) (reads-more L S (λ j q. old q) r))
@@ -151,7 +151,7 @@ module _ (L : Layout) (S : ℕ) (variables-inside : L .variables ≤ S) (arrays-
   postfix-blind : (operator : Operator) (P : Words) {Q : Words} (p : Place) (u : Use) (t n v : ℕ) → PlaceInRange p → Seen L S within Q → holdingPlace P n p within Q
       → BlindItems L S Q (known Q t u top false) (postfixCode S operator (kernelPlace S p n) u t v)
   unfolding kernelPlace holdingPlace NamedExpression
-  postfix-blind operator P (variable i) u t n v h sees k = step-blind operator i u t sees (sees i (omega arith))
+  postfix-blind operator P (variable i) u t n v h sees k = step-blind operator i u t sees (sees i (h .inside))
   postfix-blind operator P {Q} (element array e) u t n v h sees k = for-use Q t u top (
       items-assign L S (S + t) sees (reads-element (arrays-inside array (h .0)) (atom-reads P n (atomOf e) k))
       (items-assign L S (S + v) (λ j s. old (sees j s)) (reads-binary (reads-word (new refl)) reads-constant)
@@ -241,7 +241,7 @@ module _ (L : Layout) (S : ℕ) (variables-inside : L .variables ≤ S) (arrays-
         (items-less L S (λ i k. k) (known-less t u top false above) (postfix-blind operator P p u t (t + 1) _ h (λ i s. above i (sees i s)) (λ i k. k)))
 
     read-blind : (p : Place) (u : Use) (t : ℕ) (P : Words) → PlaceInRange p → Seen L S within P → BlindItems L S P (known P t u (atomOf (read p)) (direct (read p))) (expressionCode S (read p) u t)
-    read-blind (variable i) u t P h sees = items-append L S none none (items-none L S) (for-use P t u (word i) (items-less L S (λ j q. q) (seen-known i (sees i (omega arith))) (items-none L S)))
+    read-blind (variable i) u t P h sees = items-append L S none none (items-none L S) (for-use P t u (word i) (items-less L S (λ j q. q) (seen-known i (sees i (h .inside))) (items-none L S)))
     read-blind (element array e) u t P h sees =
         let more : P within holding P t (atomOf e) = holding-old P t (atomOf e) in
         items-append L S (expressionCode S e wanted t) _ (expression-blind e wanted t P (h .1) sees)
@@ -257,7 +257,7 @@ module _ (L : Layout) (S : ℕ) (variables-inside : L .variables ≤ S) (arrays-
   same i s = s
 
   abbrev PartInRange : Part → Type 0
-  PartInRange p = NamedPart (λ i. i < L .variables) (length (L .lengths)) p
+  PartInRange p = NamedPart (SourceName L S) (length (L .lengths)) p
 
   -- The code of a statement, or of a part of one.
   abbrev Passes : Items → Type 0
@@ -318,7 +318,7 @@ module _ (L : Layout) (S : ℕ) (variables-inside : L .variables ≤ S) (arrays-
   mutual
     unfolding statementCode NamedStatement
 
-    statement-blind : (s : Statement) (x : Exits) (l : ℕ) → NamedStatement (λ i. i < L .variables) (length (L .lengths)) s → Passes (statementCode S s x l)
+    statement-blind : (s : Statement) (x : Exits) (l : ℕ) → NamedStatement (SourceName L S) (length (L .lengths)) s → Passes (statementCode S s x l)
     statement-blind empty x l h = items-empty L S same (items-none L S)
     statement-blind (express e) x l h = or-empty (expressionCode S e dropped 0) (expression-blind e dropped 0 (Seen L S) h same)
     statement-blind (block is) x l h = items-block L S same (items-blind is x l h) (items-none L S)
@@ -342,12 +342,12 @@ module _ (L : Layout) (S : ℕ) (variables-inside : L .variables ≤ S) (arrays-
     statement-blind abort x l h = items-empty L S same (items-none L S)
     statement-blind (declare i e) x l h = items-append L S (expressionCode S e (stored i) 0) _ (expression-blind e (stored i) 0 (Seen L S) (h .1) same) (declared-blind i (direct e) (atomOf e))
 
-    arms-blind : (arms : Arms) (x : Exits) (out l : ℕ) → NamedArms (λ i. i < L .variables) (length (L .lengths)) arms → Passes (armsCode S arms x out l)
+    arms-blind : (arms : Arms) (x : Exits) (out l : ℕ) → NamedArms (SourceName L S) (length (L .lengths)) arms → Passes (armsCode S arms x out l)
     arms-blind noArm x out l h = items-none L S
     arms-blind (arm e s arms) x out l h =
         choice-blind e (h .0) (items-append L S (statementCode S s x l) _ (statement-blind s x l (h .1)) (jump-blind out (items-none L S))) (items-none L S) (arms-blind arms x out (l + labels s) (h .2))
 
-    items-blind : (is : Items) (x : Exits) (l : ℕ) → NamedItems (λ i. i < L .variables) (length (L .lengths)) is → Passes (itemsCode S is x l)
+    items-blind : (is : Items) (x : Exits) (l : ℕ) → NamedItems (SourceName L S) (length (L .lengths)) is → Passes (itemsCode S is x l)
     items-blind none x l h = items-none L S
     items-blind (s then is) x l h = items-append L S (statementCode S s x l) _ (statement-blind s x l (h .0)) (items-blind is x (l + labels s) (h .1))
     items-blind (m here is) x l h = label-blind l (items-blind is x (l + 1) h)
@@ -360,7 +360,7 @@ pub record Shown (S : ℕ) (r q : Result Signal) : Type 0 where
   pub same-words : take S ((final r) .store) ≡ take S ((final q) .store)
   pub same-count : (final r) .count ≡ (final q) .count
 
-take-same : (n : ℕ) (s t : List ℤ) → length s ≡ length t → ((i : ℕ) → i < n → getD s i (pos 0) ≡ getD t i (pos 0)) → take n s ≡ take n t
+pub take-same : (n : ℕ) (s t : List ℤ) → length s ≡ length t → ((i : ℕ) → i < n → getD s i (pos 0) ≡ getD t i (pos 0)) → take n s ≡ take n t
 take-same zero s t e h = refl
 take-same (suc n) [] [] e h = refl
 take-same (suc n) [] (y ∷ t) e h = absurd (omega arith)
@@ -368,10 +368,10 @@ take-same (suc n) (x ∷ s) [] e h = absurd (omega arith)
 take-same (suc n) (x ∷ s) (y ∷ t) e h = ap (λ (v : ℤ). v ∷ take n s) (h 0 (omega arith)) ∙ ap (λ (l : List ℤ). y ∷ l) (take-same n s t (omega arith) (λ i b. h (suc i) (omega arith)))
 
 -- The temporaries begin at the store word `S`.
-module _ (L : Layout) (S : ℕ) (inside : storeSize L ≤ S) (program : Items) (tree : SourceTree L program) (store : List ℤ) (all-words : length store ≡ S) where
+module _ (L : Layout) (S : ℕ) (inside : storeSize L ≤ S) (program : Items) (tree : SourceTree L S program) (store : List ℤ) (all-words : length store ≡ S) where
   translated-blind : Blind (Seen L S) (Seen L S) (after L S (Seen L S)) (exec L (block (translate S program)))
   unfolding translate perform storeSize
-  translated-blind = blind-then (Seen L S) (blind-step (Seen L S) (λ i k. k)) (λ _. items-blind L S (omega arith) (λ array h. le-trans (array-in-store L array h) inside) program (exits 0 0) 1 (tree .named) .blind next)
+  translated-blind = blind-then (Seen L S) (blind-step (Seen L S) (λ i k. k)) (λ _. items-blind L S (λ array h. le-trans (array-in-store L array h) inside) program (exits 0 0) 1 (tree .named) .blind next)
 
   start-agree : (temporaries others : List ℤ) → length temporaries ≡ length others → Agree (Seen L S) (start (store ++ temporaries)) (start (store ++ others))
   start-agree temporaries others e = record {

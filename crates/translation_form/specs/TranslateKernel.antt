@@ -3,7 +3,8 @@
 use mathlib.Core.Path.{_≡_, refl, ap, subst}
 use mathlib.Core.Bool.{true, false}
 use mathlib.Core.List.{List, [], _∷_, map}
-use Prim.Native.Nat.{ℕ, _+_, _≤_, _<_}
+use mathlib.Core.Logic.{_⊎_, inl, inr}
+use Prim.Native.Nat.{ℕ, _+_, _-_, _≤_, _<_}
 use native.Mathlib.Omega.{arith}
 use lib.IntN.{ℤ, pos}
 use lib.ListN.{length, length-map}
@@ -13,7 +14,7 @@ use Rattle.words.specs.Laws.{headerFits-facts, facts-headerFits}
 use Rattle.words.specs.declared.Form.the-variants.{Source, Kernel}
 use Rattle.language.specs.Trees.{block, Items, none}
 use Rattle.language.specs.Sizes.{statementRows, statementDepth}
-use Rattle.language.specs.WellFormed.{SourceTree}
+use Rattle.language.specs.WellFormed.{SourceName, SourceTree}
 use Rattle.translation.specs.Translate.{exits, translate, temporaries, kernelHeader}
 use Rattle.translation.specs.KernelForm.{KernelTree, KernelName, name-variable, name-temporary}
 use Rattle.translation_form.specs.TranslateForm.{form-items}
@@ -23,7 +24,7 @@ use Rattle.translation.specs.TranslateBounds.{rows-bound, temporaries-bound, la
 use Rattle.translation_form.specs.TranslateDepth.{depth-bound}
 
 -- Every translation is a kernel program, its temporaries behind D declared words.
-pub translation-is-kernel : (L : Layout) (D : ℕ) → D ≤ 64 → (program : Items) → SourceTree L program → statementRows (block program) ≤ 2048 → statementDepth (block program) ≤ 64 → KernelTree L (D + temporaries program) (translate (storeSize L + D) program)
+pub translation-is-kernel : (L : Layout) (D : ℕ) → D ≤ 64 → (program : Items) → SourceTree L (storeSize L + D) program → statementRows (block program) ≤ 2048 → statementDepth (block program) ≤ 64 → KernelTree L (D + temporaries program) (translate (storeSize L + D) program)
 unfolding translate temporaries
 translation-is-kernel L D declared program tree few shallow =
     let few-labels = labels-bound program in
@@ -31,12 +32,18 @@ translation-is-kernel L D declared program tree few shallow =
       form = form-items (storeSize L + D) program (exits 0 0) 1 none false false false (tree .placed) (omega arith) (omega arith) (λ e. absurd (let z : _≡_ {A = ℕ} 0 1 = cc in omega arith)) (λ e. absurd (let z : _≡_ {A = ℕ} 0 1 = cc in omega arith));
       labels-once = λ l. labels-distinct (storeSize L + D) l program (exits 0 0) 1;
       named = named-items (KernelName L (D + temporaries program)) (length (L .lengths)) (storeSize L + D) (temporaries program) behind-declared program (exits 0 0) 1
-          (more-names (λ i. i < L .variables) (KernelName L (D + temporaries program)) (length (L .lengths)) (λ i h. name-variable h) program (tree .named)) (omega arith);
+          (more-names (SourceName L (storeSize L + D)) (KernelName L (D + temporaries program)) (length (L .lengths)) (λ i n. kernel-name i n (n .apart)) program (tree .named)) (omega arith);
       few-temporaries = omega (arith, temporaries-bound program);
       few-rows = omega (arith, rows-bound (storeSize L + D) program);
       shallow = omega (arith, depth-bound (storeSize L + D) program);
     }
   where
+    kernel-name : (i : ℕ) → SourceName L (storeSize L + D) i → (i < L .variables) ⊎ (storeSize L ≤ i) → KernelName L (D + temporaries program) i
+    kernel-name i n (inl variable) = name-variable variable
+    kernel-name i n (inr declared) =
+        let same : storeSize L + (i - storeSize L) ≡ i = omega arith in
+        subst (KernelName L (D + temporaries program)) same (name-temporary (omega (arith, n .inside)))
+
     -- "temporaries begin at S+D"
     behind-declared : (t : ℕ) → t < temporaries program → KernelName L (D + temporaries program) (storeSize L + D + t)
     behind-declared t h =

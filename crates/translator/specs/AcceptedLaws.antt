@@ -1,6 +1,6 @@
 -- Laws of an accepted source program: what the measures and the writers ask of it, and that its kernel form is as large as row 0
 -- measures.
-use mathlib.Core.Path.{_≡_, refl, sym, ap, ap₂, _∙_}
+use mathlib.Core.Path.{_≡_, refl, sym, ap, ap₂, subst, _∙_}
 use mathlib.Core.Bool.{true}
 use mathlib.Core.List.{List}
 use Prim.Native.Nat.{ℕ, _+_, _*_, _≤_, _<_}
@@ -20,6 +20,8 @@ use Rattle.words.specs.declared.StatementKind.the-variants.{Block, Declare}
 use Rattle.words.specs.declared.Verdict.the-variants.{Accepted}
 use Rattle.language.specs.Trees.{block}
 use Rattle.language.specs.Program.{contents}
+use Rattle.program_meaning.specs.Program.{resolvedRows}
+use Rattle.program_meaning.specs.ResolvedRows.{structured-rows}
 use Rattle.translation.specs.Translate.{temporaries, translate, kernelHeader}
 use Rattle.translation.specs.TranslateSize.{itemsSize}
 use Rattle.translation.specs.TranslateRows.{translation-rows}
@@ -34,7 +36,8 @@ use Rattle.source_check.specs.DeclarationLaws.{legal-declarations}
 use Rattle.accepted.specs.Names.{source-variable}
 use Rattle.accepted.specs.Source.{legal-sound, legal-rows}
 use Rattle.accepted.specs.Statements.{root-kind}
-use Rattle.shapes.specs.Source.{mostVariables, Source}
+use Rattle.write_sets.specs.Named.{Named}
+use Rattle.shapes.specs.Source.{NamesFrom, Source}
 use Rattle.measure_table.specs.Measures.{statementRowsSlot, statementLevelsSlot, slot, Measured}
 use Rattle.writers.specs.Program.{ProgramAsks, kernelProgram}
 use Rattle.writers.specs.WholeProgram.{is-translation, program-rows, program-levels}
@@ -48,6 +51,10 @@ module _ (header rows : List ℤ) (accepted : sourceRefusal header rows ≡ Acce
   pub accepted-header : headerFits SourceForm header ≡ true
   accepted-header = legal .header-fits
 
+  -- The rows measured and written are the table that the translation reads: no form has kind 58 yet.
+  same-rows : resolvedRows SourceForm header rows ≡ rows
+  same-rows = structured-rows SourceForm header _ rows (legal .structured)
+
   -- "At most 64."
   pub few-declarations : declarationCount rows ≤ 64
   few-declarations = legal-declarations header rows legal
@@ -55,18 +62,26 @@ module _ (header rows : List ℤ) (accepted : sourceRefusal header rows ≡ Acce
   few-rows : rowCount rows ≤ 2048
   few-rows = omega (arith, countFits-facts SourceForm (length rows) (legal .structured .count-fits) .most)
 
-  -- "Numbers V to S−1 name nothing", and a source has no temporaries.
-  few-variables : (row : ℕ) → row < rowCount rows → kindAt rows row ≡ OfExpression Variable → numberAt rows row 1 < mostVariables
-  unfolding sortIn kindRow expressionFields
-  few-variables row inside k =
-      let h = headerFits-facts SourceForm header accepted-header in
-      omega (arith, source-variable header (numberAt rows row 1) (names-variable SourceForm _ rows (legal .structured) row inside k 1 refl), h .few-variables)
+  -- the variables are the first words of the store
+  named : (i : ℕ) → i < layoutOf SourceForm header .variables → Named (storeSize (layoutOf SourceForm header)) i
+  unfolding storeSize
+  named i below = record { within = omega arith; variable = λ h. omega (arith, headerFits-facts SourceForm header accepted-header .few-variables) }
 
-  few-declared : (row : ℕ) → row < rowCount rows → kindAt rows row ≡ OfStatement Declare → numberAt rows row 1 < mostVariables
+  -- "Numbers V to S−1 name nothing", and a source has no temporaries.
+  variables-named : (row : ℕ) → row < rowCount rows → kindAt rows row ≡ OfExpression Variable → Named (storeSize (layoutOf SourceForm header)) (numberAt rows row 1)
+  unfolding sortIn kindRow expressionFields
+  variables-named row inside k = named (numberAt rows row 1) (source-variable header (numberAt rows row 1) (names-variable SourceForm _ rows (legal .structured) row inside k 1 refl))
+
+  declared-named : (row : ℕ) → row < rowCount rows → kindAt rows row ≡ OfStatement Declare → Named (storeSize (layoutOf SourceForm header)) (numberAt rows row 1)
   unfolding sortIn kindRow statementFields
-  few-declared row inside k =
-      let h = headerFits-facts SourceForm header accepted-header in
-      omega (arith, source-variable header (numberAt rows row 1) (names-declared SourceForm _ rows (legal .structured) row inside k 1 refl), h .few-variables)
+  declared-named row inside k = named (numberAt rows row 1) (source-variable header (numberAt rows row 1) (names-declared SourceForm _ rows (legal .structured) row inside k 1 refl))
+
+  accepted-names : NamesFrom (storeSize (layoutOf SourceForm header)) rows
+  accepted-names = record { small = omega (arith, headerFits-facts SourceForm header accepted-header .small-store); variables = variables-named; declared = declared-named }
+
+  -- What the write sets ask, where S is as the code has it.
+  pub names-from : {S : ℕ} → S ≡ storeSize (layoutOf SourceForm header) → NamesFrom S rows
+  names-from e = subst (λ (S : ℕ). NamesFrom S rows) (sym e) accepted-names
 
   -- What the measures ask.
   pub accepted-source : Source rows
@@ -77,8 +92,8 @@ module _ (header rows : List ℤ) (accepted : sourceRefusal header rows ≡ Acce
         words = headerStore SourceForm header;
         sound = legal-sound header rows legal;
         few-rows = few-rows;
-        few-variables = few-variables;
-        few-declared = few-declared;
+        store = storeSize (layoutOf SourceForm header);
+        names = accepted-names;
         few-arrays = h .few-arrays;
       }
 
@@ -126,16 +141,16 @@ module _ (header rows : List ℤ) (accepted : sourceRefusal header rows ≡ Acce
     -- The header and the rows that the writers write are those of the kernel form.
     pub header-is : (D : ℕ) → D ≡ declarationCount rows → kernelHeader (layoutOf SourceForm header) D (slot table 0 statementLevelsSlot) ≡ kernelHeaderOf header rows
     unfolding kernelHeaderOf
-    header-is D e = ap₂ (kernelHeader (layoutOf SourceForm header)) e levels-is
+    header-is D e = rw same-rows (ap₂ (kernelHeader (layoutOf SourceForm header)) e levels-is)
 
     pub row-words : 6 * slot table 0 statementRowsSlot ≡ length (kernelRowsOf header rows)
     unfolding kernelRowsOf
-    row-words = omega (arith, size-is, translation-rows first (contents rows), length-emit (block (translate first (contents rows))))
+    row-words = rw same-rows (omega (arith, size-is, translation-rows first (contents rows), length-emit (block (translate first (contents rows)))))
 
   pub rows-are : (S : ℕ) → S ≡ first → emit (kernelProgram S (contents rows)) ≡ kernelRowsOf header rows
   unfolding kernelRowsOf
-  rows-are S e = ap emit (ap (λ (n : ℕ). kernelProgram n (contents rows)) e ∙ is-translation first (contents rows))
+  rows-are S e = rw same-rows (ap emit (ap (λ (n : ℕ). kernelProgram n (contents rows)) e ∙ is-translation first (contents rows)))
 
   pub header-words : length header + 2 ≡ length (kernelHeaderOf header rows)
   unfolding kernelHeaderOf
-  header-words = sym (kernel-header-length header (declarationCount rows) (temporaries (contents rows)) accepted-header)
+  header-words = sym (kernel-header-length header (declarationCount rows) (temporaries (contents (resolvedRows SourceForm header rows))) accepted-header)

@@ -6,7 +6,7 @@ pub mod Translation
 -- ---- laws
 -- Laws of the translation's answer: which of three it is; a translation that was made stands at the start of both tables.
 pub mod TranslationLaws
--- Laws of the kernel header: V, T, and the source header's array lengths.
+-- Laws of the kernel header: V, D, T, and the source header's array lengths.
 pub mod HeaderLaws
 -- Laws of an accepted source program: what the measures and the writers ask of it, and how large its kernel form is.
 pub mod AcceptedLaws

@@ -14,12 +14,13 @@ use Rattle.words.specs.declared.Form.the-variants.{Source}
 use Rattle.words.specs.declared.Verdict.the-variants.{Accepted}
 use Rattle.language.specs.Trees.{block}
 use Rattle.language.specs.Program.{contents}
+use Rattle.program_meaning.specs.Program.{resolvedRows}
 use Rattle.translation.specs.Translate.{translate}
 use Rattle.translation.specs.TranslateBounds.{rows-bound}
 use Rattle.emission.specs.EmissionLaws.{length-emit}
 use Rattle.source_check.specs.Refusal.{refusal as sourceRefusal}
 use Rattle.source_check.specs.AcceptsLegal.{accepts-legal}
-use Rattle.accepted.specs.Source.{legal-rows}
+use Rattle.accepted.specs.Resolved.{table-rows}
 use Rattle.fate.specs.KernelForms.{kernelHeaderOf, kernelRowsOf}
 use Rattle.translator.specs.declared.TranslateAnswer.the-variants.{Translated}
 use Rattle.translator.specs.Translation.{translateResult}
@@ -30,7 +31,8 @@ module _ (header rows : List ℤ) (accepted : sourceRefusal header rows ≡ Acce
   pub row-words-bound : length (kernelRowsOf header rows) ≤ 6 * (20 * rowCount rows + 20)
   unfolding kernelRowsOf
   row-words-bound =
-      omega (arith, length-emit (block (translate (storeWords Source header rows) (contents rows))), rows-bound (storeWords Source header rows) (contents rows), legal-rows header rows (accepts-legal header rows .0 accepted))
+      let program = contents (resolvedRows Source header rows) in
+      omega (arith, length-emit (block (translate (storeWords Source header rows) program)), rows-bound (storeWords Source header rows) program, table-rows header rows (accepts-legal header rows .0 accepted))
 
   -- V, D, T and up to 32 array lengths.
   pub header-words-bound : length (kernelHeaderOf header rows) ≤ 35

@@ -68,8 +68,9 @@ pub fn translate_accepted(
     ensures { λ _. ⌜ HasKernelForm (now (header .entry)) (now (rows .entry)) ⌝ }
     ensures { λ r. ⌜ WritesKernelForm (now (header .entry)) (now (rows .entry)) r (now («kernel_header» .exit)) (now («kernel_rows» .exit)) ⌝ }
 {
+    let store = store_size(Form::Source, header);
     let mut table = [0usize; 36864];
-    measure(rows, &mut table);
+    measure(store, rows, &mut table);
     write_measured(header, rows, &table, kernel_header, kernel_rows)
 }
 

@@ -13,6 +13,7 @@ use Rattle.words.specs.declared.Form.the-variants.{Source, Kernel}
 use Rattle.words.specs.declared.Refusal.{Refusal}
 use Rattle.words.specs.declared.Verdict.the-variants.{Accepted, Refused as CheckRefused}
 use Rattle.language.specs.Program.{contents}
+use Rattle.program_meaning.specs.Program.{resolvedRows}
 use Rattle.translation.specs.Translate.{temporaries}
 use Rattle.translation_form.specs.TranslateKernel.{header-layout, header-declared}
 use Rattle.fate.specs.KernelForms.{kernelHeaderOf, kernelRowsOf, KernelFormOf, HasKernelForm}
@@ -43,7 +44,7 @@ module _ {header rows : List ℤ} {room : ℕ} (t : Translates header rows room)
 
   kernel-words : storeWords Kernel kernelHeader kernelRows ≡ storeSize (layoutOf Source header) + (declarationCount rows + temporariesOf Kernel kernelHeader)
   unfolding headerStore kernelHeaderOf
-  kernel-words = kernel-store kernelHeader kernelRows ∙ rw (header-layout (layoutOf Source header) (declarationCount rows) (temporaries (contents rows)), header-declared (layoutOf Source header) (declarationCount rows) (temporaries (contents rows)))
+  kernel-words = kernel-store kernelHeader kernelRows ∙ rw (header-layout (layoutOf Source header) (declarationCount rows) (temporaries (contents (resolvedRows Source header rows))), header-declared (layoutOf Source header) (declarationCount rows) (temporaries (contents (resolvedRows Source header rows))))
 
   kernel-fits : KernelFits kernelHeader kernelRows (storeSize (layoutOf Source header)) room
   kernel-fits = record {

@@ -5,18 +5,18 @@ use lib.IntN.{ℤ}
 use lib.ListN.{take}
 use Rattle.words.specs.Layout.{layoutOf, storeSize, storeWords, zeros}
 use Rattle.words.specs.declared.Form.the-variants.{Source, Kernel}
-use Rattle.language.specs.Program.{runProgram}
+use Rattle.program_meaning.specs.Program.{runProgram}
 use Rattle.rule_text.specs.Rules.{budget, Rule, accepted, refused, ruleOf}
 use Rattle.report.specs.Lines.{refusedLine, sourceLine, kernelLine}
 use Rattle.program_writes.specs.ProgramWrites.{written}
 use Rattle.fate.specs.KernelForms.{kernelHeaderOf, kernelRowsOf}
 use Rattle.fate.specs.Views.{dispatcherView}
 
--- "Output: form, ending .., source count on the first line only, S words", and last the number of variables that the program can write.
+-- "Output: form, ending .., source count on the first line only, S words", and last the number of variables and declared words that the program can write.
 unfoldable pub sourceOutput : List ℤ → List ℤ → List ℕ
 sourceOutput header rows =
     let finished = runProgram Source header rows budget (zeros (storeWords Source header rows)) in
-    sourceLine (finished .ending) (finished .count) (take (storeSize (layoutOf Source header)) (finished .store)) (written rows)
+    sourceLine (finished .ending) (finished .count) (take (storeSize (layoutOf Source header)) (finished .store)) (written (storeSize (layoutOf Source header)) rows)
 
 -- The kernel's store has S+D+T words; its line is what a dispatcher is shown.
 unfoldable pub kernelOutput : ℕ → List ℤ → List ℤ → List ℕ

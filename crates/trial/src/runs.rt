@@ -73,8 +73,8 @@ fn run_source_on(header: &[i32], rows: &[i32], store: &mut [i32], output: &mut [
 {
     let answer = run_accepted(Form::Source, header, rows, store, 100000);
     let ending = answer.ending;
-    let written = written_count(rows);
     let words = store_size(Form::Source, header);
+    let written = written_count(words, rows);
     let end = source_line(ending, answer.count, &store[0..words], written, output);
     end + run_translation(header, rows, &mut output[end..])
 }

@@ -9,7 +9,7 @@ use Rattle.translation.specs.Uses.{direct}
 use Rattle.translation.specs.declared.Use.the-variants.{Dropped as dropped, Wanted as wanted, Stored as stored}
 use Rattle.translation.specs.Translate.{roundsLabels, labels, armsLabels, itemsLabels}
 use Rattle.translation.specs.TranslateSize.{storeRows, expressionSize, operandSize, partSize, testSize, roundsRows, statementSize, armsSize, itemsSize, cases}
-use Rattle.shapes.specs.Source.{mostVariables, Source}
+use Rattle.shapes.specs.Source.{mostWords, Source}
 use Rattle.leaves.specs.Room.{Room}
 use Rattle.leaves.specs.Atoms.{AtomFits}
 use Rattle.leaves.specs.declared.Atom.{Atom}
@@ -120,7 +120,7 @@ pub record ExpressAsks (rows : List ℤ) (row base words : ℕ) : Type 0 where
 
 -- A declaration: the word of its object, and its value.
 pub record DeclareAsks (rows : List ℤ) (number value base words : ℕ) : Type 0 where
-  pub low : number < mostVariables
+  pub low : number < mostWords
   pub some : 0 < value
   pub inside : value < rowCount rows
   pub room : Room (operandSize (partAt rows value) (stored number) + storeRows (variable number) (direct (expressionAt rows value))) base words

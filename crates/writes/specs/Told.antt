@@ -2,6 +2,8 @@
 use mathlib.Core.List.{List}
 use Prim.Native.Nat.{ℕ}
 use lib.IntN.{ℤ}
+use Rattle.words.specs.Layout.{layoutOf, storeSize}
+use Rattle.words.specs.declared.Form.the-variants.{Source}
 use Rattle.words.specs.declared.Refusal.{Refusal}
 use Rattle.words.specs.declared.Verdict.{Verdict}
 use Rattle.words.specs.declared.Verdict.the-variants as verdict
@@ -10,11 +12,16 @@ use Rattle.program_writes.specs.declared.Writes.{Writes}
 use Rattle.writes.specs.declared.WritesVerdict.{WritesVerdict}
 use Rattle.writes.specs.declared.WritesVerdict.the-variants.{Written, Refused}
 
--- The check's refusal, or the sets of an accepted program: each bit is 1 exactly where `variable-bit` and `array-bit` of crate program_writes say.
-pub data Told (rows : List ℤ) : Verdict → WritesVerdict → Type 0 where
-  sets : {w : Writes} → WritesAre w rows → Told rows verdict.Accepted (Written w)
-  refusal : {refused : Refusal} → Told rows (verdict.Refused refused) (Refused refused)
+-- S, where the declared words begin.
+abbrev pub sizeOf : List ℤ → ℕ
+sizeOf header = storeSize (layoutOf Source header)
 
-abbrev pub countOf : Verdict → List ℤ → ℕ
-countOf verdict.Accepted rows = written rows
-countOf (verdict.Refused refused) rows = 0
+-- The check's refusal, or the sets of an accepted program: each bit is 1 exactly where `variable-bit`, `declared-bit` and `array-bit` of
+-- crate program_writes say.
+pub data Told (header rows : List ℤ) : Verdict → WritesVerdict → Type 0 where
+  sets : {w : Writes} → WritesAre (sizeOf header) w rows → Told header rows verdict.Accepted (Written w)
+  refusal : {refused : Refusal} → Told header rows (verdict.Refused refused) (Refused refused)
+
+abbrev pub countOf : Verdict → (header rows : List ℤ) → ℕ
+countOf verdict.Accepted header rows = written (sizeOf header) rows
+countOf (verdict.Refused refused) header rows = 0

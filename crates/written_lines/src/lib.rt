@@ -4,7 +4,7 @@ use report::field::put_bytes;
 use report::field::put_count;
 use write_sets::WriteSet;
 use write_sets::arrays::has_array;
-use write_sets::has;
+use write_sets::has_variable;
 ghost use mathlib.Core.List.{[], _∷_};
 ghost use Prim.Native.Nat.{_+_, _*_, _≤_};
 ghost use lib.ListN.{length};
@@ -12,7 +12,7 @@ ghost use Rattle.words.specs.Word.{pick};
 ghost use Rattle.text_numbers.specs.Number.{digits};
 ghost use Rattle.text_numbers.specs.Writer.{Put};
 ghost use Rattle.report.specs.Lines.{blank};
-ghost use Rattle.write_sets.specs.Sets.{variableBits, arrayBits, member, memberArray};
+ghost use Rattle.write_sets.specs.Sets.{variableBits, arrayBits, variableBit, memberArray};
 ghost use Rattle.written_lines.specs.Lines.{numbers, variablesLine, arraysLine, bothLines, writesRoom};
 
 // A number, where it is wanted.
@@ -29,13 +29,13 @@ fn put_if(wanted: bool, number: usize, text: &mut [u8]) -> usize
 
 fn put_variables(set: WriteSet, text: &mut [u8]) -> usize
     requires { ⌜ 21 * variableBits ≤ length (now text) ⌝ }
-    ensures { λ r. ⌜ Put (numbers variableBits (member set)) (now (text .entry)) r (now (text .exit)) ⌝ }
+    ensures { λ r. ⌜ Put (numbers variableBits (variableBit set)) (now (text .entry)) r (now (text .exit)) ⌝ }
     ensures { λ r. ⌜ r ≤ 21 * variableBits ⌝ }
 {
     let mut at: usize = 0;
     let mut i: usize = 0;
     while i < 256 {
-        at += put_if(has(set, i), i, &mut text[at..]);
+        at += put_if(has_variable(set, i), i, &mut text[at..]);
         i += 1;
     }
     at
@@ -57,7 +57,7 @@ fn put_arrays(arrays: u32, text: &mut [u8]) -> usize
 
 fn variables_line(set: WriteSet, text: &mut [u8]) -> usize
     requires { ⌜ 21 * variableBits + 10 ≤ length (now text) ⌝ }
-    ensures { λ r. ⌜ Put (variablesLine (member set)) (now (text .entry)) r (now (text .exit)) ⌝ }
+    ensures { λ r. ⌜ Put (variablesLine (variableBit set)) (now (text .entry)) r (now (text .exit)) ⌝ }
     ensures { λ r. ⌜ r ≤ 21 * variableBits + 10 ⌝ }
 {
     let named = put_bytes(b"variables", text);
@@ -79,7 +79,7 @@ fn arrays_line(arrays: u32, text: &mut [u8]) -> usize
 // Both lines.
 pub fn both_lines(set: WriteSet, arrays: u32, text: &mut [u8]) -> usize
     requires { ⌜ writesRoom ≤ length (now text) ⌝ }
-    ensures { λ r. ⌜ Put (bothLines (member set) (memberArray arrays)) (now (text .entry)) r (now (text .exit)) ⌝ }
+    ensures { λ r. ⌜ Put (bothLines (variableBit set) (memberArray arrays)) (now (text .entry)) r (now (text .exit)) ⌝ }
 {
     let end = variables_line(set, text);
     end + arrays_line(arrays, &mut text[end..])

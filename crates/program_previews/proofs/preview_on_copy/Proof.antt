@@ -4,7 +4,7 @@ use native.Mathlib.Omega.{arith}
 use borrow.Author.Needs.{needs}
 use lib.ListN.{length}
 use Rattle.words.specs.declared.Form.the-variants.{Source}
-use Rattle.language.specs.Program.{runProgram}
+use Rattle.program_meaning.specs.Program.{runProgram}
 use Rattle.program_previews.specs.PreviewLaws.{foretold}
 use Rattle.program_previews.proofs.preview_on_copy.Statement.{statement}
 use Rattle.program_previews.proofs.preview_on_copy.Tie as tie

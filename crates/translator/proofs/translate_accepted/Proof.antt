@@ -11,7 +11,7 @@ use Rattle.fate.specs.KernelFormLaws.{has-kernel-form}
 use Rattle.translator.specs.declared.TranslateAnswer.{TranslateAnswer}
 use Rattle.translator.specs.Translation.{answerAndTables, translateAfter, translateResult, WritesKernelForm}
 use Rattle.translator.specs.TranslationLaws.{accepted-result, writes-kernel-form}
-use Rattle.translator.specs.AcceptedLaws.{accepted-source}
+use Rattle.translator.specs.AcceptedLaws.{accepted-header, accepted-source, names-from}
 use Rattle.translator.proofs.translate_accepted.Statement.{statement}
 use Rattle.translator.proofs.translate_accepted.Tie as tie
 
@@ -24,14 +24,18 @@ promises header rows outHeader outRows headerLeft rowsLeft answer accepted e =
     let result = accepted-result header rows outHeader outRows headerLeft rowsLeft answer accepted e in
     (result, (has, writes-kernel-form header rows outHeader outRows headerLeft rowsLeft answer has result))
 
+store-size-requires : tie.Need-store-size-requires
+store-size-requires c κs = accepted-header (c .args .header .now) (c .args .rows .now) (c .pre)
+
 slice-aggregate-measure : tie.Need-slice-aggregate-measure
 slice-aggregate-measure c = search needs
 
 measure-requires : tie.Need-measure-requires
 measure-requires c κs =
-    let start = c .before in
+    let start = c .before .before in
     let source = accepted-source (start .args .header .now) (start .args .rows .now) (start .pre) in
-    (source, omega (arith, source .few-rows))
+    let names = names-from (start .args .header .now) (start .args .rows .now) (start .pre) (c .before .store-size .ensures) in
+    (source, names, omega (arith, source .few-rows))
 
 slice-aggregate-write-measured : tie.Need-slice-aggregate-write-measured
 slice-aggregate-write-measured c = search needs
@@ -47,13 +51,14 @@ same-length-2 c = search needs
 
 returns : tie.Need-returns
 returns c =
-    let start = c .before .before .before .before .before .before .before .before .before in
+    let start = c .before .before .before .before .before .before .before .before .before .before in
     promises (start .args .header .now) (start .args .rows .now) _ _ _ _ _ (start .pre) (c .before .before .write-measured .ensures)
 
 pub translate-accepted-spec : {M : Type 1} → statement M
 translate-accepted-spec =
     tie.close
     (tie.spec
+    store-size-requires
     slice-aggregate-measure
     measure-requires
     slice-aggregate-write-measured

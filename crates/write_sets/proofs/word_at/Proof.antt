@@ -18,7 +18,10 @@ returns-4 : tie.Need-returns-4
 returns-4 c = search needs
 
 returns-5 : tie.Need-returns-5
-returns-5 c = word-rest (c .before .args .s) (c .before .args .k) (omega arith)
+returns-5 c = search needs
+
+returns-6 : tie.Need-returns-6
+returns-6 c = word-rest (c .before .args .s) (c .before .args .k) (omega arith)
 
 pub word-at-spec : {M : Type 1} → statement M
-word-at-spec = tie.close (tie.spec returns returns-2 returns-3 returns-4 returns-5)
+word-at-spec = tie.close (tie.spec returns returns-2 returns-3 returns-4 returns-5 returns-6)

@@ -2,7 +2,7 @@
 use native.Mathlib.Omega.{arith}
 use Rattle.text_numbers.specs.PutLaws.{put-next, put-back}
 use Rattle.report.proofs.Spacing.{SoFar, far-inside, far-space, far-total}
-use Rattle.write_sets.specs.Sets.{member}
+use Rattle.write_sets.specs.Sets.{variableBit}
 use Rattle.written_lines.specs.Lines.{variablesLine}
 use borrow.Author.Needs.{needs}
 use Rattle.written_lines.proofs.both_lines.Statement.{statement}
@@ -12,7 +12,7 @@ variables-line-requires : tie.Need-variables-line-requires
 variables-line-requires c κs = omega (arith, c .before .before .pre)
 
 -- the first line, and its room
-first : (c : tie.After-slice-known2) → SoFar 5386 (variablesLine (member (c .before .before .before .before .before .args .set))) (c .before .before .before .before .before .args .text .now) (c .before .before .variables-line .result) (c .before .before .variables-line .last .1 .0)
+first : (c : tie.After-slice-known2) → SoFar 5386 (variablesLine (variableBit (c .before .before .before .before .before .args .set))) (c .before .before .before .before .before .args .text .now) (c .before .before .variables-line .result) (c .before .before .variables-line .last .1 .0)
 first c = record { put = c .before .before .variables-line .ensures .0; few = omega (arith, c .before .before .variables-line .ensures .0 .size, c .before .before .variables-line .ensures .1); room = omega (arith, c .before .before .before .before .before .pre) }
 
 sub-arrays-line : tie.Need-sub-arrays-line

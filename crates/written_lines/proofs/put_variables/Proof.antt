@@ -2,23 +2,23 @@
 use native.Mathlib.Omega.{arith}
 use Prim.Native.Nat.{_+_, _-_}
 use Rattle.words.specs.OverLaws.{back-in}
-use Rattle.write_sets.specs.Sets.{variableBits, member}
+use Rattle.write_sets.specs.Sets.{variableBits, variableBit}
 use Rattle.written_lines.proofs.NumberLaws.{Listed, listed-start, listed-length, listed-inside, listed-space, listed-next, listed-end}
 use borrow.Author.Needs.{needs}
 use Rattle.written_lines.proofs.put_variables.Statement.{statement}
 use Rattle.written_lines.proofs.put_variables.Tie as tie
 
 abbrev Inv-loop : tie.InvT-loop
-Inv-loop set text₀ at₀ i₀ text at i = Listed (member set) variableBits i at text₀ text
+Inv-loop set text₀ at₀ i₀ text at i = Listed (variableBit set) variableBits i at text₀ text
 
 abbrev μ-loop : tie.MeasureT-loop
 μ-loop set text₀ at₀ i₀ text at i = 256 - i
 
 loop-holds : tie.Need-loop-holds Inv-loop μ-loop
-loop-holds c = listed-start (member (c .before .args .set)) variableBits _ (c .before .pre)
+loop-holds c = listed-start (variableBit (c .before .args .set)) variableBits _ (c .before .pre)
 
-has-requires : tie.Need-has-requires Inv-loop μ-loop
-has-requires c κs = search needs
+has-variable-requires : tie.Need-has-variable-requires Inv-loop μ-loop
+has-variable-requires c κs = search needs
 
 sub-put-if : tie.Need-sub-put-if Inv-loop μ-loop
 sub-put-if c = listed-inside (c .before .before .loop .inv)
@@ -33,8 +33,8 @@ put-if-requires : tie.Need-put-if-requires Inv-loop μ-loop
 put-if-requires c κs = listed-space (c .before .before .before .loop .inv) (c .before .before .loop-test .taken)
 
 -- one number more
-next : (c : tie.After-slice-known2 Inv-loop μ-loop) → Listed (member (c .before .before .before .before .before .before .before .before .args .set)) variableBits (c .before .before .before .before .before .before .loop .i + 1) (c .before .before .before .before .before .before .loop .at + c .before .before .put-if .result) (c .before .before .before .before .before .before .before .before .args .text .now) (back-in (c .before .before .before .before .before .before .loop .at) (c .before .before .before .before .before .before .loop .text) (c .before .before .put-if .last .1 .1 .0))
-next c = listed-next (c .before .before .before .before .before .before .loop .inv) (c .before .before .before .before .before .loop-test .taken) (c .before .before .before .before .has .ensures) _ _ (c .before .before .put-if .ensures .0) (c .before .before .put-if .ensures .1)
+next : (c : tie.After-slice-known2 Inv-loop μ-loop) → Listed (variableBit (c .before .before .before .before .before .before .before .before .args .set)) variableBits (c .before .before .before .before .before .before .loop .i + 1) (c .before .before .before .before .before .before .loop .at + c .before .before .put-if .result) (c .before .before .before .before .before .before .before .before .args .text .now) (back-in (c .before .before .before .before .before .before .loop .at) (c .before .before .before .before .before .before .loop .text) (c .before .before .put-if .last .1 .1 .0))
+next c = listed-next (c .before .before .before .before .before .before .loop .inv) (c .before .before .before .before .before .loop-test .taken) (c .before .before .before .before .has-variable .ensures) _ _ (c .before .before .put-if .ensures .0) (c .before .before .put-if .ensures .1)
 
 add-at : tie.Need-add-at Inv-loop μ-loop
 add-at c = omega (arith, listed-inside (next c), listed-length (next c), c .before .before .before .before .before .before .before .before .good)
@@ -61,7 +61,7 @@ put-variables-spec =
     Inv-loop
     μ-loop
     loop-holds
-    has-requires
+    has-variable-requires
     sub-put-if
     part-put-if-start
     part-put-if-end

@@ -6,7 +6,7 @@ use lib.ListN.{length-set}
 use Rattle.words.specs.OverLaws.{back-in}
 use Rattle.text_numbers.specs.PutLaws.{put-byte}
 use Rattle.report.proofs.Spacing.{SoFar, far-below, far-length, far-inside, far-space, far-next}
-use Rattle.write_sets.specs.Sets.{variableBits, member}
+use Rattle.write_sets.specs.Sets.{variableBits, variableBit}
 use Rattle.command_request.specs.Ascii.{ascii}
 use Rattle.written_lines.specs.Lines.{numbers}
 use borrow.Author.Needs.{needs}
@@ -35,7 +35,7 @@ part-put-variables-end c = search needs
 put-variables-requires : tie.Need-put-variables-requires
 put-variables-requires c κs = far-space (named (c .before)) _ (omega (arith, c .before .before .before .before .before .before .before .pre))
 
-numbered : (c : tie.After-slice-known3) → SoFar (9 + 21 * variableBits) (ascii "variables" ++ numbers variableBits (member (c .before .before .before .before .before .before .before .before .before .before .args .set))) (c .before .before .before .before .before .before .before .before .before .before .args .text .now) (c .before .before .before .before .before .before .put-bytes .result + c .before .before .put-variables .result) (back-in (c .before .before .before .before .before .before .put-bytes .result) (c .before .before .before .before .before .before .put-bytes .last .1 .0) (c .before .before .put-variables .last .1 .0))
+numbered : (c : tie.After-slice-known3) → SoFar (9 + 21 * variableBits) (ascii "variables" ++ numbers variableBits (variableBit (c .before .before .before .before .before .before .before .before .before .before .args .set))) (c .before .before .before .before .before .before .before .before .before .before .args .text .now) (c .before .before .before .before .before .before .put-bytes .result + c .before .before .put-variables .result) (back-in (c .before .before .before .before .before .before .put-bytes .result) (c .before .before .before .before .before .before .put-bytes .last .1 .0) (c .before .before .put-variables .last .1 .0))
 numbered c = far-next (named (c .before .before .before .before)) _ (21 * variableBits) (omega (arith, c .before .before .put-variables .ensures .0 .size, c .before .before .put-variables .ensures .1)) (omega (arith, c .before .before .before .before .before .before .before .before .before .before .pre)) _ _ (c .before .before .put-variables .ensures .0)
 
 add-end : tie.Need-add-end

@@ -17,10 +17,10 @@ has-requires : tie.Need-has-requires
 has-requires c κs = search needs
 
 returns : tie.Need-returns
-returns c = ap (λ (b : Bool). pick b 1 0) (sym (c .if1 .taken) ∙ c .before .has .ensures ∙ ap (λ (s : WriteSet). member s (c .before .before .before .before .args .variable)) (c .before .before .set-at .ensures))
+returns c = ap (λ (b : Bool). pick b 1 0) (sym (c .if1 .taken) ∙ c .before .has .ensures ∙ ap (λ (s : WriteSet). member (c .before .before .before .before .args .store) s (c .before .before .before .before .args .variable)) (c .before .before .set-at .ensures))
 
 returns-2 : tie.Need-returns-2
-returns-2 c = ap (λ (b : Bool). pick b 1 0) (sym (c .if1 .left) ∙ c .before .has .ensures ∙ ap (λ (s : WriteSet). member s (c .before .before .before .before .args .variable)) (c .before .before .set-at .ensures))
+returns-2 c = ap (λ (b : Bool). pick b 1 0) (sym (c .if1 .left) ∙ c .before .has .ensures ∙ ap (λ (s : WriteSet). member (c .before .before .before .before .args .store) s (c .before .before .before .before .args .variable)) (c .before .before .set-at .ensures))
 
 pub written-spec : {M : Type 1} → statement M
 written-spec = tie.close (tie.spec set-at-requires has-requires returns returns-2)

@@ -7,7 +7,7 @@ use lib.Seq.{length-take-le}
 use Rattle.words.specs.Laws.{leading-limits, headerFits-facts}
 use Rattle.words.specs.declared.Ending.{Ending}
 use Rattle.words.proofs.Signed.{natural-again}
-use Rattle.language.specs.Program.{programOf, runUnder, runProgram}
+use Rattle.language.specs.Program.{tableProgram, runTableUnder, runTable}
 use Rattle.operations.proofs.Decoding.{handed-is}
 use Rattle.machine.specs.Whole.{endingOfAnswer}
 use Rattle.executor.proofs.Answers.{ran-least}
@@ -80,7 +80,7 @@ same-length : tie.Need-same-length
 same-length c = search needs
 
 returns : tie.Need-returns
-unfolding runProgram runUnder
+unfolding runTable runTableUnder
 returns c =
     let begin = c .before .before .before .before .before .before .before .before .before .before .before in
     let past-leading = c .before .before .before .before .before .before .before .before .before .before .leading in
@@ -91,7 +91,7 @@ returns c =
     let left = past-start .last .1 .1 .1 .1 .1 .0 in
     let store = past-start .last .1 .1 .1 .1 .0 in
     ap (λ (e : Ending). record { ending = e; count = begin .args .budget - left; store = store }) (c .ending-of .ensures ∙ ap endingOfAnswer (handed-is (past-start .result) (past-start .ok)))
-    ∙ run-finished (begin .args .budget) (programOf (begin .args .form) (begin .args .header .now) (begin .args .rows .now)) (begin .args .store .now) (past-start .result) left store given
+    ∙ run-finished (begin .args .budget) (tableProgram (begin .args .form) (begin .args .header .now) (begin .args .rows .now)) (begin .args .store .now) (past-start .result) left store given
 
 pub run-spec : {M : Type 1} → statement M
 run-spec =

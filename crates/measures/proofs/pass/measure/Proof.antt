@@ -10,16 +10,16 @@ slice-aggregate-fill-sets : tie.Need-slice-aggregate-fill-sets
 slice-aggregate-fill-sets c = refl
 
 fill-sets-requires : tie.Need-fill-sets-requires
-fill-sets-requires c κs = (c .before .before .pre .0, omega (arith, c .before .before .pre .0 .few-rows))
+fill-sets-requires c κs = (c .before .before .pre .0, c .before .before .pre .1, omega (arith, c .before .before .pre .0 .few-rows))
 
 slice-aggregate-measure-rows : tie.Need-slice-aggregate-measure-rows
-slice-aggregate-measure-rows c = sym (c .before .before .fill-sets .kept .1 .0)
+slice-aggregate-measure-rows c = sym (c .before .before .fill-sets .kept .1 .1 .0)
 
 measure-rows-requires : tie.Need-measure-rows-requires
-measure-rows-requires c κs = (c .before .before .before .fill-sets .ensures, c .before .before .before .before .before .before .pre .1)
+measure-rows-requires c κs = (c .before .before .before .fill-sets .ensures, c .before .before .before .before .before .before .pre .2)
 
 same-length : tie.Need-same-length
-same-length c = c .before .before .measure-rows .kept .1 .1 .0
+same-length c = c .before .before .measure-rows .kept .1 .1 .1 .0
 
 returns : tie.Need-returns
 returns c = c .before .before .measure-rows .ensures

@@ -10,10 +10,10 @@ use Rattle.measures.proofs.pass.measure_rows.Statement.{statement}
 use Rattle.measures.proofs.pass.measure_rows.Tie as tie
 
 abbrev Inv-loop : tie.InvT-loop
-Inv-loop rows sets table₀ row₀ table row = (row ≤ rowCount rows) × MeasuredFrom rows table row × (length table ≡ length table₀)
+Inv-loop store rows sets table₀ row₀ table row = (row ≤ rowCount rows) × MeasuredFrom rows table row × (length table ≡ length table₀)
 
 abbrev μ-loop : tie.MeasureT-loop
-μ-loop rows sets table₀ row₀ table row = row
+μ-loop store rows sets table₀ row₀ table row = row
 
 loop-holds : tie.Need-loop-holds Inv-loop μ-loop
 loop-holds c = (omega arith, measured-none (c .before .before .pre .0 .source) (c .before .before .pre .1), refl)
@@ -28,7 +28,7 @@ loop-less : tie.Need-loop-less Inv-loop μ-loop
 loop-less c = omega arith
 
 loop-again : tie.Need-loop-again Inv-loop μ-loop
-loop-again c = (omega (arith, c .before .before .before .before .before .loop .inv .0), c .before .before .measure-row .ensures, c .before .before .measure-row .kept .1 .1 .0 ∙ c .before .before .before .before .before .loop .inv .2)
+loop-again c = (omega (arith, c .before .before .before .before .before .loop .inv .0), c .before .before .measure-row .ensures, c .before .before .measure-row .kept .1 .1 .1 .0 ∙ c .before .before .before .before .before .loop .inv .2)
 
 same-length : tie.Need-same-length Inv-loop μ-loop
 same-length c = c .before .loop .inv .2

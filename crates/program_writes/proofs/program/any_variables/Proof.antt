@@ -1,4 +1,4 @@
--- The variables of the rows so far; the invariant is `Variables`.
+-- The variables and declared words of the rows so far; the invariant is `Variables`.
 use Prim.Native.Nat.{_-_}
 use native.Mathlib.Omega.{arith}
 use Rattle.words.specs.Table.{rowCount}
@@ -8,10 +8,10 @@ use Rattle.program_writes.proofs.program.any_variables.Statement.{state
 use Rattle.program_writes.proofs.program.any_variables.Tie as tie
 
 abbrev Inv-loop : tie.InvT-loop
-Inv-loop rows sets any₀ row₀ any row = Variables rows any row
+Inv-loop store rows sets any₀ row₀ any row = Variables store rows any row
 
 abbrev μ-loop : tie.MeasureT-loop
-μ-loop rows sets any₀ row₀ any row = rowCount rows - row
+μ-loop store rows sets any₀ row₀ any row = rowCount rows - row
 
 nothing-requires : tie.Need-nothing-requires Inv-loop μ-loop
 nothing-requires c κs = search needs
@@ -22,17 +22,25 @@ loop-holds c = variables-start (c .nothing .ensures)
 row-set-requires : tie.Need-row-set-requires Inv-loop μ-loop
 row-set-requires c κs = omega (arith, c .loop-test .taken, c .before .before .before .before .pre .room)
 
+declared-set-requires : tie.Need-declared-set-requires Inv-loop μ-loop
+declared-set-requires c κs = let asked = c .before .before .before .before .before .pre in (asked .source, asked .names, c .before .loop-test .taken)
+
 join-requires : tie.Need-join-requires Inv-loop μ-loop
 join-requires c κs = search needs
 
+join-requires-2 : tie.Need-join-requires-2 Inv-loop μ-loop
+join-requires-2 c κs = search needs
+
 add-row : tie.Need-add-row Inv-loop μ-loop
-add-row c = omega (arith, c .before .before .loop-test .taken, c .before .before .before .before .before .before .good)
+add-row c = omega (arith, c .before .before .before .before .loop-test .taken, c .before .before .before .before .before .before .before .before .good)
 
 loop-less : tie.Need-loop-less Inv-loop μ-loop
-loop-less c = omega (arith, c .before .before .loop-test .taken)
+loop-less c = omega (arith, c .before .before .before .before .loop-test .taken)
 
 loop-again : tie.Need-loop-again Inv-loop μ-loop
-loop-again c = variables-next (c .before .before .before .before .before .before .pre) (c .before .before .before .loop .inv) (c .before .before .loop-test .taken) (c .before .row-set .ensures) (c .join .ensures)
+loop-again c =
+    variables-next (c .before .before .before .before .before .before .before .before .pre) (c .before .before .before .before .before .loop .inv) (c .before .before .before .before .loop-test .taken) (c .before .before .before .row-set .ensures)
+    (c .before .before .declared-set .ensures) (c .before .join .ensures) (c .join2 .ensures)
 
 returns : tie.Need-returns Inv-loop μ-loop
 returns c = variables-end (c .before .loop .inv) (omega (arith, c .loop-test .left))
@@ -46,7 +54,9 @@ any-variables-spec =
     nothing-requires
     loop-holds
     row-set-requires
+    declared-set-requires
     join-requires
+    join-requires-2
     add-row
     loop-less
     loop-again

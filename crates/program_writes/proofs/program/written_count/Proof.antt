@@ -1,4 +1,4 @@
--- The ones in the words are as many as the variables.
+-- The ones in the words are as many as the variables and declared words.
 use Rattle.program_writes.proofs.UnionLaws.{written-count}
 use borrow.Author.Needs.{needs}
 use Rattle.program_writes.proofs.program.written_count.Statement.{statement}

@@ -10,13 +10,13 @@ use Rattle.row_writes.proofs.writes.fill_sets.Statement.{statement}
 use Rattle.row_writes.proofs.writes.fill_sets.Tie as tie
 
 abbrev Inv-loop : tie.InvT-loop
-Inv-loop rows sets₀ row₀ sets row = (row ≤ rowCount rows) × SetsFrom rows sets row × (length sets ≡ length sets₀)
+Inv-loop store rows sets₀ row₀ sets row = (row ≤ rowCount rows) × SetsFrom store rows sets row × (length sets ≡ length sets₀)
 
 abbrev μ-loop : tie.MeasureT-loop
-μ-loop rows sets₀ row₀ sets row = row
+μ-loop store rows sets₀ row₀ sets row = row
 
 loop-holds : tie.Need-loop-holds Inv-loop μ-loop
-loop-holds c = (omega arith, sets-none (c .before .pre .0) (c .before .pre .1), refl)
+loop-holds c = (omega arith, sets-none (c .before .pre .0) (c .before .pre .1) (c .before .pre .2), refl)
 
 sub-row : tie.Need-sub-row Inv-loop μ-loop
 sub-row c = omega arith
@@ -28,7 +28,7 @@ loop-less : tie.Need-loop-less Inv-loop μ-loop
 loop-less c = omega arith
 
 loop-again : tie.Need-loop-again Inv-loop μ-loop
-loop-again c = (omega (arith, c .before .before .before .before .before .loop .inv .0), c .before .before .fill-set .ensures, c .before .before .fill-set .kept .1 .0 ∙ c .before .before .before .before .before .loop .inv .2)
+loop-again c = (omega (arith, c .before .before .before .before .before .loop .inv .0), c .before .before .fill-set .ensures, c .before .before .fill-set .kept .1 .1 .0 ∙ c .before .before .before .before .before .loop .inv .2)
 
 same-length : tie.Need-same-length Inv-loop μ-loop
 same-length c = c .before .loop .inv .2

@@ -1,7 +1,7 @@
 -- The stores of a row's set.
 use native.Mathlib.Omega.{arith}
 use lib.ListN.{length-set}
-use Rattle.row_writes.proofs.WriteLaws.{four-stores}
+use Rattle.row_writes.proofs.WriteLaws.{five-stores}
 use borrow.Author.Needs.{needs}
 use Rattle.row_writes.proofs.writes.put_set.Statement.{statement}
 use Rattle.row_writes.proofs.writes.put_set.Tie as tie
@@ -42,11 +42,20 @@ mul-sets-4 c = search needs
 slice-write-sets-4 : tie.Need-slice-write-sets-4
 slice-write-sets-4 c = simp length-set (omega arith)
 
+add-sets-4 : tie.Need-add-sets-4
+add-sets-4 c = search needs
+
+mul-sets-5 : tie.Need-mul-sets-5
+mul-sets-5 c = search needs
+
+slice-write-sets-5 : tie.Need-slice-write-sets-5
+slice-write-sets-5 c = simp length-set (omega arith)
+
 same-length : tie.Need-same-length
 same-length c = search needs
 
 returns : tie.Need-returns
-returns c = four-stores _ _ _ _ _ _ (c .pre)
+returns c = five-stores _ _ _ _ _ _ _ (c .pre)
 
 pub put-set-spec : {M : Type 1} → statement M
 put-set-spec =
@@ -64,5 +73,8 @@ put-set-spec =
     add-sets-3
     mul-sets-4
     slice-write-sets-4
+    add-sets-4
+    mul-sets-5
+    slice-write-sets-5
     same-length
     returns)

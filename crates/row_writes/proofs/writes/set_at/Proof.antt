@@ -49,8 +49,17 @@ mul-t17 c = omega (arith, c .before .before .before .before .before .pre (omega 
 shared-slice-read-t19 : tie.Need-shared-slice-read-t19
 shared-slice-read-t19 c = omega (arith, c .before .before .before .before .before .before .pre (omega (arith, c .before .before .before .before .if1 .left)))
 
+add-t20 : tie.Need-add-t20
+add-t20 c = omega (arith, c .before .before .before .before .before .before .pre (omega (arith, c .before .before .before .before .if1 .left)))
+
+mul-t21 : tie.Need-mul-t21
+mul-t21 c = omega (arith, c .before .before .before .before .before .before .pre (omega (arith, c .before .before .before .before .if1 .left)))
+
+shared-slice-read-t23 : tie.Need-shared-slice-read-t23
+shared-slice-read-t23 c = omega (arith, c .before .before .before .before .before .before .before .pre (omega (arith, c .before .before .before .before .before .if1 .left)))
+
 returns-2 : tie.Need-returns-2
-returns-2 c = sym (set-some _ (c .before .before .before .before .before .before .args .link) (omega (arith, c .before .before .before .before .if1 .left)))
+returns-2 c = sym (set-some _ (c .before .before .before .before .before .before .before .args .link) (omega (arith, c .before .before .before .before .before .if1 .left)))
 
 pub set-at-spec : {M : Type 1} → statement M
 set-at-spec =
@@ -70,4 +79,7 @@ set-at-spec =
     add-t16
     mul-t17
     shared-slice-read-t19
+    add-t20
+    mul-t21
+    shared-slice-read-t23
     returns-2)

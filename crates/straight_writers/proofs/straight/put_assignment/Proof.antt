@@ -27,7 +27,7 @@ put-variable-requires c κs =
     let asks = c .before .before .before .before .before .before .pre in
     let found = placed (c .before .before .before .before .place-at .ensures) (c .before .before .shape .given .1) in
     let size = ap (λ (p : Place). storeRows p (direct (expressionAt (args .rows .now) (args .value)))) (found .is) in
-    record { writing = asks .writing; low = found .onward; value-inside = asks .value-inside; level-low = asks .level-low; room = room-less _ (asks .room) (omega (arith, size)) }
+    record { writing = asks .writing; low = found .onward .low; value-inside = asks .value-inside; level-low = asks .level-low; room = room-less _ (asks .room) (omega (arith, size)) }
 
 enum-known-shape-2 : tie.Need-enum-known-shape-2
 enum-known-shape-2 c = search needs

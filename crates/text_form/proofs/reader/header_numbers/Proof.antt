@@ -1,4 +1,4 @@
--- `header_numbers`: V (kernel: V and T), and up to 32 lengths.
+-- `header_numbers`: V (kernel: V, D and T), and up to 32 lengths.
 use mathlib.Core.Path.{sym, ap, _∙_}
 use native.Mathlib.Omega.{arith}
 use Rattle.words.specs.Laws.{leading-limits}

@@ -4,7 +4,7 @@ use native.Mathlib.Omega.{arith}
 use Rattle.words.specs.declared.Form.the-variants.{Source}
 use Rattle.text_numbers.specs.PutLaws.{put-as, put-next}
 use Rattle.report.proofs.Spacing.{far-inside, far-total}
-use Rattle.translator.specs.AcceptedLaws.{accepted-source}
+use Rattle.translator.specs.AcceptedLaws.{accepted-source, names-from}
 use Rattle.trial.proofs.Started.{started-length, run-made, both-lines, first-inside, first-room, first-put, first-translates}
 use borrow.Author.Needs.{needs}
 use Rattle.trial.proofs.runs.run_source_on.Statement.{statement}
@@ -15,13 +15,13 @@ run-accepted-requires c κs =
     let s = c .before .before in
     (s .pre .accepted, started-length Source (s .args .header .now) (s .args .rows .now) (s .args .store .now) (s .pre .starts))
 
+store-size-requires : tie.Need-store-size-requires
+store-size-requires c κs = c .before .before .before .before .pre .fits .header-fits
+
 written-count-requires : tie.Need-written-count-requires
 written-count-requires c κs =
-    let s = c .before .before .before .before in
-    accepted-source (s .args .header .now) (s .args .rows .now) (s .pre .accepted)
-
-store-size-requires : tie.Need-store-size-requires
-store-size-requires c κs = c .before .before .before .before .before .pre .fits .header-fits
+    let s = c .before .before .before .before .before in
+    (accepted-source (s .args .header .now) (s .args .rows .now) (s .pre .accepted), names-from (s .args .header .now) (s .args .rows .now) (s .pre .accepted) (c .store-size .ensures))
 
 sub-source-line : tie.Need-sub-source-line
 sub-source-line c = search needs
@@ -30,27 +30,27 @@ part-source-line-start : tie.Need-part-source-line-start
 part-source-line-start c = search needs
 
 part-source-line-end : tie.Need-part-source-line-end
-part-source-line-end c = first-inside (c .before .before .before .before .before .before .before .pre) (c .before .before .before .before .run-accepted .last .1 .1 .1 .0) (c .before .before .before .before .run-accepted .kept .1 .1 .1 .0) (c .before .store-size .ensures)
+part-source-line-end c = first-inside (c .before .before .before .before .before .before .before .pre) (c .before .before .before .before .run-accepted .last .1 .1 .1 .0) (c .before .before .before .before .run-accepted .kept .1 .1 .1 .0) (c .before .before .store-size .ensures)
 
 source-line-requires : tie.Need-source-line-requires
-source-line-requires c κs = first-room (c .before .before .before .before .before .before .before .before .before .pre) (c .before .before .before .before .before .before .run-accepted .last .1 .1 .1 .0) (c .before .before .before .before .before .before .run-accepted .kept .1 .1 .1 .0) (c .before .before .before .store-size .ensures)
+source-line-requires c κs = first-room (c .before .before .before .before .before .before .before .before .before .pre) (c .before .before .before .before .before .before .run-accepted .last .1 .1 .1 .0) (c .before .before .before .before .before .before .run-accepted .kept .1 .1 .1 .0) (c .before .before .before .before .store-size .ensures)
 
 sub-run-translation : tie.Need-sub-run-translation
-sub-run-translation c = far-inside (first-put (c .before .before .before .before .before .before .before .before .before .before .before .before .pre) (c .before .before .before .before .before .before .before .before .before .run-accepted .last .1 .1 .1 .0) (c .before .before .before .before .before .before .before .before .before .run-accepted .kept .1 .1 .1 .0) (c .before .before .before .before .before .before .store-size .ensures) (c .before .before .source-line .ensures .0) (c .before .before .source-line .ensures .1) refl)
+sub-run-translation c = far-inside (first-put (c .before .before .before .before .before .before .before .before .before .before .before .before .pre) (c .before .before .before .before .before .before .before .before .before .run-accepted .last .1 .1 .1 .0) (c .before .before .before .before .before .before .before .before .before .run-accepted .kept .1 .1 .1 .0) (c .before .before .before .before .before .before .before .store-size .ensures) (c .before .before .source-line .ensures .0) (c .before .before .source-line .ensures .1) refl)
 
 part-run-translation-start : tie.Need-part-run-translation-start
-part-run-translation-start c = omega (arith, far-inside (first-put (c .before .before .before .before .before .before .before .before .before .before .before .before .pre) (c .before .before .before .before .before .before .before .before .before .run-accepted .last .1 .1 .1 .0) (c .before .before .before .before .before .before .before .before .before .run-accepted .kept .1 .1 .1 .0) (c .before .before .before .before .before .before .store-size .ensures) (c .before .before .source-line .ensures .0) (c .before .before .source-line .ensures .1) refl))
+part-run-translation-start c = omega (arith, far-inside (first-put (c .before .before .before .before .before .before .before .before .before .before .before .before .pre) (c .before .before .before .before .before .before .before .before .before .run-accepted .last .1 .1 .1 .0) (c .before .before .before .before .before .before .before .before .before .run-accepted .kept .1 .1 .1 .0) (c .before .before .before .before .before .before .before .store-size .ensures) (c .before .before .source-line .ensures .0) (c .before .before .source-line .ensures .1) refl))
 
 part-run-translation-end : tie.Need-part-run-translation-end
 part-run-translation-end c = search needs
 
 run-translation-requires : tie.Need-run-translation-requires
 run-translation-requires c κs =
-    first-translates (c .before .before .before .before .before .before .before .before .before .before .before .before .before .pre) (c .before .before .before .before .before .before .before .before .before .before .run-accepted .last .1 .1 .1 .0) (c .before .before .before .before .before .before .before .before .before .before .run-accepted .kept .1 .1 .1 .0) (c .before .before .before .before .before .before .before .store-size .ensures) (c .before .before .before .source-line .ensures .0) (c .before .before .before .source-line .ensures .1) refl
+    first-translates (c .before .before .before .before .before .before .before .before .before .before .before .before .before .pre) (c .before .before .before .before .before .before .before .before .before .before .run-accepted .last .1 .1 .1 .0) (c .before .before .before .before .before .before .before .before .before .before .run-accepted .kept .1 .1 .1 .0) (c .before .before .before .before .before .before .before .before .store-size .ensures) (c .before .before .before .source-line .ensures .0) (c .before .before .before .source-line .ensures .1) refl
 
 add-result : tie.Need-add-result
 add-result c =
-    omega (arith, far-total (first-put (c .before .before .before .before .before .before .before .before .before .before .before .before .before .before .before .before .pre) (c .before .before .before .before .before .before .before .before .before .before .before .before .before .run-accepted .last .1 .1 .1 .0) (c .before .before .before .before .before .before .before .before .before .before .before .before .before .run-accepted .kept .1 .1 .1 .0) (c .before .before .before .before .before .before .before .before .before .before .store-size .ensures) (c .before .before .before .before .before .before .source-line .ensures .0) (c .before .before .before .before .before .before .source-line .ensures .1) refl) (c .before .before .run-translation .ensures) (c .before .before .run-translation .kept .1 .1 .0), c .before .before .before .before .before .before .before .before .before .before .before .before .before .before .before .before .good)
+    omega (arith, far-total (first-put (c .before .before .before .before .before .before .before .before .before .before .before .before .before .before .before .before .pre) (c .before .before .before .before .before .before .before .before .before .before .before .before .before .run-accepted .last .1 .1 .1 .0) (c .before .before .before .before .before .before .before .before .before .before .before .before .before .run-accepted .kept .1 .1 .1 .0) (c .before .before .before .before .before .before .before .before .before .before .before .store-size .ensures) (c .before .before .before .before .before .before .source-line .ensures .0) (c .before .before .before .before .before .before .source-line .ensures .1) refl) (c .before .before .run-translation .ensures) (c .before .before .run-translation .kept .1 .1 .0), c .before .before .before .before .before .before .before .before .before .before .before .before .before .before .before .before .good)
 
 same-length : tie.Need-same-length
 same-length c = search needs
@@ -62,15 +62,15 @@ returns : tie.Need-returns
 returns c =
     let s = c .before .before .before .before .before .before .before .before .before .before .before .before .before .before .before .before in
     let made = run-made Source (s .args .header .now) (s .args .rows .now) (s .args .store .now) (s .pre .starts) _ _ (c .before .before .before .before .before .before .before .before .before .before .before .before .before .run-accepted .ensures) in
-    put-as (both-lines made (c .before .before .before .before .before .before .before .before .before .before .store-size .ensures) (c .before .before .before .before .before .before .before .before .before .before .before .written-count .ensures)) (put-next (c .before .before .before .before .before .before .source-line .ensures .0) _ _ _ (c .before .before .run-translation .ensures))
+    put-as (both-lines made (c .before .before .before .before .before .before .before .before .before .before .before .store-size .ensures) (c .before .before .before .before .before .before .before .before .before .before .written-count .ensures)) (put-next (c .before .before .before .before .before .before .source-line .ensures .0) _ _ _ (c .before .before .run-translation .ensures))
 
 pub run-source-on-spec : {M : Type 1} → statement M
 run-source-on-spec =
     tie.close
     (tie.spec
     run-accepted-requires
-    written-count-requires
     store-size-requires
+    written-count-requires
     sub-source-line
     part-source-line-start
     part-source-line-end

@@ -356,7 +356,7 @@ write-declare-requires t c κs =
     let writing = start .pre .1 .0 in
     let asks = start .pre .1 .1 in
     let line = is-declare in
-    (writing, record { low = line .onward .0; some = omega (arith, line .onward .1 .later); inside = line .onward .1 .inside; room = room-less _ (rw (line .is) at (asks .room)) (omega (arith, part-size (stored (past-line10 .given .0 .0)) (start .args .rows .now) (past-line10 .given .0 .1 .0) (omega (arith, line .onward .1 .later)))) })
+    (writing, record { low = line .onward .0 .low; some = omega (arith, line .onward .1 .later); inside = line .onward .1 .inside; room = room-less _ (rw (line .is) at (asks .room)) (omega (arith, part-size (stored (past-line10 .given .0 .0)) (start .args .rows .now) (past-line10 .given .0 .1 .0) (omega (arith, line .onward .1 .later)))) })
 
 pub same-length : (t : ℕ) → lts.Need-same-length (write-statement-claims t) (write-statement-at t) reads.Post
 same-length t c = c .before .put-empty .kept .1 .1 .0

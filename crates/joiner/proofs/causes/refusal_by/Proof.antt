@@ -1,4 +1,4 @@
--- `deep_by` lends as many zeros as the joined rows have words.
+-- `refusal_by` lends as many zeros as the joined rows have words.
 use mathlib.Core.Path.{ap, _∙_}
 use Prim.Native.Nat.{_+_, _≤_}
 use lib.IntN.{pos}
@@ -6,8 +6,8 @@ use lib.ListN.{length, length-replicate}
 use Rattle.words.specs.Laws.{zeros-part}
 use native.Mathlib.Omega.{arith}
 use borrow.Author.Needs.{needs}
-use Rattle.joiner.proofs.causes.deep_by.Statement.{statement}
-use Rattle.joiner.proofs.causes.deep_by.Tie as tie
+use Rattle.joiner.proofs.causes.refusal_by.Statement.{statement}
+use Rattle.joiner.proofs.causes.refusal_by.Tie as tie
 
 add-words : tie.Need-add-words
 add-words c = search needs
@@ -15,8 +15,8 @@ add-words c = search needs
 add-words-2 : tie.Need-add-words-2
 add-words-2 c = search needs
 
-sub-deep-in-table : tie.Need-sub-deep-in-table
-sub-deep-in-table c = search needs
+sub-refusal-in-table : tie.Need-sub-refusal-in-table
+sub-refusal-in-table c = search needs
 
 part-table-start : tie.Need-part-table-start
 part-table-start c = search needs
@@ -30,8 +30,8 @@ room c =
     let few = c .pre .0 .few in
     omega (arith, c .pre .0 .parts .tree-first .whole, c .pre .0 .parts .tree-second .whole)
 
-deep-in-table-requires : tie.Need-deep-in-table-requires
-deep-in-table-requires c κs =
+refusal-in-table-requires : tie.Need-refusal-in-table-requires
+refusal-in-table-requires c κs =
     let s = c .before in
     let words = 6 + length (s .args .first .now) + length (s .args .second .now) in
     (s .pre .0, ap length (zeros-part words 12288 (room s)) ∙ length-replicate words (pos 0), s .pre .1)
@@ -39,14 +39,14 @@ deep-in-table-requires c κs =
 returns : tie.Need-returns
 returns c = search needs
 
-pub deep-by-spec : {M : Type 1} → statement M
-deep-by-spec =
+pub refusal-by-spec : {M : Type 1} → statement M
+refusal-by-spec =
     tie.close
     (tie.spec
     add-words
     add-words-2
-    sub-deep-in-table
+    sub-refusal-in-table
     part-table-start
     part-table-end
-    deep-in-table-requires
+    refusal-in-table-requires
     returns)

@@ -1,0 +1,1 @@
+// Joins of programs with declarations: definitions and laws alone, in specs/.

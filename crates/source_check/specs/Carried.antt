@@ -1,0 +1,61 @@
+-- Carried places: where another table holds the rows of a table, each at its place, with their kinds and links, what legality says of a
+-- row's place holds there. So of the resolved table, in which every row has its own place.
+use mathlib.Core.Path.{_≡_, sym, subst, _∙_}
+use mathlib.Core.Bool.{Bool}
+use mathlib.Core.List.{List}
+use Prim.Native.Nat.{ℕ, _<_}
+use native.Mathlib.Omega.{arith}
+use lib.IntN.{ℤ}
+use Rattle.words.specs.Table.{rowCount, numberAt}
+use Rattle.words.specs.Links.{link}
+use Rattle.structure.specs.Structured.{Leads}
+use Rattle.words.specs.Declarations.{isDeclaration}
+use Rattle.names.specs.Names.{resolved}
+use Rattle.names.specs.SameLinks.{same-count, same-leads}
+use Rattle.names.specs.ResolvedLaws.{resolved-length, resolved-kind, resolved-link}
+use Rattle.list_items.specs.Items.{ListItem, first, next}
+use Rattle.source_check.specs.Legal.{Inside, part, along, Placed}
+
+-- Row r of the table `rows` is row ρ r of the table `other`, and so are the rows that it links.
+pub record Carries (other rows : List ℤ) (ρ : ℕ → ℕ) : Type 0 where
+  pub kind : (row : ℕ) → row < rowCount rows → numberAt other (ρ row) 0 ≡ numberAt rows row 0
+  pub leads : (row field : ℕ) → field < 6 → Leads rows row field → Leads other (ρ row) field
+  pub to : (row field : ℕ) → field < 6 → Leads rows row field → link other (ρ row) field ≡ ρ (link rows row field)
+
+module _ {other rows : List ℤ} {ρ : ℕ → ℕ} (c : Carries other rows ρ) where
+  inside-carried : (kinds : ℕ → Bool) {row : ℕ} → Inside rows kinds row → Inside other kinds (ρ row)
+  inside-carried kinds (part {row} {field} f leads k) =
+      let later = leads .later in
+      let below = leads .inside in
+      subst (Inside other kinds) (c .to row field (omega arith) leads) (part f (c .leads row field (omega arith) leads) (rw (c .kind row (omega arith)) k))
+  inside-carried kinds (along {row} {field} f leads i) = subst (Inside other kinds) (c .to row field f leads) (along f (c .leads row field f leads) (inside-carried kinds i))
+
+  item-carried : (kind start : ℕ) → start < 6 → {row : ℕ} → ListItem rows kind start row → ListItem other kind start (ρ row)
+  item-carried kind start f (first {row} k leads) =
+      let later = leads .later in
+      let below = leads .inside in
+      subst (ListItem other kind start) (c .to row start f leads) (first (c .kind row (omega arith) ∙ k) (c .leads row start f leads))
+  item-carried kind start f (next {row} leads i) =
+      subst (ListItem other kind start) (c .to row 5 (omega arith) leads) (next (c .leads row 5 (omega arith) leads) (item-carried kind start f i))
+
+  pub placed-carried : (row : ℕ) → row < rowCount rows → Placed rows row → Placed other (ρ row)
+  unfolding isDeclaration
+  placed-carried row n p = record {
+    break-inside = λ k. inside-carried _ (p .break-inside (sym (c .kind row n) ∙ k));
+    continue-inside = λ k. inside-carried _ (p .continue-inside (sym (c .kind row n) ∙ k));
+    mark-inside = λ k. item-carried 47 2 (omega arith) (p .mark-inside (rw (c .kind row n) at k));
+    declaration-inside = λ d. item-carried 42 1 (omega arith) (p .declaration-inside (rw (c .kind row n) at d));
+  }
+
+-- ---- the resolved table
+
+module _ (S : ℕ) (rows : List ℤ) where
+  resolved-carries : Carries (resolved S rows) rows (λ row. row)
+  resolved-carries = record {
+    kind = λ row n. resolved-kind S rows row;
+    leads = λ row field f leads. same-leads rows (resolved S rows) (resolved-length S rows) (resolved-link S rows) f leads;
+    to = λ row field f leads. resolved-link S rows row field f;
+  }
+
+  pub resolved-placed : ((row : ℕ) → row < rowCount rows → Placed rows row) → (row : ℕ) → row < rowCount (resolved S rows) → Placed (resolved S rows) row
+  resolved-placed placed row n = let inside = rw (same-count rows (resolved S rows) (resolved-length S rows) (resolved-link S rows)) at n in placed-carried resolved-carries row inside (placed row inside)

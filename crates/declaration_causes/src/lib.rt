@@ -1,1 +1,1 @@
-// The causes that declarations add to the check, Change 11: definitions and laws alone, in specs/. No entry uses them yet.
+// The causes that declarations add to the check, Change 11: definitions and laws alone, in specs/.

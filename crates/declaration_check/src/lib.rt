@@ -1,4 +1,4 @@
-// The causes that declarations add to the check, in code: 18, 19 and 20 in order, and 7 for a declaration. No entry uses them yet.
+// The causes that declarations add to the check, in code: 18, 19 and 20 in order, and 7 for a declaration.
 use breaks::lowest_breaking;
 use grammar::KindTable;
 use notes::write_notes;

@@ -1,1 +1,1 @@
-// Names inside a block, Change 11: definitions and laws alone, in specs/. No entry uses them yet.
+// Names inside a block, Change 11: definitions and laws alone, in specs/.

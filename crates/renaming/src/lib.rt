@@ -1,1 +1,1 @@
-// Programs whose words stand elsewhere in the store run alike: definitions and laws alone, in specs/. No entry uses them yet.
+// Programs whose words stand elsewhere in the store run alike: definitions and laws alone, in specs/.

@@ -1,5 +1,5 @@
 // The resolved table in code: a pass along the links notes every row's scope, a pass over the rows counts declarations; then each word is
-// written by itself. No entry uses it yet.
+// written by itself.
 pub mod counts; // counts.rt: how many declarations stand before each row
 pub mod store_words; // store_words.rt: what a name means, and its store word
 pub mod scopes; // scopes.rt: the scope of each row

@@ -1,1 +1,1 @@
-// The scope of names in an accepted program: definitions and laws alone, in specs/. No entry uses them yet.
+// The scope of names in an accepted program: definitions and laws alone, in specs/.

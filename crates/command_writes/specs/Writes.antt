@@ -6,16 +6,18 @@ use Rattle.words.specs.declared.Form.the-variants.{Source}
 use Rattle.words.specs.declared.Verdict.{Verdict}
 use Rattle.words.specs.declared.Verdict.the-variants.{Accepted, Refused}
 use Rattle.report.specs.Lines.{refusedLine}
+use Rattle.program_meaning.specs.Program.{resolvedRows}
 use Rattle.program_writes.specs.ProgramWrites.{variablesWritten, programWritesArray}
 use Rattle.writes.specs.Told.{sizeOf}
 use Rattle.written_lines.specs.Lines.{bothLines}
 use Rattle.program_runs.specs.Runs.{refusalOf}
 use Rattle.command_text.specs.Texts.{textOutput}
 
--- What the program can write, by number: its variables, then the arrays of which it can write an element.
+-- What the program can write, by number: its variables, then the arrays of which it can write an element. A place that names a declared
+-- number is no variable.
 abbrev pub verdictWrites : Verdict → (header rows : List ℤ) → List ℕ
 verdictWrites (Refused refusal) header rows = refusedLine (refusal .number) (refusal .place)
-verdictWrites Accepted header rows = bothLines (variablesWritten (sizeOf header) rows) (programWritesArray rows)
+verdictWrites Accepted header rows = bothLines (variablesWritten (sizeOf header) (resolvedRows Source header rows)) (programWritesArray (resolvedRows Source header rows))
 
 abbrev pub writesLines : (header rows : List ℤ) → List ℕ
 writesLines header rows = verdictWrites (refusalOf Source header rows) header rows

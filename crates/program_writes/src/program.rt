@@ -6,7 +6,6 @@ use words::declarations::is_declaration;
 use words::table::number_at;
 use write_sets::WriteSet;
 use write_sets::arrays::join_arrays;
-use write_sets::count;
 use write_sets::join;
 use write_sets::nothing;
 use write_sets::single;
@@ -17,7 +16,7 @@ ghost use Rattle.words.specs.Table.{rowCount};
 ghost use Rattle.shapes.specs.Source.{NamesFrom, Source};
 ghost use Rattle.row_writes.specs.WriteSets.{SetIs, Sets, setWidth, setOf};
 ghost use Rattle.program_writes.specs.Arrays.{ArraysAre, ArraysFrom};
-ghost use Rattle.program_writes.specs.ProgramWrites.{declares, programWrites, programWritesArray, written, WritesAre};
+ghost use Rattle.program_writes.specs.ProgramWrites.{declares, programWrites, programWritesArray, WritesAre};
 
 // The set of a row.
 fn row_set(sets: &[u64], row: usize) -> WriteSet
@@ -98,12 +97,4 @@ pub fn program_writes(store: usize, rows: &[i32]) -> Writes
     let variables = variables_written(store, rows);
     let arrays = arrays_written(rows);
     Writes { variables, arrays }
-}
-
-// How many variables and declared words it can write: the ones in the five words.
-pub fn written_count(store: usize, rows: &[i32]) -> u32
-    requires { ⌜ Source (now rows) × NamesFrom store (now rows) ⌝ }
-    ensures { λ r. ⌜ r ≡ written store (now (rows .entry)) ⌝ }
-{
-    count(variables_written(store, rows))
 }

@@ -1,7 +1,8 @@
--- Laws of an accepted source program: what the measures and the writers ask of it, and that its kernel form is as large as row 0
--- measures.
+-- Laws of an accepted source program: what the measures and the writers ask of its resolved table, and that its kernel form is as large as
+-- row 0 measures.
 use mathlib.Core.Path.{_≡_, refl, sym, ap, ap₂, subst, _∙_}
 use mathlib.Core.Bool.{true}
+use mathlib.Core.Logic.{⊎-elim}
 use mathlib.Core.List.{List}
 use Prim.Native.Nat.{ℕ, _+_, _*_, _≤_, _<_}
 use native.Mathlib.Omega.{arith}
@@ -9,7 +10,7 @@ use lib.IntN.{ℤ}
 use lib.ListN.{length}
 use Rattle.words.specs.Table.{rowCount, numberAt}
 use Rattle.words.specs.Kinds.{kindAt, expressionFields, statementFields, kindRow, sortIn}
-use Rattle.words.specs.Layout.{headerFits, layoutOf, storeSize, storeWords, headerStore}
+use Rattle.words.specs.Layout.{headerFits, layoutOf, storeSize, storeWords}
 use Rattle.words.specs.Declarations.{declarationCount}
 use Rattle.words.specs.StoreLaws.{source-store, source-small}
 use Rattle.words.specs.Laws.{headerFits-facts, countFits-facts}
@@ -20,8 +21,9 @@ use Rattle.words.specs.declared.StatementKind.the-variants.{Block, Declare}
 use Rattle.words.specs.declared.Verdict.the-variants.{Accepted}
 use Rattle.language.specs.Trees.{block}
 use Rattle.language.specs.Program.{contents}
+use Rattle.row_fields.specs.Fields.{boundsIn}
+use Rattle.names.specs.ResolvedLaws.{resolved-length}
 use Rattle.program_meaning.specs.Program.{resolvedRows}
-use Rattle.program_meaning.specs.ResolvedRows.{structured-rows}
 use Rattle.translation.specs.Translate.{temporaries, translate, kernelHeader}
 use Rattle.translation.specs.TranslateSize.{itemsSize}
 use Rattle.translation.specs.TranslateRows.{translation-rows}
@@ -31,10 +33,10 @@ use Rattle.emission.specs.EmissionLaws.{length-emit}
 use Rattle.source_check.specs.Refusal.{refusal as sourceRefusal}
 use Rattle.source_check.specs.Legal.{Legal}
 use Rattle.source_check.specs.AcceptsLegal.{accepts-legal}
-use Rattle.accepted.specs.Fields.{names-variable, names-declared}
+use Rattle.accepted.specs.Fields.{NamesVariable, names-variable, names-declared}
 use Rattle.source_check.specs.DeclarationLaws.{legal-declarations}
-use Rattle.accepted.specs.Names.{source-variable}
-use Rattle.accepted.specs.Source.{legal-sound, legal-rows}
+use Rattle.accepted.specs.Names.{source-name}
+use Rattle.accepted.specs.Resolved.{table-structured, table-sound, table-rows}
 use Rattle.accepted.specs.Statements.{root-kind}
 use Rattle.write_sets.specs.Named.{Named}
 use Rattle.shapes.specs.Source.{NamesFrom, Source}
@@ -51,81 +53,89 @@ module _ (header rows : List ℤ) (accepted : sourceRefusal header rows ≡ Acce
   pub accepted-header : headerFits SourceForm header ≡ true
   accepted-header = legal .header-fits
 
-  -- The rows measured and written are the table that the translation reads: no form has kind 58 yet.
-  same-rows : resolvedRows SourceForm header rows ≡ rows
-  same-rows = structured-rows SourceForm header _ rows (legal .structured)
-
   -- "At most 64."
   pub few-declarations : declarationCount rows ≤ 64
   few-declarations = legal-declarations header rows legal
 
-  few-rows : rowCount rows ≤ 2048
-  few-rows = omega (arith, countFits-facts SourceForm (length rows) (legal .structured .count-fits) .most)
+  -- the table that is measured and written
+  abbrev resolved : List ℤ
+  resolved = resolvedRows SourceForm header rows
 
-  -- the variables are the first words of the store
-  named : (i : ℕ) → i < layoutOf SourceForm header .variables → Named (storeSize (layoutOf SourceForm header)) i
+  abbrev S : ℕ
+  S = storeSize (layoutOf SourceForm header)
+
+  few-rows : rowCount resolved ≤ 2048
+  few-rows = omega (arith, resolved-length S rows, countFits-facts SourceForm (length rows) (legal .structured .count-fits) .most)
+
+  -- the variables are the first words of the store, the declared words stand behind the first S
+  named : (i : ℕ) → NamesVariable (boundsIn (layoutOf SourceForm header) (S + declarationCount rows)) i → Named S i
   unfolding storeSize
-  named i below = record { within = omega arith; variable = λ h. omega (arith, headerFits-facts SourceForm header accepted-header .few-variables) }
+  named i names =
+      let n = source-name (layoutOf SourceForm header) (S + declarationCount rows) (omega arith) i names in
+      record {
+        within = omega (arith, n .inside, few-declarations);
+        variable = λ h. ⊎-elim (λ b. omega (arith, b, headerFits-facts SourceForm header accepted-header .few-variables)) (λ b. absurd (omega (arith, b, h))) (n .apart);
+      }
 
   -- "Numbers V to S−1 name nothing", and a source has no temporaries.
-  variables-named : (row : ℕ) → row < rowCount rows → kindAt rows row ≡ OfExpression Variable → Named (storeSize (layoutOf SourceForm header)) (numberAt rows row 1)
+  variables-named : (row : ℕ) → row < rowCount resolved → kindAt resolved row ≡ OfExpression Variable → Named S (numberAt resolved row 1)
   unfolding sortIn kindRow expressionFields
-  variables-named row inside k = named (numberAt rows row 1) (source-variable header (numberAt rows row 1) (names-variable SourceForm _ rows (legal .structured) row inside k 1 refl))
+  variables-named row inside k = named (numberAt resolved row 1) (names-variable SourceForm _ resolved (table-structured header rows legal) row inside k 1 refl)
 
-  declared-named : (row : ℕ) → row < rowCount rows → kindAt rows row ≡ OfStatement Declare → Named (storeSize (layoutOf SourceForm header)) (numberAt rows row 1)
+  declared-named : (row : ℕ) → row < rowCount resolved → kindAt resolved row ≡ OfStatement Declare → Named S (numberAt resolved row 1)
   unfolding sortIn kindRow statementFields
-  declared-named row inside k = named (numberAt rows row 1) (source-variable header (numberAt rows row 1) (names-declared SourceForm _ rows (legal .structured) row inside k 1 refl))
+  declared-named row inside k = named (numberAt resolved row 1) (names-declared SourceForm _ resolved (table-structured header rows legal) row inside k 1 refl)
 
-  accepted-names : NamesFrom (storeSize (layoutOf SourceForm header)) rows
+  accepted-names : NamesFrom S resolved
   accepted-names = record { small = omega (arith, headerFits-facts SourceForm header accepted-header .small-store); variables = variables-named; declared = declared-named }
 
   -- What the write sets ask, where S is as the code has it.
-  pub names-from : {S : ℕ} → S ≡ storeSize (layoutOf SourceForm header) → NamesFrom S rows
-  names-from e = subst (λ (S : ℕ). NamesFrom S rows) (sym e) accepted-names
+  pub names-from : {size : ℕ} → size ≡ S → NamesFrom size resolved
+  names-from e = subst (λ (size : ℕ). NamesFrom size resolved) (sym e) accepted-names
 
   -- What the measures ask.
-  pub accepted-source : Source rows
+  pub accepted-source : Source resolved
   accepted-source =
       let h = headerFits-facts SourceForm header accepted-header in
       record {
         layout = layoutOf SourceForm header;
-        words = headerStore SourceForm header;
-        sound = legal-sound header rows legal;
+        words = S + declarationCount rows;
+        sound = table-sound header rows legal;
         few-rows = few-rows;
-        store = storeSize (layoutOf SourceForm header);
+        store = S;
         names = accepted-names;
         few-arrays = h .few-arrays;
       }
 
-  root : kindAt rows 0 ≡ OfStatement Block
-  root = root-kind SourceForm _ rows (legal .structured)
+  root : kindAt resolved 0 ≡ OfStatement Block
+  root = root-kind SourceForm _ resolved (table-structured header rows legal)
 
   -- where the temporaries begin, S+D
   abbrev first : ℕ
   first = storeWords SourceForm header rows
 
-  pub first-is : (S D : ℕ) → S ≡ storeSize (layoutOf SourceForm header) → D ≡ declarationCount rows → S + D ≡ first
-  first-is S D e d = omega (arith, source-store header rows)
+  pub first-is : (size D : ℕ) → size ≡ S → D ≡ declarationCount rows → size + D ≡ first
+  first-is size D e d = omega (arith, source-store header rows)
 
   pub first-low : first ≤ 8256
   first-low = omega (arith, source-small header rows accepted-header, few-declarations)
 
   -- "At most 20×n+20 kernel rows and at most 4×n temporaries."
-  size-low : 1 + itemsSize (contents rows) ≤ 40980
-  size-low = omega (arith, rows-bound first (contents rows), translation-rows first (contents rows), legal-rows header rows legal, few-rows)
+  size-low : 1 + itemsSize (contents resolved) ≤ 40980
+  size-low = omega (arith, rows-bound first (contents resolved), translation-rows first (contents resolved), table-rows header rows legal, few-rows, resolved-length S rows)
 
-  levels-low : temporaries (contents rows) ≤ 2048
-  levels-low = omega (arith, temporaries-bound (contents rows), legal-rows header rows legal, few-rows)
+  levels-low : temporaries (contents resolved) ≤ 2048
+  levels-low = omega (arith, temporaries-bound (contents resolved), table-rows header rows legal, few-rows, resolved-length S rows)
 
-  module _ {table : List ℕ} (m : Measured rows table) where
-    size-is : slot table 0 statementRowsSlot ≡ 1 + itemsSize (contents rows)
+  module _ {table : List ℕ} (m : Measured resolved table) where
+    size-is : slot table 0 statementRowsSlot ≡ 1 + itemsSize (contents resolved)
     size-is = program-rows m root (omega (arith, size-low))
 
-    levels-is : slot table 0 statementLevelsSlot ≡ temporaries (contents rows)
+    levels-is : slot table 0 statementLevelsSlot ≡ temporaries (contents resolved)
     levels-is = program-levels m root (omega (arith, levels-low))
 
     -- What the writer of the rows asks of a table that holds the kernel rows.
-    pub accepted-asks : (words : ℕ) → 6 * slot table 0 statementRowsSlot ≤ words → ProgramAsks rows table first words
+    pub accepted-asks : (words : ℕ) → 6 * slot table 0 statementRowsSlot ≤ words → ProgramAsks resolved table first words
     accepted-asks words h = record {
       writing = record { measured = m; small-store = first-low };
       is-block = root;
@@ -141,16 +151,16 @@ module _ (header rows : List ℤ) (accepted : sourceRefusal header rows ≡ Acce
     -- The header and the rows that the writers write are those of the kernel form.
     pub header-is : (D : ℕ) → D ≡ declarationCount rows → kernelHeader (layoutOf SourceForm header) D (slot table 0 statementLevelsSlot) ≡ kernelHeaderOf header rows
     unfolding kernelHeaderOf
-    header-is D e = rw same-rows (ap₂ (kernelHeader (layoutOf SourceForm header)) e levels-is)
+    header-is D e = ap₂ (kernelHeader (layoutOf SourceForm header)) e levels-is
 
     pub row-words : 6 * slot table 0 statementRowsSlot ≡ length (kernelRowsOf header rows)
     unfolding kernelRowsOf
-    row-words = rw same-rows (omega (arith, size-is, translation-rows first (contents rows), length-emit (block (translate first (contents rows)))))
+    row-words = omega (arith, size-is, translation-rows first (contents resolved), length-emit (block (translate first (contents resolved))))
 
-  pub rows-are : (S : ℕ) → S ≡ first → emit (kernelProgram S (contents rows)) ≡ kernelRowsOf header rows
+  pub rows-are : (begin : ℕ) → begin ≡ first → emit (kernelProgram begin (contents resolved)) ≡ kernelRowsOf header rows
   unfolding kernelRowsOf
-  rows-are S e = rw same-rows (ap emit (ap (λ (n : ℕ). kernelProgram n (contents rows)) e ∙ is-translation first (contents rows)))
+  rows-are begin e = ap emit (ap (λ (n : ℕ). kernelProgram n (contents resolved)) e ∙ is-translation first (contents resolved))
 
   pub header-words : length header + 2 ≡ length (kernelHeaderOf header rows)
   unfolding kernelHeaderOf
-  header-words = sym (kernel-header-length header (declarationCount rows) (temporaries (contents (resolvedRows SourceForm header rows))) accepted-header)
+  header-words = sym (kernel-header-length header (declarationCount rows) (temporaries (contents resolved)) accepted-header)

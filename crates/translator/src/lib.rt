@@ -3,6 +3,7 @@ use header::write_header;
 use measure_table::STATEMENT_LEVELS;
 use measure_table::STATEMENT_ROWS;
 use measures::pass::measure;
+use program_rows::resolve_accepted;
 use words::Form;
 use words::Refusal;
 use words::Verdict;
@@ -10,7 +11,9 @@ use words::declarations::declaration_count;
 use words::layout::store_size;
 use writers::program::write_program;
 ghost use mathlib.Core.Path.{_≡_};
+ghost use Rattle.words.specs.declared.Form.the-variants.{Source};
 ghost use Rattle.words.specs.declared.Verdict.the-variants.{Accepted};
+ghost use Rattle.program_meaning.specs.Program.{resolvedRows};
 ghost use Rattle.source_check.specs.Refusal.{refusal as sourceRefusal};
 ghost use Rattle.measure_table.specs.Measures.{Measured};
 ghost use Rattle.fate.specs.KernelForms.{HasKernelForm};
@@ -24,15 +27,16 @@ pub enum TranslateAnswer {
     Refused(Refusal),
 }
 
-// Writes both tables of an accepted program, which `table` measures: cause 10, before the first word is written.
+// Writes both tables of an accepted program, whose resolved table `table` measures: cause 10, before the first word is written.
 fn write_measured(
     header: &[i32],
     rows: &[i32],
+    resolved: &[i32],
     table: &[usize],
     kernel_header: &mut [i32],
     kernel_rows: &mut [i32],
 ) -> TranslateAnswer
-    requires { ⌜ (sourceRefusal (now header) (now rows) ≡ Accepted) × Measured (now rows) (now table) ⌝ }
+    requires { ⌜ (sourceRefusal (now header) (now rows) ≡ Accepted) × (now resolved ≡ resolvedRows Source (now header) (now rows)) × Measured (now resolved) (now table) ⌝ }
     ensures { λ r. ⌜ answerAndTables r (now («kernel_header» .exit)) (now («kernel_rows» .exit)) ≡ translateAfter Accepted (now (header .entry)) (now (rows .entry)) (now («kernel_header» .entry)) (now («kernel_rows» .entry)) ⌝ }
 {
     let header_words = header.len() + 2;
@@ -52,11 +56,51 @@ fn write_measured(
     let declared = declaration_count(rows);
     write_header(header, declared, table[STATEMENT_LEVELS], kernel_header);
     let first = store_size(Form::Source, header) + declared;
-    write_program(rows, table, first, kernel_rows);
+    write_program(resolved, table, first, kernel_rows);
     TranslateAnswer::Translated(header_words, row_words)
 }
 
-// Translates an accepted program, for a caller that has the check's answer: measured, then written; nothing is checked again.
+// Measures and writes an accepted program from its resolved table.
+fn translate_table(
+    header: &[i32],
+    rows: &[i32],
+    resolved: &[i32],
+    kernel_header: &mut [i32],
+    kernel_rows: &mut [i32],
+) -> TranslateAnswer
+    requires { ⌜ (sourceRefusal (now header) (now rows) ≡ Accepted) × (now resolved ≡ resolvedRows Source (now header) (now rows)) ⌝ }
+    ensures { λ r. ⌜ answerAndTables r (now («kernel_header» .exit)) (now («kernel_rows» .exit)) ≡ translateAfter Accepted (now (header .entry)) (now (rows .entry)) (now («kernel_header» .entry)) (now («kernel_rows» .entry)) ⌝ }
+{
+    let store = store_size(Form::Source, header);
+    let mut table = [0usize; 36864];
+    measure(store, resolved, &mut table);
+    write_measured(header, rows, resolved, &table, kernel_header, kernel_rows)
+}
+
+// The same of its rows: the resolved table stands in this frame alone.
+fn translate_resolved(
+    header: &[i32],
+    rows: &[i32],
+    kernel_header: &mut [i32],
+    kernel_rows: &mut [i32],
+) -> TranslateAnswer
+    requires { ⌜ sourceRefusal (now header) (now rows) ≡ Accepted ⌝ }
+    ensures { λ r. ⌜ answerAndTables r (now («kernel_header» .exit)) (now («kernel_rows» .exit)) ≡ translateAfter Accepted (now (header .entry)) (now (rows .entry)) (now («kernel_header» .entry)) (now («kernel_rows» .entry)) ⌝ }
+{
+    let words = rows.len();
+    let mut resolved = [0i32; 12288];
+    resolve_accepted(header, rows, &mut resolved);
+    translate_table(
+        header,
+        rows,
+        &resolved[0..words],
+        kernel_header,
+        kernel_rows,
+    )
+}
+
+// Translates an accepted program, for a caller that has the check's answer; nothing is checked again. Rows without declarations are their
+// own resolved table.
 pub fn translate_accepted(
     header: &[i32],
     rows: &[i32],
@@ -68,10 +112,10 @@ pub fn translate_accepted(
     ensures { λ _. ⌜ HasKernelForm (now (header .entry)) (now (rows .entry)) ⌝ }
     ensures { λ r. ⌜ WritesKernelForm (now (header .entry)) (now (rows .entry)) r (now («kernel_header» .exit)) (now («kernel_rows» .exit)) ⌝ }
 {
-    let store = store_size(Form::Source, header);
-    let mut table = [0usize; 36864];
-    measure(store, rows, &mut table);
-    write_measured(header, rows, &table, kernel_header, kernel_rows)
+    if declaration_count(rows) == 0 {
+        return translate_table(header, rows, rows, kernel_header, kernel_rows);
+    }
+    translate_resolved(header, rows, kernel_header, kernel_rows)
 }
 
 // Translates a source program. The first promise says what is answered and what stands in both tables after it, refusals too; the

@@ -12,7 +12,7 @@ use Rattle.words.specs.declared.Form.{Form}
 use Rattle.words.specs.declared.Form.the-variants.{Source, Kernel}
 use Rattle.words.specs.declared.RunAnswer.{RunAnswer}
 use Rattle.language.specs.Program.{Finished}
-use Rattle.program_meaning.specs.Program.{runProgram}
+use Rattle.program_meaning.specs.Program.{resolvedRows, runProgram}
 use Rattle.text_numbers.specs.Writer.{Put}
 use Rattle.words.specs.OverLaws.{part, first-of}
 use Rattle.report.specs.Lines.{lineRoom, sourceLine, kernelLine}
@@ -45,7 +45,7 @@ module _ (form : Form) (header rows store : List ℤ) (starts : store ≡ zeros 
 -- ---- the lines
 
 module _ {header rows store : List ℤ} {starts : store ≡ zeros (storeWords Source header rows)} {answer : RunAnswer} {left : List ℤ} (m : RunMade Source header rows store starts answer left) where
-  pub both-lines : {words n : ℕ} → words ≡ storeSize (layoutOf Source header) → n ≡ written words rows
+  pub both-lines : {words n : ℕ} → words ≡ storeSize (layoutOf Source header) → n ≡ written (storeSize (layoutOf Source header)) (resolvedRows Source header rows)
       → sourceLine (answer .ending) (answer .count) (take (words - 0) left) n ++ kernelOutput (storeSize (layoutOf Source header)) (kernelHeaderOf header rows) (kernelRowsOf header rows)
       ≡ runsOutput header rows
   unfolding runsOutput sourceOutput

@@ -5,7 +5,7 @@ use lib.IntN.{ℤ}
 use lib.ListN.{take}
 use Rattle.words.specs.Layout.{layoutOf, storeSize, storeWords, zeros}
 use Rattle.words.specs.declared.Form.the-variants.{Source, Kernel}
-use Rattle.program_meaning.specs.Program.{runProgram}
+use Rattle.program_meaning.specs.Program.{resolvedRows, runProgram}
 use Rattle.rule_text.specs.Rules.{budget, Rule, accepted, refused, ruleOf}
 use Rattle.report.specs.Lines.{refusedLine, sourceLine, kernelLine}
 use Rattle.program_writes.specs.ProgramWrites.{written}
@@ -16,7 +16,7 @@ use Rattle.fate.specs.Views.{dispatcherView}
 unfoldable pub sourceOutput : List ℤ → List ℤ → List ℕ
 sourceOutput header rows =
     let finished = runProgram Source header rows budget (zeros (storeWords Source header rows)) in
-    sourceLine (finished .ending) (finished .count) (take (storeSize (layoutOf Source header)) (finished .store)) (written (storeSize (layoutOf Source header)) rows)
+    sourceLine (finished .ending) (finished .count) (take (storeSize (layoutOf Source header)) (finished .store)) (written (storeSize (layoutOf Source header)) (resolvedRows Source header rows))
 
 -- The kernel's store has S+D+T words; its line is what a dispatcher is shown.
 unfoldable pub kernelOutput : ℕ → List ℤ → List ℤ → List ℕ

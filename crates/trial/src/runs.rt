@@ -1,6 +1,5 @@
 // Both runs of a program, each from zeros with budget 100,000, and their lines at the start of `output`.
 use program_runs::run_accepted;
-use program_writes::program::written_count;
 use report::line::kernel_line;
 use report::line::refused_line;
 use report::line::source_line;
@@ -9,6 +8,7 @@ use translator::translate_accepted;
 use words::Form;
 use words::layout::store_size;
 use words::layout::store_words;
+use writes::accepted_count;
 ghost use mathlib.Core.Path.{_≡_};
 ghost use lib.ListN.{length};
 ghost use Rattle.words.specs.Layout.{layoutOf, storeSize};
@@ -74,7 +74,7 @@ fn run_source_on(header: &[i32], rows: &[i32], store: &mut [i32], output: &mut [
     let answer = run_accepted(Form::Source, header, rows, store, 100000);
     let ending = answer.ending;
     let words = store_size(Form::Source, header);
-    let written = written_count(words, rows);
+    let written = accepted_count(header, rows);
     let end = source_line(ending, answer.count, &store[0..words], written, output);
     end + run_translation(header, rows, &mut output[end..])
 }

@@ -1,5 +1,5 @@
 -- The number, or 0.
-use Rattle.writes.proofs.ToldLaws.{header-of, source-of, count-accepted, count-refused}
+use Rattle.writes.proofs.ToldLaws.{accepted-of, count-accepted, count-refused}
 use borrow.Author.Needs.{needs}
 use Rattle.writes.proofs.count_of.Statement.{statement}
 use Rattle.writes.proofs.count_of.Tie as tie
@@ -10,17 +10,14 @@ check-requires c κs = search needs
 enum-told : tie.Need-enum-told
 enum-told c = search needs
 
-store-size-requires : tie.Need-store-size-requires
-store-size-requires c κs = header-of (c .before .before .before .args .header .now) (c .before .before .before .args .rows .now) (c .before .before .check .ensures) (c .enum-told .given .1)
-
-written-count-requires : tie.Need-written-count-requires
-written-count-requires c κs = source-of (c .before .before .before .before .args .header .now) (c .before .before .before .before .args .rows .now) (c .before .before .before .check .ensures) (c .before .enum-told .given .1) (c .store-size .ensures)
+accepted-count-requires : tie.Need-accepted-count-requires
+accepted-count-requires c κs = accepted-of (c .before .before .before .args .header .now) (c .before .before .before .args .rows .now) (c .before .before .check .ensures) (c .enum-told .given .1)
 
 enum-told-2 : tie.Need-enum-told-2
 enum-told-2 c = search needs
 
 returns : tie.Need-returns
-returns c = count-accepted (c .before .before .before .before .before .args .header .now) (c .before .before .before .before .before .args .rows .now) (c .before .before .before .before .check .ensures) (c .before .before .enum-told .given .1) (c .before .store-size .ensures) (c .written-count .ensures)
+returns c = count-accepted (c .before .before .before .before .args .header .now) (c .before .before .before .before .args .rows .now) (c .before .before .before .check .ensures) (c .before .enum-told .given .1) (c .accepted-count .ensures)
 
 returns-2 : tie.Need-returns-2
 returns-2 c = count-refused (c .before .before .before .args .header .now) (c .before .before .before .args .rows .now) (c .before .before .check .ensures) _ (c .enum-told2 .given .1)
@@ -31,8 +28,7 @@ count-of-spec =
     (tie.spec
     check-requires
     enum-told
-    store-size-requires
-    written-count-requires
+    accepted-count-requires
     enum-told-2
     returns
     returns-2)

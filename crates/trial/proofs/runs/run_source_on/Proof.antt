@@ -4,7 +4,6 @@ use native.Mathlib.Omega.{arith}
 use Rattle.words.specs.declared.Form.the-variants.{Source}
 use Rattle.text_numbers.specs.PutLaws.{put-as, put-next}
 use Rattle.report.proofs.Spacing.{far-inside, far-total}
-use Rattle.translator.specs.AcceptedLaws.{accepted-source, names-from}
 use Rattle.trial.proofs.Started.{started-length, run-made, both-lines, first-inside, first-room, first-put, first-translates}
 use borrow.Author.Needs.{needs}
 use Rattle.trial.proofs.runs.run_source_on.Statement.{statement}
@@ -18,10 +17,8 @@ run-accepted-requires c κs =
 store-size-requires : tie.Need-store-size-requires
 store-size-requires c κs = c .before .before .before .before .pre .fits .header-fits
 
-written-count-requires : tie.Need-written-count-requires
-written-count-requires c κs =
-    let s = c .before .before .before .before .before in
-    (accepted-source (s .args .header .now) (s .args .rows .now) (s .pre .accepted), names-from (s .args .header .now) (s .args .rows .now) (s .pre .accepted) (c .store-size .ensures))
+accepted-count-requires : tie.Need-accepted-count-requires
+accepted-count-requires c κs = c .before .before .before .before .before .pre .accepted
 
 sub-source-line : tie.Need-sub-source-line
 sub-source-line c = search needs
@@ -62,7 +59,7 @@ returns : tie.Need-returns
 returns c =
     let s = c .before .before .before .before .before .before .before .before .before .before .before .before .before .before .before .before in
     let made = run-made Source (s .args .header .now) (s .args .rows .now) (s .args .store .now) (s .pre .starts) _ _ (c .before .before .before .before .before .before .before .before .before .before .before .before .before .run-accepted .ensures) in
-    put-as (both-lines made (c .before .before .before .before .before .before .before .before .before .before .before .store-size .ensures) (c .before .before .before .before .before .before .before .before .before .before .written-count .ensures)) (put-next (c .before .before .before .before .before .before .source-line .ensures .0) _ _ _ (c .before .before .run-translation .ensures))
+    put-as (both-lines made (c .before .before .before .before .before .before .before .before .before .before .before .store-size .ensures) (c .before .before .before .before .before .before .before .before .before .before .accepted-count .ensures)) (put-next (c .before .before .before .before .before .before .source-line .ensures .0) _ _ _ (c .before .before .run-translation .ensures))
 
 pub run-source-on-spec : {M : Type 1} → statement M
 run-source-on-spec =
@@ -70,7 +67,7 @@ run-source-on-spec =
     (tie.spec
     run-accepted-requires
     store-size-requires
-    written-count-requires
+    accepted-count-requires
     sub-source-line
     part-source-line-start
     part-source-line-end

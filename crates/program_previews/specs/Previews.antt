@@ -9,7 +9,7 @@ use lib.ListN.{length, getD, take}
 use Rattle.words.specs.Word.{sameWord}
 use Rattle.words.specs.Over.{over}
 use Rattle.words.specs.Numbers.{Numbers, runNumbers}
-use Rattle.words.specs.Layout.{storeWords}
+use Rattle.words.specs.Layout.{layoutOf, storeSize, storeWords}
 use Rattle.words.specs.declared.Form.the-variants.{Source}
 use Rattle.words.specs.declared.Refusal.{Refusal}
 use Rattle.words.specs.declared.Verdict.the-variants.{Accepted}
@@ -71,43 +71,47 @@ abbrev pub previewOf : RunAnswer → ℕ → PreviewAnswer
 previewOf run tally = record { ending = run .ending; count = run .count; differing = tally }
 
 -- "Leaves the would-be store in the first S words of the scratch. The rest of the scratch and the store keep their content. .. Shorter
--- scratch gets 15, place 0."
-abbrev pub previewIf : Bool → RunAnswer → ℕ → List ℤ → List ℤ → List ℤ → PreviewResult
-previewIf true run words left store scratch = answerAndWords (Previewed (previewOf run (differences words store left))) store (over left scratch)
-previewIf false run words left store scratch = previewRefused (record { number = 15; place = 0 }) store scratch
+-- scratch gets 15, place 0." With Change 11 it "needs and gets all S+D words; its tally of differences" is "over the first S".
+abbrev pub previewIf : Bool → RunAnswer → (size : ℕ) → List ℤ → List ℤ → List ℤ → PreviewResult
+previewIf true run size left store scratch = answerAndWords (Previewed (previewOf run (differences size store left))) store (over left scratch)
+previewIf false run size left store scratch = previewRefused (record { number = 15; place = 0 }) store scratch
 
 -- "After all other causes".
-abbrev pub previewAfter : RunVerdict → ℕ → List ℤ → List ℤ → List ℤ → PreviewResult
-previewAfter (RunRefused refusal) words left store scratch = previewRefused refusal store scratch
-previewAfter (Ran run) words left store scratch = previewIf (leb words (length scratch)) run words left store scratch
+abbrev pub previewAfter : RunVerdict → (size words : ℕ) → List ℤ → List ℤ → List ℤ → PreviewResult
+previewAfter (RunRefused refusal) size words left store scratch = previewRefused refusal store scratch
+previewAfter (Ran run) size words left store scratch = previewIf (leb words (length scratch)) run size left store scratch
 
 -- The preview of a run: what it leaves goes into the scratch, in place of the store.
-abbrev pub previewOfRun : RunResult → ℕ → List ℤ → List ℤ → PreviewResult
-previewOfRun run words store scratch = previewAfter (run .answer) words (run .store) store scratch
+abbrev pub previewOfRun : RunResult → (size words : ℕ) → List ℤ → List ℤ → PreviewResult
+previewOfRun run size words store scratch = previewAfter (run .answer) size words (run .store) store scratch
+
+-- S, the words of the header's variables and arrays.
+abbrev pub sizeOf : List ℤ → ℕ
+sizeOf header = storeSize (layoutOf Source header)
 
 -- "It equals running the rule on a copy of the store, spent and faulted runs included."
 unfoldable pub previewResult : List ℤ → List ℤ → ℕ → List ℤ → List ℤ → PreviewResult
-previewResult header rows budget store scratch = previewOfRun (runResult Source header rows budget store) (storeWords Source header rows) store scratch
+previewResult header rows budget store scratch = previewOfRun (runResult Source header rows budget store) (sizeOf header) (storeWords Source header rows) store scratch
 
 -- The same of an accepted program.
 abbrev pub acceptedPreview : List ℤ → List ℤ → ℕ → List ℤ → List ℤ → PreviewResult
-acceptedPreview header rows budget store scratch = previewOfRun (runAfter Accepted Source header rows budget store) (storeWords Source header rows) store scratch
+acceptedPreview header rows budget store scratch = previewOfRun (runAfter Accepted Source header rows budget store) (sizeOf header) (storeWords Source header rows) store scratch
 
 -- A run was made on a copy of the store: its answer with the tally, and what the copy holds.
-pub record Foretells (finished : Finished) (store : List ℤ) (preview : PreviewAnswer) (copy : List ℤ) : Type 0 where
-  pub told : preview ≡ previewOf (record { ending = finished .ending; count = finished .count }) (differences (length store) store (finished .store))
+pub record Foretells (size : ℕ) (finished : Finished) (store : List ℤ) (preview : PreviewAnswer) (copy : List ℤ) : Type 0 where
+  pub told : preview ≡ previewOf (record { ending = finished .ending; count = finished .count }) (differences size store (finished .store))
   pub holds : copy ≡ finished .store
 
--- The tally of two stores is 0 exactly where they are equal.
+-- The tally of words before and after is 0 exactly where they are equal.
 pub record NoneIfEqual (before after : List ℤ) (tally : ℕ) : Type 0 where
   pub none-equal : tally ≡ 0 → before ≡ after
   pub equal-none : before ≡ after → tally ≡ 0
 
 -- A preview that is not refused: the store had its size and the scratch room for it; the run gives the ending, the count and the words
--- that were told, and a store that is as it was where none would differ.
-pub record RunAsPreviewed (run : RunResult) (words : ℕ) (store : List ℤ) (preview : PreviewAnswer) (scratch : List ℤ) : Type 0 where
+-- that were told, and first S words that are as they were where none would differ.
+pub record RunAsPreviewed (run : RunResult) (size words : ℕ) (store : List ℤ) (preview : PreviewAnswer) (scratch : List ℤ) : Type 0 where
   pub store-size : length store ≡ words
   pub scratch-room : words ≤ length scratch
   pub same-answer : run .answer ≡ Ran (record { ending = preview .ending; count = preview .count })
   pub same-words : run .store ≡ take words scratch
-  pub tally-right : NoneIfEqual store (run .store) (preview .differing)
+  pub tally-right : NoneIfEqual (take size store) (take size (run .store)) (preview .differing)

@@ -6,15 +6,17 @@ use words::Ending;
 use words::Form;
 use words::Refusal;
 use words::Verdict;
+use words::layout::store_size;
 use words::layout::store_words;
 ghost use mathlib.Core.Path.{_≡_};
+ghost use Prim.Native.Nat.{_≤_};
 ghost use lib.ListN.{length};
 ghost use Rattle.words.specs.Layout.{storeWords};
 ghost use Rattle.words.specs.declared.Form.the-variants.{Source};
 ghost use Rattle.words.specs.declared.Verdict.the-variants.{Accepted};
 ghost use Rattle.program_meaning.specs.Program.{runProgram};
 ghost use Rattle.program_runs.specs.Runs.{refusalOf};
-ghost use Rattle.program_previews.specs.Previews.{difference, differences, answerAndWords, previewResult, acceptedPreview, Foretells};
+ghost use Rattle.program_previews.specs.Previews.{difference, differences, answerAndWords, sizeOf, previewResult, acceptedPreview, Foretells};
 
 // "The ending, the count and how many store words would differ".
 pub struct PreviewAnswer {
@@ -39,19 +41,19 @@ fn differs(word: i32, other: i32) -> usize
     1
 }
 
-// How many words of two stores of one size differ.
-fn count_differences(store: &[i32], copy: &[i32]) -> usize
-    requires { ⌜ length (now store) ≡ length (now copy) ⌝ }
-    ensures { λ r. ⌜ r ≡ differences (length (now (store .entry))) (now (store .entry)) (now (copy .entry)) ⌝ }
+// How many of the first words of two stores differ.
+fn count_differences(size: usize, store: &[i32], copy: &[i32]) -> usize
+    requires { ⌜ (size ≤ length (now store)) × (size ≤ length (now copy)) ⌝ }
+    ensures { λ r. ⌜ r ≡ differences size (now (store .entry)) (now (copy .entry)) ⌝ }
 {
     let mut tally: usize = 0;
-    for i in 0..store.len() {
+    for i in 0..size {
         tally += differs(store[i], copy[i]);
     }
     tally
 }
 
-// Runs an accepted program on a copy of a store of its size, and compares the two.
+// Runs an accepted program on a copy of a store of its size, and compares the first S words of the two.
 fn preview_on_copy(
     header: &[i32],
     rows: &[i32],
@@ -62,15 +64,16 @@ fn preview_on_copy(
     requires { ⌜ refusalOf Source (now header) (now rows) ≡ Accepted ⌝ }
     requires { ⌜ length (now store) ≡ storeWords Source (now header) (now rows) ⌝ }
     requires { ⌜ length (now copy) ≡ storeWords Source (now header) (now rows) ⌝ }
-    ensures { λ r. ⌜ Foretells (runProgram Source (now (header .entry)) (now (rows .entry)) budget (now (store .entry))) (now (store .entry)) r (now (copy .exit)) ⌝ }
+    ensures { λ r. ⌜ Foretells (sizeOf (now (header .entry))) (runProgram Source (now (header .entry)) (now (rows .entry)) budget (now (store .entry))) (now (store .entry)) r (now (copy .exit)) ⌝ }
 {
     put(store, copy);
     let run = run_accepted(Form::Source, header, rows, copy, budget);
     let ending = run.ending;
+    let size = store_size(Form::Source, header);
     PreviewAnswer {
         ending,
         count: run.count,
-        differing: count_differences(store, copy),
+        differing: count_differences(size, store, copy),
     }
 }
 
@@ -101,8 +104,8 @@ fn preview_accepted(
     PreviewVerdict::Previewed(preview_on_copy(header, rows, store, budget, &mut scratch[..words]))
 }
 
-// Tells what a run of a source program on the store would do: the answer of that run, and in the first S+D words of the scratch the store
-// that it would leave.
+// Tells what a run of a source program on the store would do: the answer of that run, how many of the first S words would differ, and in the
+// first S+D words of the scratch the store that it would leave.
 pub fn preview(
     header: &[i32],
     rows: &[i32],

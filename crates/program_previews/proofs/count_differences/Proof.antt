@@ -16,10 +16,10 @@ use Rattle.program_previews.proofs.count_differences.Statement.{stateme
 use Rattle.program_previews.proofs.count_differences.Tie as tie
 
 abbrev Inv-loop : tie.InvT-loop
-Inv-loop store copy tally₀ i₀ i-end tally i = (i ≤ i-end) × (i-end ≡ length store) × (tally ≡ differences i store copy)
+Inv-loop size store copy tally₀ i₀ tally i = (i ≤ size) × (tally ≡ differences i store copy)
 
 abbrev μ-loop : tie.MeasureT-loop
-μ-loop store copy tally₀ i₀ i-end tally i = i-end - i
+μ-loop size store copy tally₀ i₀ tally i = size - i
 
 -- one place more, its words as the code reads them
 counted : (i : ℕ) (before after : List ℤ) (tally more : ℕ) → tally ≡ differences i before after → mag (getD before i (pos 0)) < 2 ^ 31 → mag (getD after i (pos 0)) < 2 ^ 31
@@ -30,7 +30,7 @@ counted i before after tally more t f g m =
 
 loop-holds : tie.Need-loop-holds Inv-loop μ-loop
 unfolding differences
-loop-holds c = (search needs, refl, refl)
+loop-holds c = (search needs, refl)
 
 mul-differs : tie.Need-mul-differs Inv-loop μ-loop
 mul-differs c = omega arith
@@ -48,7 +48,7 @@ differs-requires : tie.Need-differs-requires Inv-loop μ-loop
 differs-requires c κs = search needs
 
 next : (c : tie.After-differs Inv-loop μ-loop) → c .before .before .before .before .loop .tally + c .differs .result ≡ differences (c .before .before .before .before .loop .i + 1) (c .before .before .before .before .before .args .store .now) (c .before .before .before .before .before .args .copy .now)
-next c = counted _ _ _ _ _ (c .before .before .before .before .loop .inv .2) (c .before .before .differs-arg .given) (c .before .differs-arg2 .given) (c .differs .ensures)
+next c = counted _ _ _ _ _ (c .before .before .before .before .loop .inv .1) (c .before .before .differs-arg .given) (c .before .differs-arg2 .given) (c .differs .ensures)
 
 add-tally : tie.Need-add-tally Inv-loop μ-loop
 add-tally c = omega (arith, next c, differences-most (c .before .before .before .before .loop .i + 1) (c .before .before .before .before .before .args .store .now) (c .before .before .before .before .before .args .copy .now))
@@ -60,12 +60,12 @@ loop-less : tie.Need-loop-less Inv-loop μ-loop
 loop-less c = omega arith
 
 loop-again : tie.Need-loop-again Inv-loop μ-loop
-loop-again c = (omega arith, refl, next c)
+loop-again c = (omega arith, next c)
 
 returns : tie.Need-returns Inv-loop μ-loop
 returns c =
-    let e : c .before .loop .i ≡ length (c .before .before .args .store .now) = omega arith in
-    rw e at (c .before .loop .inv .2)
+    let e : c .before .loop .i ≡ c .before .before .args .size = omega arith in
+    rw e at (c .before .loop .inv .1)
 
 pub count-differences-spec : {M : Type 1} → statement M
 count-differences-spec =

@@ -9,7 +9,7 @@ use Rattle.words.specs.declared.Form.{Form}
 use Rattle.words.specs.declared.Form.the-variants.{Source, Kernel}
 use Rattle.text_form.specs.Text.{Parsed, parsed, malformed}
 use Rattle.program_runs.specs.Runs.{RunResult, runResult}
-use Rattle.program_previews.specs.Previews.{PreviewResult, previewResult}
+use Rattle.program_previews.specs.Previews.{PreviewResult, sizeOf, previewResult}
 use Rattle.dispatcher_runs.specs.DispatcherRuns.{DispatcherResult, dispatcherResult}
 use Rattle.command_lines.specs.Lines.{runLine, dispatcherLine, malformedLine}
 use Rattle.preview_lines.specs.Changes.{previewLines}
@@ -43,8 +43,8 @@ startWords task-cases.FlatRun header list = headerStore Kernel header
 abbrev pub resultLine : RunResult → List ℕ
 resultLine result = runLine (result .answer) (result .store)
 
-abbrev pub resultLines : PreviewResult → List ℕ
-resultLines result = previewLines (result .answer) (result .store) (result .scratch)
+abbrev pub resultLines : (header : List ℤ) → PreviewResult → List ℕ
+resultLines header result = previewLines (result .answer) (sizeOf header) (result .store) (result .scratch)
 
 abbrev pub shownLine : DispatcherResult → List ℕ
 shownLine result = dispatcherLine (result .answer) (result .words)
@@ -53,7 +53,7 @@ shownLine result = dispatcherLine (result .answer) (result .words)
 -- its preview, in a scratch of as many words as the program's store has, so that 15 does not arise.
 abbrev pub taskLines : Task → ℕ → (store header rows : List ℤ) → List ℕ
 taskLines (task-cases.Run form) budget store header rows = resultLine (runResult form header rows budget store)
-taskLines task-cases.Preview budget store header rows = resultLines (previewResult header rows budget store (zeros (storeWords Source header rows)))
+taskLines task-cases.Preview budget store header rows = resultLines header (previewResult header rows budget store (zeros (storeWords Source header rows)))
 taskLines task-cases.DispatcherRun budget store header rows = shownLine (dispatcherResult header rows budget store)
 taskLines task-cases.FlatRun budget store header rows = listRunLine budget store header rows
 

@@ -2,6 +2,7 @@
 use clight::previews::preview;
 use preview_lines::preview_lines;
 use words::Form;
+use words::layout::store_size;
 use words::layout::store_words;
 ghost use mathlib.Core.Path.{_≡_};
 ghost use mathlib.Core.Bool.{true};
@@ -23,12 +24,14 @@ fn put_previewed(
     scratch: &mut [i32],
     text: &mut [u8],
 ) -> usize
+    requires { ⌜ headerFits Source (now header) ≡ true ⌝ }
     requires { ⌜ length (now scratch) ≤ mostStore ⌝ }
     requires { ⌜ outputRoom ≤ length (now text) ⌝ }
-    ensures { λ r. ⌜ Put (resultLines (previewResult (now (header .entry)) (now (rows .entry)) budget (now (store .entry)) (now (scratch .entry)))) (now (text .entry)) r (now (text .exit)) ⌝ }
+    ensures { λ r. ⌜ Put (resultLines (now (header .entry)) (previewResult (now (header .entry)) (now (rows .entry)) budget (now (store .entry)) (now (scratch .entry)))) (now (text .entry)) r (now (text .exit)) ⌝ }
 {
+    let size = store_size(Form::Source, header);
     let verdict = preview(header, rows, store, budget, scratch);
-    preview_lines(verdict, store, scratch, text)
+    preview_lines(verdict, size, store, scratch, text)
 }
 
 // Previews a program in a scratch of as many words as its store has, and writes the lines.
@@ -42,7 +45,7 @@ pub fn put_preview(
     requires { ⌜ headerFits Source (now header) ≡ true ⌝ }
     requires { ⌜ storeWords Source (now header) (now rows) ≤ mostStore ⌝ }
     requires { ⌜ outputRoom ≤ length (now text) ⌝ }
-    ensures { λ r. ⌜ Put (resultLines (previewResult (now (header .entry)) (now (rows .entry)) budget (now (store .entry)) (zeros (storeWords Source (now (header .entry)) (now (rows .entry)))))) (now (text .entry)) r (now (text .exit)) ⌝ }
+    ensures { λ r. ⌜ Put (resultLines (now (header .entry)) (previewResult (now (header .entry)) (now (rows .entry)) budget (now (store .entry)) (zeros (storeWords Source (now (header .entry)) (now (rows .entry)))))) (now (text .entry)) r (now (text .exit)) ⌝ }
 {
     let words = store_words(Form::Source, header, rows);
     let mut scratch = [0i32; 16448];

@@ -32,18 +32,18 @@ lines-next : (n : ℕ) (store left : List ℤ) → changeLines n store left ++ c
 unfolding changeLines
 lines-next n store left = sym (ap (λ (k : ℕ). changeLines k store left) (add-one n))
 
--- so many places were passed
-pub record Passed (store left : List ℤ) (i at : ℕ) (buffer text : List ℕ) : Type 0 where
-  pub inside : i ≤ length store
+-- so many of the first places were passed
+pub record Passed (shown : ℕ) (store left : List ℤ) (i at : ℕ) (buffer text : List ℕ) : Type 0 where
+  pub inside : i ≤ shown
   pub few : at ≤ 46 * i
-  pub room : 46 * length store ≤ length buffer
+  pub room : 46 * shown ≤ length buffer
   pub put : Put (changeLines i store left) buffer at text
 
-pub passed-start : (store left : List ℤ) (buffer : List ℕ) → 46 * length store ≤ length buffer → Passed store left 0 0 buffer buffer
+pub passed-start : (shown : ℕ) (store left : List ℤ) (buffer : List ℕ) → 46 * shown ≤ length buffer → Passed shown store left 0 0 buffer buffer
 unfolding changeLines
-passed-start store left buffer h = record { inside = omega arith; few = omega arith; room = h; put = put-none buffer }
+passed-start shown store left buffer h = record { inside = omega arith; few = omega arith; room = h; put = put-none buffer }
 
-module _ {store left : List ℤ} {i at : ℕ} {buffer text : List ℕ} (b : Passed store left i at buffer text) where
+module _ {shown : ℕ} {store left : List ℤ} {i at : ℕ} {buffer text : List ℕ} (b : Passed shown store left i at buffer text) where
   pub passed-size : length (changeLines i store left) ≤ 46 * i
   passed-size = omega (arith, b .few, b .put .size)
 
@@ -53,18 +53,18 @@ module _ {store left : List ℤ} {i at : ℕ} {buffer text : List ℕ} (b : Pass
   pub passed-inside : at ≤ length text
   passed-inside = put-inside (b .put) (omega (arith, passed-size, b .inside, b .room))
 
-  pub passed-end : length store ≤ i → Put (changeLines (length store) store left) buffer at text
+  pub passed-end : shown ≤ i → Put (changeLines shown store left) buffer at text
   passed-end h =
-      let e : i ≡ length store = omega (arith, b .inside) in
+      let e : i ≡ shown = omega (arith, b .inside) in
       put-as (ap (λ (n : ℕ). changeLines n store left) e) (b .put)
 
-  module _ (more : i < length store) where
+  module _ (more : i < shown) where
     pub passed-space : 46 ≤ length (part at text)
     passed-space = put-space (b .put) 46 (omega (arith, passed-size, b .room))
 
     -- one place more, its words as the code reads them
     pub passed-next : mag (wordOf i store) < 2 ^ 31 → mag (wordOf i left) < 2 ^ 31 → (size : ℕ) (lent : List ℕ) → Put (changeAt i (toZ w32 (ofZ w32 (wordOf i store))) (toZ w32 (ofZ w32 (wordOf i left)))) (part at text) size lent → size ≤ 46
-        → Passed store left (i + 1) (at + size) buffer (back-in at text lent)
+        → Passed shown store left (i + 1) (at + size) buffer (back-in at text lent)
     passed-next f g size lent p h = record {
       inside = omega arith;
       few = omega (arith, b .few);

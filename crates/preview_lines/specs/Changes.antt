@@ -31,12 +31,12 @@ unfoldable pub changeLines : ℕ → List ℤ → List ℤ → List ℕ
 changeLines zero store left = []
 changeLines (suc n) store left = changeLines n store left ++ changeAt n (getD store n (pos 0)) (getD left n (pos 0))
 
--- A preview prints its first line, then the words that would differ, one a line; or its refusal.
-unfoldable pub previewLines : PreviewVerdict → (store left : List ℤ) → List ℕ
-previewLines (Previewed preview) store left = toldLine (preview .ending) (preview .count) (preview .differing) ++ changeLines (length store) store left
-previewLines (Refused refusal) store left = refusedLine (refusal .number) (refusal .place)
+-- A preview prints its first line, then those of the first words, as many as it compares, that would differ, one a line; or its refusal.
+unfoldable pub previewLines : PreviewVerdict → (size : ℕ) (store left : List ℤ) → List ℕ
+previewLines (Previewed preview) size store left = toldLine (preview .ending) (preview .count) (preview .differing) ++ changeLines size store left
+previewLines (Refused refusal) size store left = refusedLine (refusal .number) (refusal .place)
 
--- There is room for the lines, and a word to compare with each of the store.
-abbrev pub Showable : PreviewVerdict → (store left : List ℤ) → (room : ℕ) → Type 0
-Showable (Previewed preview) store left room = (length store ≤ length left) × (41 + 46 * length store ≤ room)
-Showable (Refused refusal) store left room = 48 ≤ room
+-- There is room for the lines, and words to compare.
+abbrev pub Showable : PreviewVerdict → (size : ℕ) (store left : List ℤ) → (room : ℕ) → Type 0
+Showable (Previewed preview) size store left room = (size ≤ length store) × (size ≤ length left) × (41 + 46 * size ≤ room)
+Showable (Refused refusal) size store left room = 48 ≤ room

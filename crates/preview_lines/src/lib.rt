@@ -53,38 +53,50 @@ fn change_at(place: usize, before: i32, after: i32, text: &mut [u8]) -> usize
     change_line(place, before, after, text)
 }
 
-// The lines of all places, lowest first.
-fn change_lines(store: &[i32], left: &[i32], text: &mut [u8]) -> usize
-    requires { ⌜ length (now store) ≤ length (now left) ⌝ }
-    requires { ⌜ 46 * length (now store) ≤ length (now text) ⌝ }
-    ensures { λ r. ⌜ Put (changeLines (length (now (store .entry))) (now (store .entry)) (now (left .entry))) (now (text .entry)) r (now (text .exit)) ⌝ }
-    ensures { λ r. ⌜ r ≤ 46 * length (now (store .entry)) ⌝ }
+// The lines of the first places, lowest first.
+fn change_lines(size: usize, store: &[i32], left: &[i32], text: &mut [u8]) -> usize
+    requires { ⌜ (size ≤ length (now store)) × (size ≤ length (now left)) ⌝ }
+    requires { ⌜ 46 * size ≤ length (now text) ⌝ }
+    ensures { λ r. ⌜ Put (changeLines size (now (store .entry)) (now (left .entry))) (now (text .entry)) r (now (text .exit)) ⌝ }
+    ensures { λ r. ⌜ r ≤ 46 * size ⌝ }
 {
     let mut at: usize = 0;
     let mut i: usize = 0;
-    while i < store.len() {
+    while i < size {
         at += change_at(i, store[i], left[i], &mut text[at..]);
         i += 1;
     }
     at
 }
 
-fn told_lines(preview: PreviewAnswer, store: &[i32], left: &[i32], text: &mut [u8]) -> usize
-    requires { ⌜ Showable (Previewed preview) (now store) (now left) (length (now text)) ⌝ }
-    ensures { λ r. ⌜ Put (previewLines (Previewed preview) (now (store .entry)) (now (left .entry))) (now (text .entry)) r (now (text .exit)) ⌝ }
+fn told_lines(
+    preview: PreviewAnswer,
+    size: usize,
+    store: &[i32],
+    left: &[i32],
+    text: &mut [u8],
+) -> usize
+    requires { ⌜ Showable (Previewed preview) size (now store) (now left) (length (now text)) ⌝ }
+    ensures { λ r. ⌜ Put (previewLines (Previewed preview) size (now (store .entry)) (now (left .entry))) (now (text .entry)) r (now (text .exit)) ⌝ }
 {
     let ending = preview.ending;
     let told = told_line(ending, preview.count, preview.differing, text);
-    told + change_lines(store, left, &mut text[told..])
+    told + change_lines(size, store, left, &mut text[told..])
 }
 
-// The lines of a preview, of which this store would become the words at the start of `left`.
-pub fn preview_lines(verdict: PreviewVerdict, store: &[i32], left: &[i32], text: &mut [u8]) -> usize
-    requires { ⌜ Showable verdict (now store) (now left) (length (now text)) ⌝ }
-    ensures { λ r. ⌜ Put (previewLines verdict (now (store .entry)) (now (left .entry))) (now (text .entry)) r (now (text .exit)) ⌝ }
+// The lines of a preview, of which this store would become the words at the start of `left`; the first `size` words are compared.
+pub fn preview_lines(
+    verdict: PreviewVerdict,
+    size: usize,
+    store: &[i32],
+    left: &[i32],
+    text: &mut [u8],
+) -> usize
+    requires { ⌜ Showable verdict size (now store) (now left) (length (now text)) ⌝ }
+    ensures { λ r. ⌜ Put (previewLines verdict size (now (store .entry)) (now (left .entry))) (now (text .entry)) r (now (text .exit)) ⌝ }
 {
     match verdict {
-        PreviewVerdict::Previewed(preview) => told_lines(preview, store, left, text),
+        PreviewVerdict::Previewed(preview) => told_lines(preview, size, store, left, text),
         PreviewVerdict::Refused(refusal) => refused_line(refusal, text),
     }
 }

@@ -1,7 +1,6 @@
 -- `change_lines` passes one place after the other; the invariant is `Passed`.
 use Prim.Native.Nat.{_+_, _-_}
 use native.Mathlib.Omega.{arith}
-use lib.ListN.{length}
 use Rattle.words.specs.OverLaws.{back-in}
 use Rattle.preview_lines.proofs.Changed.{Passed, passed-start, passed-length, passed-inside, passed-end, passed-space, passed-next}
 use borrow.Author.Needs.{needs}
@@ -9,25 +8,25 @@ use Rattle.preview_lines.proofs.change_lines.Statement.{statement}
 use Rattle.preview_lines.proofs.change_lines.Tie as tie
 
 abbrev Inv-loop : tie.InvT-loop
-Inv-loop store left text₀ at₀ i₀ text at i = Passed store left i at text₀ text
+Inv-loop size store left text₀ at₀ i₀ text at i = Passed size store left i at text₀ text
 
 abbrev μ-loop : tie.MeasureT-loop
-μ-loop store left text₀ at₀ i₀ text at i = length store - i
+μ-loop size store left text₀ at₀ i₀ text at i = size - i
 
 loop-holds : tie.Need-loop-holds Inv-loop μ-loop
-loop-holds c = passed-start _ _ _ (c .before .pre .1)
+loop-holds c = passed-start _ _ _ _ (c .before .pre .1)
 
 mul-change-at : tie.Need-mul-change-at Inv-loop μ-loop
-mul-change-at c = omega (arith, c .loop-test .taken, c .before .before .before .good)
+mul-change-at c = omega (arith, c .loop-test .taken, c .before .before .before .pre .0 .0, c .before .before .before .good)
 
 shared-slice-copy-out-change-at : tie.Need-shared-slice-copy-out-change-at Inv-loop μ-loop
-shared-slice-copy-out-change-at c = c .loop-test .taken
+shared-slice-copy-out-change-at c = omega (arith, c .loop-test .taken, c .before .before .before .pre .0 .0)
 
 mul-change-at-2 : tie.Need-mul-change-at-2 Inv-loop μ-loop
-mul-change-at-2 c = omega (arith, c .before .loop-test .taken, c .before .before .before .before .good)
+mul-change-at-2 c = omega (arith, c .before .loop-test .taken, c .before .before .before .before .pre .0 .0, c .before .before .before .before .good)
 
 shared-slice-copy-out-change-at-2 : tie.Need-shared-slice-copy-out-change-at-2 Inv-loop μ-loop
-shared-slice-copy-out-change-at-2 c = omega (arith, c .before .loop-test .taken, c .before .before .before .before .pre .0)
+shared-slice-copy-out-change-at-2 c = omega (arith, c .before .loop-test .taken, c .before .before .before .before .pre .0 .1)
 
 sub-change-at : tie.Need-sub-change-at Inv-loop μ-loop
 sub-change-at c = passed-inside (c .before .before .before .loop .inv)
@@ -42,14 +41,14 @@ change-at-requires : tie.Need-change-at-requires Inv-loop μ-loop
 change-at-requires c κs = passed-space (c .before .before .before .before .loop .inv) (c .before .before .before .loop-test .taken)
 
 -- one place more was passed
-next : (c : tie.After-slice-known2 Inv-loop μ-loop) → Passed (c .before .before .before .before .before .before .before .before .before .args .store .now) (c .before .before .before .before .before .before .before .before .before .args .left .now) (c .before .before .before .before .before .before .before .loop .i + 1) (c .before .before .before .before .before .before .before .loop .at + c .before .before .change-at .result) (c .before .before .before .before .before .before .before .before .before .args .text .now) (back-in (c .before .before .before .before .before .before .before .loop .at) (c .before .before .before .before .before .before .before .loop .text) (c .before .before .change-at .last .1 .1 .1 .0))
+next : (c : tie.After-slice-known2 Inv-loop μ-loop) → Passed (c .before .before .before .before .before .before .before .before .before .args .size) (c .before .before .before .before .before .before .before .before .before .args .store .now) (c .before .before .before .before .before .before .before .before .before .args .left .now) (c .before .before .before .before .before .before .before .loop .i + 1) (c .before .before .before .before .before .before .before .loop .at + c .before .before .change-at .result) (c .before .before .before .before .before .before .before .before .before .args .text .now) (back-in (c .before .before .before .before .before .before .before .loop .at) (c .before .before .before .before .before .before .before .loop .text) (c .before .before .change-at .last .1 .1 .1 .0))
 next c = passed-next (c .before .before .before .before .before .before .before .loop .inv) (c .before .before .before .before .before .before .loop-test .taken) (c .before .before .before .before .before .change-at-arg .given) (c .before .before .before .before .change-at-arg2 .given) _ _ (c .before .before .change-at .ensures .0) (c .before .before .change-at .ensures .1)
 
 add-at : tie.Need-add-at Inv-loop μ-loop
 add-at c = omega (arith, passed-inside (next c), passed-length (next c), c .before .before .before .before .before .before .before .before .before .good)
 
 add-i : tie.Need-add-i Inv-loop μ-loop
-add-i c = omega (arith, c .before .before .before .before .before .before .loop-test .taken)
+add-i c = omega (arith, c .before .before .before .before .before .before .loop-test .taken, c .before .before .before .before .before .before .before .before .before .pre .0 .0, c .before .before .before .before .before .before .before .before .before .good)
 
 loop-less : tie.Need-loop-less Inv-loop μ-loop
 loop-less c = omega (arith, c .before .before .before .before .before .before .loop-test .taken)

@@ -8,11 +8,11 @@ use Rattle.preview_lines.proofs.told_lines.Statement.{statement}
 use Rattle.preview_lines.proofs.told_lines.Tie as tie
 
 told-line-requires : tie.Need-told-line-requires
-told-line-requires c κs = omega (arith, c .before .before .pre .1)
+told-line-requires c κs = omega (arith, c .before .before .pre .2)
 
 -- the first line
 told : (c : tie.After-slice-known2) → SoFar 41 (toldLine (c .before .before .before .before .before .args .preview .ending) (c .before .before .before .before .before .args .preview .count) (c .before .before .before .before .before .args .preview .differing)) (c .before .before .before .before .before .args .text .now) (c .before .before .told-line .result) (c .before .before .told-line .last .1 .1 .1 .0)
-told c = record { put = c .before .before .told-line .ensures .0; few = omega (arith, c .before .before .told-line .ensures .0 .size, c .before .before .told-line .ensures .1); room = omega (arith, c .before .before .before .before .before .pre .1) }
+told c = record { put = c .before .before .told-line .ensures .0; few = omega (arith, c .before .before .told-line .ensures .0 .size, c .before .before .told-line .ensures .1); room = omega (arith, c .before .before .before .before .before .pre .2) }
 
 sub-change-lines : tie.Need-sub-change-lines
 sub-change-lines c = far-inside (told c)
@@ -24,13 +24,15 @@ part-change-lines-end : tie.Need-part-change-lines-end
 part-change-lines-end c = search needs
 
 change-lines-requires : tie.Need-change-lines-requires
-change-lines-requires c κs = (c .before .before .before .before .before .before .pre .0, far-space (told (c .before)) _ (c .before .before .before .before .before .before .pre .1))
+change-lines-requires c κs =
+    let start = c .before .before .before .before .before .before in
+    ((start .pre .0, start .pre .1), far-space (told (c .before)) _ (start .pre .2))
 
 add-result : tie.Need-add-result
-add-result c = omega (arith, far-total (told (c .before .before .before .before)) (c .before .before .change-lines .ensures .0) (c .before .before .change-lines .kept .1 .1 .0), c .before .before .before .before .before .before .before .before .before .good)
+add-result c = omega (arith, far-total (told (c .before .before .before .before)) (c .before .before .change-lines .ensures .0) (c .before .before .change-lines .kept .1 .1 .1 .0), c .before .before .before .before .before .before .before .before .before .good)
 
 same-length : tie.Need-same-length
-same-length c = put-back (told (c .before .before .before .before) .put) (c .before .before .change-lines .last .1 .1 .0) (omega (arith, told (c .before .before .before .before) .few, told (c .before .before .before .before) .room)) (c .before .before .change-lines .kept .1 .1 .0)
+same-length c = put-back (told (c .before .before .before .before) .put) (c .before .before .change-lines .last .1 .1 .1 .0) (omega (arith, told (c .before .before .before .before) .few, told (c .before .before .before .before) .room)) (c .before .before .change-lines .kept .1 .1 .1 .0)
 
 returns : tie.Need-returns
 unfolding previewLines

@@ -31,7 +31,7 @@ put-previewed-requires c κs =
     let start = c .before .before .before .before in
     let words = c .before .before .store-words .result in
     let inside : words ≤ 16448 = omega (arith, c .before .before .store-words .ensures, start .pre .1 .0) in
-    (omega (arith, ap length (zeros-part words 16448 inside), length-replicate words (pos 0), inside), start .pre .1 .1)
+    (start .pre .0, (omega (arith, ap length (zeros-part words 16448 inside), length-replicate words (pos 0), inside), start .pre .1 .1))
 
 same-length : tie.Need-same-length
 same-length c = search needs
@@ -41,7 +41,7 @@ returns c =
     let start = c .before .before .before .before .before .before .before .before in
     let words = c .before .before .before .before .before .before .store-words in
     let inside : words .result ≤ 16448 = omega (arith, words .ensures, start .pre .1 .0) in
-    put-as (ap (λ (scratch : List ℤ). resultLines (previewResult (start .args .header .now) (start .args .rows .now) (start .args .budget) (start .args .store .now) scratch)) (zeros-part (words .result) 16448 inside ∙ ap zeros (words .ensures))) (c .before .before .before .put-previewed .ensures)
+    put-as (ap (λ (scratch : List ℤ). resultLines (start .args .header .now) (previewResult (start .args .header .now) (start .args .rows .now) (start .args .budget) (start .args .store .now) scratch)) (zeros-part (words .result) 16448 inside ∙ ap zeros (words .ensures))) (c .before .before .before .put-previewed .ensures)
 
 pub put-preview-spec : {M : Type 1} → statement M
 put-preview-spec =

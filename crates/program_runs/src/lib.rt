@@ -1,5 +1,5 @@
 // Check and run of both forms.
-use resolver::resolve;
+use program_rows::resolve_accepted;
 use words::Form;
 use words::Refusal;
 use words::RunAnswer;
@@ -43,10 +43,9 @@ fn run_resolved(header: &[i32], rows: &[i32], store: &mut [i32], budget: u32) ->
     requires { ⌜ length (now store) ≡ storeWords Source (now header) (now rows) ⌝ }
     ensures { λ r. ⌜ finishedOf r (now (store .exit)) ≡ runProgram Source (now (header .entry)) (now (rows .entry)) budget (now (store .entry)) ⌝ }
 {
-    let size = store_size(Form::Source, header);
     let words = rows.len();
     let mut table = [0i32; 12288];
-    resolve(size, rows, &mut table);
+    resolve_accepted(header, rows, &mut table);
     machine::whole::run(Form::Source, header, &table[0..words], store, budget)
 }
 

@@ -30,15 +30,18 @@ pub record Layout : Type 0 where
   pub variables : ℕ
   pub lengths : List ℕ
 
+-- A number that a kernel's header has before the array lengths, by its place; 0 in the source, whose header has V alone there.
+abbrev pub kernelNumber : Form → List ℤ → ℕ → ℕ
+kernelNumber Source header place = 0
+kernelNumber Kernel header place = natural (getD header place (pos 0))
+
 -- D, as a header says it: "its header gains D after V". The source's is the number of its rows of kind 58.
 abbrev pub declaredOf : Form → List ℤ → ℕ
-declaredOf Source header = 0
-declaredOf Kernel header = natural (getD header 1 (pos 0))
+declaredOf form header = kernelNumber form header 1
 
 -- T; the source has none.
 abbrev pub temporariesOf : Form → List ℤ → ℕ
-temporariesOf Source header = 0
-temporariesOf Kernel header = natural (getD header 2 (pos 0))
+temporariesOf form header = kernelNumber form header 2
 
 -- The words that a header gives behind the first S: "the kernel names them S to S+D−1", "temporaries begin at S+D".
 abbrev pub behindOf : Form → List ℤ → ℕ

@@ -9,7 +9,7 @@ ghost use Prim.Native.Nat.{_+_, _*_, _<_, _≤_};
 ghost use lib.Dec.{leb};
 ghost use lib.ListN.{length};
 ghost use Rattle.words.specs.Word.{natural as naturalOf};
-ghost use Rattle.words.specs.Layout.{leading as leadingOf, rowLimit, declaredOf, temporariesOf, layoutOf, sum, storeSize, headerStore, storeWords, allWithin, headerFits, countFits};
+ghost use Rattle.words.specs.Layout.{leading as leadingOf, rowLimit, kernelNumber, declaredOf, temporariesOf, layoutOf, sum, storeSize, headerStore, storeWords, allWithin, headerFits, countFits};
 
 // How many words the header has before the array lengths.
 pub fn leading(form: Form) -> usize
@@ -30,15 +30,23 @@ pub fn row_limit(form: Form) -> usize
     }
 }
 
+// A number of a kernel's header, by its place before the array lengths; 0 in the source form.
+fn kernel_number(form: Form, header: &[i32], place: usize) -> usize
+    requires { ⌜ (leadingOf form ≤ length (now header)) × (place < 3) ⌝ }
+    ensures { λ r. ⌜ r ≡ kernelNumber form (now (header .entry)) place ⌝ }
+{
+    match form {
+        Form::Source => 0,
+        Form::Kernel => natural(header[place]),
+    }
+}
+
 // D, or 0 in the source form, whose rows say it.
 pub fn declared(form: Form, header: &[i32]) -> usize
     requires { ⌜ leadingOf form ≤ length (now header) ⌝ }
     ensures { λ r. ⌜ r ≡ declaredOf form (now (header .entry)) ⌝ }
 {
-    match form {
-        Form::Source => 0,
-        Form::Kernel => natural(header[1]),
-    }
+    kernel_number(form, header, 1)
 }
 
 // T, or 0 in the source form.
@@ -46,10 +54,7 @@ pub fn temporaries(form: Form, header: &[i32]) -> usize
     requires { ⌜ leadingOf form ≤ length (now header) ⌝ }
     ensures { λ r. ⌜ r ≡ temporariesOf form (now (header .entry)) ⌝ }
 {
-    match form {
-        Form::Source => 0,
-        Form::Kernel => natural(header[2]),
-    }
+    kernel_number(form, header, 2)
 }
 
 // The array lengths are within their limits, and with the variables the store is.

@@ -1,5 +1,5 @@
--- Kernel answers: the kernel check answers each kernel sample as it must, by computing.
-use mathlib.Core.Path.{_≡_, refl}
+-- Kernel answers: the kernel check answers each kernel sample as it must, by computing a brief test that answers the same.
+use mathlib.Core.Path.{_≡_, refl, _∙_}
 use mathlib.Core.List.{map}
 use Rattle.words.specs.Word.{natural}
 use Rattle.words.specs.Table.{wordAt, numberAt}
@@ -8,12 +8,14 @@ use Rattle.words.specs.declared.Verdict.{Verdict}
 use Rattle.words.specs.Links.{fits, isExpression, isPlace, isStatement, link, target, linker, received, noteBy, note}
 use Rattle.row_fields.specs.Fields.{foreign, leadsRight, mislinked, boundsOf, numberFits, outside}
 use Rattle.words.specs.Kinds.{kindOf, kindIn, kinds, sortIn, kindRow, expressionFields, statementFields, markFields, memberFields, sortOf, sortAt, inLanguage, isLink, isRequired}
-use Rattle.structure.specs.Links.{linksAmong, linkCount, loneBlock, notOnce, deeper, depthAt, tooDeep}
-use Rattle.structure.specs.Refusal.{at, unless, _next_, rowCauses, structuralRefusal}
+use Rattle.structure.specs.Links.{loneBlock, notOnce}
+use Rattle.structure.specs.Refusal.{at, unless, _next_}
 use Rattle.words.specs.Search.{lowest, some, lowestRow, someField}
 use Rattle.kernel_check.specs.Labels.{isLabel, repeatedLabel, owning, ownerAt, labelBehind, labelAhead, gotoWithoutLabel, labelFault}
-use Rattle.kernel_check.specs.Refusal.{kernelCauses, refusal}
+use Rattle.kernel_check.specs.Refusal.{refusal}
 use Rattle.kernel_statements.specs.Statements.{isAtom, isAtomMinus, isAtomOperation, isAtomElement, fitsVariable, isAssignment, isBlock, isKernelIf, isKernelWhile, isKernelExpression, isKernelStatement, notKernelForm}
+use Rattle.brief_checks.specs.Brief.{targets, times, briefCauses, briefStructure, briefDepth, briefKernel}
+use Rattle.brief_checks.specs.BriefLaws.{same-kernel, map-same}
 use Rattle.check_answers.specs.Sample.{Sample}
 use Rattle.check_answers.specs.KernelSamples.{kernelSamples}
 
@@ -23,6 +25,13 @@ checked sample = refusal (sample .header) (sample .rows)
 abbrev pub expected : Sample → Verdict
 expected sample = sample .answer
 
+-- A brief test of it.
+abbrev tested : Sample → Verdict
+tested sample = briefKernel (sample .header) (sample .rows)
+
+samples-tested : map tested kernelSamples ≡ map expected kernelSamples
+unfolding natural wordAt numberAt layoutOf sum storeSize headerStore allWithin headerFits countFits foreign fits leadsRight mislinked boundsOf numberFits outside kindOf kindIn kinds sortIn kindRow expressionFields statementFields markFields memberFields sortOf sortAt inLanguage isExpression isPlace isStatement isLink isRequired link target loneBlock notOnce linker received noteBy note at unless _next_ lowest some lowestRow someField targets times briefCauses briefStructure briefDepth briefKernel isLabel repeatedLabel owning ownerAt labelBehind labelAhead gotoWithoutLabel labelFault isAtom isAtomMinus isAtomOperation isAtomElement fitsVariable isAssignment isBlock isKernelIf isKernelWhile isKernelExpression isKernelStatement notKernelForm
+samples-tested = refl
+
 pub kernel-answers : map checked kernelSamples ≡ map expected kernelSamples
-unfolding natural wordAt numberAt layoutOf sum storeSize headerStore allWithin headerFits countFits foreign fits leadsRight mislinked boundsOf numberFits outside kindOf kindIn kinds sortIn kindRow expressionFields statementFields markFields memberFields sortOf sortAt inLanguage isExpression isPlace isStatement isLink isRequired link target linksAmong linkCount loneBlock notOnce linker received noteBy note deeper depthAt tooDeep at unless _next_ rowCauses structuralRefusal lowest some lowestRow someField isLabel repeatedLabel owning ownerAt labelBehind labelAhead gotoWithoutLabel labelFault kernelCauses refusal isAtom isAtomMinus isAtomOperation isAtomElement fitsVariable isAssignment isBlock isKernelIf isKernelWhile isKernelExpression isKernelStatement notKernelForm
-kernel-answers = refl
+kernel-answers = map-same checked tested (λ sample. same-kernel (sample .header) (sample .rows)) kernelSamples ∙ samples-tested

@@ -1,5 +1,5 @@
--- Source answers: the check answers each source sample as it must, by computing.
-use mathlib.Core.Path.{_≡_, refl}
+-- Source answers: the check answers each source sample as it must, by computing a brief test that answers the same.
+use mathlib.Core.Path.{_≡_, refl, _∙_}
 use mathlib.Core.List.{map}
 use Rattle.words.specs.Word.{sameWord, natural}
 use Rattle.words.specs.Table.{wordAt, numberAt}
@@ -8,15 +8,17 @@ use Rattle.words.specs.declared.Verdict.{Verdict}
 use Rattle.words.specs.Links.{fits, isExpression, isPlace, isStatement, isBlock, isArm, link, target, linker, received, noteBy, note}
 use Rattle.row_fields.specs.Fields.{foreign, leadsRight, mislinked, boundsOf, numberFits, outside}
 use Rattle.words.specs.Kinds.{kindOf, kindIn, kinds, sortIn, kindRow, expressionFields, statementFields, markFields, memberFields, sortOf, sortAt, inLanguage, isLink, isRequired}
-use Rattle.structure.specs.Links.{linksAmong, linkCount, loneBlock, notOnce, deeper, depthAt, tooDeep}
-use Rattle.structure.specs.Refusal.{at, unless, _next_, rowCauses, structuralRefusal}
+use Rattle.structure.specs.Links.{loneBlock, notOnce}
+use Rattle.structure.specs.Refusal.{at, unless, _next_}
 use Rattle.words.specs.Search.{lowest, some, lowestRow, someField}
 use Rattle.list_items.specs.Items.{itemOf, earlierOf, earlierAt, someFrom, someEarlier}
 use Rattle.repeated_marks.specs.Marks.{sameMark, repeated}
 use Rattle.statement_places.specs.Places.{handed, noteAt, outOfPlace, misplaced}
 use Rattle.words.specs.Declarations.{isDeclaration}
 use Rattle.declaration_causes.specs.Causes.{outsideBlock, namesItself, declaredBefore, oneTooMany, declarationRefusal}
-use Rattle.source_check.specs.Refusal.{wronglyPlaced, laterRefusal, refusal}
+use Rattle.source_check.specs.Refusal.{wronglyPlaced, refusal}
+use Rattle.brief_checks.specs.Brief.{targets, times, briefCauses, briefStructure, briefDepth, briefSource}
+use Rattle.brief_checks.specs.BriefLaws.{same-source, map-same}
 use Rattle.check_answers.specs.Sample.{Sample}
 use Rattle.check_answers.specs.SourceSamples.{sourceSamples}
 
@@ -26,6 +28,13 @@ checked sample = refusal (sample .header) (sample .rows)
 abbrev pub expected : Sample → Verdict
 expected sample = sample .answer
 
+-- A brief test of it.
+abbrev tested : Sample → Verdict
+tested sample = briefSource (sample .header) (sample .rows)
+
+samples-tested : map tested sourceSamples ≡ map expected sourceSamples
+unfolding sameWord natural wordAt numberAt layoutOf sum storeSize headerStore allWithin headerFits countFits foreign fits leadsRight mislinked boundsOf numberFits outside kindOf kindIn kinds sortIn kindRow expressionFields statementFields markFields memberFields sortOf sortAt inLanguage isExpression isPlace isStatement isBlock isArm isLink isRequired link target loneBlock notOnce linker received noteBy note at unless _next_ lowest some lowestRow someField targets times briefCauses briefStructure briefDepth briefSource sameMark itemOf earlierOf earlierAt someFrom someEarlier repeated handed noteAt outOfPlace misplaced isDeclaration outsideBlock namesItself declaredBefore oneTooMany declarationRefusal wronglyPlaced
+samples-tested = refl
+
 pub source-answers : map checked sourceSamples ≡ map expected sourceSamples
-unfolding sameWord natural wordAt numberAt layoutOf sum storeSize headerStore allWithin headerFits countFits foreign fits leadsRight mislinked boundsOf numberFits outside kindOf kindIn kinds sortIn kindRow expressionFields statementFields markFields memberFields sortOf sortAt inLanguage isExpression isPlace isStatement isBlock isArm isLink isRequired link target linksAmong linkCount loneBlock notOnce linker received noteBy note deeper depthAt tooDeep at unless _next_ rowCauses structuralRefusal lowest some lowestRow someField sameMark itemOf earlierOf earlierAt someFrom someEarlier repeated handed noteAt outOfPlace misplaced isDeclaration outsideBlock namesItself declaredBefore oneTooMany declarationRefusal wronglyPlaced laterRefusal refusal
-source-answers = refl
+source-answers = map-same checked tested (λ sample. same-source (sample .header) (sample .rows)) sourceSamples ∙ samples-tested

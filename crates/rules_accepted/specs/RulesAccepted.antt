@@ -1,11 +1,10 @@
 -- Rules accepted: the check accepts every rule of the table, by computing a brief test; so each is legal, and the check does not turn all
 -- programs down.
-use mathlib.Core.Path.{_≡_, refl}
+use mathlib.Core.Path.{_≡_, refl, _∙_}
 use mathlib.Core.List.{List, [], _∷_, map}
 use Rattle.words.specs.Word.{sameWord, natural}
 use Rattle.words.specs.Table.{wordAt, numberAt}
 use Rattle.words.specs.Layout.{layoutOf, sum, storeSize, allWithin, headerFits, countFits, headerStore}
-use Rattle.words.specs.declared.Form.the-variants.{Source}
 use Rattle.words.specs.declared.Verdict.{Verdict}
 use Rattle.words.specs.declared.Verdict.the-variants.{Accepted}
 use Rattle.language.specs.Rule.{Rule}
@@ -14,48 +13,36 @@ use Rattle.words.specs.Links.{fits, isExpression, isPlace, isStatement, isBlock
 use Rattle.row_fields.specs.Fields.{foreign, leadsRight, mislinked, boundsOf, numberFits, outside}
 use Rattle.words.specs.Kinds.{sortOf, sortAt, inLanguage, isLink, isRequired, kinds, kindIn, kindOf, sortIn, kindRow, expressionFields, statementFields, markFields, memberFields}
 use Rattle.structure.specs.Links.{loneBlock, notOnce}
-use Rattle.structure.specs.Refusal.{at, unless, _next_, structuralRefusal}
-use Rattle.structure.specs.RefusalLaws.{next-accepts, accepts-next, accepts-at}
+use Rattle.structure.specs.Refusal.{at, unless, _next_}
 use Rattle.words.specs.Search.{lowest, some, lowestRow, someField}
 use Rattle.list_items.specs.Items.{itemOf, earlierOf, earlierAt, someFrom, someEarlier}
 use Rattle.repeated_marks.specs.Marks.{sameMark, repeated}
 use Rattle.statement_places.specs.Places.{handed, noteAt, outOfPlace, misplaced}
 use Rattle.words.specs.Declarations.{isDeclaration}
 use Rattle.declaration_causes.specs.Causes.{outsideBlock, namesItself, declaredBefore, oneTooMany, declarationRefusal}
-use Rattle.source_check.specs.Refusal.{wronglyPlaced, laterRefusal, refusal}
+use Rattle.source_check.specs.Refusal.{wronglyPlaced, refusal}
 use Rattle.source_check.specs.Legal.{Legal}
 use Rattle.source_check.specs.AcceptsLegal.{accepts-legal}
-use Rattle.rules_accepted.specs.Brief.{targets, times, briefCauses, brief}
-use Rattle.rules_accepted.specs.BriefLaws.{brief-structural, brief-shallow, accepted, all-accepted}
+use Rattle.brief_checks.specs.Brief.{targets, times, briefCauses, briefStructure, briefDepth, briefSource}
+use Rattle.brief_checks.specs.BriefLaws.{same-source, map-same}
 
 -- What the check answers of a rule's program.
 abbrev pub checked : Rule → Verdict
 checked rule = refusal (rule .header) (rule .rows)
 
--- A brief test of it.
-unfoldable tested : Rule → Verdict
-tested rule =
-    brief Source (rule .header) (rule .rows)
-    next at 7 (lowestRow (rule .rows) (wronglyPlaced (rule .rows)))
-    next at 8 (lowestRow (rule .rows) (repeated (rule .rows)))
-    next declarationRefusal (rule .rows)
+abbrev pub accepted : Rule → Verdict
+accepted rule = Accepted
 
-tested-accepted : (rule : Rule) → tested rule ≡ Accepted → checked rule ≡ Accepted
-unfolding tested refusal laterRefusal
-tested-accepted rule e =
-    let c6 = next-accepts (brief Source (rule .header) (rule .rows)) _ e in
-    let c7 = next-accepts (at 7 _) _ (c6 .1) in
-    let c8 = next-accepts (at 8 _) _ (c7 .1) in
-    accepts-next (structuralRefusal Source (rule .header) (rule .rows)) _ (brief-structural Source (rule .header) (rule .rows) (c6 .0))
-    (accepts-next (at 7 _) _ (c7 .0) (accepts-next (at 8 _) _ (c8 .0)
-    (accepts-next (at 9 _) _ (accepts-at 9 _ (brief-shallow Source (rule .header) (rule .rows) (c6 .0))) (c8 .1))))
+-- A brief test of it.
+abbrev tested : Rule → Verdict
+tested rule = briefSource (rule .header) (rule .rows)
 
 table-tested : map tested table ≡ map accepted table
-unfolding sameWord natural wordAt numberAt layoutOf sum storeSize headerStore allWithin headerFits countFits foreign fits leadsRight mislinked boundsOf numberFits outside kindOf kindIn kinds sortIn kindRow expressionFields statementFields markFields memberFields sortOf sortAt inLanguage isExpression isPlace isStatement isBlock isArm isLink isRequired link target loneBlock notOnce linker received noteBy note at unless _next_ lowest some lowestRow someField targets times briefCauses brief sameMark itemOf earlierOf earlierAt someFrom someEarlier repeated handed noteAt outOfPlace misplaced isDeclaration outsideBlock namesItself declaredBefore oneTooMany declarationRefusal wronglyPlaced tested
+unfolding sameWord natural wordAt numberAt layoutOf sum storeSize headerStore allWithin headerFits countFits foreign fits leadsRight mislinked boundsOf numberFits outside kindOf kindIn kinds sortIn kindRow expressionFields statementFields markFields memberFields sortOf sortAt inLanguage isExpression isPlace isStatement isBlock isArm isLink isRequired link target loneBlock notOnce linker received noteBy note at unless _next_ lowest some lowestRow someField targets times briefCauses briefStructure briefDepth briefSource sameMark itemOf earlierOf earlierAt someFrom someEarlier repeated handed noteAt outOfPlace misplaced isDeclaration outsideBlock namesItself declaredBefore oneTooMany declarationRefusal wronglyPlaced
 table-tested = refl
 
 pub rules-accepted : map checked table ≡ map accepted table
-rules-accepted = all-accepted tested checked tested-accepted table table-tested
+rules-accepted = map-same checked tested (λ rule. same-source (rule .header) (rule .rows)) table ∙ table-tested
 
 -- Each of a list of rules is legal.
 abbrev pub AllLegal : List Rule → Type 0

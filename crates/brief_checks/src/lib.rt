@@ -1,0 +1,1 @@
+// Both checks by tests that cost less to compute. Definitions and laws alone, in specs/.

@@ -24,9 +24,9 @@ use Rattle.row_fields.specs.Fields.{boundsIn, boundsOf}
 use Rattle.structure.specs.Structured.{Structured}
 use Rattle.structure.specs.StructuredLaws.{structured-tree}
 use Rattle.names.specs.Names.{resolved}
-use Rattle.names.specs.ResolvedLaws.{resolved-shallow}
+use Rattle.names.specs.ResolvedLaws.{resolved-count, resolved-shallow}
 use Rattle.names.specs.ResolvedNames.{resolved-holds}
-use Rattle.names.specs.ResolvedStructured.{resolved-count, resolved-structured}
+use Rattle.names.specs.ResolvedStructured.{resolved-structured}
 use Rattle.source_check.specs.Legal.{Legal}
 use Rattle.source_check.specs.Carried.{resolved-placed}
 use Rattle.accepted.specs.Statements.{program-block}
@@ -35,7 +35,7 @@ use Rattle.accepted.specs.Places.{placed-contents}
 use Rattle.accepted.specs.Gives.{Gives}
 use Rattle.accepted.specs.Endings.{program-ends}
 use Rattle.accepted.specs.Sound.{structured-sound}
-use Rattle.accepted.specs.Rows.{structured-rows}
+use Rattle.accepted.specs.Rows.{decoded-rows}
 use Rattle.accepted.specs.Depth.{structured-depth}
 use Rattle.accepted.specs.Worded.{IsWord, Worded}
 use Rattle.accepted.specs.Words.{structured-worded}
@@ -79,7 +79,7 @@ module _ (header rows : List ℤ) (legal : Legal header rows) where
 
   -- Its tree has as many rows as the table.
   pub table-rows : statementRows (block (contents table)) ≡ rowCount rows
-  table-rows = rw table-block at (structured-rows Source _ table table-structured) ∙ resolved-count Source L rows header-bounds
+  table-rows = rw table-block at (decoded-rows Source _ table table-structured) ∙ resolved-count S rows
 
   -- "The limit is 64."
   pub table-depth : statementDepth (block (contents table)) ≤ 64

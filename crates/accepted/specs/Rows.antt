@@ -248,9 +248,9 @@ module _ (form : Form) (bounds : Bounds) (rows : List ℤ) (s : Structured form 
         (expression-statement-or-arm form rows row (s .known row inside))
 
 -- "Every other row is linked exactly once": the tree has a row for each row of the table.
-pub structured-rows : (form : Form) (bounds : Bounds) (rows : List ℤ) → Structured form bounds rows → statementRows (decode rows) ≡ rowCount rows
+pub decoded-rows : (form : Form) (bounds : Bounds) (rows : List ℤ) → Structured form bounds rows → statementRows (decode rows) ≡ rowCount rows
 unfolding decode
-structured-rows form bounds rows s =
+decoded-rows form bounds rows s =
     let inside = root-inside form bounds rows s in
     let root = root-statement form bounds rows s in
     let all = gathers (treeRows rows) rows (structured-tree form bounds rows s) (λ row. 1) (row-adds form bounds rows s) in

@@ -26,7 +26,7 @@ use Rattle.accepted.specs.Places.{placed-contents}
 use Rattle.accepted.specs.Gives.{Gives}
 use Rattle.accepted.specs.Endings.{program-ends}
 use Rattle.accepted.specs.Sound.{header-sound}
-use Rattle.accepted.specs.Rows.{structured-rows}
+use Rattle.accepted.specs.Rows.{decoded-rows}
 use Rattle.accepted.specs.Depth.{structured-depth}
 use Rattle.accepted.specs.Worded.{Worded}
 use Rattle.accepted.specs.Words.{structured-worded}
@@ -56,7 +56,7 @@ module _ (header rows : List ℤ) (legal : Legal header rows) where
 
   -- Its tree has as many rows as the table.
   pub legal-rows : statementRows (block (contents rows)) ≡ rowCount rows
-  legal-rows = rw legal-block at (structured-rows Source _ rows (legal .structured))
+  legal-rows = rw legal-block at (decoded-rows Source _ rows (legal .structured))
 
   -- "The limit is 64."
   pub legal-depth : statementDepth (block (contents rows)) ≤ 64

@@ -18,7 +18,7 @@ use Rattle.kernel_check.specs.Legal.{Legal}
 use Rattle.accepted.specs.Gives.{Gives}
 use Rattle.accepted.specs.Sound.{header-sound}
 use Rattle.accepted.specs.Statements.{program-block}
-use Rattle.accepted.specs.Rows.{structured-rows}
+use Rattle.accepted.specs.Rows.{decoded-rows}
 use Rattle.accepted.specs.Depth.{structured-depth}
 use Rattle.accepted_kernel.specs.Jumps.{program-lands}
 use Rattle.accepted_kernel.specs.Forms.{contents-form}
@@ -37,7 +37,7 @@ module _ (header rows : List ℤ) (legal : Legal header rows) where
 
   -- Its tree has as many rows as the table. "Depth up to 512."
   pub legal-rows : statementRows (block (contents rows)) ≡ rowCount rows
-  legal-rows = rw legal-block at (structured-rows Kernel _ rows (legal .structured))
+  legal-rows = rw legal-block at (decoded-rows Kernel _ rows (legal .structured))
 
   pub legal-depth : statementDepth (block (contents rows)) ≤ 512
   legal-depth = rw legal-block at (structured-depth Kernel _ rows (legal .structured) (legal .shallow))

@@ -18,12 +18,12 @@ use Rattle.words.specs.declared.Form.{Form}
 use Rattle.words.specs.Kinds.{kinds, kindIn, kindOf, isLink, inLanguage, sortAt, sortOf, sortIn, kindRow, expressionFields, statementFields}
 use Rattle.words.specs.KindLaws.{declaration-foreign}
 use Rattle.words.specs.Links.{link}
-use Rattle.structure.specs.Structured.{Tree, Structured, Depth, Shallow}
+use Rattle.structure.specs.Structured.{Leads, Tree, Structured, Depth, Shallow}
 use Rattle.structure.specs.Lists.{Before}
 use Rattle.row_fields.specs.declared.Bounds.{Bounds}
 use Rattle.names.specs.Names.{NoDeclaration, isName, variableWord, resolvedName, resolvedWord, resolved}
 use Rattle.words.specs.Declarations.{declarationKind, isDeclaration}
-use Rattle.names.specs.SameLinks.{same-tree, same-depth, same-before}
+use Rattle.names.specs.SameLinks.{same-count, same-leads, same-tree, same-depth, same-before}
 use Rattle.names.specs.TableLaws.{table-length, table-word, table-all, word-beyond, made-of-itself}
 use Rattle.names.specs.ScopeLaws.{declaration-beyond, meant-none}
 
@@ -82,6 +82,13 @@ module _ (S : ℕ) (rows : List ℤ) where
   pub resolved-declaration : (row : ℕ) → isDeclaration (resolved S rows) row ≡ isDeclaration rows row
   unfolding isDeclaration
   resolved-declaration row = rw (resolved-kind row)
+
+  -- as many rows, and their links lead to the same rows
+  pub resolved-count : rowCount (resolved S rows) ≡ rowCount rows
+  resolved-count = same-count rows (resolved S rows) resolved-length resolved-link
+
+  pub resolved-leads : {row field : ℕ} → field < 6 → Leads rows row field ↔ Leads (resolved S rows) row field
+  resolved-leads h = (same-leads rows (resolved S rows) resolved-length resolved-link h, same-leads (resolved S rows) rows (sym resolved-length) (λ row field k. sym (resolved-link row field k)) h)
 
   -- the rows form the same tree
   pub resolved-tree : Tree rows → Tree (resolved S rows)

@@ -1,9 +1,9 @@
 -- The resolved table is structured as the table is: its declarations and names name words of a store with D words behind the first S.
-use mathlib.Core.Path.{_≡_, sym, ap, _∙_}
+use mathlib.Core.Path.{_≡_, _∙_}
 use mathlib.Core.Bool.{true, false, _||_, true≢false}
 use mathlib.Core.Logic.{_⊎_, inl, inr, ⊎-elim}
 use mathlib.Core.List.{List}
-use Prim.Native.Nat.{ℕ, _+_, _/_, _≤_, _<_}
+use Prim.Native.Nat.{ℕ, _+_, _≤_, _<_}
 use native.Mathlib.Omega.{arith}
 use native.Mathlib.Decide.{ℕ-discrete}
 use lib.Dec.{ltb, leb, eqb}
@@ -17,11 +17,11 @@ use Rattle.words.specs.Kinds.{kinds, kindIn, kindOf, variable, declaredNumber, 
 use Rattle.words.specs.Links.{link, isExpression, isPlace, isStatement, isBlock, isArm, fits}
 use Rattle.row_fields.specs.Fields.{boundsIn, variableFits, numberFits}
 use Rattle.row_fields.specs.declared.Bounds.{Bounds}
-use Rattle.structure.specs.Structured.{Leads, Tree, Structured}
+use Rattle.structure.specs.Structured.{Tree, Structured}
 use Rattle.structure.specs.StructuredLaws.{structured-tree}
 use Rattle.names.specs.Names.{isName, resolved}
 use Rattle.words.specs.Declarations.{isDeclaration, declarationCount}
-use Rattle.names.specs.ResolvedLaws.{resolved-length, resolved-kept, resolved-other, resolved-kind, resolved-sort, resolved-link, resolved-tree}
+use Rattle.names.specs.ResolvedLaws.{resolved-length, resolved-kept, resolved-other, resolved-kind, resolved-sort, resolved-link, resolved-count, resolved-leads, resolved-tree}
 use Rattle.names.specs.ResolvedNames.{DeclaredWord, declaration-word, name-word}
 
 -- ---- what field a of a declaration and of a name holds
@@ -73,9 +73,6 @@ module _ (form : Form) (L : Layout) (rows : List ℤ) (s : Structured form (boun
   t : Tree rows
   t = structured-tree form (boundsIn L S) rows s
 
-  pub resolved-count : rowCount table ≡ rowCount rows
-  resolved-count = ap (λ (n : ℕ). n / 6) (resolved-length S rows)
-
   -- a field that is no declaration's or variable's number stays
   kept : (row field : ℕ) → field < 6 → (sortAt rows row field ≡ variable → ⊥) → (sortAt rows row field ≡ declaredNumber → ⊥) → numberAt table row field ≡ numberAt rows row field
   unfolding numberAt
@@ -94,9 +91,6 @@ module _ (form : Form) (L : Layout) (rows : List ℤ) (s : Structured form (boun
   fits-same : (sort row : ℕ) → fits table sort row ≡ fits rows sort row
   unfolding fits isExpression isPlace isStatement isBlock isArm
   fits-same sort row = rw (resolved-sort S rows row 0, resolved-kind S rows row, next-kept row)
-
-  pub leads-resolved : (row field : ℕ) → field < 6 → Leads rows row field → Leads table row field
-  leads-resolved row field h l = record { later = rw (resolved-link S rows row field h) (l .later); inside = rw (resolved-link S rows row field h, resolved-count) (l .inside) }
 
   -- numbers
   declared-number : (row : ℕ) → row < rowCount rows → isDeclaration rows row ≡ true → numberFits bounds declaredNumber (numberAt table row 1) ≡ true
@@ -127,16 +121,16 @@ module _ (form : Form) (L : Layout) (rows : List ℤ) (s : Structured form (boun
   resolved-structured =
       record {
         count-fits = rw (resolved-length S rows) (s .count-fits);
-        known = λ row n. rw (resolved-kind S rows row) (s .known row (rw resolved-count at n));
+        known = λ row n. rw (resolved-kind S rows row) (s .known row (rw (resolved-count S rows) at n));
         unused-zero = λ row n field first last e.
             let own : sortAt rows row field ≡ unused = rw (resolved-sort S rows row field) at e in
-            kept row field last (λ q. omega arith) (λ q. omega arith) ∙ s .unused-zero row (rw resolved-count at n) field first last own;
-        present = λ row n field first last e. rw (resolved-link S rows row field last) (s .present row (rw resolved-count at n) field first last (rw (resolved-sort S rows row field) at e));
-        forward = λ row n field first last p. leads-resolved row field last (s .forward row (rw resolved-count at n) field first last (rw (resolved-link S rows row field last) at p));
+            kept row field last (λ q. omega arith) (λ q. omega arith) ∙ s .unused-zero row (rw (resolved-count S rows) at n) field first last own;
+        present = λ row n field first last e. rw (resolved-link S rows row field last) (s .present row (rw (resolved-count S rows) at n) field first last (rw (resolved-sort S rows row field) at e));
+        forward = λ row n field first last p. resolved-leads S rows last .0 (s .forward row (rw (resolved-count S rows) at n) field first last (rw (resolved-link S rows row field last) at p));
         fitting = λ row n field first last p.
-            rw (resolved-link S rows row field last, resolved-sort S rows row field, fits-same) (s .fitting row (rw resolved-count at n) field first last (rw (resolved-link S rows row field last) at p));
+            rw (resolved-link S rows row field last, resolved-sort S rows row field, fits-same) (s .fitting row (rw (resolved-count S rows) at n) field first last (rw (resolved-link S rows row field last) at p));
         block = rw (resolved-kind S rows 0) (s .block);
         lone = rw (next-kept 0) (s .lone);
         once = λ row p n. resolved-tree S rows t .once row p n;
-        named = λ row n field first last. rw (resolved-sort S rows row field) (names row (rw resolved-count at n) field first last);
+        named = λ row n field first last. rw (resolved-sort S rows row field) (names row (rw (resolved-count S rows) at n) field first last);
       }

@@ -34,9 +34,9 @@ use Rattle.structure.specs.StructuredLaws.{structured-tree}
 use Rattle.statement_places.specs.Places.{isMark}
 use Rattle.list_items.specs.Items.{ListItem, next}
 use Rattle.names.specs.Names.{isName, wordOf, resolved}
-use Rattle.names.specs.ResolvedLaws.{resolved-kind, resolved-link, resolved-declaration}
+use Rattle.names.specs.ResolvedLaws.{resolved-kind, resolved-link, resolved-count, resolved-leads, resolved-declaration}
 use Rattle.names.specs.ResolvedNames.{DeclaredWord, declaration-resolved, declaration-word}
-use Rattle.names.specs.ResolvedStructured.{resolved-count, resolved-structured}
+use Rattle.names.specs.ResolvedStructured.{resolved-structured}
 use Rattle.accepted.specs.Sorts.{between-true, statementNumber, number-is, in-language}
 use Rattle.accepted.specs.Fields.{names-variable}
 use Rattle.accepted.specs.Expressions.{ExpressionRow}
@@ -69,18 +69,11 @@ module _ (L : Layout) (rows : List ℤ) (source : SourceRows L rows) where
   own : Structured Source bounds table
   own = resolved-structured Source L rows s
 
-  same-count : rowCount table ≡ rowCount rows
-  same-count = resolved-count Source L rows s
-
-  -- links of the resolved table are links of the table
-  same-leads : (row field : ℕ) → field < 6 → Leads table row field → Leads rows row field
-  same-leads row field h l = record { later = rw (resolved-link S rows row field h) at (l .later); inside = rw (resolved-link S rows row field h, same-count) at (l .inside) }
-
   abbrev KnownAt : ℕ → ℕ → Type 0
   KnownAt row = Known (L .variables) S rows row
 
   part-known : (row field : ℕ) → field < 5 → Leads table row field → KnownAt (link table row field) within KnownAt row
-  part-known row field h l = rw (resolved-link S rows row field (omega arith)) (known-part rows t (L .variables) S row field h (same-leads row field (omega arith) l))
+  part-known row field h l = rw (resolved-link S rows row field (omega arith)) (known-part rows t (L .variables) S row field h (resolved-leads S rows (omega arith) .1 l))
 
   -- ---- kinds
 
@@ -118,7 +111,7 @@ module _ (L : Layout) (rows : List ℤ) (source : SourceRows L rows) where
   unfolding sortIn kindRow expressionFields statementFields markFields memberFields
   variable-known row n k =
       let here : kindAt rows row ≡ OfExpression Variable = sym (same-kind row) ∙ k in
-      let inside : row < rowCount rows = rw same-count at n in
+      let inside : row < rowCount rows = rw (resolved-count S rows) at n in
       let below : numberAt rows row 1 < L .variables =
       ⊎-elim (λ b. b) (λ b. absurd (omega (arith, b .0, b .1))) (names-variable Source (boundsIn L S) rows s row inside here 1 refl) in
       name-known rows t (L .variables) S row inside (declares-none row here) (names-one row here) below
@@ -145,16 +138,16 @@ module _ (L : Layout) (rows : List ℤ) (source : SourceRows L rows) where
     at-next : isDeclaration rows row ≡ false → At (link table row 5) P
     at-next other p =
         let l = leads-next p in
-        (l .inside, λ word q. h word (known-next rows t (L .variables) S row other (same-leads row 5 (omega arith) l) word (rw (resolved-link S rows row 5 (omega arith)) at q)))
+        (l .inside, λ word q. h word (known-next rows t (L .variables) S row other (resolved-leads S rows (omega arith) .1 l) word (rw (resolved-link S rows row 5 (omega arith)) at q)))
 
     at-behind : isDeclaration rows row ≡ true → At (link table row 5) (P with numberAt table row 1)
     at-behind d p =
         let l = leads-next p in
-        (l .inside, λ word q. go word (known-behind rows t (L .variables) S row (same-leads row 5 (omega arith) l) word (rw (resolved-link S rows row 5 (omega arith)) at q)))
+        (l .inside, λ word q. go word (known-behind rows t (L .variables) S row (resolved-leads S rows (omega arith) .1 l) word (rw (resolved-link S rows row 5 (omega arith)) at q)))
       where
         go : (word : ℕ) → (KnownAt row with wordOf S rows row) word → (P with numberAt table row 1) word
         go word (inl q) = inl (h word q)
-        go word (inr e) = inr (e ∙ sym (declaration-resolved S rows t row (rw same-count at n) d))
+        go word (inr e) = inr (e ∙ sym (declaration-resolved S rows t row (rw (resolved-count S rows) at n) d))
 
   -- ---- no mark behind a declaration
 
@@ -165,12 +158,12 @@ module _ (L : Layout) (rows : List ℤ) (source : SourceRows L rows) where
   marked : {row : ℕ} {kind : Kind} → row < rowCount table → kindAt table row ≡ kind → between statementRow armRow (sortIn kind 0) ≡ true → isMark (statementNumber kind) ≡ true → ListItem rows 42 1 row → ⊥
   marked {row} n k e m i =
       let number : numberAt rows row 0 ≡ statementNumber _ = sym (resolved-kind S rows row) ∙ number-is table row k e in
-      not-in-switch rows t i (source .marks row (rw same-count at n) (rw number m))
+      not-in-switch rows t i (source .marks row (rw (resolved-count S rows) at n) (rw number m))
 
   next-in-block : {row : ℕ} → row < rowCount table → ListItem rows 42 1 row → 0 < link table row 5 → (link table row 5 < rowCount table) × ListItem rows 42 1 (link table row 5)
   next-in-block {row} n i p =
       let l = own .forward row n 5 (omega arith) (omega arith) p in
-      (l .inside, rw (resolved-link S rows row 5 (omega arith)) (next (same-leads row 5 (omega arith) l) i))
+      (l .inside, rw (resolved-link S rows row 5 (omega arith)) (next (resolved-leads S rows {row = row} {field = 5} (omega arith) .1 l) i))
 
   unmarked-list : {l : ℕ} → ListRow table l → (0 < l → (l < rowCount table) × ListItem rows 42 1 l) → Unmarked (listAt table l)
   unfolding Unmarked sortIn kindRow expressionFields statementFields markFields memberFields statementNumber
@@ -246,7 +239,7 @@ module _ (L : Layout) (rows : List ℤ) (source : SourceRows L rows) where
       scoped-statement (guardedDo-row k e x) n P h = rw e (scoped-arms x P (at-part P n h 1 refl))
       scoped-statement (abort-row k e) n P h = rw e tt
       scoped-statement {row} (declare-row k p e x) n P h =
-          rw e (all _ (declaration-word S rows t row (rw same-count at n) (declares n k)), expression-scoped P x (p .inside) (in-part P n h 2 (omega arith) p))
+          rw e (all _ (declaration-word S rows t row (rw (resolved-count S rows) at n) (declares n k)), expression-scoped P x (p .inside) (in-part P n h 2 (omega arith) p))
 
       scoped-arms : {l : ℕ} → ArmsRow table l → (P : Words) → (0 < l → (l < rowCount table) × (KnownAt l within P)) → ScopedArms All arrays P (armListAt table l)
       scoped-arms (no-arms z e) P at = rw e tt
@@ -258,7 +251,7 @@ module _ (L : Layout) (rows : List ℤ) (source : SourceRows L rows) where
       scoped-list {l} (item p e x y) P at =
           let n = at p .0 in
           let h = at p .1 in
-          let behind = behind-item x n P h (listAt table (link table l 5)) (λ d. unmarked-list y (next-in-block n (source .declarations l (rw same-count at n) d))) (λ Q known. scoped-list y Q known) in
+          let behind = behind-item x n P h (listAt table (link table l 5)) (λ d. unmarked-list y (next-in-block n (source .declarations l (rw (resolved-count S rows) at n) d))) (λ Q known. scoped-list y Q known) in
           rw e (scoped-statement x n P h, behind .0, behind .1)
       scoped-list (case-item p k e x y) P at = rw e (scoped-list y P (at-next P (at p .0) (at p .1) (other-kind (at p .0) k refl refl)))
       scoped-list (default-item p k e x y) P at = rw e (scoped-list y P (at-next P (at p .0) (at p .1) (other-kind (at p .0) k refl refl)))

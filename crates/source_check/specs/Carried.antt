@@ -11,8 +11,7 @@ use Rattle.words.specs.Links.{link}
 use Rattle.structure.specs.Structured.{Leads}
 use Rattle.words.specs.Declarations.{isDeclaration}
 use Rattle.names.specs.Names.{resolved}
-use Rattle.names.specs.SameLinks.{same-count, same-leads}
-use Rattle.names.specs.ResolvedLaws.{resolved-length, resolved-kind, resolved-link}
+use Rattle.names.specs.ResolvedLaws.{resolved-kind, resolved-link, resolved-count, resolved-leads}
 use Rattle.list_items.specs.Items.{ListItem, first, next}
 use Rattle.source_check.specs.Legal.{Inside, part, along, Placed}
 
@@ -53,9 +52,9 @@ module _ (S : ℕ) (rows : List ℤ) where
   resolved-carries : Carries (resolved S rows) rows (λ row. row)
   resolved-carries = record {
     kind = λ row n. resolved-kind S rows row;
-    leads = λ row field f leads. same-leads rows (resolved S rows) (resolved-length S rows) (resolved-link S rows) f leads;
+    leads = λ row field f leads. resolved-leads S rows f .0 leads;
     to = λ row field f leads. resolved-link S rows row field f;
   }
 
   pub resolved-placed : ((row : ℕ) → row < rowCount rows → Placed rows row) → (row : ℕ) → row < rowCount (resolved S rows) → Placed (resolved S rows) row
-  resolved-placed placed row n = let inside = rw (same-count rows (resolved S rows) (resolved-length S rows) (resolved-link S rows)) at n in placed-carried resolved-carries row inside (placed row inside)
+  resolved-placed placed row n = let inside = rw (resolved-count S rows) at n in placed-carried resolved-carries row inside (placed row inside)

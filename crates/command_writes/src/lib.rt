@@ -5,22 +5,21 @@ use text_form::ReadAnswer;
 use words::Form;
 use writes::WritesVerdict;
 use writes::writes_of;
-use written_lines::both_lines;
+use written_lines::put_lines;
 ghost use Prim.Native.Nat.{_≤_};
 ghost use lib.ListN.{length};
 ghost use Rattle.words.specs.declared.Form.the-variants.{Source};
 ghost use Rattle.text_numbers.specs.Writer.{Put};
-ghost use Rattle.write_sets.specs.Sets.{variableBit, memberArray};
-ghost use Rattle.written_lines.specs.Lines.{bothLines, writesRoom};
+ghost use Rattle.written_lines.specs.Lines.{isIn, writtenLines, writesRoom};
 ghost use Rattle.command_text.specs.Texts.{Roomy, outputRoom};
 ghost use Rattle.command_writes.specs.Writes.{writesLines, writesOutput};
 
 fn put_sets(writes: Writes, out: &mut [u8]) -> usize
     requires { ⌜ writesRoom ≤ length (now out) ⌝ }
-    ensures { λ r. ⌜ Put (bothLines (variableBit (writes .variables)) (memberArray (writes .arrays))) (now (out .entry)) r (now (out .exit)) ⌝ }
+    ensures { λ r. ⌜ Put (writtenLines (isIn (writes .variables) (writes .arrays))) (now (out .entry)) r (now (out .exit)) ⌝ }
 {
     let set = writes.variables;
-    both_lines(set, writes.arrays, out)
+    put_lines(set, writes.arrays, out)
 }
 
 fn put_writes(header: &[i32], rows: &[i32], out: &mut [u8]) -> usize

@@ -1,5 +1,5 @@
 -- Numbers that pass a test, one after the other in a buffer: those below i so far.
-use mathlib.Core.Path.{_≡_, refl, sym, ap, _∙_}
+use mathlib.Core.Path.{_≡_, refl, sym, ap, ap₂, _∙_}
 use mathlib.Core.Bool.{Bool, true, false}
 use mathlib.Core.List.{List, [], _∷_, _++_}
 use Prim.Native.Nat.{ℕ, zero, suc, _+_, _*_, _≤_, _<_}
@@ -11,8 +11,16 @@ use Rattle.words.specs.OverLaws.{part, back-in}
 use Rattle.text_numbers.specs.Number.{digits}
 use Rattle.text_numbers.specs.Writer.{Put}
 use Rattle.text_numbers.specs.PutLaws.{put-none, put-as, put-length, put-next, put-space, put-inside}
+use Rattle.text_lines.specs.Line.{newline}
 use Rattle.report.specs.Lines.{blank}
-use Rattle.written_lines.specs.Lines.{numbers}
+use Rattle.written_lines.specs.Lines.{numbers, nameOf, bitsOf, writtenLine, writtenLines}
+use Rattle.written_lines.specs.declared.PlaceSort.{PlaceSort}
+use Rattle.written_lines.specs.declared.PlaceSort.the-variants.{Variables, Arrays}
+
+-- the words of the lines are short
+pub name-few : (sort : PlaceSort) → length (nameOf sort) ≤ 9
+name-few Variables = omega arith
+name-few Arrays = omega arith
 
 -- a number that is not wanted leaves nothing
 pub put-unwanted : {wanted : Bool} (bytes buffer : List ℕ) → wanted ≡ false → Put (pick wanted bytes []) buffer 0 buffer
@@ -64,3 +72,17 @@ module _ {p : ℕ → Bool} {k i at : ℕ} {buffer left : List ℕ} (b : Listed 
 -- one that is wanted leaves its bytes
 pub put-wanted : {wanted : Bool} {buffer left : List ℕ} {size : ℕ} (bytes : List ℕ) → wanted ≡ true → Put bytes buffer size left → Put (pick wanted bytes []) buffer size left
 put-wanted bytes e q = put-as (sym (ap (λ (b : Bool). pick b bytes []) e)) q
+
+-- ---- the same numbers give the same lines
+
+numbers-same : (k : ℕ) (p q : ℕ → Bool) → ((i : ℕ) → i < k → p i ≡ q i) → numbers k p ≡ numbers k q
+unfolding numbers
+numbers-same zero p q h = refl
+numbers-same (suc k) p q h = ap₂ _++_ (numbers-same k p q (λ i l. h i (omega arith))) (ap (λ (b : Bool). pick b (blank ∷ digits k) []) (h k (omega arith)))
+
+line-same : (sort : PlaceSort) (p q : ℕ → Bool) → ((i : ℕ) → i < bitsOf sort → p i ≡ q i) → writtenLine sort p ≡ writtenLine sort q
+unfolding writtenLine
+line-same sort p q h = ap (λ (l : List ℕ). (nameOf sort ++ l) ++ (newline ∷ [])) (numbers-same (bitsOf sort) p q h)
+
+pub lines-same : (p q : PlaceSort → ℕ → Bool) → ((sort : PlaceSort) (i : ℕ) → i < bitsOf sort → p sort i ≡ q sort i) → writtenLines p ≡ writtenLines q
+lines-same p q h = ap₂ _++_ (line-same Variables (p Variables) (q Variables) (h Variables)) (line-same Arrays (p Arrays) (q Arrays) (h Arrays))

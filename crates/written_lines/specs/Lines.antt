@@ -1,4 +1,4 @@
--- Lines: what can be written, by number, in two lines: the variables, and the arrays of which an element can.
+-- Lines: what can be written, by number, a line for each sort of place: the variables, and the arrays of which an element can.
 use mathlib.Core.Bool.{Bool}
 use mathlib.Core.List.{List, [], _∷_, _++_}
 use Prim.Native.Nat.{ℕ, zero, suc}
@@ -6,23 +6,38 @@ use Rattle.words.specs.Word.{pick}
 use Rattle.text_numbers.specs.Number.{digits}
 use Rattle.text_lines.specs.Line.{newline}
 use Rattle.report.specs.Lines.{blank}
-use Rattle.write_sets.specs.Sets.{variableBits, arrayBits}
+use Rattle.write_sets.specs.Sets.{variableBits, arrayBits, variableBit, memberArray}
+use Rattle.write_sets.specs.declared.WriteSet.{WriteSet}
 use Rattle.command_request.specs.Ascii.{ascii}
+use Rattle.written_lines.specs.declared.PlaceSort.{PlaceSort}
+use Rattle.written_lines.specs.declared.PlaceSort.the-variants.{Variables, Arrays}
 
 -- The numbers below k that pass the test, lowest first, each with a blank before it.
 unfoldable pub numbers : ℕ → (ℕ → Bool) → List ℕ
 numbers zero p = []
 numbers (suc k) p = numbers k p ++ pick (p k) (blank ∷ digits k) []
 
-abbrev pub variablesLine : (ℕ → Bool) → List ℕ
-variablesLine p = (ascii "variables" ++ numbers variableBits p) ++ (newline ∷ [])
+-- The word that a line begins with, and how many numbers there are.
+abbrev pub nameOf : PlaceSort → List ℕ
+nameOf Variables = ascii "variables"
+nameOf Arrays = ascii "arrays"
 
-abbrev pub arraysLine : (ℕ → Bool) → List ℕ
-arraysLine p = (ascii "arrays" ++ numbers arrayBits p) ++ (newline ∷ [])
+abbrev pub bitsOf : PlaceSort → ℕ
+bitsOf Variables = variableBits
+bitsOf Arrays = arrayBits
 
-abbrev pub bothLines : (ℕ → Bool) → (ℕ → Bool) → List ℕ
-bothLines variables arrays = variablesLine variables ++ arraysLine arrays
+-- The bits of two sets.
+abbrev pub isIn : WriteSet → (arrays : ℕ) → PlaceSort → ℕ → Bool
+isIn set arrays Variables = variableBit set
+isIn set arrays Arrays = memberArray arrays
 
--- Bytes enough for both lines: at most twenty-one for each number with its blank, and seventeen for what else they have.
+-- A line with none is its word alone.
+unfoldable pub writtenLine : PlaceSort → (ℕ → Bool) → List ℕ
+writtenLine sort p = (nameOf sort ++ numbers (bitsOf sort) p) ++ (newline ∷ [])
+
+abbrev pub writtenLines : (PlaceSort → ℕ → Bool) → List ℕ
+writtenLines p = writtenLine Variables (p Variables) ++ writtenLine Arrays (p Arrays)
+
+-- Bytes enough for all lines: at most twenty-one for each number with its blank, and ten for what else a line has.
 abbrev pub writesRoom : ℕ
-writesRoom = 6065
+writesRoom = 6068

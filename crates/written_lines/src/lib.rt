@@ -5,15 +5,21 @@ use report::field::put_count;
 use write_sets::WriteSet;
 use write_sets::arrays::has_array;
 use write_sets::has_variable;
+ghost use mathlib.Core.Path.{_≡_};
 ghost use mathlib.Core.List.{[], _∷_};
-ghost use Prim.Native.Nat.{_+_, _*_, _≤_};
+ghost use Prim.Native.Nat.{_+_, _*_, _≤_, _<_};
 ghost use lib.ListN.{length};
 ghost use Rattle.words.specs.Word.{pick};
 ghost use Rattle.text_numbers.specs.Number.{digits};
 ghost use Rattle.text_numbers.specs.Writer.{Put};
 ghost use Rattle.report.specs.Lines.{blank};
-ghost use Rattle.write_sets.specs.Sets.{variableBits, arrayBits, variableBit, memberArray};
-ghost use Rattle.written_lines.specs.Lines.{numbers, variablesLine, arraysLine, bothLines, writesRoom};
+ghost use Rattle.written_lines.specs.Lines.{numbers, nameOf, bitsOf, isIn, writtenLine, writtenLines, writesRoom};
+
+// What a line is about.
+pub enum PlaceSort {
+    Variables,
+    Arrays,
+}
 
 // A number, where it is wanted.
 fn put_if(wanted: bool, number: usize, text: &mut [u8]) -> usize
@@ -27,60 +33,68 @@ fn put_if(wanted: bool, number: usize, text: &mut [u8]) -> usize
     0
 }
 
-fn put_variables(set: WriteSet, text: &mut [u8]) -> usize
-    requires { ⌜ 21 * variableBits ≤ length (now text) ⌝ }
-    ensures { λ r. ⌜ Put (numbers variableBits (variableBit set)) (now (text .entry)) r (now (text .exit)) ⌝ }
-    ensures { λ r. ⌜ r ≤ 21 * variableBits ⌝ }
+// How many numbers there are.
+fn bits_of(sort: PlaceSort) -> usize
+    ensures { λ r. ⌜ r ≡ bitsOf sort ⌝ }
 {
+    match sort {
+        PlaceSort::Variables => 256,
+        PlaceSort::Arrays => 32,
+    }
+}
+
+// Whether the number i is in its set.
+fn is_in(set: WriteSet, arrays: u32, sort: PlaceSort, i: usize) -> bool
+    requires { ⌜ i < bitsOf sort ⌝ }
+    ensures { λ r. ⌜ r ≡ isIn set arrays sort i ⌝ }
+{
+    match sort {
+        PlaceSort::Variables => has_variable(set, i),
+        PlaceSort::Arrays => has_array(arrays, i),
+    }
+}
+
+fn put_numbers(set: WriteSet, arrays: u32, sort: PlaceSort, text: &mut [u8]) -> usize
+    requires { ⌜ 21 * bitsOf sort ≤ length (now text) ⌝ }
+    ensures { λ r. ⌜ Put (numbers (bitsOf sort) (isIn set arrays sort)) (now (text .entry)) r (now (text .exit)) ⌝ }
+    ensures { λ r. ⌜ r ≤ 21 * bitsOf sort ⌝ }
+{
+    let bits = bits_of(sort);
     let mut at: usize = 0;
     let mut i: usize = 0;
-    while i < 256 {
-        at += put_if(has_variable(set, i), i, &mut text[at..]);
+    while i < bits {
+        at += put_if(is_in(set, arrays, sort, i), i, &mut text[at..]);
         i += 1;
     }
     at
 }
 
-fn put_arrays(arrays: u32, text: &mut [u8]) -> usize
-    requires { ⌜ 21 * arrayBits ≤ length (now text) ⌝ }
-    ensures { λ r. ⌜ Put (numbers arrayBits (memberArray arrays)) (now (text .entry)) r (now (text .exit)) ⌝ }
-    ensures { λ r. ⌜ r ≤ 21 * arrayBits ⌝ }
+fn put_name(sort: PlaceSort, text: &mut [u8]) -> usize
+    requires { ⌜ 9 ≤ length (now text) ⌝ }
+    ensures { λ r. ⌜ Put (nameOf sort) (now (text .entry)) r (now (text .exit)) ⌝ }
 {
-    let mut at: usize = 0;
-    let mut i: usize = 0;
-    while i < 32 {
-        at += put_if(has_array(arrays, i), i, &mut text[at..]);
-        i += 1;
+    match sort {
+        PlaceSort::Variables => put_bytes(b"variables", text),
+        PlaceSort::Arrays => put_bytes(b"arrays", text),
     }
-    at
 }
 
-fn variables_line(set: WriteSet, text: &mut [u8]) -> usize
-    requires { ⌜ 21 * variableBits + 10 ≤ length (now text) ⌝ }
-    ensures { λ r. ⌜ Put (variablesLine (variableBit set)) (now (text .entry)) r (now (text .exit)) ⌝ }
-    ensures { λ r. ⌜ r ≤ 21 * variableBits + 10 ⌝ }
+fn put_line(set: WriteSet, arrays: u32, sort: PlaceSort, text: &mut [u8]) -> usize
+    requires { ⌜ 21 * bitsOf sort + 10 ≤ length (now text) ⌝ }
+    ensures { λ r. ⌜ Put (writtenLine sort (isIn set arrays sort)) (now (text .entry)) r (now (text .exit)) ⌝ }
+    ensures { λ r. ⌜ r ≤ 21 * bitsOf sort + 10 ⌝ }
 {
-    let named = put_bytes(b"variables", text);
-    let end = named + put_variables(set, &mut text[named..]);
+    let named = put_name(sort, text);
+    let end = named + put_numbers(set, arrays, sort, &mut text[named..]);
     text[end] = b'\n';
     end + 1
 }
 
-fn arrays_line(arrays: u32, text: &mut [u8]) -> usize
-    requires { ⌜ 21 * arrayBits + 7 ≤ length (now text) ⌝ }
-    ensures { λ r. ⌜ Put (arraysLine (memberArray arrays)) (now (text .entry)) r (now (text .exit)) ⌝ }
-{
-    let named = put_bytes(b"arrays", text);
-    let end = named + put_arrays(arrays, &mut text[named..]);
-    text[end] = b'\n';
-    end + 1
-}
-
-// Both lines.
-pub fn both_lines(set: WriteSet, arrays: u32, text: &mut [u8]) -> usize
+// All lines.
+pub fn put_lines(set: WriteSet, arrays: u32, text: &mut [u8]) -> usize
     requires { ⌜ writesRoom ≤ length (now text) ⌝ }
-    ensures { λ r. ⌜ Put (bothLines (variableBit set) (memberArray arrays)) (now (text .entry)) r (now (text .exit)) ⌝ }
+    ensures { λ r. ⌜ Put (writtenLines (isIn set arrays)) (now (text .entry)) r (now (text .exit)) ⌝ }
 {
-    let end = variables_line(set, text);
-    end + arrays_line(arrays, &mut text[end..])
+    let end = put_line(set, arrays, PlaceSort::Variables, text);
+    end + put_line(set, arrays, PlaceSort::Arrays, &mut text[end..])
 }

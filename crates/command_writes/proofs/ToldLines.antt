@@ -14,7 +14,7 @@ use Rattle.writes.specs.Told.{sizeOf, Told, sets, refusal}
 use Rattle.writes.specs.declared.WritesVerdict.the-variants.{Written, Refused}
 use Rattle.written_lines.specs.Lines.{bitsOf, isIn, writtenLines}
 use Rattle.written_lines.specs.declared.PlaceSort.{PlaceSort}
-use Rattle.written_lines.specs.declared.PlaceSort.the-variants.{Variables, Arrays}
+use Rattle.written_lines.specs.declared.PlaceSort.the-variants.{Variables, Arrays, Declared}
 use Rattle.written_lines.proofs.NumberLaws.{lines-same}
 use Rattle.command_writes.specs.Writes.{canWrite, verdictWrites}
 
@@ -22,6 +22,7 @@ use Rattle.command_writes.specs.Writes.{canWrite, verdictWrites}
 bits-told : {S : ℕ} {w : Writes} {rows : List ℤ} → WritesAre S w rows → (sort : PlaceSort) (i : ℕ) → i < bitsOf sort → isIn (w .variables) (w .arrays) sort i ≡ canWrite S rows sort i
 bits-told x Variables i h = x .variables .variables i h
 bits-told x Arrays i h = x .arrays .are i
+bits-told x Declared i h = x .variables .declared i h
 
 pub told-lines : {header rows : List ℤ} {v : Verdict} {w : Writes} → Told header rows v (Written w) → writtenLines (isIn (w .variables) (w .arrays)) ≡ verdictWrites v header rows
 told-lines {header} {rows} {v} {w} (sets x) = lines-same (isIn (w .variables) (w .arrays)) (canWrite (sizeOf header) (resolvedRows Source header rows)) (bits-told x)

@@ -1,4 +1,4 @@
-// What `writes` prints: the variables and the arrays that a source program can write, by number.
+// What `writes` prints: the variables, the arrays and the declared words that a source program can write, by number.
 use program_writes::Writes;
 use report::line::refused_line;
 use text_form::ReadAnswer;

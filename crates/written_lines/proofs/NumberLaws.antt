@@ -15,12 +15,13 @@ use Rattle.text_lines.specs.Line.{newline}
 use Rattle.report.specs.Lines.{blank}
 use Rattle.written_lines.specs.Lines.{numbers, nameOf, bitsOf, writtenLine, writtenLines}
 use Rattle.written_lines.specs.declared.PlaceSort.{PlaceSort}
-use Rattle.written_lines.specs.declared.PlaceSort.the-variants.{Variables, Arrays}
+use Rattle.written_lines.specs.declared.PlaceSort.the-variants.{Variables, Arrays, Declared}
 
 -- the words of the lines are short
 pub name-few : (sort : PlaceSort) → length (nameOf sort) ≤ 9
 name-few Variables = omega arith
 name-few Arrays = omega arith
+name-few Declared = omega arith
 
 -- a number that is not wanted leaves nothing
 pub put-unwanted : {wanted : Bool} (bytes buffer : List ℕ) → wanted ≡ false → Put (pick wanted bytes []) buffer 0 buffer
@@ -85,4 +86,7 @@ unfolding writtenLine
 line-same sort p q h = ap (λ (l : List ℕ). (nameOf sort ++ l) ++ (newline ∷ [])) (numbers-same (bitsOf sort) p q h)
 
 pub lines-same : (p q : PlaceSort → ℕ → Bool) → ((sort : PlaceSort) (i : ℕ) → i < bitsOf sort → p sort i ≡ q sort i) → writtenLines p ≡ writtenLines q
-lines-same p q h = ap₂ _++_ (line-same Variables (p Variables) (q Variables) (h Variables)) (line-same Arrays (p Arrays) (q Arrays) (h Arrays))
+lines-same p q h = ap₂ _++_ (ap₂ _++_ (same Variables) (same Arrays)) (same Declared)
+  where
+    same : (sort : PlaceSort) → writtenLine sort (p sort) ≡ writtenLine sort (q sort)
+    same sort = line-same sort (p sort) (q sort) (h sort)

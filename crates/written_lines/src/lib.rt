@@ -1,9 +1,10 @@
-// The lines that tell what sets hold: the numbers of the variables, and in a second line those of the arrays. A writer puts its
-// bytes at the start of `text`, and answers how many they are.
+// The lines that tell what sets hold: the numbers of the variables, in a second line those of the arrays, and in a third those of the
+// declared words. A writer puts its bytes at the start of `text`, and answers how many they are.
 use report::field::put_bytes;
 use report::field::put_count;
 use write_sets::WriteSet;
 use write_sets::arrays::has_array;
+use write_sets::has_declared;
 use write_sets::has_variable;
 ghost use mathlib.Core.Path.{_≡_};
 ghost use mathlib.Core.List.{[], _∷_};
@@ -19,6 +20,7 @@ ghost use Rattle.written_lines.specs.Lines.{numbers, nameOf, bitsOf, isI
 pub enum PlaceSort {
     Variables,
     Arrays,
+    Declared,
 }
 
 // A number, where it is wanted.
@@ -40,6 +42,7 @@ fn bits_of(sort: PlaceSort) -> usize
     match sort {
         PlaceSort::Variables => 256,
         PlaceSort::Arrays => 32,
+        PlaceSort::Declared => 64,
     }
 }
 
@@ -51,6 +54,7 @@ fn is_in(set: WriteSet, arrays: u32, sort: PlaceSort, i: usize) -> bool
     match sort {
         PlaceSort::Variables => has_variable(set, i),
         PlaceSort::Arrays => has_array(arrays, i),
+        PlaceSort::Declared => has_declared(set, i),
     }
 }
 
@@ -76,6 +80,7 @@ fn put_name(sort: PlaceSort, text: &mut [u8]) -> usize
     match sort {
         PlaceSort::Variables => put_bytes(b"variables", text),
         PlaceSort::Arrays => put_bytes(b"arrays", text),
+        PlaceSort::Declared => put_bytes(b"declared", text),
     }
 }
 
@@ -95,6 +100,7 @@ pub fn put_lines(set: WriteSet, arrays: u32, text: &mut [u8]) -> usize
     requires { ⌜ writesRoom ≤ length (now text) ⌝ }
     ensures { λ r. ⌜ Put (writtenLines (isIn set arrays)) (now (text .entry)) r (now (text .exit)) ⌝ }
 {
-    let end = put_line(set, arrays, PlaceSort::Variables, text);
-    end + put_line(set, arrays, PlaceSort::Arrays, &mut text[end..])
+    let first = put_line(set, arrays, PlaceSort::Variables, text);
+    let second = first + put_line(set, arrays, PlaceSort::Arrays, &mut text[first..]);
+    second + put_line(set, arrays, PlaceSort::Declared, &mut text[second..])
 }

@@ -3,7 +3,8 @@
 -- ---- definitions
 -- Sample: a program as words, and what a check must answer of it.
 pub mod Sample
--- The samples, worked out from document 01: source programs, kernel programs.
+-- The samples, worked out from documents 01 and 02: source programs, those with declarations apart; kernel programs.
+pub mod DeclarationSamples
 pub mod SourceSamples
 pub mod KernelSamples
 -- ---- laws

@@ -11,11 +11,12 @@ use Rattle.words.specs.Kinds.{kindOf, kindIn, kinds, sortIn, kindRow, expressio
 use Rattle.structure.specs.Links.{loneBlock, notOnce}
 use Rattle.structure.specs.Refusal.{at, unless, _next_}
 use Rattle.words.specs.Search.{lowest, some, lowestRow, someField}
-use Rattle.list_items.specs.Items.{itemOf, earlierOf, earlierAt, someFrom, someEarlier}
+use Rattle.list_items.specs.Items.{itemOf, itemAt, earlierOf, earlierAt, someFrom, someEarlier}
 use Rattle.repeated_marks.specs.Marks.{sameMark, repeated}
 use Rattle.statement_places.specs.Places.{handed, noteAt, outOfPlace, misplaced}
-use Rattle.words.specs.Declarations.{isDeclaration}
-use Rattle.declaration_causes.specs.Causes.{outsideBlock, namesItself, declaredBefore, oneTooMany, declarationRefusal}
+use Rattle.words.specs.Declarations.{isDeclaration, declarationsBefore}
+use Rattle.names.specs.Names.{isName}
+use Rattle.declaration_causes.specs.Causes.{outsideBlock, namesNumber, namedWithin, namedFrom, namesItself, sameNumber, declaredBefore, oneTooMany, declarationRefusal}
 use Rattle.source_check.specs.Refusal.{wronglyPlaced, refusal}
 use Rattle.brief_checks.specs.Brief.{targets, times, briefCauses, briefStructure, briefDepth, briefSource}
 use Rattle.brief_checks.specs.BriefLaws.{same-source, map-same}
@@ -33,7 +34,7 @@ abbrev tested : Sample → Verdict
 tested sample = briefSource (sample .header) (sample .rows)
 
 samples-tested : map tested sourceSamples ≡ map expected sourceSamples
-unfolding sameWord natural wordAt numberAt layoutOf sum storeSize headerStore allWithin headerFits countFits foreign fits leadsRight mislinked boundsOf numberFits outside kindOf kindIn kinds sortIn kindRow expressionFields statementFields markFields memberFields sortOf sortAt inLanguage isExpression isPlace isStatement isBlock isArm isLink isRequired link target loneBlock notOnce linker received noteBy note at unless _next_ lowest some lowestRow someField targets times briefCauses briefStructure briefDepth briefSource sameMark itemOf earlierOf earlierAt someFrom someEarlier repeated handed noteAt outOfPlace misplaced isDeclaration outsideBlock namesItself declaredBefore oneTooMany declarationRefusal wronglyPlaced
+unfolding sameWord natural wordAt numberAt layoutOf sum storeSize headerStore allWithin headerFits countFits foreign fits leadsRight mislinked boundsOf numberFits outside kindOf kindIn kinds sortIn kindRow expressionFields statementFields markFields memberFields sortOf sortAt inLanguage isExpression isPlace isStatement isBlock isArm isLink isRequired link target loneBlock notOnce linker received noteBy note at unless _next_ lowest some lowestRow someField targets times briefCauses briefStructure briefDepth briefSource sameMark itemOf itemAt earlierOf earlierAt someFrom someEarlier repeated handed noteAt outOfPlace misplaced isDeclaration declarationsBefore isName outsideBlock namesNumber namedWithin namedFrom namesItself sameNumber declaredBefore oneTooMany declarationRefusal wronglyPlaced
 samples-tested = refl
 
 pub source-answers : map checked sourceSamples ≡ map expected sourceSamples

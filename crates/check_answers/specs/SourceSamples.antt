@@ -8,6 +8,7 @@ use Rattle.words.specs.Layout.{zeros}
 use Rattle.words.specs.declared.Verdict.{Verdict}
 use Rattle.words.specs.declared.Verdict.the-variants.{Accepted}
 use Rattle.check_answers.specs.Sample.{Sample, sample, row, unusedFrom, refused}
+use Rattle.check_answers.specs.DeclarationSamples.{declarationSamples}
 
 -- Cause 1, "header outside its limits"; cause 2, "no rows, too many, or words not a multiple of 6".
 abbrev pub headers : List Sample
@@ -40,7 +41,7 @@ fields =
     sample (pos 0 ∷ []) (row 42 1 0 0 0 0 ++ row 52 0 0 0 0 0) (refused 3 1) ∷  -- kind 52
     sample (pos 0 ∷ []) (row 42 1 0 0 0 0 ++ row 53 0 0 0 0 0) (refused 3 1) ∷  -- kind 53
     sample (pos 0 ∷ []) (row 42 1 0 0 0 0 ++ row 57 0 0 0 0 0) (refused 3 1) ∷  -- kind 57
-    sample (pos 0 ∷ []) (row 42 1 0 0 0 0 ++ row 58 0 0 0 0 0) (refused 3 1) ∷  -- kind 58
+    sample (pos 0 ∷ []) (row 42 1 0 0 0 0 ++ row 59 0 0 0 0 0) (refused 3 1) ∷  -- kind 59
     sample (pos 0 ∷ []) (row 42 1 0 0 0 0 ++ (negsuc 0 ∷ pos 0 ∷ pos 0 ∷ pos 0 ∷ pos 0 ∷ pos 0 ∷ [])) (refused 3 1) ∷  -- kind −1
     sample (pos 0 ∷ []) (row 42 1 0 0 0 0 ++ row 40 0 0 0 0 0) Accepted ∷  -- 40 empty
     sample (pos 0 ∷ []) (row 42 1 0 0 0 0 ++ row 51 0 0 0 0 0) (refused 7 1) ∷  -- 51 is in the language
@@ -225,8 +226,8 @@ unusedFields =
     ++ unusedFrom (pos 0 ∷ []) 4 2 (19 ∷ [])
     ++ unusedFrom (pos 0 ∷ []) 1 4 (40 ∷ 49 ∷ 50 ∷ 51 ∷ [])
     ++ unusedFrom (pos 0 ∷ []) 2 3 (41 ∷ 42 ∷ 48 ∷ 54 ∷ 55 ∷ [])
-    ++ unusedFrom (pos 0 ∷ []) 3 2 (44 ∷ 45 ∷ 47 ∷ 56 ∷ [])
+    ++ unusedFrom (pos 0 ∷ []) 3 2 (44 ∷ 45 ∷ 47 ∷ 56 ∷ 58 ∷ [])
     ++ unusedFrom (pos 0 ∷ []) 4 1 (43 ∷ [])
 
 abbrev pub sourceSamples : List Sample
-sourceSamples = headers ++ fields ++ links ++ rowsOnce ++ numbers ++ places ++ marks ++ arms ++ guardedPlaces ++ operands ++ unusedFields
+sourceSamples = headers ++ fields ++ links ++ rowsOnce ++ numbers ++ places ++ marks ++ arms ++ guardedPlaces ++ operands ++ unusedFields ++ declarationSamples

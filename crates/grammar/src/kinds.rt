@@ -86,7 +86,7 @@ const KINDS: KindTable = [
     [STATEMENT, ARM, NONE, NONE, NONE, ITEM, SOURCE], // 55 guarded do
     [ARM_ROW, OPERAND, BODY_BLOCK, NONE, NONE, ARM, SOURCE], // 56 arm
     [STATEMENT, NONE, NONE, NONE, NONE, ITEM, KERNEL], // 57 abort
-    [STATEMENT, DECLARED, OPERAND, NONE, NONE, ITEM, NEITHER], // 58 declaration
+    [STATEMENT, DECLARED, OPERAND, NONE, NONE, ITEM, SOURCE], // 58 declaration
 ];
 
 // The table, for a pass to build once and lend on. Only here is the array held to the definition.

@@ -1,6 +1,6 @@
 -- The rules on the shelf as one table: first document 01's starred rules, then orders that surprise, then the rules that pin each
 -- clause of the definitions (docs/PINNED.md). Those in kernel form are a table of their own, in KernelRules,
--- and so are those with declarations, in DeclarationRules: no check accepts kind 58 yet.
+-- and so are those with declarations, in DeclarationRules, where names stand as store words.
 use mathlib.Core.List.{List, [], _∷_, _++_}
 use Rattle.language.specs.Rule.{Rule}
 use Rattle.language.specs.StarredRules.{or-is-truth, and-stops, right-first, compound-reads-last, division, remainder, largest-sum, sum-overflows, index-last, index-beyond, index-negative, fall-through, default-falls, case-over-default, continue-in-do, worked-spent, worked-ends}

@@ -1,31 +1,29 @@
 -- Laws of the resolved table: its length, kinds, sorts, links, depths and lists are the table's; only the names change; a table without
 -- declarations is its own resolved table.
 use mathlib.Core.Path.{_≡_, refl, sym, ap, _∙_}
-use mathlib.Core.Bool.{Bool, true, false, true≢false}
+use mathlib.Core.Bool.{Bool, true, false}
 use mathlib.Core.Logic.{_↔_}
 use mathlib.Core.List.{List}
 use Prim.Native.Nat.{ℕ, _+_, _*_, _<_}
 use native.Mathlib.Omega.{arith}
-use native.Mathlib.Decide.{ℕ-discrete, decLt}
+use native.Mathlib.Decide.{ℕ-discrete}
 use lib.Dec.{eqb}
 use lib.IntN.{ℤ}
 use lib.ListN.{length}
 use borrow.Author.Tests.{eqb-true, ne-eqb}
 use Rattle.words.specs.Word.{pick, natural}
 use Rattle.words.specs.Table.{rowCount, wordAt, numberAt}
-use Rattle.words.specs.Laws.{by-cases, countFits-facts}
+use Rattle.words.specs.Laws.{by-cases}
 use Rattle.words.specs.declared.Form.{Form}
-use Rattle.words.specs.Kinds.{kinds, kindIn, kindOf, isLink, inLanguage, sortAt, sortOf, sortIn, kindRow, expressionFields, statementFields}
-use Rattle.words.specs.KindLaws.{declaration-foreign}
+use Rattle.words.specs.Kinds.{kinds, kindIn, kindOf, isLink, sortAt, sortOf, sortIn, kindRow, expressionFields, statementFields}
 use Rattle.words.specs.Links.{link}
-use Rattle.structure.specs.Structured.{Leads, Tree, Structured, Depth, Shallow}
+use Rattle.structure.specs.Structured.{Leads, Tree, Depth, Shallow}
 use Rattle.structure.specs.Lists.{Before}
-use Rattle.row_fields.specs.declared.Bounds.{Bounds}
 use Rattle.names.specs.Names.{NoDeclaration, isName, variableWord, resolvedName, resolvedWord, resolved}
 use Rattle.words.specs.Declarations.{declarationKind, isDeclaration}
 use Rattle.names.specs.SameLinks.{same-count, same-leads, same-tree, same-depth, same-before}
 use Rattle.names.specs.TableLaws.{table-length, table-word, table-all, word-beyond, made-of-itself}
-use Rattle.names.specs.ScopeLaws.{declaration-beyond, meant-none}
+use Rattle.names.specs.ScopeLaws.{meant-none}
 
 -- ---- the resolved table
 
@@ -117,18 +115,3 @@ module _ (S : ℕ) (rows : List ℤ) where
           by-cases (eqb field 1)
           (λ e. rw (e, none row, meant-none rows none row (numberAt rows row 1)) (either (isName rows row) _ ∙ ap (wordAt rows row) (sym (eqb-true _ _ e))))
           (λ e. rw e)
-
--- ---- tables of today
-
--- No form has the kind yet, so an accepted table is its own resolved table.
-pub structured-none : (form : Form) (bounds : Bounds) (rows : List ℤ) → Structured form bounds rows → NoDeclaration rows
-unfolding isDeclaration
-structured-none form bounds rows s row =
-    by-cases (isDeclaration rows row) (λ e. absurd (within e (decLt row (rowCount rows)))) (λ e. e)
-  where
-    within : isDeclaration rows row ≡ true → Dec (row < rowCount rows) → ⊥
-    within e (yes b) = true≢false (sym (s .known row b) ∙ ap (inLanguage form) (eqb-true (numberAt rows row 0) declarationKind e) ∙ declaration-foreign form)
-    within e (no b) = true≢false (sym e ∙ declaration-beyond rows row (let whole = countFits-facts form (length rows) (s .count-fits) .whole in omega (arith, b)))
-
-pub structured-resolved : (S : ℕ) (form : Form) (bounds : Bounds) (rows : List ℤ) → Structured form bounds rows → resolved S rows ≡ rows
-structured-resolved S form bounds rows s = resolved-none S rows (structured-none form bounds rows s)

@@ -10,13 +10,11 @@ use Rattle.words.specs.Table.{rowCount}
 use Rattle.words.specs.Declarations.{isDeclaration, declarationsBefore, declarationCount}
 use Rattle.words.specs.Layout.{headerStore, storeWords}
 use Rattle.words.specs.Laws.{by-cases}
-use Rattle.words.specs.declared.Form.{Form}
-use Rattle.words.specs.declared.Form.the-variants.{Source, Kernel}
-use Rattle.row_fields.specs.declared.Bounds.{Bounds}
-use Rattle.structure.specs.Structured.{Tree, Structured}
+use Rattle.words.specs.declared.Form.the-variants.{Source}
+use Rattle.structure.specs.Structured.{Tree}
 use Rattle.names.specs.Names.{NoDeclaration}
 use Rattle.names.specs.ScopeLaws.{before-later, declaration-beyond}
-use Rattle.names.specs.ResolvedLaws.{resolved-length, resolved-declaration, resolved-none, structured-resolved}
+use Rattle.names.specs.ResolvedLaws.{resolved-length, resolved-declaration, resolved-none}
 use Rattle.program_meaning.specs.Program.{resolvedRows}
 
 -- ---- the store
@@ -47,9 +45,3 @@ counted-none rows t none row = by-cases (isDeclaration rows row) (λ e. absurd (
 -- D is 0
 pub undeclared-rows : (header rows : List ℤ) → Tree rows → declarationCount rows ≡ 0 → resolvedRows Source header rows ≡ rows
 undeclared-rows header rows t none = resolved-none _ rows (counted-none rows t none)
-
--- The one place that says so: no form has kind 58 yet, so an accepted table is its own resolved table. What is proved of the run of a table
--- is said of a program's run by this law, until a form has the kind.
-pub structured-rows : (form : Form) (header : List ℤ) (bounds : Bounds) (rows : List ℤ) → Structured form bounds rows → resolvedRows form header rows ≡ rows
-structured-rows Source header bounds rows s = structured-resolved _ Source bounds rows s
-structured-rows Kernel header bounds rows s = refl

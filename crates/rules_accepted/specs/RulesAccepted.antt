@@ -49,7 +49,7 @@ abbrev pub AllLegal : List Rule → Type 0
 AllLegal [] = Unit {0}
 AllLegal (rule ∷ rest) = Legal (rule .header) (rule .rows) × AllLegal rest
 
-accepted-all-legal : (rules : List Rule) → map checked rules ≡ map accepted rules → AllLegal rules
+pub accepted-all-legal : (rules : List Rule) → map checked rules ≡ map accepted rules → AllLegal rules
 accepted-all-legal [] e = tt
 accepted-all-legal (rule ∷ rest) e =
     let first : checked rule ≡ Accepted = cc in

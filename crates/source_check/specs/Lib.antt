@@ -16,7 +16,5 @@ pub mod Carried
 pub mod LowerLaws
 -- Laws of declarations: a legal source program has at most 64.
 pub mod DeclarationLaws
--- Undeclared: a legal program has no declarations, while no form has the kind.
-pub mod Undeclared
 -- The theorem: the check accepts the legal source programs and no others.
 pub mod AcceptsLegal

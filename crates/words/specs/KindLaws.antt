@@ -9,11 +9,8 @@ use lib.IntN.{ℤ}
 use borrow.Author.Tests.{eqb-true, eqb-false, leb-true}
 use Rattle.words.specs.Word.{pick}
 use Rattle.words.specs.Table.{numberAt}
-use Rattle.words.specs.Kinds.{kinds, kindIn, kindOf, kindAt, operators, operatorOf, isExpressionKind, isStatementKind, between, expression, place, branch, bodyBlock, armRow, isLink, isRequired, inLanguage, kindRow, expressionFields, statementFields, markFields, memberFields, sortIn, isPlaceKind}
-use Rattle.words.specs.Declarations.{declarationKind}
+use Rattle.words.specs.Kinds.{kinds, kindIn, kindOf, kindAt, operators, operatorOf, isExpressionKind, isStatementKind, between, expression, place, branch, bodyBlock, armRow, isLink, isRequired, kindRow, expressionFields, statementFields, markFields, memberFields, sortIn, isPlaceKind}
 use Rattle.words.specs.Laws.{both, by-cases}
-use Rattle.words.specs.declared.Form.{Form}
-use Rattle.words.specs.declared.Form.the-variants.{Source, Kernel}
 use Rattle.words.specs.declared.Operator.{Operator}
 use Rattle.words.specs.declared.Kind.{Kind}
 use Rattle.words.specs.declared.Kind.the-variants.{OfExpression, OfStatement, OfMark, OfMember, Other}
@@ -171,9 +168,3 @@ passed from zero number known rest = (rest, λ h. omega arith)
 passed from (suc more) number known rest =
     let later = passed (suc from) more number (known × (number ≡ from → ⊥)) rest in
     (later .0 .0, λ h. let beyond : suc from ≤ number = omega (arith, later .0 .1) in omega (arith, later .1 beyond))
-
--- No form has kind 58 yet.
-pub declaration-foreign : (form : Form) → inLanguage form declarationKind ≡ false
-unfolding inLanguage kindOf kindIn kinds kindRow statementFields
-declaration-foreign Source = refl
-declaration-foreign Kernel = refl

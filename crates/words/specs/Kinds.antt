@@ -257,7 +257,7 @@ expressionFields (Prefix operator) = computing place unused unused inSource  -- 
 expressionFields (Postfix operator) = computing place unused unused inSource  -- 29 e++, 30 e−−: a place
 
 -- "52 goto, 53 label (kernel only)". "Kind 54 (guarded if) and 55 (guarded do), each with a the first arm or 0"; "the kernel's new kind 57 (abort, no
--- fields)". "Kind 58: a variable number below V, b initial expression": no form has it yet.
+-- fields)". "Kind 58: a variable number below V, b initial expression".
 unfoldable pub statementFields : StatementKind → StatementRow
 statementFields Empty = stating unused unused unused unused inBoth  -- 40 empty: none
 statementFields Express = stating expression unused unused unused inBoth  -- 41 expression statement: a
@@ -273,7 +273,7 @@ statementFields Goto = stating label unused unused unused inKernel  -- 52 goto: 
 statementFields GuardedIf = stating optionalArm unused unused unused inSource  -- 54 guarded if: a first arm or 0
 statementFields GuardedDo = stating optionalArm unused unused unused inSource  -- 55 guarded do: a first arm or 0
 statementFields Abort = stating unused unused unused unused inKernel  -- 57 abort: none
-statementFields Declare = stating declaredNumber expression unused unused inNeither  -- 58 declaration: a number, b initial expression
+statementFields Declare = stating declaredNumber expression unused unused inSource  -- 58 declaration: a number, b initial expression
 
 unfoldable pub markFields : MarkKind → StatementRow
 markFields Case = stating value unused unused unused inSource  -- 48 case: a value

@@ -2,7 +2,7 @@
 use mathlib.Core.Path.{_≡_, refl}
 use mathlib.Core.Bool.{Bool, true, false}
 use mathlib.Core.List.{List}
-use Prim.Native.Nat.{ℕ, zero, suc, _+_, _≤_, _<_}
+use Prim.Native.Nat.{ℕ, zero, suc, _+_, _≤_}
 use native.Mathlib.Omega.{arith}
 use lib.IntN.{ℤ}
 use Rattle.words.specs.Word.{one}
@@ -28,15 +28,6 @@ before-few rows (suc row) = omega (arith, before-few rows row, at-most-one (isDe
 pub declarations-few : (rows : List ℤ) → declarationCount rows ≤ rowCount rows
 unfolding declarationCount
 declarations-few rows = before-few rows (rowCount rows)
-
--- none where no row is one
-pub undeclared-count : (rows : List ℤ) → ((row : ℕ) → row < rowCount rows → isDeclaration rows row ≡ false) → declarationCount rows ≡ 0
-unfolding declarationCount declarationsBefore
-undeclared-count rows none = go (rowCount rows) (omega arith)
-  where
-    go : (row : ℕ) → row ≤ rowCount rows → declarationsBefore rows row ≡ 0
-    go zero h = refl
-    go (suc row) h = rw (none row (omega arith)) (omega (arith, go row (omega arith)))
 
 -- ---- stores
 

@@ -68,10 +68,10 @@ pub fn read_all(bytes: &[u8]) -> Result<Vec<Case>, String> {
     Ok(cases)
 }
 
-/// The words that the store starts from.
-fn start(form: Form, header: &[i32], case: &Case) -> Vec<i32> {
+/// The words that the store starts from: the case's, or so many zeros.
+fn start(words: usize, case: &Case) -> Vec<i32> {
     match case.words.is_empty() {
-        true => vec![0; form.store_words(header)],
+        true => vec![0; words],
         false => case.words.clone(),
     }
 }
@@ -79,21 +79,24 @@ fn start(form: Form, header: &[i32], case: &Case) -> Vec<i32> {
 /// The outcome and the store, or the refusal.
 pub fn evaluate(form: Form, case: &Case) -> Result<(Outcome, Vec<i32>), Refusal> {
     let (header, rows) = text::read(form, &case.text)?;
-    let mut store = start(form, &header, case);
+    let mut store = start(form.store_words(&header, &rows), case);
     let outcome = run(form, &header, &rows, &mut store, case.budget)?;
     Ok((outcome, store))
 }
 
 /// The lines of a preview: ending, count and how many words would differ; then
 /// each of these, lowest place first: its place, what it holds, what it would hold.
+/// Declared words are not told.
 fn foretell(case: &Case) -> Result<String, Refusal> {
     let (header, rows) = text::read(Source, &case.text)?;
-    let store = start(Source, &header, case);
-    let mut scratch = vec![0; Source.store_words(&header)];
+    let words = Source.store_words(&header, &rows);
+    let store = start(words, case);
+    let mut scratch = vec![0; words];
     let told = preview(&header, &rows, &store, case.budget, &mut scratch)?;
     let Outcome { ending, count } = told.outcome;
     let mut lines = format!("{} {count} {}\n", ending.name(), told.differing);
-    for (place, (word, other)) in store.iter().zip(&scratch).enumerate() {
+    let size = Source.size(&header) as usize;
+    for (place, (word, other)) in store.iter().zip(&scratch).take(size).enumerate() {
         if word != other {
             // Writing to a string does not fail.
             let _ = writeln!(lines, "{place}: {word} {other}");
@@ -109,7 +112,7 @@ pub fn preview_lines(case: &Case) -> String {
 /// The lines of a run's writes: place and value, one a line.
 fn watch(form: Form, case: &Case) -> Result<String, Refusal> {
     let (header, rows) = text::read(form, &case.text)?;
-    let mut store = start(form, &header, case);
+    let mut store = start(form.store_words(&header, &rows), case);
     let (_, made) = writes(form, &header, &rows, &mut store, case.budget)?;
     Ok(made.iter().map(|write| format!("{} {}\n", write.place, write.value)).collect())
 }
@@ -119,16 +122,19 @@ pub fn write_lines(form: Form, case: &Case) -> String {
 }
 
 /// A case of the source form and its translation's text, held to both sentences
-/// of change 14; the words behind the first S start from values that are not 0.
+/// of change 14; the words behind the translation's first S start from values that are not 0.
 pub fn compare_writes(source: &Case, translation: &[u8]) -> Result<Compared, String> {
     let refused = |refusal: Refusal| refusal.to_string();
     let program = text::read(Source, &source.text).map_err(refused)?;
     let kernel = text::read(Kernel, translation).map_err(refused)?;
-    let store = start(Source, &program.0, source);
-    let values = [7, -1, i32::MIN, 1, i32::MAX, -2];
-    let count = Kernel.behind(&kernel.0) as usize;
-    let behind: Vec<i32> = values.iter().copied().cycle().take(count).collect();
+    let store = start(Source.store_words(&program.0, &program.1), source);
+    let behind = any_words(0, Kernel.behind(&kernel.0) as usize);
     compare(&program, &kernel, &store, &behind)
+}
+
+/// So many words that nothing should hang on; others for another turn.
+pub fn any_words(turn: usize, count: usize) -> Vec<i32> {
+    [7, -1, i32::MIN, 1, i32::MAX, -2].into_iter().cycle().skip(turn).take(count).collect()
 }
 
 /// What is printed for the join of two texts.
@@ -147,13 +153,15 @@ pub fn compare_join(first: &Case, second: &Case, printed: &[u8]) -> Result<usize
     let refused = |refusal: Refusal| refusal.to_string();
     let one = text::read(Source, &first.text).map_err(refused)?;
     let other = text::read(Source, &second.text).map_err(refused)?;
-    join::compare(&one, &other, &rows, &start(Source, &header, first))
+    let size = Source.size(&header) as usize;
+    let words = start(size, first);
+    join::compare(&one, &other, &rows, words.get(..size).ok_or("too few start words")?)
 }
 
 /// What is printed for the run of a flat list's text.
 pub fn list_answer(case: &Case) -> String {
     let evaluated = text::read_list(&case.text).and_then(|(header, list)| {
-        let mut store = start(Kernel, &header, case);
+        let mut store = start(Kernel.header_words(&header), case);
         flat::run(&header, &list, &mut store, case.budget).map(|outcome| (outcome, store))
     });
     match evaluated {
@@ -178,24 +186,26 @@ pub fn answer_lines(case: &Case) -> String {
         Ok(evaluated) => evaluated,
         Err(refusal) => return format!("{refusal}\n"),
     };
-    let rows = match text::read(Source, &case.text) {
-        Ok((_, rows)) => rows,
+    let (header, rows) = match text::read(Source, &case.text) {
+        Ok(read) => read,
         Err(refusal) => return format!("{refusal}\n"),
     };
-    let source = source_line(outcome, &store, &rows);
+    let source = source_line(outcome, &header, &rows, &store);
+    let shown = &store[..Source.size(&header) as usize];
     match outcome.ending {
         Ending::Spent => format!("{source}\n"),
-        ending => format!("{source}\nkernel {}{}\n", ending.name(), spaced(&store)),
+        ending => format!("{source}\nkernel {}{}\n", ending.name(), spaced(shown)),
     }
 }
 
-/// The trial's first line: its last field is the number of variables that the
-/// program can write.
-pub fn source_line(outcome: Outcome, store: &[i32], rows: &[i32]) -> String {
-    format!("source {} {}", answer_line(outcome, store), written(rows).variables.len())
+/// The trial's first line, with the first S words: its last field is the number of variables and
+/// declared words that the program can write.
+pub fn source_line(outcome: Outcome, header: &[i32], rows: &[i32], store: &[i32]) -> String {
+    let shown = &store[..Source.size(header) as usize];
+    format!("source {} {}", answer_line(outcome, shown), written(rows).ones())
 }
 
-/// The variables and the arrays that a program can write, by number.
+/// The variables, the arrays and the declared words that a program can write, by number.
 pub fn written_lines(text: &[u8]) -> String {
     let (header, rows) = match text::read(Source, text) {
         Ok(read) => read,
@@ -204,11 +214,12 @@ pub fn written_lines(text: &[u8]) -> String {
     if let Err(refusal) = check(Source, &header, &rows) {
         return format!("{refusal}\n");
     }
-    let Written { variables, arrays } = written(&rows);
+    let Written { variables, declared, arrays } = written(&rows);
     let spaced = |numbers: BTreeSet<i32>| -> String {
         numbers.iter().map(|number| format!(" {number}")).collect()
     };
-    format!("variables{}\narrays{}\n", spaced(variables), spaced(arrays))
+    let (variables, arrays) = (spaced(variables), spaced(arrays));
+    format!("variables{variables}\narrays{arrays}\ndeclared{}\n", spaced(declared))
 }
 
 /// Ending, count and store words, parted by single blanks.

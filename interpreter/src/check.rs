@@ -1,7 +1,8 @@
 //! The check of both forms: the causes in order of number, then of row. Causes
-//! 1 to 6 and 9 are those of both; the source form adds 7 and 8, the kernel
-//! form 12 and 13.
+//! 1 to 6 and 9 are those of both; the source form adds 7, 8 and 18 to 20, the
+//! kernel form 12 and 13.
 
+mod declarations;
 mod kernel;
 mod marks;
 
@@ -17,9 +18,10 @@ pub fn check(form: Form, header: &[i32], rows: &[i32]) -> Result<(), Refusal> {
     check_numbers(form, header, rows)?;
     match form {
         Form::Source => {
-            marks::check_jumps_and_marks(rows, &standings)?;
+            marks::check_places(rows, &standings)?;
             marks::check_repeated_marks(rows)?;
-            check_depth(form, &standings)
+            check_depth(form, &standings)?;
+            declarations::check_declarations(rows)
         }
         Form::Kernel => {
             check_depth(form, &standings)?;
@@ -166,6 +168,7 @@ fn check_numbers(form: Form, header: &[i32], rows: &[Row]) -> Result<(), Refusal
     let arrays = 0..form.lengths(header).len() as i32;
     let within = |row: &Row| match row[0] {
         VARIABLE => variables.contains(&row[1]) || behind.contains(&row[1]),
+        DECLARE => variables.contains(&row[1]),
         ELEMENT => arrays.contains(&row[1]),
         GOTO | LABEL => (0..LABELS).contains(&row[1]),
         _ => true,

@@ -1,7 +1,9 @@
 //! Damaged programs: every cause of refusal, alone and in company, at low and
 //! high rows. Some damages leave a program legal.
 
+mod arms;
 mod bytes;
+mod declarations;
 mod table;
 mod tree;
 
@@ -12,7 +14,7 @@ use crate::check::check;
 use crate::form::Form::{self, Source};
 use crate::generate::{any_order, budget, long_run, program, start_words, Program, Size};
 use crate::random::Random;
-use crate::table::rows_of;
+use crate::table::{declarations, rows_of};
 use crate::text;
 use crate::tree::number as number_rows;
 
@@ -24,6 +26,7 @@ enum Damage {
     Deep,
     Root,
     Full,
+    Declared,
     // On the header and the rows.
     Header,
     NoRows,
@@ -41,12 +44,13 @@ enum Damage {
     Words,
 }
 
-const WEIGHTS: [(usize, Damage); 18] = [
+const WEIGHTS: [(usize, Damage); 19] = [
     (30, Damage::Misplaced),
     (24, Damage::Repeated),
     (18, Damage::Deep),
     (4, Damage::Root),
     (1, Damage::Full),
+    (50, Damage::Declared),
     (10, Damage::Header),
     (4, Damage::NoRows),
     (12, Damage::Kind),
@@ -83,7 +87,10 @@ pub fn case(seed: u64, number: u64) -> Case {
     for &pick in &picks {
         match pick {
             Damage::Text => damage_text(Source, random, &mut bytes),
-            Damage::Words => damage_words(Source, random, &header, &mut words),
+            Damage::Words => {
+                let store = Source.size(&header) + declarations(&rows).len() as i64;
+                damage_words(random, store, &mut words);
+            }
             _ => {}
         }
     }
@@ -99,7 +106,7 @@ pub(crate) fn start(
 ) -> (Vec<i32>, u32) {
     let accepted = check(form, header, rows).is_ok();
     let words = match accepted {
-        true => start_words(form, random, header),
+        true => start_words(form, random, header, rows),
         false => (0..random.below(4)).map(|_| random.between(-3, 9)).collect(),
     };
     let budget = match accepted {

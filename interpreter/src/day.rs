@@ -90,7 +90,7 @@ fn pairs(line: &[u8]) -> Option<Vec<Pair>> {
 /// The day with one value, from zeros.
 fn value_line(program: &Program, setting: &Setting, value: i32, days: &[Vec<Pair>]) -> String {
     let (header, rows) = program;
-    let mut store = vec![0; Source.store_words(header)];
+    let mut store = vec![0; Source.store_words(header, rows)];
     store[setting.variable as usize] = value;
     let (mut plain, mut other) = (0, 0);
     for pairs in days {

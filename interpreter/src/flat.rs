@@ -117,7 +117,7 @@ pub fn run(
     budget: u32,
 ) -> Result<Outcome, Refusal> {
     check(header, list)?;
-    if store.len() != Kernel.store_words(header) {
+    if store.len() != Kernel.header_words(header) {
         return Err(Refusal::new(11, 0));
     }
     Ok(run_checked(header, list, store, budget))

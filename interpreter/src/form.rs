@@ -50,6 +50,14 @@ impl Form {
         }
     }
 
+    /// D: of the source form, the number of declarations.
+    pub fn declared(self, header: &[i32], rows: &[i32]) -> usize {
+        match self {
+            Source => declarations(rows).len(),
+            Kernel => header[1] as usize,
+        }
+    }
+
     /// T, the number of temporaries.
     pub fn temporaries(self, header: &[i32]) -> i32 {
         match self {
@@ -68,20 +76,30 @@ impl Form {
         i64::from(header[0]) + self.lengths(header).iter().map(|&n| i64::from(n)).sum::<i64>()
     }
 
-    /// The words of the store: S, and in the kernel form the D+T behind them.
-    pub fn store_words(self, header: &[i32]) -> usize {
+    /// The words that a header gives: S, and in the kernel form the D+T behind them.
+    pub fn header_words(self, header: &[i32]) -> usize {
         (self.size(header) + self.behind(header)) as usize
+    }
+
+    /// The words of the store: S+D, or S+D+T in the kernel form.
+    pub fn store_words(self, header: &[i32], rows: &[i32]) -> usize {
+        match self {
+            Source => self.size(header) as usize + self.declared(header, rows),
+            Kernel => self.header_words(header),
+        }
     }
 
     /// The variable numbers that a header gives from S on, in the kernel form.
     pub fn numbers_behind(self, header: &[i32]) -> Range<i32> {
-        self.size(header) as i32..self.store_words(header) as i32
+        self.size(header) as i32..self.header_words(header) as i32
     }
 
     /// The fields a to d of a kind; none where the kind is not in the language.
     pub fn fields(self, kind: i32) -> Option<[Field; 4]> {
         let known = match (self, kind) {
-            (Source, kind) => kind <= CONTINUE || (GUARDED_IF..=ARM).contains(&kind),
+            (Source, kind) => {
+                kind <= CONTINUE || (GUARDED_IF..=ARM).contains(&kind) || kind == DECLARE
+            }
             (Kernel, CONSTANT..=MINUS | ADD..=UNEQUAL | ASSIGN) => true,
             (Kernel, EMPTY..=WHILE | GOTO | LABEL | ABORT) => true,
             (Kernel, _) => false,

@@ -1,9 +1,10 @@
 //! Generated programs, weighted toward what translators get wrong: one place
 //! read and written on both sides, effects in indices, fall-through, jumps
-//! through nests and guarded statements, faults half-way, and budgets next to
-//! the count.
+//! through nests and guarded statements, names that hide others, faults half-way,
+//! and budgets next to the count.
 
 mod aliasing;
+mod declarations;
 mod expressions;
 mod guarded;
 mod loops;
@@ -56,7 +57,7 @@ pub fn case(seed: u64, number: u64, size: Size) -> Case {
         let program = legal(random, size, 3, guards);
         let order = any_order(random);
         let rows = crate::tree::number(&program.tree, order, random);
-        let words = start_words(Source, random, &program.header);
+        let words = start_words(Source, random, &program.header, &rows);
         let outcome = long_run(Source, &program.header, &rows, &words);
         // Programs that fault late are rare unless looked for.
         let found = match wanted {
@@ -79,10 +80,10 @@ pub fn endless_case(seed: u64, number: u64) -> Case {
         let Program { header, tree } = legal(random, Size::Mixed, 40, guards);
         let order = any_order(random);
         let rows = crate::tree::number(&tree, order, random);
-        let words = start_words(Source, random, &header);
-        let size = Source.store_words(&header);
+        let words = start_words(Source, random, &header, &rows);
+        let size = Source.size(&header) as usize;
         let mut store = words.clone();
-        store.resize(size, 0);
+        store.resize(Source.store_words(&header, &rows), 0);
         let (outcome, writes) = run_watched(Source, &header, &rows, &mut store, LONG, size);
         let late = writes.last().is_some_and(|write| write.step > LONG / 2);
         if outcome.ending == Ending::Spent && late {
@@ -102,8 +103,8 @@ pub fn any_order(random: &mut Random) -> Order {
 }
 
 /// Start words, as many as the store has, or none, which means zeros.
-pub fn start_words(form: Form, random: &mut Random, header: &[i32]) -> Vec<i32> {
-    let size = form.store_words(header);
+pub fn start_words(form: Form, random: &mut Random, header: &[i32], rows: &[i32]) -> Vec<i32> {
+    let size = form.store_words(header, rows);
     if size > 2_000 || random.chance(25) {
         return Vec::new();
     }
@@ -119,7 +120,7 @@ pub fn start_words(form: Form, random: &mut Random, header: &[i32]) -> Vec<i32> 
 /// The run that the budget is chosen by; no start words mean zeros.
 pub fn long_run(form: Form, header: &[i32], rows: &[i32], words: &[i32]) -> Outcome {
     let mut store = words.to_vec();
-    store.resize(form.store_words(header), 0);
+    store.resize(form.store_words(header, rows), 0);
     run_checked(form, header, rows, &mut store, LONG)
 }
 
@@ -219,6 +220,8 @@ fn draft(random: &mut Random, size: Size, endless: usize, guards: Guards) -> Pro
         true => random.pick(&[100, 100, 99]),
         false => random.pick(&[100, 98, 95, 90, 80, 55]),
     };
+    // A third of the programs have declarations, a few of them as many as can be.
+    let declarations = random.weighted(&[(63, 0), (10, 2), (16, 6), (9, 12), (2, MAX_DECLARED)]);
     let mut maker = Maker {
         random,
         variables: header[0],
@@ -231,6 +234,7 @@ fn draft(random: &mut Random, size: Size, endless: usize, guards: Guards) -> Pro
         guards,
         in_loop: false,
         breakable: false,
+        declarations,
     };
     let tree = match maker.random.below(100) {
         0..=2 => maker.deep_program(),
@@ -273,4 +277,6 @@ pub struct Maker<'a> {
     pub guards: Guards,
     pub in_loop: bool,
     pub breakable: bool,
+    /// Declarations that may still be made.
+    pub declarations: i32,
 }

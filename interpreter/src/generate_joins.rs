@@ -1,6 +1,6 @@
 //! Pairs of programs to join: legal ones under one header, and pairs whose
-//! headers differ, whose rows are about as many as can be, whose join is about
-//! as deep as can be, or of which one or both are damaged.
+//! headers differ, whose rows or declarations are about as many as can be, whose
+//! join is about as deep as can be, or of which one or both are damaged.
 
 use crate::cases::Case;
 use crate::damage;
@@ -9,7 +9,7 @@ use crate::generate::{any_order, program, start_words, Program, Size};
 use crate::random::Random;
 use crate::table::*;
 use crate::text;
-use crate::tree::{block, number as number_rows, plain, Part, Tree};
+use crate::tree::{block, constant, declare, number as number_rows, plain, Part, Tree};
 
 #[derive(Clone, Copy, PartialEq, Eq)]
 enum Pair {
@@ -17,16 +17,18 @@ enum Pair {
     Headers,
     Rows,
     Deep,
+    Declared,
     First,
     Second,
     Both,
 }
 
-const WEIGHTS: [(usize, Pair); 7] = [
+const WEIGHTS: [(usize, Pair); 8] = [
     (40, Pair::Legal),
     (12, Pair::Headers),
     (8, Pair::Rows),
     (14, Pair::Deep),
+    (10, Pair::Declared),
     (8, Pair::First),
     (10, Pair::Second),
     (8, Pair::Both),
@@ -47,15 +49,16 @@ pub fn pair(seed: u64, number: u64) -> [Case; 2] {
             }
             Pair::Rows if act == pick || random.chance(4) => fill(random, &mut programs),
             Pair::Deep if act == pick || random.chance(15) => deepen(random, &mut programs),
+            Pair::Declared if act == pick || random.chance(15) => {
+                declare_more(random, &mut programs)
+            }
             _ => {}
         }
     }
-    let words = start_words(Source, random, &headers[0]);
     let order = [any_order(random), any_order(random)];
-    let texts = [0, 1].map(|i| {
-        let rows = number_rows(&programs[i].tree, order[i], random);
-        text::write(&headers[i], &rows)
-    });
+    let rows = [0, 1].map(|i| number_rows(&programs[i].tree, order[i], random));
+    let words = start_words(Source, random, &headers[0], &rows[0]);
+    let texts = [0, 1].map(|i| text::write(&headers[i], &rows[i]));
     let damaged =
         [matches!(pick, Pair::First | Pair::Both), matches!(pick, Pair::Second | Pair::Both)];
     [0, 1].map(|i| Case {
@@ -123,6 +126,25 @@ fn fill(random: &mut Random, programs: &mut [Program; 2]) {
     let size = 1 + programs[0].tree.size() + programs[1].tree.size();
     let at = random.below(2);
     items(&mut programs[at].tree).extend((size..rows).map(|_| plain(EMPTY)));
+}
+
+/// Blocks of a declaration each in both programs, so that the declarations of both are about 64.
+fn declare_more(random: &mut Random, programs: &mut [Program; 2]) {
+    let total = MAX_DECLARED + random.pick(&[-1, 0, 0, 1, 1, 2, 20]);
+    let count = |program: &mut Program| {
+        let mut declared = 0;
+        program.tree.each(&mut |tree| declared += (tree.kind == DECLARE) as i32);
+        declared
+    };
+    let declared = count(&mut programs[0]) + count(&mut programs[1]);
+    for _ in declared..total {
+        let program = &mut programs[random.below(2)];
+        if program.header[0] > 0 && count(program) < MAX_DECLARED {
+            let list = items(&mut program.tree);
+            let position = random.below(list.len() + 1);
+            list.insert(position, block(vec![declare(0, constant(random.between(-1, 9)))]));
+        }
+    }
 }
 
 /// Nests of blocks in one program or both, about as deep as a program can be.

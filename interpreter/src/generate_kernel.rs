@@ -33,7 +33,7 @@ pub fn damaged_case(seed: u64, number: u64) -> Case {
     }
     let (mut words, budget) = start(Kernel, random, &header, &rows);
     if header.len() >= Kernel.leading_words() && random.chance(10) {
-        damage_words(Kernel, random, &header, &mut words);
+        damage_words(random, Kernel.size(&header) + Kernel.behind(&header), &mut words);
     }
     let mut bytes = text::write(&header, &rows);
     if random.chance(15) {

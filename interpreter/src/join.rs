@@ -1,6 +1,7 @@
 //! Two programs as one, which runs the first and then the second (document 02,
-//! change 8); and the run of a join held to the runs of its programs.
+//! changes 8 and 11); and the run of a join held to the runs of its programs.
 
+use crate::cases::any_words;
 use crate::check::check;
 use crate::form::Form::Source;
 use crate::machine::{run_checked, Ending, Outcome};
@@ -8,7 +9,7 @@ use crate::table::*;
 use crate::text::{self, Program};
 
 /// The joined rows, under the header of both, or the refusal: the first's own
-/// causes, the second's, 16, 17, and 9 with its joined row.
+/// causes, the second's, 16, 17, and 9 and 20 with their joined rows.
 pub fn join(first: &Program, second: &Program) -> Result<Vec<i32>, Refusal> {
     check(Source, &first.0, &first.1)?;
     check(Source, &second.0, &second.1)?;
@@ -21,8 +22,8 @@ pub fn join(first: &Program, second: &Program) -> Result<Vec<i32>, Refusal> {
     }
     let rows = rows.concat();
     match check(Source, &first.0, &rows) {
-        Err(refusal) if refusal.number != 9 => panic!("a join is refused otherwise: {refusal}"),
-        Err(refusal) => Err(refusal),
+        Err(refusal) if matches!(refusal.number, 9 | 20) => Err(refusal),
+        Err(refusal) => panic!("a join is refused otherwise: {refusal}"),
         Ok(()) => Ok(rows),
     }
 }
@@ -60,8 +61,9 @@ pub fn join_texts(first: &[u8], second: &[u8]) -> Result<Vec<u8>, Refusal> {
     Ok(text::write(&first.0, &join(&first, &second)?))
 }
 
-/// Holds the runs of a join to those of its programs, from these words, at many
-/// budgets; how many runs were held, or what differs.
+/// Holds the runs of a join to those of its programs, from these S words, at many
+/// budgets; how many runs were held, or what differs. Declared words start from
+/// other words in each program.
 pub fn compare(
     first: &Program,
     second: &Program,
@@ -71,9 +73,7 @@ pub fn compare(
     let mut held = 0;
     for budget in budgets() {
         let wanted = followed(first, second, words, budget);
-        let mut store = words.to_vec();
-        let outcome = run_checked(Source, &first.0, rows, &mut store, budget);
-        if wanted != (outcome, store) {
+        if wanted != ran(0, &first.0, rows, words, budget) {
             return Err(format!("the run of the join with budget {budget}"));
         }
         held += 1;
@@ -89,15 +89,29 @@ fn budgets() -> impl Iterator<Item = u32> {
 /// One step for the new block, then the first; where it ended plainly the
 /// second, on the steps and from the store that are left.
 fn followed(first: &Program, second: &Program, words: &[i32], budget: u32) -> (Outcome, Vec<i32>) {
-    let mut store = words.to_vec();
     if budget == 0 {
-        return (Outcome { ending: Ending::Spent, count: 0 }, store);
+        return (Outcome { ending: Ending::Spent, count: 0 }, words.to_vec());
     }
-    let one = run_checked(Source, &first.0, &first.1, &mut store, budget - 1);
+    let (one, store) = ran(1, &first.0, &first.1, words, budget - 1);
     if one.ending != Ending::Ended {
         return (Outcome { ending: one.ending, count: one.count + 1 }, store);
     }
     let left = budget - 1 - one.count;
-    let other = run_checked(Source, &second.0, &second.1, &mut store, left);
+    let (other, store) = ran(2, &second.0, &second.1, &store, left);
     (Outcome { ending: other.ending, count: 1 + one.count + other.count }, store)
+}
+
+/// A run from these S words and any declared words, others for another turn: its outcome, and the
+/// S words that it leaves.
+fn ran(
+    turn: usize,
+    header: &[i32],
+    rows: &[i32],
+    words: &[i32],
+    budget: u32,
+) -> (Outcome, Vec<i32>) {
+    let mut store = [words, &any_words(turn, Source.declared(header, rows))].concat();
+    let outcome = run_checked(Source, header, rows, &mut store, budget);
+    store.truncate(words.len());
+    (outcome, store)
 }

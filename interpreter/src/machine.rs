@@ -1,14 +1,18 @@
-//! The machine of both forms: plain recursive evaluation over the rows.
+//! The machine of both forms: plain recursive evaluation over the rows. What a
+//! number names is kept as the run goes: a declaration gives it a new word, and
+//! the end of its block gives the old one back.
 
 mod expressions;
 mod kernel;
 mod loops;
+mod names;
 
 pub(crate) use expressions::operate;
 
 use crate::check::check;
 use crate::form::Form;
 use crate::table::*;
+use names::Names;
 
 #[derive(Clone, Copy, Debug, PartialEq, Eq)]
 pub enum Fault {
@@ -54,7 +58,7 @@ pub fn run(
     budget: u32,
 ) -> Result<Outcome, Refusal> {
     check(form, header, rows)?;
-    if store.len() != form.store_words(header) {
+    if store.len() != form.store_words(header, rows) {
         return Err(Refusal::new(11, 0));
     }
     Ok(run_checked(form, header, rows, store, budget))
@@ -81,9 +85,11 @@ pub fn run_watched(
     watched: usize,
 ) -> (Outcome, Vec<Write>) {
     let arrays = Array::all(header[0], form.lengths(header));
+    let names = Names::new(form, header, rows);
     let rows = rows_of(rows);
+    let writes = Vec::new();
     let mut machine =
-        Machine { rows, arrays: &arrays, store, budget, count: 0, watched, writes: Vec::new() };
+        Machine { rows, arrays: &arrays, names, store, budget, count: 0, watched, writes };
     let result = match form {
         Form::Source => machine.statement(0).map(|_| ()),
         Form::Kernel => machine.kernel_statement(0).map(|_| ()),
@@ -145,6 +151,7 @@ impl Array {
 struct Machine<'a> {
     rows: &'a [Row],
     arrays: &'a [Array],
+    names: Names,
     store: &'a mut [i32],
     budget: u32,
     count: u32,
@@ -178,7 +185,7 @@ impl Machine<'_> {
                 self.expression(a)?;
                 Ok(Flow::On)
             }
-            BLOCK => self.list(a),
+            BLOCK => self.block(a),
             IF => {
                 if self.expression(a)? != 0 {
                     self.statement(b)
@@ -211,11 +218,25 @@ impl Machine<'_> {
                 }
                 Ok(Flow::On)
             }
+            DECLARE => {
+                let value = self.expression(b)?;
+                let word = self.names.declare(at as usize, a as usize);
+                self.save(word, value);
+                Ok(Flow::On)
+            }
             BREAK => Ok(Flow::Break),
             CONTINUE => Ok(Flow::Continue),
             // Empty, case and default: the step alone.
             _ => Ok(Flow::On),
         }
+    }
+
+    /// Runs the items of a block; what they declare is named no longer behind it.
+    fn block(&mut self, first: i32) -> Result<Flow, Stop> {
+        let outer = self.names.declared();
+        let flow = self.list(first)?;
+        self.names.leave(outer);
+        Ok(flow)
     }
 
     /// Runs the items of a list from the given one on; 0 is an empty list.

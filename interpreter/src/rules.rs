@@ -2,6 +2,7 @@
 //! parcels, and further orders that surprise, each with its expected answer.
 //! The answers are worked out by hand from documents 01 and 02.
 
+mod declarations;
 mod expressions;
 mod guarded;
 mod refusals;
@@ -29,6 +30,7 @@ pub fn rules() -> Vec<Rule> {
     expressions::add(&mut rules);
     statements::add(&mut rules);
     guarded::add(&mut rules);
+    declarations::add(&mut rules);
     written::add(&mut rules);
     refusals::add(&mut rules);
     rules

@@ -72,6 +72,7 @@ pub const GUARDED_IF: i32 = 54;
 pub const GUARDED_DO: i32 = 55;
 pub const ARM: i32 = 56;
 pub const ABORT: i32 = 57;
+pub const DECLARE: i32 = 58;
 
 /// A cause's number and its place: a row, a line of the text, or 0.
 #[derive(Clone, Copy, Debug, PartialEq, Eq)]
@@ -98,6 +99,8 @@ pub enum Field {
     Unused,
     Value,
     VariableNumber,
+    /// The number that a declaration gives a new object.
+    DeclaredNumber,
     ArrayNumber,
     /// Link to an expression.
     Expression,
@@ -119,7 +122,8 @@ pub enum Field {
 
 impl Field {
     pub fn is_link(self) -> bool {
-        !matches!(self, Field::Unused | Field::Value | Field::VariableNumber | Field::ArrayNumber)
+        use Field::{ArrayNumber, DeclaredNumber, Unused, Value, VariableNumber};
+        !matches!(self, Unused | Value | VariableNumber | DeclaredNumber | ArrayNumber)
     }
 
     pub fn may_be_absent(self) -> bool {
@@ -169,6 +173,7 @@ pub(crate) fn fields(kind: i32) -> Option<[Field; 4]> {
         SWITCH => [e, First, u, u],
         GUARDED_IF | GUARDED_DO => [FirstArm, u, u, u],
         ARM => [e, BodyBlock, u, u],
+        DECLARE => [DeclaredNumber, e, u, u],
         _ => return None,
     };
     Some(fields)
@@ -185,6 +190,12 @@ pub fn is_statement(kind: i32) -> bool {
 
 pub fn is_loop(kind: i32) -> bool {
     matches!(kind, WHILE | DO | FOR)
+}
+
+/// The rows of the declarations, in order.
+pub fn declarations(words: &[i32]) -> Vec<usize> {
+    let rows = rows_of(words);
+    (0..rows.len()).filter(|&at| rows[at][0] == DECLARE).collect()
 }
 
 /// The rows as groups of six words.

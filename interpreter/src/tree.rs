@@ -106,6 +106,11 @@ pub fn arm(guard: Tree, items: Vec<Tree>) -> Tree {
     binary(ARM, guard, block(items))
 }
 
+/// A declaration: the number, and the new object's first value.
+pub fn declare(number: i32, value: Tree) -> Tree {
+    node(DECLARE, Number(number), one(value))
+}
+
 pub fn case(value: i32) -> Tree {
     node(CASE, Number(value), Absent)
 }
@@ -126,6 +131,12 @@ impl Tree {
 
     pub fn size(&self) -> usize {
         1 + self.below().map(Tree::size).sum::<usize>()
+    }
+
+    /// Whether the number stands in this tree: as operand, place or index.
+    pub fn names(&self, number: i32) -> bool {
+        let own = self.kind == VARIABLE && matches!(self.parts[0], Number(own) if own == number);
+        own || self.below().any(|tree| tree.names(number))
     }
 
     /// Calls the function on this tree and all below.

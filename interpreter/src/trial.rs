@@ -8,7 +8,8 @@ use crate::table::{Refusal, WORDS};
 use crate::text;
 
 pub const MAX_BYTES: usize = 16_384;
-pub const MAX_TRIAL_STORE: usize = 1_024;
+/// Of S; declared words are not counted.
+pub const MAX_TRIAL_STORE: i64 = 1_024;
 pub const MAX_TRIAL_ROWS: usize = 128;
 pub const BUDGET: u32 = 100_000;
 
@@ -26,7 +27,7 @@ pub fn read_rule(bytes: &[u8]) -> Result<text::Program, Refusal> {
     }
     let (header, rows) = text::read_lines(Source, bytes)?;
     check_header(Source, &header)?;
-    if Source.store_words(&header) > MAX_TRIAL_STORE {
+    if Source.size(&header) > MAX_TRIAL_STORE {
         return Err(Refusal::new(1, 0));
     }
     check_row_count(Source, &rows)?;
@@ -38,7 +39,7 @@ pub fn read_rule(bytes: &[u8]) -> Result<text::Program, Refusal> {
 
 fn source_line(bytes: &[u8]) -> Result<String, Refusal> {
     let (header, rows) = read_rule(bytes)?;
-    let mut store = vec![0; Source.store_words(&header)];
+    let mut store = vec![0; Source.store_words(&header, &rows)];
     let outcome = run(Source, &header, &rows, &mut store, BUDGET)?;
-    Ok(cases::source_line(outcome, &store, &rows))
+    Ok(cases::source_line(outcome, &header, &rows, &store))
 }

@@ -17,7 +17,7 @@ pub fn writes(
     budget: u32,
 ) -> Result<(Outcome, Vec<Write>), Refusal> {
     check(form, header, rows)?;
-    if store.len() != form.store_words(header) {
+    if store.len() != form.store_words(header, rows) {
         return Err(Refusal::new(11, 0));
     }
     let words = form.size(header) as usize;
@@ -53,8 +53,8 @@ pub struct Compared {
     pub writes: usize,
 }
 
-/// Holds a translation to both sentences, from this store of the source and these words
-/// behind the translation's first S. The error tells the first number of steps at which one does not hold.
+/// Holds a translation to both sentences, from this store of the source and, behind its first S
+/// words, these of the translation. The error tells the first number of steps at which one does not hold.
 pub fn compare(
     source: &Program,
     kernel: &Program,
@@ -66,7 +66,7 @@ pub fn compare(
     let large = (LARGEST + 1) * (source.1.len() / WORDS) as u32;
     let (outcome, of_source) =
         writes(Source, &source.0, &source.1, &mut store.to_vec(), large).map_err(refused)?;
-    let mut kernel_store = [store, behind].concat();
+    let mut kernel_store = [&store[..Source.size(&source.0) as usize], behind].concat();
     let (_, of_kernel) =
         writes(Kernel, &kernel.0, &kernel.1, &mut kernel_store, rows * LARGEST).map_err(refused)?;
     for number in numbers() {

@@ -63,14 +63,14 @@ fn sizes() {
 #[test]
 fn kinds_and_unused_fields() {
     for kind in (-3..70).chain([i32::MIN, i32::MAX]) {
-        let known =
-            (1..=30).contains(&kind) || (40..=51).contains(&kind) || (54..=56).contains(&kind);
+        let statement = (40..=51).contains(&kind) || (54..=56).contains(&kind) || kind == 58;
+        let known = (1..=30).contains(&kind) || statement;
         assert_eq!(Source.fields(kind).is_some(), known, "{kind}");
         let rows = [BLOCK, 1, 0, 0, 0, 0, kind, 0, 0, 0, 0, 0];
         assert_eq!(refused(&[1, 1], &rows) == (3, 1), !known, "{kind}");
     }
     // Every field that the kind does not name, and next of an expression.
-    for kind in 1..=ARM {
+    for kind in 1..=DECLARE {
         let Some(fields) = Source.fields(kind) else { continue };
         for i in 1..WORDS {
             let unused =
@@ -97,7 +97,7 @@ fn links() {
     let next = [BLOCK, 1, 0, 0, 0, 0, EMPTY, 0, 0, 0, 0, 1];
     assert_eq!(refused(&[0], &next), (4, 1));
     // A link that is needed and absent.
-    for kind in (3..=30).chain([EXPRESSION, IF, WHILE, DO, FOR, SWITCH, ARM]) {
+    for kind in (3..=30).chain([EXPRESSION, IF, WHILE, DO, FOR, SWITCH, ARM, DECLARE]) {
         let rows = [BLOCK, 0, 0, 0, 0, 0, kind, 0, 0, 0, 0, 0];
         assert_eq!(refused(&[1, 1], &rows), (4, 1), "{kind}");
     }

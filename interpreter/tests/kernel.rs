@@ -150,10 +150,9 @@ fn generated_programs_end_in_every_way() {
     let mut seen = [0; 6];
     for i in 0..3_000 {
         let program = program(&mut Random::new(8, i));
-        let words = Kernel.store_words(&program.header);
-        let outcome =
-            run(Kernel, &program.header, &program.rows.concat(), &mut vec![1; words], 5_000)
-                .unwrap();
+        let rows = program.rows.concat();
+        let words = Kernel.store_words(&program.header, &rows);
+        let outcome = run(Kernel, &program.header, &rows, &mut vec![1; words], 5_000).unwrap();
         seen[match outcome.ending {
             Ending::Ended => 0,
             Ending::Spent => 1,

@@ -57,7 +57,7 @@ fn writes_within_are_those_of_the_budget() {
     for case in mixed.chain(endless) {
         let (header, rows) = text::read(Source, &case.text).unwrap();
         let mut start = case.words.clone();
-        start.resize(Source.store_words(&header), 0);
+        start.resize(Source.store_words(&header, &rows), 0);
         let made = |budget| writes(Source, &header, &rows, &mut start.clone(), budget).unwrap().1;
         let long = made(3_000);
         for budget in (0..200).chain([1_000, 2_999]) {

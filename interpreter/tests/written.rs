@@ -43,9 +43,9 @@ fn last_fields() {
 
 #[test]
 fn by_number() {
-    let ends = "variables 0 63 64 127 128 191 192 255\narrays\n";
+    let ends = "variables 0 63 64 127 128 191 192 255\narrays\ndeclared\n";
     assert_eq!(numbers("writes at the ends of the words"), ends);
-    assert_eq!(numbers("array 31, and V of 0"), "variables\narrays 31\n");
-    assert_eq!(numbers("a write in an index"), "variables 0\narrays 1\n");
+    assert_eq!(numbers("array 31, and V of 0"), "variables\narrays 31\ndeclared\n");
+    assert_eq!(numbers("a write in an index"), "variables 0\narrays 1\ndeclared\n");
     assert_eq!(numbers("V over 256"), "refused 1 0\n");
 }

@@ -1,4 +1,5 @@
-//! What the check adds for the source form: jumps and marks, causes 7 and 8.
+//! What the check adds for the source form: jumps, marks and declarations in their
+//! places, causes 7 and 8.
 
 use super::{refuse_row, Standing};
 use crate::table::*;
@@ -13,7 +14,7 @@ struct Inside {
 }
 
 /// Cause 7. A row's owner is an earlier row, so that one pass is enough.
-pub fn check_jumps_and_marks(rows: &[Row], standings: &[Standing]) -> Result<(), Refusal> {
+pub fn check_places(rows: &[Row], standings: &[Standing]) -> Result<(), Refusal> {
     let mut inside = vec![Inside::default(); rows.len()];
     for at in 1..rows.len() {
         let owner = standings[at].owner;
@@ -26,6 +27,8 @@ pub fn check_jumps_and_marks(rows: &[Row], standings: &[Standing]) -> Result<(),
             CONTINUE => a_loop,
             // The statements that a switch owns are the items of its list.
             CASE | DEFAULT => kind == SWITCH,
+            // So are those that a block owns.
+            DECLARE => kind == BLOCK,
             _ => true,
         };
         if !in_place {

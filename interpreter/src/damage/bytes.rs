@@ -130,9 +130,8 @@ fn lengthen_first_line(form: Form, random: &mut Random, bytes: &mut Vec<u8>) {
     bytes.splice(end..end, more);
 }
 
-/// Start words that are too few or too many, mostly.
-pub fn damage_words(form: Form, random: &mut Random, header: &[i32], words: &mut Vec<i32>) {
-    let store = form.size(header) + form.behind(header);
+/// Start words that are too few or too many, mostly of a store of so many.
+pub fn damage_words(random: &mut Random, store: i64, words: &mut Vec<i32>) {
     let size = store.clamp(0, 300) as usize;
     let wanted = match random.below(4) {
         0 => size.saturating_sub(1),

@@ -1,13 +1,13 @@
 //! Damages to the header and the rows: causes 1 to 6, and any word.
 
-use super::Damage;
+use super::{arms, Damage};
 use crate::form::Form::Source;
 use crate::random::Random;
 use crate::table::*;
 use crate::tree::link_fields;
 
 /// A row, low, high or anywhere.
-fn some_row(random: &mut Random, candidates: &[usize]) -> Option<usize> {
+pub fn some_row(random: &mut Random, candidates: &[usize]) -> Option<usize> {
     let n = candidates.len();
     if n == 0 {
         return None;
@@ -20,7 +20,7 @@ fn some_row(random: &mut Random, candidates: &[usize]) -> Option<usize> {
     Some(candidates[chosen])
 }
 
-fn rows_where(rows: &[Row], fits: impl Fn(&Row) -> bool) -> Vec<usize> {
+pub fn rows_where(rows: &[Row], fits: impl Fn(&Row) -> bool) -> Vec<usize> {
     (0..rows.len()).filter(|&at| fits(&rows[at])).collect()
 }
 
@@ -36,7 +36,7 @@ pub fn damage_table(random: &mut Random, header: &mut Vec<i32>, rows: &mut Vec<R
         Damage::Link => damage_link(random, rows),
         Damage::BranchNext => damage_branch_next(random, rows),
         Damage::Linked => damage_linked(random, rows),
-        Damage::Arm => damage_arm(random, rows),
+        Damage::Arm => arms::damage(random, rows),
         Damage::Number => damage_number(random, header, rows),
         Damage::AnyWord => any_word(random, rows),
         Damage::Swap => swap(random, rows),
@@ -79,7 +79,7 @@ fn damage_kind(random: &mut Random, rows: &mut [Row]) {
     let Some(at) = some_row(random, &all) else { return };
     rows[at][0] = match random.below(4) {
         0 => random.pick(&[GOTO, LABEL, ABORT, ABORT]),
-        1 => random.pick(&[0, 31, 39, 58]),
+        1 => random.pick(&[0, 31, 39, 59, DECLARE]),
         2 => random.between(31, 39),
         _ => random.pick(&[-1, i32::MIN, i32::MAX, 100, 257, -42]),
     };
@@ -196,75 +196,6 @@ fn move_link(random: &mut Random, rows: &mut [Row]) {
     }
 }
 
-/// An arm elsewhere, another kind among arms, an arm's block that is none.
-fn damage_arm(random: &mut Random, rows: &mut Vec<Row>) {
-    let arms = rows_where(rows, |row| row[0] == ARM);
-    let Some(at) = some_row(random, &arms) else {
-        return arm_alone(random, rows);
-    };
-    let later = |fits: &dyn Fn(&Row) -> bool| {
-        let found = rows_where(rows, fits).into_iter().filter(|&row| row > at);
-        found.collect::<Vec<usize>>()
-    };
-    match random.below(9) {
-        // A while and an if without else have the fields of an arm.
-        0 | 1 => rows[at][0] = random.pick(&[WHILE, IF]),
-        2 => rows[at][0] = random.pick(&[ADD, COMMA, BLOCK, GUARDED_IF, GUARDED_DO, EMPTY]),
-        3 => {
-            let likely = rows_where(rows, |row| row[0] == WHILE || (row[0] == IF && row[3] == 0));
-            if let Some(other) = some_row(random, &likely) {
-                rows[other][0] = ARM;
-            }
-        }
-        // The arm as an item, a branch or a body.
-        4 | 5 => {
-            let owners = rows_where(&rows[..at], |row| Source.is_statement(row[0]));
-            let Some(owner) = some_row(random, &owners) else { return };
-            let field = random.pick(&link_fields(&rows[owner]));
-            rows[owner][field] = at as i32;
-        }
-        6 => {
-            let others = later(&|row| Source.is_statement(row[0]) && row[0] != BLOCK);
-            match some_row(random, &others) {
-                Some(other) => rows[at][2] = other as i32,
-                None => rows[at][2] = 0,
-            }
-        }
-        7 => {
-            let others = later(&|row| row[0] != ARM);
-            if let Some(other) = some_row(random, &others) {
-                rows[at][NEXT] = other as i32;
-            }
-        }
-        _ => {
-            let block = rows[at][2];
-            if let Some(row) = usize::try_from(block).ok().and_then(|block| rows.get_mut(block)) {
-                row[0] = random.pick(&[EMPTY, SWITCH, GUARDED_IF, GUARDED_DO, ARM]);
-            }
-        }
-    }
-}
-
-/// Arms, linked and not, behind a program without any.
-fn arm_alone(random: &mut Random, rows: &mut Vec<Row>) {
-    let n = rows.len() as i32;
-    let arm = [ARM, n + 1, n + 2, 0, 0, 0];
-    let parts = [[CONSTANT, 1, 0, 0, 0, 0], [BLOCK, 0, 0, 0, 0, 0]];
-    let owners = rows_where(rows, |row| Source.is_statement(row[0]) && row[NEXT] == 0);
-    if let Some(owner) = some_row(random, &owners) {
-        rows[owner][NEXT] = n;
-    }
-    match random.below(3) {
-        0 => rows.push(arm),
-        1 => {
-            rows.push([random.pick(&[GUARDED_IF, GUARDED_DO]), n + 1, 0, 0, 0, 0]);
-            rows.push([ARM, n + 2, n + 3, 0, 0, 0]);
-        }
-        _ => rows.push([random.pick(&[GUARDED_IF, GUARDED_DO, ARM, ABORT]), 0, 0, 0, 0, 0]),
-    }
-    rows.extend(parts);
-}
-
 fn damage_number(random: &mut Random, header: &mut Vec<i32>, rows: &mut [Row]) {
     let size = Source.size(header).clamp(0, 10_000) as i32;
     match random.below(10) {
@@ -273,11 +204,11 @@ fn damage_number(random: &mut Random, header: &mut Vec<i32>, rows: &mut [Row]) {
             header.pop();
         }
         _ => {
-            let kind = random.pick(&[VARIABLE, VARIABLE, ELEMENT]);
+            let kind = random.pick(&[VARIABLE, VARIABLE, ELEMENT, DECLARE]);
             let places = rows_where(rows, |row| row[0] == kind);
             let Some(at) = some_row(random, &places) else { return };
             let limit = match kind {
-                VARIABLE => header[0],
+                VARIABLE | DECLARE => header[0],
                 _ => header.len() as i32 - 1,
             };
             let past = limit.saturating_add(1);
@@ -300,7 +231,7 @@ fn any_word(random: &mut Random, rows: &mut Vec<Row>) {
         1 => rows.insert(at, rows[at]),
         2..=5 => {
             let same = Source.fields(rows[at][0]);
-            let kinds: Vec<i32> = (1..=ABORT)
+            let kinds: Vec<i32> = (1..=DECLARE)
                 .filter(|&kind| {
                     Source.fields(kind) == same
                         && Source.is_statement(kind) == Source.is_statement(rows[at][0])

@@ -1,6 +1,7 @@
-//! Damages to the tree, before its rows are numbered: causes 5, 7, 8 and 9, and 2.
+//! Damages to the tree, before its rows are numbered: causes 5, 7, 8 and 9, and 2;
+//! those to declarations stand apart.
 
-use super::Damage;
+use super::{declarations, Damage};
 use crate::form::Form::Source;
 use crate::random::Random;
 use crate::table::*;
@@ -10,6 +11,7 @@ pub fn damage_tree(random: &mut Random, tree: &mut Tree, pick: Damage) {
     match pick {
         Damage::Misplaced => misplace(random, tree),
         Damage::Repeated => repeat_mark(random, tree),
+        Damage::Declared => declarations::damage(random, tree),
         Damage::Deep => {
             let depth = random.between(57, 67) as usize;
             let nest = nest(random, depth);
@@ -38,7 +40,7 @@ pub fn damage_tree(random: &mut Random, tree: &mut Tree, pick: Damage) {
 }
 
 /// Acts on one of the trees that fit, if there are any.
-fn act_on(
+pub fn act_on(
     random: &mut Random,
     tree: &mut Tree,
     fits: impl Fn(&Tree) -> bool,
@@ -64,7 +66,7 @@ fn act_on(
 }
 
 /// The list of a block or switch.
-fn list_of(tree: &mut Tree) -> Option<&mut Vec<Tree>> {
+pub fn list_of(tree: &mut Tree) -> Option<&mut Vec<Tree>> {
     tree.parts.iter_mut().find_map(|part| match part {
         Part::List(items) => Some(items),
         _ => None,
@@ -72,7 +74,7 @@ fn list_of(tree: &mut Tree) -> Option<&mut Vec<Tree>> {
 }
 
 /// Puts an item anywhere in one of the lists whose owner fits.
-fn insert_item(random: &mut Random, tree: &mut Tree, item: Tree, fits: impl Fn(&Tree) -> bool) {
+pub fn insert_item(random: &mut Random, tree: &mut Tree, item: Tree, fits: impl Fn(&Tree) -> bool) {
     let has_list = |tree: &Tree| matches!(tree.kind, BLOCK | SWITCH) && fits(tree);
     act_on(random, tree, has_list, |random, owner| {
         if let Some(items) = list_of(owner) {
@@ -97,16 +99,7 @@ fn misplace(random: &mut Random, tree: &mut Tree) {
     let done = match random.below(6) {
         0 => act_on(random, tree, owns_branch, |random, owner| {
             // A branch or body becomes a jump or mark.
-            let fields = Source.fields_or_unused(owner.kind);
-            let branches: Vec<usize> = (0..4)
-                .filter(|&i| fields[i].is_branch() && matches!(owner.parts[i], Part::One(_)))
-                .collect();
-            // An arm that was damaged before may have none.
-            if branches.is_empty() {
-                return;
-            }
-            let chosen = random.pick(&branches);
-            owner.parts[chosen] = Part::One(Box::new(item.clone()));
+            replace_branch(random, owner, item.clone());
         }),
         1 => act_on(random, tree, has_marks, |random, owner| {
             // A mark goes into a block of its own.
@@ -133,8 +126,20 @@ fn misplace(random: &mut Random, tree: &mut Tree) {
     }
 }
 
-fn owns_branch(tree: &Tree) -> bool {
+pub fn owns_branch(tree: &Tree) -> bool {
     matches!(tree.kind, IF | WHILE | DO | FOR | ARM)
+}
+
+/// Puts a statement in the place of a branch or body; an arm that was damaged before may have none.
+pub fn replace_branch(random: &mut Random, owner: &mut Tree, statement: Tree) {
+    let fields = Source.fields_or_unused(owner.kind);
+    let branches: Vec<usize> = (0..4)
+        .filter(|&i| fields[i].is_branch() && matches!(owner.parts[i], Part::One(_)))
+        .collect();
+    if !branches.is_empty() {
+        let chosen = random.pick(&branches);
+        owner.parts[chosen] = Part::One(Box::new(statement));
+    }
 }
 
 fn is_mark(tree: &Tree) -> bool {

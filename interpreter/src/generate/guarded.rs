@@ -46,6 +46,7 @@ impl Maker<'_> {
             inner = vec![switch(variable(number), marked)];
         }
         inner.extend(self.list(level - 1, 1));
+        self.declare_among(&mut inner, 0);
         self.counters.truncate(before.3);
         (self.in_loop, self.breakable, self.rounds, _) = before;
         let start = assign(variable(number), constant(0));
@@ -146,12 +147,15 @@ impl Maker<'_> {
     fn arm(&mut self, level: i32, guard: Tree, first: Option<Tree>) -> Tree {
         self.room -= 2;
         let mut items: Vec<Tree> = first.into_iter().collect();
+        // What counts the rounds is not hidden.
+        let counting = items.len();
         items.extend(self.list(level - 1, 2));
         match self.random.below(8) {
             0 | 1 if self.breakable => items.push(plain(BREAK)),
             2 | 3 if self.in_loop => items.push(plain(CONTINUE)),
             _ => {}
         }
+        self.declare_among(&mut items, counting);
         arm(guard, items)
     }
 }

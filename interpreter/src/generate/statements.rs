@@ -20,6 +20,8 @@ impl Maker<'_> {
         while self.room > 0 {
             self.statement(&mut items, deepest);
         }
+        self.declare_among(&mut items, 0);
+        self.declare_all(&mut items);
         let mut tree = block(items);
         // The largest programs are filled up to their exact size.
         if rows > 150 {
@@ -66,7 +68,11 @@ impl Maker<'_> {
                 let no = self.random.chance(50).then(|| self.single(level - 1));
                 items.push(choice(test, yes, no));
             }
-            BLOCK => items.push(block(self.list(level - 1, 3))),
+            BLOCK => {
+                let mut inner = self.list(level - 1, 3);
+                self.declare_among(&mut inner, 0);
+                items.push(block(inner));
+            }
             WHILE | DO | FOR => self.any_loop(items, level, kind),
             SWITCH => items.push(self.switch(level)),
             GUARDED_IF => items.push(self.guarded_if(level)),
@@ -125,10 +131,11 @@ impl Maker<'_> {
         }
         match items.pop() {
             None => plain(EMPTY),
-            Some(only) if items.is_empty() && self.random.chance(75) => only,
+            Some(only) if items.is_empty() && self.random.chance(self.alone()) => only,
             Some(last) => {
                 items.push(last);
                 self.room -= 1;
+                self.declare_among(&mut items, 0);
                 block(items)
             }
         }
@@ -230,6 +237,7 @@ impl Maker<'_> {
         let mut items = self.list(1, 2);
         items.push(statement);
         items.extend(self.list(1, 2));
+        self.declare_among(&mut items, 0);
         block(items)
     }
 
@@ -267,7 +275,11 @@ impl Maker<'_> {
 
     fn wrap_statement(&mut self, inner: Tree) -> Tree {
         match self.random.below(if self.has_guards() { 9 } else { 7 }) {
-            0 => block(vec![inner]),
+            0 => {
+                let mut items = vec![inner];
+                self.declare_among(&mut items, 0);
+                block(items)
+            }
             1 => choice(constant(1), inner, None),
             2 => choice(self.leaf(), plain(EMPTY), Some(inner)),
             3 => do_loop(inner, constant(0)),

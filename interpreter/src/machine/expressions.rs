@@ -66,7 +66,7 @@ impl Machine<'_> {
         let [kind, a, b, ..] = self.rows[at as usize];
         self.enter()?;
         if kind == VARIABLE {
-            return Ok(a as usize);
+            return Ok(self.names.word(a as usize));
         }
         let index = self.expression(b)?;
         self.arrays[a as usize].word(index).ok_or(Stop::Fault(Fault::Index))

@@ -29,7 +29,7 @@ typedef struct clight_answer {
     size_t second;
 } clight_answer;
 
-/* The answer of a preview: that of a run, and how many store words would differ. */
+/* The answer of a preview: that of a run, and how many of the first S store words would differ. */
 typedef struct clight_preview_answer {
     uint32_t cause;
     size_t first;
@@ -46,17 +46,20 @@ enum clight_cause {
     CLIGHT_LINK = 4,              /* link not to a later row of the fitting sort, or a branch or body with next not 0; the row. Flat list: jump outside; the line */
     CLIGHT_LINKED_ONCE = 5,       /* row 0 not a lone block, or a row not linked exactly once; that row */
     CLIGHT_NUMBER = 6,            /* variable, array or label number outside; the row, of a flat list the line */
-    CLIGHT_OUT_OF_PLACE = 7,      /* break, continue, case or default out of place; the row */
+    CLIGHT_OUT_OF_PLACE = 7,      /* break, continue, case, default or declaration out of place; the row */
     CLIGHT_REPEATED_MARK = 8,     /* second equal case, or second default, in one switch; the later row */
     CLIGHT_DEPTH = 9,             /* depth over the limit; the row */
     CLIGHT_OUTPUT_TOO_SHORT = 10, /* output table or text shorter than its result needs; place 0 */
-    CLIGHT_STORE = 11,            /* store not S (source, dispatcher) or S+D+T (kernel, flat list) words; place 0 */
+    CLIGHT_STORE = 11,            /* store not S+D (source), S (dispatcher) or S+D+T (kernel, flat list) words; place 0 */
     CLIGHT_KERNEL_FORM = 12,      /* statement not of kernel form; the statement's row */
     CLIGHT_LABEL = 13,            /* goto without its label ahead, or label repeated; the row of the goto or the later label */
     CLIGHT_TEXT = 14,             /* text or page malformed; the line, from 1 */
-    CLIGHT_SCRATCH = 15,          /* scratch shorter than S words; place 0 */
+    CLIGHT_SCRATCH = 15,          /* scratch shorter than S+D words; place 0 */
     CLIGHT_UNEQUAL_HEADERS = 16,  /* join of programs with unequal headers; place 0 */
-    CLIGHT_JOINED_ROWS = 17       /* joined rows over 2,048; place 0 */
+    CLIGHT_JOINED_ROWS = 17,      /* joined rows over 2,048; place 0 */
+    CLIGHT_NAMES_ITSELF = 18,     /* initial expression of a declaration names its own number; the declaration's row */
+    CLIGHT_DECLARED_TWICE = 19,   /* number declared twice in one block; the later declaration's row */
+    CLIGHT_DECLARATIONS = 20      /* a 65th declaration, in a join too; its row */
 };
 
 /* Endings of a run, in the first value of its answer: `endingNumber` (crates/words/specs/Answers.antt). */
@@ -80,32 +83,35 @@ enum clight_limit {
 };
 #define CLIGHT_KERNEL_ROWS(source_rows) (20 * (source_rows) + 20)
 
-/* The check of source programs. Done: the program is legal; first and second are 0. Causes 1 to 9. */
+/* The check of source programs. Done: the program is legal; first and second are 0. Causes 1 to 9, then 18 to 20. */
 clight_answer clight_check(const int32_t *header, size_t header_words, const int32_t *rows, size_t row_words);
 
-/* Runs a source program on the store, which has S words: variables, then the arrays in order. Done: first is the ending, second the
- * count of steps, at most budget, and the store is as the run left it. Causes 1 to 9, then 11. */
+/* Runs a source program on the store, which has S+D words: variables, the arrays in order, then a word for each of the D declarations
+ * (rows of kind 58), in the order of their rows. What these hold at the start does not matter. Done: first is the ending, second the
+ * count of steps, at most budget, and the store is as the run left it. Causes 1 to 9, 18 to 20, then 11. */
 clight_answer clight_run(const int32_t *header, size_t header_words, const int32_t *rows, size_t row_words, int32_t *store,
                          size_t store_words, uint32_t budget);
 
 /* Tells what clight_run would do, and runs on a copy of the store. Done: first is the ending, second the count of steps, differing
- * how many of the S store words would be unequal at the end. The first S words of the scratch are the store that the run would leave;
- * the rest of the scratch keeps its content. A spent or faulted run is told as it is. Causes 1 to 9, then 11, then 15. */
+ * how many of the first S store words would be unequal at the end. The first S+D words of the scratch are the store that the run would
+ * leave; the rest of the scratch keeps its content. A spent or faulted run is told as it is. Causes 1 to 9, 18 to 20, then 11, then 15. */
 clight_preview_answer clight_preview(const int32_t *header, size_t header_words, const int32_t *rows, size_t row_words,
                                      const int32_t *store, size_t store_words, uint32_t budget, int32_t *scratch,
                                      size_t scratch_words);
 
 /* Writes the kernel form of a source program. Done: first is the words of the kernel header, second those of the kernel rows; words
  * of both tables beyond these keep their content. The words written are a legal kernel program that shares the source's fate and
- * makes its writes, in order, also where neither run ends. Causes 1 to 9, then 10. */
+ * makes its writes, in order, also where neither run ends, whatever the declared words of both hold at the start. Causes 1 to 9, 18 to
+ * 20, then 10. */
 clight_answer clight_translate(const int32_t *header, size_t header_words, const int32_t *rows, size_t row_words,
                                int32_t *kernel_header, size_t kernel_header_words, int32_t *kernel_rows, size_t kernel_row_words);
 
 /* Joins two source programs that have one header into one that runs the first, then the second: the new block, the first's rows, the
  * second's. Done: first is the words of the joined rows, second is 0; words of the table beyond these keep their content. The words
  * written are a legal program under that header. It ends as the first does where that faults, otherwise as the second does from the
- * store the first left, and its count is the sum of those done and one more. Causes 1 to 9 of the first, then of the second, then 16, 17,
- * 9 with the joined row, then 10. The two programs may be one. */
+ * store the first left, and its count is the sum of those done and one more; the declared words of the second stand behind those of the
+ * first. Causes 1 to 9 and 18 to 20 of the first, then of the second, then 16, 17, 9 and 20 with the joined row, then 10. The two programs
+ * may be one. */
 clight_answer clight_join(const int32_t *header, size_t header_words, const int32_t *rows, size_t row_words,
                           const int32_t *second_header, size_t second_header_words, const int32_t *second_rows,
                           size_t second_row_words, int32_t *out_rows, size_t out_row_words);
@@ -120,7 +126,8 @@ clight_answer clight_kernel_run(const int32_t *header, size_t header_words, cons
 
 /* Runs a kernel program on the S words that a dispatcher sees: variables, then the arrays in order. The declared words and the
  * temporaries begin as zeros and are kept inside. Done: first is the ending, second is 0, and the words are as the run left them. Of a
- * translation, what the temporaries of clight_kernel_run begin with does not show here, at any budget. Causes 1 to 6, 9, 12, 13, then 11. */
+ * translation, what the declared words and temporaries of clight_kernel_run begin with does not show here, at any budget. Causes 1 to 6,
+ * 9, 12, 13, then 11. */
 clight_answer clight_dispatcher_run(const int32_t *header, size_t header_words, const int32_t *rows, size_t row_words, int32_t *words,
                                     size_t word_count, uint32_t budget);
 

@@ -93,7 +93,7 @@ fn one(name: &str) -> bool {
             let Some(program) = programs.iter().find(|program| program.name == name) else {
                 return false;
             };
-            let mut store = vec![0; SOURCE.form.store_words(&program.header)];
+            let mut store = vec![0; SOURCE.form.store_words(&program.header, &program.rows)];
             clight::run(&program.header, &program.rows, &mut store, 1_000_000).unwrap();
         }
     }
@@ -115,7 +115,7 @@ fn rows_of(name: &str, rows: [Row; 3]) {
 
 fn run(entries: &Entries, form: &str, program: &Program) -> Row {
     let (header, rows) = (&program.header, &program.rows);
-    let size = entries.form.store_words(header);
+    let size = entries.form.store_words(header, rows);
     let (mut mine, mut theirs) = (vec![0; size], vec![0; size]);
     let mut count = 0;
     let times = both(
@@ -136,8 +136,8 @@ fn run(entries: &Entries, form: &str, program: &Program) -> Row {
 fn flat(program: &Program) -> Row {
     let kernel = programs::translated(program);
     let list = interpreter::flat::flatten(&kernel.rows);
-    let mut store = vec![0; KERNEL.form.store_words(&kernel.header)];
-    let mut theirs = vec![0; SOURCE.form.store_words(&program.header)];
+    let mut store = vec![0; KERNEL.form.header_words(&kernel.header)];
+    let mut theirs = vec![0; SOURCE.form.store_words(&program.header, &program.rows)];
     let source = clight::run(&program.header, &program.rows, &mut theirs, u32::MAX).unwrap();
     let times = both(
         || {
@@ -150,7 +150,8 @@ fn flat(program: &Program) -> Row {
                 .unwrap();
         },
     );
-    assert_eq!(store[..theirs.len()], theirs);
+    let size = SOURCE.form.size(&program.header) as usize;
+    assert_eq!(store[..size], theirs[..size]);
     per(format!("flat {}", program.name), source.count as usize, times)
 }
 

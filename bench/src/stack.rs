@@ -156,12 +156,12 @@ fn call_check(entries: &Entries, program: &Program) {
 }
 
 fn call_run(entries: &Entries, program: &Program) {
-    let mut store = vec![1; entries.form.store_words(&program.header)];
+    let mut store = vec![1; entries.form.store_words(&program.header, &program.rows)];
     (entries.run)(&program.header, &program.rows, &mut store, 10_000).unwrap();
 }
 
 fn call_preview(_: &Entries, program: &Program) {
-    let store = vec![1; Source.store_words(&program.header)];
+    let store = vec![1; Source.store_words(&program.header, &program.rows)];
     let mut scratch = store.clone();
     clight::preview(&program.header, &program.rows, &store, 10_000, &mut scratch).unwrap();
 }
@@ -195,7 +195,7 @@ fn call_flatten(_: &Entries, program: &Program) {
 }
 
 fn call_flat_run(_: &Entries, program: &Program) {
-    let mut store = vec![1; Kernel.store_words(&program.header)];
+    let mut store = vec![1; Kernel.header_words(&program.header)];
     clight::flat_run(&program.header, &program.rows, &mut store, 10_000).unwrap();
 }
 

@@ -10,7 +10,7 @@ pub struct Answer {
     pub second: usize,
 }
 
-/// The numbers of a run, and how many store words would differ.
+/// The numbers of a run, and how many of the first S store words would differ.
 #[repr(C)]
 #[derive(Clone, Copy, Debug, PartialEq, Eq)]
 pub struct PreviewAnswer {

@@ -28,7 +28,7 @@ pub const fn kernel_rows(source_rows: usize) -> usize {
     20 * source_rows + 20
 }
 
-/// Why an entry did nothing, with document 01's numbers.
+/// Why an entry did nothing, with the numbers of documents 01 and 02.
 #[derive(Clone, Copy, Debug, PartialEq, Eq)]
 pub enum Cause {
     Header = 1,
@@ -48,10 +48,13 @@ pub enum Cause {
     Scratch = 15,
     UnequalHeaders = 16,
     JoinedRows = 17,
+    NamesItself = 18,
+    DeclaredTwice = 19,
+    Declarations = 20,
 }
 
 /// Every cause, in order of number.
-pub const CAUSES: [Cause; 17] = [
+pub const CAUSES: [Cause; 20] = [
     Cause::Header,
     Cause::RowCount,
     Cause::Kind,
@@ -69,6 +72,9 @@ pub const CAUSES: [Cause; 17] = [
     Cause::Scratch,
     Cause::UnequalHeaders,
     Cause::JoinedRows,
+    Cause::NamesItself,
+    Cause::DeclaredTwice,
+    Cause::Declarations,
 ];
 
 /// A cause and its place: a row, a line of the text from 1, or 0.
@@ -121,7 +127,7 @@ pub struct Run {
     pub count: u32,
 }
 
-/// What a run would do: its ending, its count, and how many store words would differ.
+/// What a run would do: its ending, its count, and how many of the first S store words would differ.
 #[derive(Clone, Copy, Debug, PartialEq, Eq)]
 pub struct Preview {
     pub ending: Ending,
@@ -221,13 +227,14 @@ pub fn kernel_check(header: &[i32], rows: &[i32]) -> Result<(), Refusal> {
     check_by(foreign::clight_kernel_check, header, rows)
 }
 
-/// Runs a source program on a store of S words.
+/// Runs a source program on a store of S+D words: the declared ones stand behind
+/// the first S, in the order of their rows, and may hold anything.
 pub fn run(header: &[i32], rows: &[i32], store: &mut [i32], budget: u32) -> Result<Run, Refusal> {
     run_by(foreign::clight_run, header, rows, store, budget)
 }
 
-/// Tells what a run of a source program on a store of S words would do. The
-/// store that it would leave stands in the first S words of the scratch; the
+/// Tells what a run of a source program on a store of S+D words would do. The
+/// store that it would leave stands in the first S+D words of the scratch; the
 /// rest of the scratch keeps its content.
 pub fn preview(
     header: &[i32],

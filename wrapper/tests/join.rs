@@ -3,6 +3,7 @@
 //! both programs, at many budgets.
 
 use clight::{Ending, Refusal};
+use interpreter::cases::any_words;
 use interpreter::Form::Source;
 use interpreter::{generate_joins, join, text};
 use std::collections::BTreeMap;
@@ -37,10 +38,13 @@ fn joined(first: &Program, second: &Program, room: usize) -> Result<Vec<i32>, (u
     answer.map(|_| table).map_err(numbers)
 }
 
-/// Ending, count and store of a run that is not refused.
+/// Ending, count and first S words of a run that is not refused, from these S words. The declared
+/// words start from others each time.
 fn run(header: &[i32], rows: &[i32], words: &[i32], budget: u32) -> (Ending, u32, Vec<i32>) {
-    let mut store = words.to_vec();
+    let declared = Source.declared(header, rows);
+    let mut store = [words, &any_words(rows.len() + budget as usize, declared)].concat();
     let run = clight::run(header, rows, &mut store, budget).unwrap();
+    store.truncate(words.len());
     (run.ending, run.count, store)
 }
 
@@ -76,8 +80,8 @@ fn joins_are_those_of_the_interpreter() {
                 continue;
             }
             let words = match pair[0].words.is_empty() {
-                true => vec![0; Source.store_words(&first.0)],
-                false => pair[0].words.clone(),
+                true => vec![0; Source.size(&first.0) as usize],
+                false => pair[0].words[..Source.size(&first.0) as usize].to_vec(),
             };
             for budget in (0..20).chain([33, 60, 150, 1_000, 20_000]) {
                 hold_run(&first, &second, &rows, &words, budget);
@@ -86,5 +90,5 @@ fn joins_are_those_of_the_interpreter() {
     }
     let met: Vec<u32> = causes.keys().copied().collect();
     println!("{causes:?}");
-    assert_eq!(met, [0, 1, 2, 3, 4, 5, 6, 7, 8, 9, 10, 16, 17]);
+    assert_eq!(met, [0, 1, 2, 3, 4, 5, 6, 7, 8, 9, 10, 16, 17, 18, 19, 20]);
 }

@@ -82,6 +82,31 @@ fn a_short_scratch_is_refused() {
     }
 }
 
+/// `{ int v0 = 5; v1 = v0; }`: the scratch gets the declared word too, which is not counted.
+#[test]
+fn declared_words_are_told_and_not_counted() {
+    let rows: [[i32; 6]; 7] = [
+        [42, 1, 0, 0, 0, 0],
+        [58, 0, 2, 0, 0, 3],
+        [1, 5, 0, 0, 0, 0],
+        [41, 4, 0, 0, 0, 0],
+        [21, 5, 6, 0, 0, 0],
+        [2, 1, 0, 0, 0, 0],
+        [2, 0, 0, 0, 0, 0],
+    ];
+    let told = |store: &[i32], room: usize| {
+        let mut scratch = vec![WORD; room];
+        let told = clight::preview(&[2], &rows.concat(), store, BUDGET, &mut scratch);
+        (told.map(|told| told.differing), scratch)
+    };
+    assert_eq!(told(&[1, 2, 3], 3), (Ok(1), vec![1, 5, 5]));
+    assert_eq!(told(&[1, 2, 3], 5), (Ok(1), vec![1, 5, 5, WORD, WORD]));
+    assert_eq!(told(&[1, 5, 3], 3), (Ok(0), vec![1, 5, 5]));
+    let refused = |cause| Err(Refusal { cause, place: 0 });
+    assert_eq!(told(&[1, 2, 3], 2), (refused(Cause::Scratch), vec![WORD; 2]));
+    assert_eq!(told(&[1, 2], 2), (refused(Cause::Store), vec![WORD; 2]));
+}
+
 /// `v0 = 1; v0 = 0;`: what is written and restored does not differ at the end, but does between.
 #[test]
 fn words_that_end_equal_do_not_differ() {

@@ -12,7 +12,7 @@ use interpreter::{check, generate, generate_kernel, text};
 /// The runs of a flat list, which may be damaged.
 fn flat_list(random: &mut Random, header: &[i32], list: &[i32], tally: &mut Tally) {
     let words = match flat::check(header, list) {
-        Ok(()) => Kernel.store_words(header),
+        Ok(()) => Kernel.header_words(header),
         Err(_) => random.below(9),
     };
     for room in [words, words, words, words, words, words + 1, words.saturating_sub(1)] {
@@ -201,7 +201,7 @@ fn flattened(random: &mut Random, header: &[i32], rows: &[i32], tally: &mut Tall
     assert_eq!(flat::check(header, &list), Ok(()));
     flat_list(random, header, &list, tally);
     let mut store: Vec<i32> =
-        (0..Kernel.store_words(header)).map(|_| random.between(-2, 4)).collect();
+        (0..Kernel.header_words(header)).map(|_| random.between(-2, 4)).collect();
     let mut kernel_store = store.clone();
     let ran = clight::flat_run(header, &list, &mut store, 20_000).unwrap();
     if ran.ending == clight::Ending::Spent {

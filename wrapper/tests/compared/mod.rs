@@ -21,7 +21,7 @@ const BYTE: u8 = 0xA5;
 /// How often each cause was given; 0 is for none.
 #[derive(Default)]
 pub struct Tally {
-    seen: [u32; 16],
+    seen: [u32; 21],
 }
 
 impl Tally {
@@ -66,7 +66,7 @@ pub fn source_case(case: &Case, tally: &mut Tally) {
     let Ok((header, rows)) = text::read_lines(Source, &case.text) else { return };
     let mut store = case.words.clone();
     if store.is_empty() && interpreter::check(Source, &header, &rows).is_ok() {
-        store = vec![0; Source.store_words(&header)];
+        store = vec![0; Source.store_words(&header, &rows)];
     }
     source_tables(&header, &rows, &mut store, case.budget, tally);
 }
@@ -92,7 +92,7 @@ pub fn source_tables(
 /// Check, run, writer and reader, on tables that may be damaged.
 pub fn kernel_program(random: &mut Random, header: &[i32], rows: &[i32], tally: &mut Tally) {
     let words = match checked(&KERNEL, header, rows, tally) {
-        Ok(()) => Kernel.store_words(header),
+        Ok(()) => Kernel.header_words(header),
         Err(_) => random.below(9),
     };
     for room in [words, words, words + 1, words.saturating_sub(1)] {
@@ -137,7 +137,7 @@ fn dispatcher(header: &[i32], rows: &[i32], room: usize, budget: u32, tally: &mu
         let kept = words.clone();
         let shown = mine(clight::dispatcher_run(header, rows, &mut words, budget), tally);
         let checked = theirs(interpreter::check(Kernel, header, rows));
-        let size = checked.map_or(0, |()| Kernel.store_words(header) - behind);
+        let size = checked.map_or(0, |()| Kernel.size(header) as usize);
         let expected = match checked {
             Ok(()) if count == size => {
                 let mut store = kept.clone();
@@ -171,7 +171,9 @@ fn preview(header: &[i32], rows: &[i32], store: &[i32], budget: u32, tally: &mut
         let Ok(told) = told else { continue };
         let mut after = store.to_vec();
         assert_eq!(clight::run(header, rows, &mut after, budget), Ok(as_run(told)));
-        assert_eq!((&scratch[..words], told.differing == 0), (&after[..], after == store));
+        let size = Source.size(header) as usize;
+        let same = after[..size] == store[..size];
+        assert_eq!((&scratch[..words], told.differing == 0), (&after[..], same));
         assert!(scratch[words..].iter().all(|&word| word == WORD));
     }
 }
@@ -205,21 +207,24 @@ fn translation(header: &[i32], rows: &[i32], checked: Plain<()>, tally: &mut Tal
 }
 
 /// What holds of a translation: its header, its sizes, that it is legal, and that both runs share
-/// their fate, from stores of any content. The interpreter checks and runs both.
+/// their fate, from stores of any content; declared words start apart in both. The interpreter
+/// checks and runs both.
 fn kernel_form(header: &[i32], rows: &[i32], kernel_header: &[i32], kernel_rows: &[i32]) {
     let temporaries = kernel_header[2] as usize;
     assert_eq!(
         (kernel_header[0], kernel_header[1], &kernel_header[3..]),
-        (header[0], 0, &header[1..])
+        (header[0], Source.declared(header, rows) as i32, &header[1..])
     );
     assert!(temporaries <= 4 * rows.len() / 6);
     assert_eq!(interpreter::check(Kernel, kernel_header, kernel_rows), Ok(()));
-    let size = Source.store_words(header);
+    let size = Source.size(header) as usize;
     let random = &mut Random::new(39, rows.len() as u64);
-    let mut store: Vec<i32> = (0..size).map(|_| random.between(-2, 4)).collect();
-    let mut kernel_store = store.clone();
-    kernel_store.extend((0..temporaries).map(|_| random.word() as i32));
-    shown_alike(random, kernel_header, kernel_rows, &store);
+    let words: Vec<i32> = (0..size).map(|_| random.between(-2, 4)).collect();
+    let mut kernel_store = words.clone();
+    kernel_store.extend((0..Kernel.behind(kernel_header)).map(|_| random.word() as i32));
+    shown_alike(random, kernel_header, kernel_rows, &words);
+    let mut store = words;
+    store.extend((0..Source.declared(header, rows)).map(|_| random.word() as i32));
     let source = run_checked(Source, header, rows, &mut store, 20_000);
     if source.ending == Ending::Spent {
         return;
@@ -227,7 +232,7 @@ fn kernel_form(header: &[i32], rows: &[i32], kernel_header: &[i32], kernel_rows:
     let most = kernel_rows.len() as u32 / 6 * source.count;
     let kernel = run_checked(Kernel, kernel_header, kernel_rows, &mut kernel_store, most);
     assert_eq!(kernel.ending, source.ending);
-    assert_eq!(kernel_store[..size], store);
+    assert_eq!(kernel_store[..size], store[..size]);
 }
 
 /// Kernel runs of a translation that start alike but for the words behind the first S show a dispatcher

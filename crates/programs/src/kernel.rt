@@ -16,6 +16,7 @@ use words::RunAnswer;
 use words::RunVerdict;
 use words::Verdict;
 use words::layout::header_store;
+use words::layout::store_size;
 ghost use mathlib.Core.Path.{_≡_};
 ghost use Prim.Native.Nat.{_≤_};
 ghost use lib.ListN.{length};
@@ -78,9 +79,16 @@ fn enough(rows: usize, count: u32) -> u32
     steps as u32
 }
 
-// Runs a kernel program on the store, of S+D+T words, whose first S words are the source's start words.
-fn run_from(header: &[i32], rows: &[i32], start: &[i32], store: &mut [i32], budget: u32)
-    requires { ⌜ length (now start) ≤ 8256 ⌝ }
+// Runs a kernel program on the store, of S+D+T words, whose first S+D are the source's start words, and prints the first `shown` words: S.
+fn run_from(
+    header: &[i32],
+    rows: &[i32],
+    start: &[i32],
+    store: &mut [i32],
+    shown: usize,
+    budget: u32,
+)
+    requires { ⌜ (shown ≤ 8256) × (shown ≤ length (now store)) ⌝ }
 {
     if store.len() < start.len() {
         print(b"kernel-refused\n");
@@ -92,8 +100,7 @@ fn run_from(header: &[i32], rows: &[i32], start: &[i32], store: &mut [i32], budg
         RunVerdict::Refused(_) => print(b"kernel-refused\n"),
         RunVerdict::Ran(answer) => {
             let ending = answer.ending;
-            let size = start.len();
-            print_kernel_run(ending, &store[..size]);
+            print_kernel_run(ending, &store[..shown]);
         }
     }
 }
@@ -101,15 +108,17 @@ fn run_from(header: &[i32], rows: &[i32], start: &[i32], store: &mut [i32], budg
 // Runs a legal kernel program from the source's start words, with a budget that is enough. The temporaries begin with a word that is
 // not 0.
 fn run_translation(header: &[i32], rows: &[i32], start: &[i32], count: u32)
-    requires { ⌜ (refusalOf Kernel (now header) (now rows) ≡ Accepted) × (length (now start) ≤ 8256) ⌝ }
+    requires { ⌜ refusalOf Kernel (now header) (now rows) ≡ Accepted ⌝ }
 {
     let mut store = [1234567891i32; 16448];
     let words = header_store(Form::Kernel, header);
+    let shown = store_size(Form::Kernel, header);
     run_from(
         header,
         rows,
         start,
         &mut store[..words],
+        shown,
         enough(rows.len() / 6, count),
     );
 }
@@ -123,7 +132,7 @@ fn answer_legal(
     text: &mut [u8],
     read_rows: &mut [i32],
 )
-    requires { ⌜ (refusalOf Kernel (now header) (now rows) ≡ Accepted) × (length (now start) ≤ 8256) ⌝ }
+    requires { ⌜ refusalOf Kernel (now header) (now rows) ≡ Accepted ⌝ }
 {
     try_text(header, rows, text, read_rows);
     let ending = source.ending;
@@ -141,9 +150,7 @@ fn answer_kernel(
     source: RunAnswer,
     text: &mut [u8],
     read_rows: &mut [i32],
-)
-    requires { ⌜ length (now start) ≤ 8256 ⌝ }
-{
+) {
     let verdict = kernel_check(header, rows);
     match verdict {
         Verdict::Refused(_) => print(b"illegal\n"),
@@ -160,9 +167,7 @@ pub fn answer_translation(
     kernel_rows: &mut [i32],
     text: &mut [u8],
     read_rows: &mut [i32],
-)
-    requires { ⌜ length (now start) ≤ 8256 ⌝ }
-{
+) {
     let mut kernel_header = [0i32; 35];
     let answer = translate(header, rows, &mut kernel_header, kernel_rows);
     match answer {

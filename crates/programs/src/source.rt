@@ -10,6 +10,7 @@ use text_form::ReadAnswer;
 use words::Form;
 use words::RunVerdict;
 use words::Verdict;
+use words::layout::store_size;
 use words::layout::store_words;
 use writes::count_of;
 ghost use mathlib.Core.Path.{_≡_};
@@ -31,25 +32,38 @@ fn start_size(words: &[u8], size: usize, store: &mut [i32]) -> usize
     start_words(&words[1..], store)
 }
 
-// Runs a program on the store, which holds the start words, then its translation from the start words.
+// How many of the n words are printed: the first S. Where there are fewer, the run is refused.
+fn shown_of(size: usize, n: usize) -> usize
+    ensures { λ r. ⌜ r ≤ n ⌝ }
+{
+    if size > n {
+        return n;
+    }
+    size
+}
+
+// Runs a program on the store, which holds the start words, and prints the first `shown` words, then runs its translation from the start
+// words.
 fn answer_run(
     header: &[i32],
     rows: &[i32],
     budget: u32,
     start: &[i32],
     store: &mut [i32],
+    shown: usize,
     kernel_rows: &mut [i32],
     text: &mut [u8],
     read_rows: &mut [i32],
 )
-    requires { ⌜ (length (now start) ≤ 8256) × (length (now store) ≤ 8256) ⌝ }
+    requires { ⌜ (shown ≤ 8256) × (shown ≤ length (now store)) ⌝ }
 {
     let verdict = run(header, rows, store, budget);
     match verdict {
         RunVerdict::Refused(refusal) => print_refusal(refusal),
         RunVerdict::Ran(answer) => {
             let ending = answer.ending;
-            print_source_run(ending, answer.count, store, count_of(header, rows));
+            let written = count_of(header, rows);
+            print_source_run(ending, answer.count, &store[..shown], written);
             answer_translation(header, rows, start, answer, kernel_rows, text, read_rows);
         }
     }
@@ -70,12 +84,14 @@ fn answer_accepted(
     let mut start = [0i32; 8256];
     let n = start_size(words, store_words(Form::Source, header, rows), &mut start);
     let mut store = start;
+    let shown = shown_of(store_size(Form::Source, header), n);
     answer_run(
         header,
         rows,
         budget,
         &start[..n],
         &mut store[..n],
+        shown,
         kernel_rows,
         text,
         read_rows,

@@ -36,29 +36,46 @@ fn temporaries_of(header: &[i32]) -> usize
     temporaries
 }
 
-fn show_source_run(header: &[i32], rows: &[i32], store: &mut [i32])
-    requires { ⌜ length (now store) ≤ 64 ⌝ }
+// How many of the n words at the start are printed: S, those before the words that the kernel header says are declared. Where it says
+// more than there are, the run is refused.
+fn shown_of(header: &[i32], n: usize) -> usize
+    ensures { λ r. ⌜ r ≤ n ⌝ }
+{
+    if header.len() < 3 {
+        return n;
+    }
+    let declared = natural(header[1]);
+    if declared > n {
+        return n;
+    }
+    n - declared
+}
+
+// Runs a rule, and prints the first `shown` words.
+fn show_source_run(header: &[i32], rows: &[i32], store: &mut [i32], shown: usize)
+    requires { ⌜ (shown ≤ 64) × (shown ≤ length (now store)) ⌝ }
 {
     let verdict = run(header, rows, store, BUDGET);
     match verdict {
         RunVerdict::Refused(refusal) => print_refusal(refusal),
         RunVerdict::Ran(answer) => {
             let ending = answer.ending;
-            print_source_run(ending, answer.count, store, count_of(header, rows));
+            let written = count_of(header, rows);
+            print_source_run(ending, answer.count, &store[..shown], written);
         }
     }
 }
 
-// Runs the kernel form, and prints the first `size` words: the temporaries are no part of the answer.
-fn show_kernel_run(header: &[i32], rows: &[i32], store: &mut [i32], size: usize)
-    requires { ⌜ (size ≤ 64) × (size ≤ length (now store)) ⌝ }
+// Runs the kernel form, and prints the first `shown` words: declared words and temporaries are no part of the answer.
+fn show_kernel_run(header: &[i32], rows: &[i32], store: &mut [i32], shown: usize)
+    requires { ⌜ (shown ≤ 64) × (shown ≤ length (now store)) ⌝ }
 {
     let verdict = kernel_run(header, rows, store, BUDGET);
     match verdict {
         RunVerdict::Refused(refusal) => print_refusal(refusal),
         RunVerdict::Ran(answer) => {
             let ending = answer.ending;
-            print_kernel_run(ending, &store[..size]);
+            print_kernel_run(ending, &store[..shown]);
         }
     }
 }
@@ -71,7 +88,8 @@ fn show_kernel(header: &[i32], rows: &[i32], start: &[i32])
     put(start, &mut store);
     let size = start.len();
     let words = size + temporaries_of(header);
-    show_kernel_run(header, rows, &mut store[..words], size);
+    let shown = shown_of(header, size);
+    show_kernel_run(header, rows, &mut store[..words], shown);
 }
 
 // The source's run, then the kernel's, from the words of the line.
@@ -85,7 +103,8 @@ fn show_runs(
     let mut start = [0i32; 64];
     let n = start_words(line, &mut start);
     let mut store = start;
-    show_source_run(header, rows, &mut store[..n]);
+    let shown = shown_of(kernel_header, n);
+    show_source_run(header, rows, &mut store[..n], shown);
     show_kernel(kernel_header, kernel_rows, &start[..n]);
 }
 

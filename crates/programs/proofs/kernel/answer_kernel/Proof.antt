@@ -20,7 +20,7 @@ enum-told-2 : tie.Need-enum-told-2
 enum-told-2 c = search needs
 
 answer-legal-requires : tie.Need-answer-legal-requires
-answer-legal-requires c κs = (sym (c .before .before .before .before .kernel-check .ensures .0) ∙ c .before .before .enum-told2 .given .1, c .before .before .before .before .before .before .pre)
+answer-legal-requires c κs = sym (c .before .before .before .before .kernel-check .ensures .0) ∙ c .before .before .enum-told2 .given .1
 
 returns : tie.Need-returns
 returns c = search needs

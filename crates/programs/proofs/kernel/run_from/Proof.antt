@@ -34,13 +34,13 @@ enum-known-verdict : tie.Need-enum-known-verdict
 enum-known-verdict c = search needs
 
 slice-reshare-prefix-print-kernel-run : tie.Need-slice-reshare-prefix-print-kernel-run
-slice-reshare-prefix-print-kernel-run c = search needs
+slice-reshare-prefix-print-kernel-run c = omega (arith, c .before .before .before .before .before .before .before .before .before .before .pre .1, c .before .before .before .before .before .before .before .put .kept .1 .0, c .before .before .before .before .kernel-run .kept .1 .1 .0)
 
 slice-aggregate-print-kernel-run : tie.Need-slice-aggregate-print-kernel-run
 slice-aggregate-print-kernel-run c = sym (length-take-le _ _ (slice-reshare-prefix-print-kernel-run (c .before)))
 
 print-kernel-run-requires : tie.Need-print-kernel-run-requires
-print-kernel-run-requires c κs = omega (arith, slice-aggregate-print-kernel-run c, c .before .before .before .before .before .before .before .before .before .before .before .pre)
+print-kernel-run-requires c κs = omega (arith, slice-aggregate-print-kernel-run c, c .before .before .before .before .before .before .before .before .before .before .before .pre .0)
 
 same-length : tie.Need-same-length
 same-length c = search needs

@@ -18,6 +18,12 @@ slice-aggregate-start-size c = search needs
 start-size-requires : tie.Need-start-size-requires
 start-size-requires c κs = omega (arith, c .before .store-words .ensures, source-words (c .before .before .before .before .args .header .now) (c .before .before .before .before .args .rows .now) (c .before .before .before .before .pre))
 
+store-size-requires : tie.Need-store-size-requires
+store-size-requires c κs = accepted-header Source (c .before .before .before .before .before .before .args .header .now) (c .before .before .before .before .before .before .args .rows .now) (c .before .before .before .before .before .before .pre)
+
+shown-of-requires : tie.Need-shown-of-requires
+shown-of-requires c κs = search needs
+
 array-share-prefix-start : tie.Need-array-share-prefix-start
 array-share-prefix-start c = search needs
 
@@ -32,8 +38,8 @@ slice-aggregate-answer-run-2 c = sym (length-take-le _ _ (array-borrow-prefix-st
 
 answer-run-requires : tie.Need-answer-run-requires
 answer-run-requires c κs =
-    let few = c .before .before .before .before .before .before .start-size .ensures in
-    (omega (arith, slice-aggregate-answer-run (c .before .before .before .before), few), omega (arith, slice-aggregate-answer-run-2 (c .before .before .before), few))
+    let n = slice-aggregate-answer-run-2 (c .before .before .before) in
+    (omega (arith, n, c .before .before .before .before .before .shown-of .ensures, c .before .before .before .before .before .before .before .before .start-size .ensures), omega (arith, n, c .before .before .before .before .before .shown-of .ensures))
 
 same-length : tie.Need-same-length
 same-length c = search needs
@@ -54,6 +60,8 @@ answer-accepted-spec =
     store-words-requires
     slice-aggregate-start-size
     start-size-requires
+    store-size-requires
+    shown-of-requires
     array-share-prefix-start
     slice-aggregate-answer-run
     array-borrow-prefix-store

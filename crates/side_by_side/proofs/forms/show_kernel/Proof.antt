@@ -18,6 +18,9 @@ temporaries-of-requires c κs = search needs
 add-words : tie.Need-add-words
 add-words c = search needs
 
+shown-of-requires : tie.Need-shown-of-requires
+shown-of-requires c κs = search needs
+
 array-borrow-prefix-store : tie.Need-array-borrow-prefix-store
 array-borrow-prefix-store c = search needs
 
@@ -25,7 +28,7 @@ slice-aggregate-show-kernel-run : tie.Need-slice-aggregate-show-kernel-run
 slice-aggregate-show-kernel-run c = sym (length-take-le _ _ (array-borrow-prefix-store (c .before)))
 
 show-kernel-run-requires : tie.Need-show-kernel-run-requires
-show-kernel-run-requires c κs = (omega (arith, c .before .before .before .before .before .pre), omega (arith, slice-aggregate-show-kernel-run c))
+show-kernel-run-requires c κs = (omega (arith, c .before .shown-of .ensures, c .before .before .before .before .before .before .pre), omega (arith, c .before .shown-of .ensures, slice-aggregate-show-kernel-run c))
 
 returns : tie.Need-returns
 returns c = search needs
@@ -38,6 +41,7 @@ show-kernel-spec =
     put-requires
     temporaries-of-requires
     add-words
+    shown-of-requires
     array-borrow-prefix-store
     slice-aggregate-show-kernel-run
     show-kernel-run-requires

@@ -12,6 +12,9 @@ slice-aggregate-start-words c = search needs
 start-words-requires : tie.Need-start-words-requires
 start-words-requires c κs = search needs
 
+shown-of-requires : tie.Need-shown-of-requires
+shown-of-requires c κs = search needs
+
 array-borrow-prefix-store : tie.Need-array-borrow-prefix-store
 array-borrow-prefix-store c = search needs
 
@@ -19,7 +22,7 @@ slice-aggregate-show-source-run : tie.Need-slice-aggregate-show-source-run
 slice-aggregate-show-source-run c = sym (length-take-le _ _ (array-borrow-prefix-store (c .before)))
 
 show-source-run-requires : tie.Need-show-source-run-requires
-show-source-run-requires c κs = omega (arith, slice-aggregate-show-source-run c, c .before .before .start-words .ensures)
+show-source-run-requires c κs = (omega (arith, c .before .shown-of .ensures, c .before .before .before .start-words .ensures), omega (arith, c .before .shown-of .ensures, slice-aggregate-show-source-run c))
 
 array-share-prefix-start : tie.Need-array-share-prefix-start
 array-share-prefix-start c = search needs
@@ -28,7 +31,7 @@ slice-aggregate-show-kernel : tie.Need-slice-aggregate-show-kernel
 slice-aggregate-show-kernel c = sym (length-take-le _ _ (array-share-prefix-start (c .before)))
 
 show-kernel-requires : tie.Need-show-kernel-requires
-show-kernel-requires c κs = omega (arith, slice-aggregate-show-kernel c, c .before .before .before .before .before .start-words .ensures)
+show-kernel-requires c κs = omega (arith, slice-aggregate-show-kernel c, c .before .before .before .before .before .before .start-words .ensures)
 
 returns : tie.Need-returns
 returns c = search needs
@@ -39,6 +42,7 @@ show-runs-spec =
     (tie.spec
     slice-aggregate-start-words
     start-words-requires
+    shown-of-requires
     array-borrow-prefix-store
     slice-aggregate-show-source-run
     show-source-run-requires

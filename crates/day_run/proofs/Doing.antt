@@ -10,8 +10,8 @@ use Rattle.words.specs.declared.Ending.{Ending}
 use Rattle.words.specs.declared.Ending.the-variants.{Plain, Spent, Fault}
 use Rattle.words.specs.declared.FaultSort.{FaultSort}
 use Rattle.words.specs.declared.RunAnswer.{RunAnswer}
-use Rattle.program_meaning.specs.Program.{runProgram}
-use Rattle.machine.specs.Whole.{finishedOf}
+use Rattle.language.specs.Program.{runTable}
+use Rattle.machine.specs.Whole.{finishedOf, Runnable}
 use Rattle.text_lines.specs.Line.{Line, linesOf}
 use Rattle.text_lines.specs.LineLaws.{lines-none}
 use Rattle.rule_text.specs.Rules.{budget}
@@ -23,16 +23,22 @@ use Rattle.day_run.specs.Conditions.{LineDone}
 abbrev dayWith : List ℤ → ℕ → ℕ → Day
 dayWith store plain other = record { store = store; plain = plain; other = other }
 
+-- ---- the run
+
+-- what a run asks of the store is how many words it has
+pub runnable-on : {header rows store other : List ℤ} → Runnable Source header rows store → length other ≡ length store → Runnable Source header rows other
+runnable-on r e = record { fits = r .fits; sound = rw e (r .sound); words = e ∙ r .words; few-rows = r .few-rows }
+
 -- ---- one line
 
 module _ (header rows pairs store : List ℤ) where
   -- the run of the line, on whatever it starts from
   pub record Ran (ending : Ending) (left : List ℤ) : Type 0 where
     pub count : ℕ
-    pub is : runProgram Source header rows budget (storePairs pairs store) ≡ record { ending = ending; count = count; store = left }
+    pub is : runTable Source header rows budget (storePairs pairs store) ≡ record { ending = ending; count = count; store = left }
 
-  pub ran-on : (start : List ℤ) (answer : RunAnswer) (left : List ℤ) → start ≡ storePairs pairs store → finishedOf answer left ≡ runProgram Source header rows budget start → Ran (answer .ending) left
-  ran-on start answer left e r = record { count = answer .count; is = sym (r ∙ ap (runProgram Source header rows budget) e) }
+  pub ran-on : (start : List ℤ) (answer : RunAnswer) (left : List ℤ) → start ≡ storePairs pairs store → finishedOf answer left ≡ runTable Source header rows budget start → Ran (answer .ending) left
+  ran-on start answer left e r = record { count = answer .count; is = sym (r ∙ ap (runTable Source header rows budget) e) }
 
   ended : (ending : Ending) (left : List ℤ) → Ran ending left → (p o : ℕ)
       → doLine header rows pairs (record { store = store; plain = p; other = o }) ≡ afterRun ending left (record { store = store; plain = p; other = o })

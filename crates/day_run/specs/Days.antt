@@ -1,4 +1,5 @@
--- Days: "does the lines in order: store the pairs, run the rule with budget 100,000".
+-- Days: "does the lines in order: store the pairs, run the rule with budget 100,000". The rows are those of the rule's resolved table, in
+-- which every name stands for its store word.
 use mathlib.Core.List.{List, [], _∷_, map}
 use Prim.Native.Nat.{ℕ, _+_}
 use lib.IntN.{ℤ}
@@ -7,7 +8,7 @@ use Rattle.words.specs.Word.{natural}
 use Rattle.words.specs.declared.Form.the-variants.{Source}
 use Rattle.words.specs.declared.Ending.{Ending}
 use Rattle.words.specs.declared.Ending.the-variants.{Plain, Spent, Fault}
-use Rattle.program_meaning.specs.Program.{runProgram}
+use Rattle.language.specs.Program.{runTable}
 use Rattle.text_lines.specs.Line.{Line}
 use Rattle.rule_text.specs.Rules.{budget}
 use Rattle.day_form.specs.Lines.{lineWords}
@@ -39,7 +40,7 @@ afterRun (Fault sort) left day = unchanged day
 -- What one line does: "store the pairs, run the rule with budget 100,000".
 unfoldable pub doLine : List ℤ → List ℤ → List ℤ → Day → Day
 doLine header rows pairs day =
-    let finished = runProgram Source header rows budget (storePairs pairs (day .store)) in
+    let finished = runTable Source header rows budget (storePairs pairs (day .store)) in
     afterRun (finished .ending) (finished .store) day
 
 -- What a list of lines does: "the lines in order".

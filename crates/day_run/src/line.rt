@@ -1,16 +1,15 @@
-// One line of a day: its pairs and its run on a copy of the store, which is kept where the run ends plainly.
+// One line of a day: its pairs and its run on a copy of the store, which is kept where the run ends plainly. The rows are those of the
+// rule's resolved table.
 use copying::put;
-use program_runs::run_accepted;
+use machine::whole::run;
 use words::Ending;
 use words::Form;
 use words::table::natural;
 ghost use mathlib.Core.Path.{_≡_};
 ghost use Prim.Native.Nat.{_≤_};
 ghost use lib.ListN.{length, set};
-ghost use Rattle.words.specs.Layout.{storeWords};
 ghost use Rattle.words.specs.declared.Form.the-variants.{Source};
-ghost use Rattle.words.specs.declared.Verdict.the-variants.{Accepted};
-ghost use Rattle.program_runs.specs.Runs.{refusalOf};
+ghost use Rattle.machine.specs.Whole.{Runnable};
 ghost use Rattle.rule_text.specs.Rules.{storeRoom};
 ghost use Rattle.day_run.specs.Days.{storePairs};
 ghost use Rattle.day_run.specs.Conditions.{LineDone};
@@ -43,15 +42,14 @@ fn do_on_copy(
     store: &mut [i32],
     copy: &mut [i32],
 ) -> usize
-    requires { ⌜ refusalOf Source (now header) (now rows) ≡ Accepted ⌝ }
-    requires { ⌜ length (now store) ≡ storeWords Source (now header) (now rows) ⌝ }
+    requires { ⌜ Runnable Source (now header) (now rows) (now store) ⌝ }
     requires { ⌜ length (now copy) ≡ length (now store) ⌝ }
     ensures { λ r. ⌜ LineDone (now (header .entry)) (now (rows .entry)) (now (pairs .entry)) (now (store .entry)) r (now (store .exit)) ⌝ }
 {
     put(store, copy);
     store_pairs(pairs, copy);
-    let run = run_accepted(Form::Source, header, rows, copy, 100000);
-    let ending = run.ending;
+    let answer = run(Form::Source, header, rows, copy, 100000);
+    let ending = answer.ending;
     match ending {
         Ending::Plain => {
             put(copy, store);
@@ -64,8 +62,7 @@ fn do_on_copy(
 
 // Does one line: 1 where its run ended plainly, 0 where it did not, and the store is as it was.
 pub fn do_line(header: &[i32], rows: &[i32], pairs: &[i32], store: &mut [i32]) -> usize
-    requires { ⌜ refusalOf Source (now header) (now rows) ≡ Accepted ⌝ }
-    requires { ⌜ length (now store) ≡ storeWords Source (now header) (now rows) ⌝ }
+    requires { ⌜ Runnable Source (now header) (now rows) (now store) ⌝ }
     requires { ⌜ length (now store) ≤ storeRoom ⌝ }
     ensures { λ r. ⌜ LineDone (now (header .entry)) (now (rows .entry)) (now (pairs .entry)) (now (store .entry)) r (now (store .exit)) ⌝ }
 {

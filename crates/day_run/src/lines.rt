@@ -5,19 +5,16 @@ use day_form::lines::next_line;
 ghost use mathlib.Core.Path.{_≡_};
 ghost use Prim.Native.Nat.{_≤_};
 ghost use lib.ListN.{length};
-ghost use Rattle.words.specs.Layout.{storeWords};
 ghost use Rattle.words.specs.declared.Form.the-variants.{Source};
-ghost use Rattle.words.specs.declared.Verdict.the-variants.{Accepted};
 ghost use Rattle.text_lines.specs.Line.{linesOf};
-ghost use Rattle.program_runs.specs.Runs.{refusalOf};
+ghost use Rattle.machine.specs.Whole.{Runnable};
 ghost use Rattle.rule_text.specs.Rules.{storeRoom};
 ghost use Rattle.day_run.specs.Days.{doLines, pairsOf, newDay};
 ghost use Rattle.day_run.specs.Conditions.{dayLeft};
 
 // Does the lines of a text in order, and counts those that ended plainly and those that did not.
 pub fn do_lines(header: &[i32], rows: &[i32], text: &[u8], store: &mut [i32]) -> Tally
-    requires { ⌜ refusalOf Source (now header) (now rows) ≡ Accepted ⌝ }
-    requires { ⌜ length (now store) ≡ storeWords Source (now header) (now rows) ⌝ }
+    requires { ⌜ Runnable Source (now header) (now rows) (now store) ⌝ }
     requires { ⌜ length (now store) ≤ storeRoom ⌝ }
     ensures { λ r. ⌜ dayLeft r (now (store .exit)) ≡ doLines (now (header .entry)) (now (rows .entry)) (pairsOf (linesOf (now (text .entry)))) (newDay (now (store .entry))) ⌝ }
 {

@@ -19,13 +19,13 @@ use Rattle.words.specs.declared.Form.the-variants.{Source}
 use Rattle.text_lines.specs.Line.{Line, lineBytes}
 use Rattle.text_lines.specs.Writer.{Measured}
 use Rattle.text_lines.proofs.Sizing.{bytes-line}
-use Rattle.rule_text.specs.Rules.{IsAccepted}
 use Rattle.day_form.specs.Lines.{lineWords}
 use Rattle.day_run.specs.Days.{Day, newDay, doLines, pairsOf}
 use Rattle.day_run.specs.DayLaws.{lines-counted}
 use Rattle.day_run.specs.Conditions.{dayLeft}
 use Rattle.day_run.specs.declared.Tally.{Tally}
 use Rattle.day_values.specs.Values.{dayOf, dayNumbers, dayLine}
+use Rattle.day_values.specs.Conditions.{Fits}
 
 -- ---- how many bytes a line of numbers has
 
@@ -50,9 +50,9 @@ as-words value plain other variables h few = rw (back value h, toZ-pos w32 {n = 
 
 -- ---- the store of a rule
 
-pub variables-inside : {header rows : List ℤ} → IsAccepted header rows → (layoutOf Source header .variables ≤ storeWords Source header rows) × (layoutOf Source header .variables ≤ 256)
+pub variables-inside : {header rows : List ℤ} {text : List ℕ} → Fits header rows text → (layoutOf Source header .variables ≤ storeWords Source header rows) × (layoutOf Source header .variables ≤ 256)
 unfolding storeSize
-variables-inside {header} {rows} a = (omega (arith, size-least Source header rows), headerFits-facts Source header (a .header-fits) .few-variables)
+variables-inside {header} {rows} f = (omega (arith, size-least Source header rows), headerFits-facts Source header (f .header-fits) .few-variables)
 
 pub variables-are : (header : List ℤ) (number : ℕ) → number ≡ natural (getD header 0 (pos 0)) → number ≡ layoutOf Source header .variables
 unfolding layoutOf

@@ -1,4 +1,5 @@
--- Values: "For each value, lowest first, it starts from zeros, stores the value and does the lines in order".
+-- Values: "For each value, lowest first, it starts from zeros, stores the value and does the lines in order". The rows are those of the
+-- rule's resolved table.
 use mathlib.Core.List.{List, [], _∷_, _++_}
 use Prim.Native.Nat.{ℕ, zero, suc}
 use lib.IntN.{ℤ, pos, _+ℤ_}

@@ -5,7 +5,7 @@ use Rattle.words.specs.declared.Form.the-variants.{Source}
 use Rattle.words.proofs.Signed.{natural-again}
 use Rattle.text_numbers.specs.PutLaws.{put-as}
 use Rattle.day_values.proofs.Printing.{variables-are}
-use Rattle.day.proofs.Printed.{plan-refused, plan-printed, plan-fits}
+use Rattle.day.proofs.Printed.{plan-refused, plan-printed, plan-days}
 use borrow.Author.Needs.{needs}
 use Rattle.day.proofs.output.put_plan.Statement.{statement}
 use Rattle.day.proofs.output.put_plan.Tie as tie
@@ -23,22 +23,23 @@ read-plan-requires c κs = search needs
 enum-known-answer : tie.Need-enum-known-answer
 enum-known-answer c = search needs
 
-sub-put-values : tie.Need-sub-put-values
-sub-put-values c =
+sub-put-resolved : tie.Need-sub-put-resolved
+sub-put-resolved c =
     let p = rw (c .before .answer .given .1) at (c .before .before .before .read-plan .ensures) in p .inside
 
-part-put-values-start : tie.Need-part-put-values-start
-part-put-values-start c =
+part-put-resolved-start : tie.Need-part-put-resolved-start
+part-put-resolved-start c =
     let p = rw (c .before .answer .given .1) at (c .before .before .before .read-plan .ensures) in omega (arith, p .inside)
 
-part-put-values-end : tie.Need-part-put-values-end
-part-put-values-end c = search needs
+part-put-resolved-end : tie.Need-part-put-resolved-end
+part-put-resolved-end c = search needs
 
-put-values-requires : tie.Need-put-values-requires
-put-values-requires c κs =
-    let v = variables-are (c .before .before .before .before .before .before .before .before .before .before .args .header .now) (c .before .before .before .before .before .before .natural .result) (natural-again _ _ (c .before .before .before .before .before .before .before .natural-arg .given) (c .before .before .before .before .before .before .natural .ensures)) in
+put-resolved-requires : tie.Need-put-resolved-requires
+put-resolved-requires c κs =
+    let s = c .before .before .before .before .before .before .before .before .before .before in
+    let v = variables-are (s .args .header .now) (c .before .before .before .before .before .before .natural .result) (natural-again _ _ (c .before .before .before .before .before .before .before .natural-arg .given) (c .before .before .before .before .before .before .natural .ensures)) in
     let p = rw (c .before .before .before .answer .given .1) at (c .before .before .before .before .before .read-plan .ensures) in
-    (plan-fits (c .before .before .before .before .before .before .before .before .before .before .args .header .now) (c .before .before .before .before .before .before .before .before .before .before .args .rows .now) (c .before .before .before .before .before .before .before .before .before .before .args .input .now) v p (c .before .before .before .before .before .before .before .before .before .before .pre .0), (p .sets, c .before .before .before .before .before .before .before .before .before .before .pre .1 .1))
+    (s .pre .0, (plan-days (s .args .header .now) (s .args .rows .now) (s .args .input .now) v p, (p .sets, s .pre .1 .1)))
 
 enum-known-answer-2 : tie.Need-enum-known-answer-2
 enum-known-answer-2 c = search needs
@@ -53,7 +54,7 @@ returns : tie.Need-returns
 returns c =
     let v = variables-are (c .before .before .before .before .before .before .before .before .before .before .before .before .before .args .header .now) (c .before .before .before .before .before .before .before .before .before .natural .result) (natural-again _ _ (c .before .before .before .before .before .before .before .before .before .before .natural-arg .given) (c .before .before .before .before .before .before .before .before .before .natural .ensures)) in
     let p = rw (c .before .before .before .before .before .before .answer .given .1) at (c .before .before .before .before .before .before .before .before .read-plan .ensures) in
-    put-as (plan-printed (c .before .before .before .before .before .before .before .before .before .before .before .before .before .args .header .now) (c .before .before .before .before .before .before .before .before .before .before .before .before .before .args .rows .now) (c .before .before .before .before .before .before .before .before .before .before .before .before .before .args .input .now) v p) (c .before .before .put-values .ensures)
+    put-as (plan-printed (c .before .before .before .before .before .before .before .before .before .before .before .before .before .args .header .now) (c .before .before .before .before .before .before .before .before .before .before .before .before .before .args .rows .now) (c .before .before .before .before .before .before .before .before .before .before .before .before .before .args .input .now) v p) (c .before .before .put-resolved .ensures)
 
 same-length-2 : tie.Need-same-length-2
 same-length-2 c = search needs
@@ -71,10 +72,10 @@ put-plan-spec =
     natural-requires
     read-plan-requires
     enum-known-answer
-    sub-put-values
-    part-put-values-start
-    part-put-values-end
-    put-values-requires
+    sub-put-resolved
+    part-put-resolved-start
+    part-put-resolved-end
+    put-resolved-requires
     enum-known-answer-2
     refused-line-requires
     same-length

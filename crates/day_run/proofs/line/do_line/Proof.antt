@@ -21,7 +21,7 @@ do-on-copy-requires : tie.Need-do-on-copy-requires
 do-on-copy-requires c κs =
     let s = c .before .before in
     let size = length (s .args .store .now) in
-    (s .pre .0, (s .pre .1 .0, ap length (zeros-part size 1088 (omega (arith, s .pre .1 .1))) ∙ length-replicate size (pos 0)))
+    (s .pre .0, ap length (zeros-part size 1088 (omega (arith, s .pre .1))) ∙ length-replicate size (pos 0))
 
 same-length : tie.Need-same-length
 same-length c = search needs

@@ -5,7 +5,7 @@ use borrow.Author.Needs.{needs}
 use Prim.Native.Nat.{_-_}
 use lib.ListN.{length}
 use Rattle.day_form.proofs.Tests.{lent-numbers}
-use Rattle.day_run.proofs.Doing.{Done, done-start, done-end, done-next}
+use Rattle.day_run.proofs.Doing.{runnable-on, Done, done-start, done-end, done-next}
 use Rattle.day_run.proofs.lines.do_lines.Statement.{statement}
 use Rattle.day_run.proofs.lines.do_lines.Tie as tie
 
@@ -43,7 +43,9 @@ part-do-line-end c =
 
 do-line-requires : tie.Need-do-line-requires Inv-loop μ-loop
 do-line-requires c κs =
-    (c .before .before .before .before .before .before .before .before .before .pre .0, (c .before .before .before .before .before .before .before .loop .inv .kept ∙ c .before .before .before .before .before .before .before .before .before .pre .1 .0, omega (arith, c .before .before .before .before .before .before .before .loop .inv .kept, c .before .before .before .before .before .before .before .before .before .pre .1 .1)))
+    let s = c .before .before .before .before .before .before .before .before .before in
+    let kept = c .before .before .before .before .before .before .before .loop .inv .kept in
+    (runnable-on (s .pre .0) kept, omega (arith, kept, s .pre .1))
 
 add-plain : tie.Need-add-plain Inv-loop μ-loop
 add-plain c =

@@ -3,7 +3,6 @@ use mathlib.Core.Path.{ap, _∙_}
 use native.Mathlib.Omega.{arith}
 use Rattle.words.specs.Laws.{back, zeros-part}
 use Rattle.words.specs.Layout.{zeros}
-use Rattle.rule_text.specs.RuleLaws.{rule-store}
 use borrow.Author.Needs.{needs}
 use Rattle.day_values.proofs.day.put_day.Statement.{statement}
 use Rattle.day_values.proofs.day.put_day.Tie as tie
@@ -19,11 +18,11 @@ part-store-start c = search needs
 
 part-store-end : tie.Need-part-store-end
 part-store-end c =
-    omega (arith, c .store-words .ensures, rule-store (c .before .before .before .pre .0 .rule))
+    omega (arith, c .store-words .ensures, c .before .before .before .pre .0 .few-words)
 
 put-day-on-requires : tie.Need-put-day-on-requires
 put-day-on-requires c κs =
-    (c .before .before .before .before .before .pre .0, (zeros-part (c .before .before .store-words .result) 1088 (omega (arith, c .before .before .store-words .ensures, rule-store (c .before .before .before .before .before .pre .0 .rule))) ∙ ap zeros (c .before .before .store-words .ensures), c .before .before .before .before .before .pre .1))
+    (c .before .before .before .before .before .pre .0, (zeros-part (c .before .before .store-words .result) 1088 (omega (arith, c .before .before .store-words .ensures, c .before .before .before .before .before .pre .0 .few-words)) ∙ ap zeros (c .before .before .store-words .ensures), c .before .before .before .before .before .pre .1))
 
 same-length : tie.Need-same-length
 same-length c = search needs

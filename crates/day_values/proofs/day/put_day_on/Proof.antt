@@ -10,7 +10,6 @@ use Rattle.words.proofs.Signed.{natural-again}
 use Rattle.words.specs.declared.Form.the-variants.{Source}
 use Rattle.text_lines.specs.Line.{linesOf}
 use Rattle.text_numbers.specs.PutLaws.{put-as}
-use Rattle.rule_text.specs.RuleLaws.{rule-store}
 use Rattle.day_values.proofs.Printing.{variables-inside, variables-are, zeros-length, value-stored, day-counted, day-line}
 use borrow.Author.Needs.{needs}
 use Rattle.day_values.proofs.day.put_day_on.Statement.{statement}
@@ -21,12 +20,13 @@ store-at-requires c κs = search needs
 
 do-lines-requires : tie.Need-do-lines-requires
 do-lines-requires c κs =
+    let fits = c .before .before .before .before .before .before .pre .0 in
     let size = c .before .before .store-at .kept .1 .1 .0 ∙ zeros-length _ _ (c .before .before .before .before .before .before .pre .1 .0) in
-    (c .before .before .before .before .before .before .pre .0 .rule .checked, (size, omega (arith, size, rule-store (c .before .before .before .before .before .before .pre .0 .rule))))
+    (fits .runnable _ size, omega (arith, size, fits .few-words))
 
 shared-slice-copy-out-natural : tie.Need-shared-slice-copy-out-natural
 shared-slice-copy-out-natural c =
-    omega (arith, headerFits-facts Source _ (c .before .before .before .before .before .before .before .before .pre .0 .rule .header-fits) .least)
+    omega (arith, headerFits-facts Source _ (c .before .before .before .before .before .before .before .before .pre .0 .header-fits) .least)
 
 natural-requires : tie.Need-natural-requires
 natural-requires c κs = search needs
@@ -41,13 +41,13 @@ part-put-numbers-end : tie.Need-part-put-numbers-end
 part-put-numbers-end c =
     let size : length (c .before .before .before .before .do-lines .last .1 .1 .1 .0) ≡ storeWords Source (c .before .before .before .before .before .before .before .before .before .before .before .args .header .now) (c .before .before .before .before .before .before .before .before .before .before .before .args .rows .now) = c .before .before .before .before .do-lines .kept .1 .1 .1 .0 ∙ c .before .before .before .before .before .before .before .store-at .kept .1 .1 .0 ∙ zeros-length _ _ (c .before .before .before .before .before .before .before .before .before .before .before .pre .1 .0) in
     let variables = variables-are (c .before .before .before .before .before .before .before .before .before .before .before .args .header .now) (c .before .natural .result) (natural-again _ _ (c .before .before .natural-arg .given) (c .before .natural .ensures)) in
-    omega (arith, size, variables, variables-inside (c .before .before .before .before .before .before .before .before .before .before .before .pre .0 .rule) .0)
+    omega (arith, size, variables, variables-inside (c .before .before .before .before .before .before .before .before .before .before .before .pre .0) .0)
 
 put-numbers-requires : tie.Need-put-numbers-requires
 put-numbers-requires c κs =
     let size : length (c .before .before .before .before .before .before .do-lines .last .1 .1 .1 .0) ≡ storeWords Source (c .before .before .before .before .before .before .before .before .before .before .before .before .before .args .header .now) (c .before .before .before .before .before .before .before .before .before .before .before .before .before .args .rows .now) = c .before .before .before .before .before .before .do-lines .kept .1 .1 .1 .0 ∙ c .before .before .before .before .before .before .before .before .before .store-at .kept .1 .1 .0 ∙ zeros-length _ _ (c .before .before .before .before .before .before .before .before .before .before .before .before .before .pre .1 .0) in
     let variables = variables-are (c .before .before .before .before .before .before .before .before .before .before .before .before .before .args .header .now) (c .before .before .before .natural .result) (natural-again _ _ (c .before .before .before .before .natural-arg .given) (c .before .before .before .natural .ensures)) in
-    let inside = variables-inside (c .before .before .before .before .before .before .before .before .before .before .before .before .before .pre .0 .rule) in
+    let inside = variables-inside (c .before .before .before .before .before .before .before .before .before .before .before .before .before .pre .0) in
     let taken = length-take-le (c .before .before .before .natural .result - 0) (c .before .before .before .before .before .before .do-lines .last .1 .1 .1 .0) (omega (arith, size, variables, inside .0)) in
     (day-counted _ _ (linesOf (c .before .before .before .before .before .before .before .before .before .before .before .before .before .args .text .now)) (c .before .before .before .before .before .before .before .before .before .store-at .last .1 .1 .0) _ _ (c .before .before .before .before .before .before .do-lines .ensures) (c .before .before .before .before .before .before .before .before .before .before .before .before .before .pre .0 .few-days), (omega (arith, taken, variables, inside .1), c .before .before .before .before .before .before .before .before .before .before .before .before .before .pre .1 .1))
 

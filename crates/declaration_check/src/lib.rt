@@ -1,7 +1,8 @@
 // The causes that declarations add to the check, in code: 18, 19 and 20 in order, and 7 for a declaration.
 use breaks::lowest_breaking;
 use grammar::KindTable;
-use notes::write_notes;
+use notes::write_block_items;
+use notes::write_earlier;
 use resolver::counts::write_counts;
 use structure::causes::at;
 use words::Found;
@@ -11,7 +12,7 @@ use words::declarations::declaration_count;
 
 pub mod breaks; // breaks.rt: the lowest row that breaks a cause
 pub mod initial; // initial.rt: cause 18, a walk down an initial expression
-pub mod notes; // notes.rt: what a pass along the links notes of each row
+pub mod notes; // notes.rt: the notes of each row that the causes look up
 
 ghost use mathlib.Core.Path.{_≡_};
 ghost use Prim.Native.Nat.{_/_, _≤_};
@@ -20,19 +21,9 @@ ghost use Rattle.words.specs.Search.{lowestRow};
 ghost use Rattle.grammar.specs.Grammar.{grammar};
 ghost use Rattle.structure.specs.Structured.{Tree};
 ghost use Rattle.structure.specs.Passes.{Notes};
-ghost use Rattle.words.specs.Declarations.{declarationCount};
-ghost use Rattle.words.specs.Declarations.{declarationsBefore};
+ghost use Rattle.words.specs.Declarations.{isDeclaration, declarationCount, declarationsBefore};
+ghost use Rattle.list_items.specs.Items.{earlierAt};
 ghost use Rattle.declaration_causes.specs.Causes.{outsideBlock, declarationRefusal};
-ghost use Rattle.declaration_check.specs.Passes.{noteAt};
-ghost use Rattle.declaration_check.specs.declared.Note.the-variants.{EarlierDeclaration};
-
-// What a pass along the links notes of each row.
-pub enum Note {
-    // 1 for an item of a block's list
-    BlockItem,
-    // the nearest declaration before the row in its own list, or 0
-    EarlierDeclaration,
-}
 
 // What a declaration can break.
 pub enum Cause {
@@ -48,7 +39,7 @@ pub enum Cause {
 
 // Causes 18 to 20, in a tree of rows, with the notes and the counts of its rows.
 fn noted_refusal(kinds: &KindTable, rows: &[i32], earlier: &[u16], counts: &[u16]) -> Verdict
-    requires { ⌜ Tree (now rows) × Notes (now rows) (noteAt EarlierDeclaration (now rows)) (now earlier) × Notes (now rows) (declarationsBefore (now rows)) (now counts) × (now kinds ≡ grammar) ⌝ }
+    requires { ⌜ Tree (now rows) × Notes (now rows) (earlierAt (isDeclaration (now rows)) (now rows)) (now earlier) × Notes (now rows) (declarationsBefore (now rows)) (now counts) × (now kinds ≡ grammar) ⌝ }
     ensures { λ r. ⌜ r ≡ declarationRefusal (now (rows .entry)) ⌝ }
 {
     let own = lowest_breaking(Cause::NamesItself, kinds, rows, counts);
@@ -75,7 +66,7 @@ fn declared_refusal(kinds: &KindTable, rows: &[i32]) -> Verdict
 {
     let mut earlier = [0u16; 2048];
     let mut counts = [0u16; 2048];
-    write_notes(Note::EarlierDeclaration, kinds, rows, &mut earlier);
+    write_earlier(kinds, rows, &mut earlier);
     write_counts(rows, &mut counts);
     noted_refusal(kinds, rows, &earlier, &counts)
 }
@@ -97,7 +88,7 @@ fn lowest_declared_outside(kinds: &KindTable, rows: &[i32]) -> Found
     ensures { λ r. ⌜ r ≡ lowestRow (now (rows .entry)) (outsideBlock (now (rows .entry))) ⌝ }
 {
     let mut items = [0u16; 2048];
-    write_notes(Note::BlockItem, kinds, rows, &mut items);
+    write_block_items(kinds, rows, &mut items);
     lowest_breaking(Cause::OutsideBlock, kinds, rows, &items)
 }
 

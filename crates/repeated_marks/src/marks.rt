@@ -8,8 +8,8 @@ ghost use lib.ListN.{length};
 ghost use Rattle.words.specs.Search.{lowestRow};
 ghost use Rattle.structure.specs.Structured.{Tree};
 ghost use Rattle.structure.specs.Passes.{Notes};
-ghost use Rattle.statement_places.specs.Places.{noteAt};
-ghost use Rattle.statement_places.specs.declared.Note.the-variants.{MarkBefore};
+ghost use Rattle.row_notes.specs.RowNotes.{noteAt};
+ghost use Rattle.statement_places.specs.Places.{markBefore};
 ghost use Rattle.repeated_marks.specs.Marks.{repeated};
 ghost use Rattle.repeated_marks.specs.MarkTree.{Roots, HoldsMarks};
 
@@ -31,7 +31,7 @@ fn lowest_repeated_row(rows: &[i32], roots: &[u16], children: &mut [u16]) -> Fou
 
 // The lowest repeated mark, with the mark before each row.
 pub fn lowest_repeated(rows: &[i32], before: &[u16]) -> Found
-    requires { ⌜ Tree (now rows) × (length (now rows) / 6 ≤ 2048) × Notes (now rows) (noteAt MarkBefore (now rows)) (now before) ⌝ }
+    requires { ⌜ Tree (now rows) × (length (now rows) / 6 ≤ 2048) × Notes (now rows) (noteAt markBefore (now rows)) (now before) ⌝ }
     ensures { λ r. ⌜ r ≡ lowestRow (now (rows .entry)) (repeated (now (rows .entry))) ⌝ }
 {
     let mut roots = [0u16; 2048];

@@ -18,7 +18,8 @@ use Rattle.structure.specs.Refusal.{at, unless, _next_}
 use Rattle.names.specs.Names.{isName, inScope, scopeAt, wordOf, meantFrom, meantAt, variableWord, resolvedName, resolvedWord, resolved}
 use Rattle.list_items.specs.Items.{itemOf, itemAt, earlierOf, earlierAt, someFrom, someEarlier}
 use Rattle.repeated_marks.specs.Marks.{sameMark, repeated}
-use Rattle.statement_places.specs.Places.{handed, noteAt, outOfPlace, misplaced}
+use Rattle.row_notes.specs.RowNotes.{handed, noteAt}
+use Rattle.statement_places.specs.Places.{outOfPlace, misplaced}
 use Rattle.declaration_causes.specs.Causes.{outsideBlock, namesNumber, namedWithin, namedFrom, namesItself, sameNumber, declaredBefore, oneTooMany, declarationRefusal}
 use Rattle.source_check.specs.Refusal.{wronglyPlaced}
 use Rattle.language.specs.Program.{Finished, runTable}

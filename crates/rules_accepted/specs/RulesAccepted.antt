@@ -17,7 +17,8 @@ use Rattle.structure.specs.Refusal.{at, unless, _next_}
 use Rattle.words.specs.Search.{lowest, some, lowestRow, someField}
 use Rattle.list_items.specs.Items.{itemOf, earlierOf, earlierAt, someFrom, someEarlier}
 use Rattle.repeated_marks.specs.Marks.{sameMark, repeated}
-use Rattle.statement_places.specs.Places.{handed, noteAt, outOfPlace, misplaced}
+use Rattle.row_notes.specs.RowNotes.{handed, noteAt}
+use Rattle.statement_places.specs.Places.{outOfPlace, misplaced}
 use Rattle.words.specs.Declarations.{isDeclaration}
 use Rattle.declaration_causes.specs.Causes.{outsideBlock, namesItself, declaredBefore, oneTooMany, declarationRefusal}
 use Rattle.source_check.specs.Refusal.{wronglyPlaced, refusal}

@@ -17,30 +17,19 @@ use Rattle.words.specs.Links.{link}
 use Rattle.structure.specs.LinkLaws.{by-owner}
 use Rattle.structure.specs.Structured.{Leads, Tree}
 use Rattle.list_items.specs.ItemLaws.{item-noted, noted-item}
-use Rattle.statement_places.specs.NoteLaws.{noteAt-root, noteAt-link, switch-item-note}
-use Rattle.statement_places.specs.Places.{isLoop, isLoopOrSwitch, isMark, handed, noteAt, outOfPlace, misplaced}
+use Rattle.row_notes.specs.RowNotes.{noteAt}
+use Rattle.row_notes.specs.RowNoteLaws.{noteAt-root, noteAt-link}
+use Rattle.row_notes.specs.declared.Note.{Note}
+use Rattle.statement_places.specs.NoteLaws.{Around, loop-around, loop-or-switch-around, switch-item-note}
+use Rattle.statement_places.specs.Places.{isLoop, isLoopOrSwitch, isMark, inLoop, inLoopOrSwitch, outOfPlace, misplaced}
 use Rattle.declaration_causes.specs.DeclarationLaws.{inside-block, block-inside}
 use Rattle.source_check.specs.Refusal.{wronglyPlaced}
 use Rattle.source_check.specs.Legal.{Inside, part, along, Placed}
-use Rattle.statement_places.specs.declared.Note.{Note}
-use Rattle.statement_places.specs.declared.Note.the-variants.{InLoop, InLoopOrSwitch}
 
 module _ (rows : List ℤ) (t : Tree rows) where
   -- ---- inside a loop, inside a loop or switch
 
-  -- the rule of a note that tells what stands inside a row of such a kind
-  abbrev Around : Note → (ℕ → Bool) → Type 0
-  Around which kinds = (owner field own : ℕ) → handed which rows owner field own ≡ pick (eqb field 5) own (pick (kinds (numberAt rows owner 0)) 1 own)
-
-  loop-around : Around InLoop isLoop
-  unfolding handed
-  loop-around owner field own = refl
-
-  loop-or-switch-around : Around InLoopOrSwitch isLoopOrSwitch
-  unfolding handed
-  loop-or-switch-around owner field own = refl
-
-  module _ (which : Note) (kinds : ℕ → Bool) (rule : Around which kinds) where
+  module _ (which : Note) (kinds : ℕ → Bool) (rule : Around rows which kinds) where
     note-of : (row field : ℕ) → field < 6 → Leads rows row field → noteAt which rows (link rows row field) ≡ pick (eqb field 5) (noteAt which rows row) (pick (kinds (numberAt rows row 0)) 1 (noteAt which rows row))
     note-of row field h leads = noteAt-link rows t which row field h leads ∙ rule row field (noteAt which rows row)
 
@@ -72,8 +61,8 @@ module _ (rows : List ℤ) (t : Tree rows) where
   none-wrong-placed row n e =
       let well = neither (misplaced rows row) _ e in
       record {
-        break-inside = λ k. noted-inside InLoopOrSwitch isLoopOrSwitch loop-or-switch-around row n (rw k at (well .0));
-        continue-inside = λ k. noted-inside InLoop isLoop loop-around row n (rw k at (well .0));
+        break-inside = λ k. noted-inside inLoopOrSwitch isLoopOrSwitch (loop-or-switch-around rows) row n (rw k at (well .0));
+        continue-inside = λ k. noted-inside inLoop isLoop (loop-around rows) row n (rw k at (well .0));
         mark-inside = λ k. noted-item rows t 47 2 row n (rw (mark-other row k 50 refl, mark-other row k 51 refl, k, switch-item-note rows row) at (well .0));
         declaration-inside = inside-block rows t row n (well .1);
       }
@@ -85,9 +74,9 @@ module _ (rows : List ℤ) (t : Tree rows) where
   unfolding misplaced outOfPlace
   not-misplaced row p =
       by-cases (eqb (numberAt rows row 0) 50)
-      (λ k. rw (k, inside-noted InLoopOrSwitch isLoopOrSwitch loop-or-switch-around (p .break-inside (eqb-true _ _ k))))
+      (λ k. rw (k, inside-noted inLoopOrSwitch isLoopOrSwitch (loop-or-switch-around rows) (p .break-inside (eqb-true _ _ k))))
       (λ a. by-cases (eqb (numberAt rows row 0) 51)
-      (λ k. rw (a, k, inside-noted InLoop isLoop loop-around (p .continue-inside (eqb-true _ _ k))))
+      (λ k. rw (a, k, inside-noted inLoop isLoop (loop-around rows) (p .continue-inside (eqb-true _ _ k))))
       (λ b. by-cases (isMark (numberAt rows row 0))
       (λ k. rw (a, b, k, switch-item-note rows row, item-noted rows t 47 2 (omega arith) (p .mark-inside k)))
       (λ c. rw (a, b, c))))

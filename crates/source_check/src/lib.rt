@@ -23,8 +23,8 @@ ghost use Rattle.words.specs.declared.Form.the-variants.{Source};
 ghost use Rattle.source_check.specs.Refusal.{wronglyPlaced, laterRefusal, refusal};
 ghost use Rattle.source_check.specs.Lower.{lower as lowerOf};
 ghost use Rattle.statement_places.specs.Passes.{AllNotes};
-ghost use Rattle.statement_places.specs.Places.{noteAt};
-ghost use Rattle.statement_places.specs.declared.Note.the-variants.{InLoop, InLoopOrSwitch, SwitchItem};
+ghost use Rattle.row_notes.specs.RowNotes.{noteAt};
+ghost use Rattle.statement_places.specs.Places.{inLoop, inLoopOrSwitch, switchItem};
 ghost use Rattle.structure.specs.Passes.{Notes};
 ghost use Rattle.words.specs.Declarations.{declarationCount};
 ghost use Rattle.words.specs.Search.{lowestRow};
@@ -64,7 +64,7 @@ fn lowest_wrongly_placed(
     items: &[u16],
     declared: usize,
 ) -> Found
-    requires { ⌜ Tree (now rows) × (length (now rows) / 6 ≤ 2048) × Notes (now rows) (noteAt InLoop (now rows)) (now loops) × Notes (now rows) (noteAt InLoopOrSwitch (now rows)) (now breakable) × Notes (now rows) (noteAt SwitchItem (now rows)) (now items) × (now kinds ≡ grammar) × (declared ≡ declarationCount (now rows)) ⌝ }
+    requires { ⌜ Tree (now rows) × (length (now rows) / 6 ≤ 2048) × Notes (now rows) (noteAt inLoop (now rows)) (now loops) × Notes (now rows) (noteAt inLoopOrSwitch (now rows)) (now breakable) × Notes (now rows) (noteAt switchItem (now rows)) (now items) × (now kinds ≡ grammar) × (declared ≡ declarationCount (now rows)) ⌝ }
     ensures { λ r. ⌜ r ≡ lowestRow (now (rows .entry)) (wronglyPlaced (now (rows .entry))) ⌝ }
 {
     let misplaced = lowest_misplaced(rows, loops, breakable, items);

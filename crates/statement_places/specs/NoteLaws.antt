@@ -1,33 +1,33 @@
--- Laws of the notes: along the links each row hands its note on; the notes of switch items and of marks are those of list_items.
-use mathlib.Core.Path.{_≡_, refl, _∙_}
+-- Laws of the notes: those inside loops and switches, those of switch items and of marks.
+use mathlib.Core.Path.{_≡_, refl}
+use mathlib.Core.Bool.{Bool}
 use mathlib.Core.List.{List}
-use Prim.Native.Nat.{ℕ, _<_}
+use Prim.Native.Nat.{ℕ}
+use lib.Dec.{eqb}
 use lib.IntN.{ℤ}
-use Rattle.words.specs.Links.{link}
-use Rattle.structure.specs.NoteLaws.{note-root, note-link}
+use Rattle.words.specs.Word.{pick}
+use Rattle.words.specs.Table.{numberAt}
 use Rattle.structure.specs.Passes.{Notes}
-use Rattle.structure.specs.Structured.{Leads, Tree}
 use Rattle.list_items.specs.Items.{itemAt, earlierAt}
-use Rattle.statement_places.specs.Places.{markAt, handed, noteAt}
-use Rattle.statement_places.specs.declared.Note.{Note}
-use Rattle.statement_places.specs.declared.Note.the-variants.{SwitchItem, MarkBefore}
+use Rattle.row_notes.specs.RowNotes.{handed, noteAt}
+use Rattle.row_notes.specs.RowNoteLaws.{item-note, before-note, same-notes}
+use Rattle.row_notes.specs.declared.Note.{Note}
+use Rattle.statement_places.specs.Places.{isLoop, isLoopOrSwitch, markAt, inLoop, inLoopOrSwitch, switchItem, markBefore}
 
-pub noteAt-root : (which : Note) (rows : List ℤ) → noteAt which rows 0 ≡ 0
-unfolding noteAt
-noteAt-root which rows = note-root (handed which rows) 0 rows
+-- The rule of a note that tells what stands inside a row of such a kind.
+abbrev pub Around : List ℤ → Note → (ℕ → Bool) → Type 0
+Around rows which kinds = (owner field own : ℕ) → handed which rows owner field own ≡ pick (eqb field 5) own (pick (kinds (numberAt rows owner 0)) 1 own)
 
-pub noteAt-link : (rows : List ℤ) → Tree rows → (which : Note) (row field : ℕ) → field < 6 → Leads rows row field
-    → noteAt which rows (link rows row field) ≡ handed which rows row field (noteAt which rows row)
-unfolding noteAt
-noteAt-link rows t which row field h leads = note-link (handed which rows) 0 rows t row field h leads
+pub loop-around : (rows : List ℤ) → Around rows inLoop isLoop
+unfolding handed
+loop-around rows owner field own = refl
 
-pub switch-item-note : (rows : List ℤ) (row : ℕ) → noteAt SwitchItem rows row ≡ itemAt rows 47 2 row
-unfolding noteAt handed itemAt
-switch-item-note rows row = refl
+pub loop-or-switch-around : (rows : List ℤ) → Around rows inLoopOrSwitch isLoopOrSwitch
+unfolding handed
+loop-or-switch-around rows owner field own = refl
 
-mark-note : (rows : List ℤ) (row : ℕ) → noteAt MarkBefore rows row ≡ earlierAt (markAt rows) rows row
-unfolding noteAt handed earlierAt
-mark-note rows row = refl
+pub switch-item-note : (rows : List ℤ) (row : ℕ) → noteAt switchItem rows row ≡ itemAt rows 47 2 row
+switch-item-note rows row = item-note 47 2 rows row
 
-pub mark-notes : {rows : List ℤ} {before : List ℕ} → Notes rows (noteAt MarkBefore rows) before → Notes rows (earlierAt (markAt rows) rows) before
-mark-notes {rows} notes = record { room = notes .room; is = λ row n. notes .is row n ∙ mark-note rows row }
+pub mark-notes : {rows : List ℤ} {before : List ℕ} → Notes rows (noteAt markBefore rows) before → Notes rows (earlierAt (markAt rows) rows) before
+mark-notes {rows} notes = same-notes (before-note 48 49 rows) notes

@@ -6,8 +6,8 @@ use lib.IntN.{ℤ}
 use lib.ListN.{length, getD}
 use Rattle.words.specs.Table.{rowCount}
 use Rattle.structure.specs.Passes.{Notes}
-use Rattle.statement_places.specs.Places.{noteAt}
-use Rattle.statement_places.specs.declared.Note.the-variants.{InLoop, InLoopOrSwitch, SwitchItem, MarkBefore}
+use Rattle.row_notes.specs.RowNotes.{noteAt}
+use Rattle.statement_places.specs.Places.{inLoop, inLoopOrSwitch, switchItem, markBefore}
 
 -- The pass begins with room for every row's note; row 0 gets none.
 abbrev pub NoNotes : List ℤ → List ℕ → Type 0
@@ -15,7 +15,7 @@ NoNotes rows notes = (rowCount rows ≤ length notes) × (getD notes 0 0 ≡ 0)
 
 -- All four notes of every row.
 pub record AllNotes (rows : List ℤ) (loops breakable items before : List ℕ) : Type 0 where
-  pub in-loop : Notes rows (noteAt InLoop rows) loops
-  pub in-loop-or-switch : Notes rows (noteAt InLoopOrSwitch rows) breakable
-  pub switch-item : Notes rows (noteAt SwitchItem rows) items
-  pub mark-before : Notes rows (noteAt MarkBefore rows) before
+  pub in-loop : Notes rows (noteAt inLoop rows) loops
+  pub in-loop-or-switch : Notes rows (noteAt inLoopOrSwitch rows) breakable
+  pub switch-item : Notes rows (noteAt switchItem rows) items
+  pub mark-before : Notes rows (noteAt markBefore rows) before

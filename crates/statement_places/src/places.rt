@@ -8,8 +8,8 @@ ghost use lib.ListN.{length, getD};
 ghost use Rattle.words.specs.Table.{numberAt};
 ghost use Rattle.words.specs.Search.{lowestRow};
 ghost use Rattle.structure.specs.Passes.{Notes};
-ghost use Rattle.statement_places.specs.Places.{outOfPlace, misplaced, noteAt};
-ghost use Rattle.statement_places.specs.declared.Note.the-variants.{InLoop, InLoopOrSwitch, SwitchItem};
+ghost use Rattle.row_notes.specs.RowNotes.{noteAt};
+ghost use Rattle.statement_places.specs.Places.{inLoop, inLoopOrSwitch, switchItem, outOfPlace, misplaced};
 
 // A row of this kind, with its notes.
 fn is_out_of_place(kind: usize, looped: u16, breakable: u16, item: u16) -> bool
@@ -50,7 +50,7 @@ fn lowest_out_of_place(rows: &[i32], loops: &[u16], breakable: &[u16], items: &[
 
 // Cause 7: the same in the definition's words.
 pub fn lowest_misplaced(rows: &[i32], loops: &[u16], breakable: &[u16], items: &[u16]) -> Found
-    requires { ⌜ Notes (now rows) (noteAt InLoop (now rows)) (now loops) × Notes (now rows) (noteAt InLoopOrSwitch (now rows)) (now breakable) × Notes (now rows) (noteAt SwitchItem (now rows)) (now items) ⌝ }
+    requires { ⌜ Notes (now rows) (noteAt inLoop (now rows)) (now loops) × Notes (now rows) (noteAt inLoopOrSwitch (now rows)) (now breakable) × Notes (now rows) (noteAt switchItem (now rows)) (now items) ⌝ }
     ensures { λ r. ⌜ r ≡ lowestRow (now (rows .entry)) (misplaced (now (rows .entry))) ⌝ }
 {
     lowest_out_of_place(rows, loops, breakable, items)

@@ -4,11 +4,11 @@ use borrow.Author.Needs.{needs}
 use Rattle.declaration_check.proofs.lowest_declared_outside.Statement.{statement}
 use Rattle.declaration_check.proofs.lowest_declared_outside.Tie as tie
 
-slice-aggregate-write-notes : tie.Need-slice-aggregate-write-notes
-slice-aggregate-write-notes c = search needs
+slice-aggregate-write-block-items : tie.Need-slice-aggregate-write-block-items
+slice-aggregate-write-block-items c = search needs
 
-write-notes-requires : tie.Need-write-notes-requires
-write-notes-requires c κs = search needs
+write-block-items-requires : tie.Need-write-block-items-requires
+write-block-items-requires c κs = search needs
 
 slice-aggregate-lowest-breaking : tie.Need-slice-aggregate-lowest-breaking
 slice-aggregate-lowest-breaking c = search needs
@@ -26,8 +26,8 @@ pub lowest-declared-outside-spec : {M : Type 1} → statement M
 lowest-declared-outside-spec =
     tie.close
     (tie.spec
-    slice-aggregate-write-notes
-    write-notes-requires
+    slice-aggregate-write-block-items
+    write-block-items-requires
     slice-aggregate-lowest-breaking
     lowest-breaking-requires
     returns)

@@ -2,7 +2,7 @@
 use Prim.Native.Nat.{_<_}
 use native.Mathlib.Omega.{arith}
 use Rattle.declaration_causes.specs.Causes.{outsideBlock, namesItself, declaredBefore, oneTooMany}
-use Rattle.declaration_check.specs.Passes.{noteAt, breaks, lookedUp}
+use Rattle.declaration_check.specs.Passes.{breaks, lookedUp}
 use Rattle.declaration_check.specs.WalkLaws.{part-inside}
 use borrow.Author.Needs.{needs}
 use Rattle.declaration_check.proofs.breaks.declaration_breaks.Statement.{statement}
@@ -35,7 +35,7 @@ enum-told-3 : tie.Need-enum-told-3
 enum-told-3 c = search needs
 
 number-before-requires : tie.Need-number-before-requires
-unfolding lookedUp noteAt
+unfolding lookedUp
 number-before-requires c κs =
     let start = c .before .before .before in
     (start .pre .0, start .pre .1, rw (c .enum-told3 .given .1) at (start .pre .3))
@@ -53,7 +53,7 @@ wide-requires : tie.Need-wide-requires
 wide-requires c κs = search needs
 
 returns : tie.Need-returns
-unfolding breaks outsideBlock lookedUp noteAt
+unfolding breaks outsideBlock lookedUp
 returns c =
     let start = c .before .before .before .before in
     let is = rw (c .before .enum-told .given .1) at (start .pre .3 .is _ (start .pre .1)) in

@@ -1,52 +1,21 @@
 -- `write_notes` goes over the words in order. The invariant, for each of the four notes: those of row 0 and of the rows linked so far
 -- are written.
-use mathlib.Core.Path.{_≡_, refl, _∙_}
-use mathlib.Core.List.{List}
-use Prim.Native.Nat.{ℕ, _+_, _*_, _≤_, _<_, _-_}
+use Prim.Native.Nat.{_≤_, _-_}
 use native.Mathlib.Omega.{arith}
-use lib.IntN.{ℤ}
 use lib.ListN.{length}
-use borrow.Author.Needs.{needs}
-use Rattle.words.specs.Table.{rowCount}
-use Rattle.structure.specs.Structured.{Tree}
 use Rattle.words.specs.Links.{target}
-use Rattle.structure.specs.Passes.{written, Notes}
-use Rattle.structure.specs.NoteLaws.{Noted, noted-start}
-use Rattle.structure.specs.WrittenLaws.{written-length, written-noted, notes-written}
-use Rattle.statement_places.specs.Places.{handed, noteAt}
-use Rattle.statement_places.specs.Passes.{NoNotes}
-use Rattle.statement_places.specs.declared.Note.{Note}
-use Rattle.statement_places.specs.declared.Note.the-variants.{InLoop, InLoopOrSwitch, SwitchItem, MarkBefore}
+use Rattle.row_notes.specs.RowNoteLaws.{Noting, noting-begun, noting-on, noting-ended}
+use Rattle.statement_places.specs.Places.{inLoop, inLoopOrSwitch, switchItem, markBefore}
 use Rattle.statement_places.proofs.notes.write_notes.Statement.{statement}
 use Rattle.statement_places.proofs.notes.write_notes.Tie as tie
-
--- The notes of one sort after so many words; the array keeps its length.
-record Noting (which : Note) (rows : List ℤ) (start : List ℕ) (words : ℕ) (notes : List ℕ) : Type 0 where
-  same : length notes ≡ length start
-  noted : (t : Tree rows) → Noted (handed which rows) 0 rows t words notes
-
-module _ {which : Note} {rows : List ℤ} {start : List ℕ} where
-  begun : NoNotes rows start → Noting which rows start 0 start
-  begun none = record { same = refl; noted = λ t. noted-start _ _ _ t _ (none .0) (none .1) }
-
-  goes-on : {words : ℕ} {notes next : List ℕ} → words < length rows → Noting which rows start words notes → next ≡ written (handed which rows) rows words notes → Noting which rows start (words + 1) next
-  goes-on {words} {notes} h n e =
-      record {
-        same = rw e (written-length _ _ _ _ ∙ n .same);
-        noted = λ t. rw e (written-noted _ _ _ _ _ t (let whole = t .whole in omega arith) (n .noted t));
-      }
-
-  ended : {words : ℕ} {notes : List ℕ} → (t : Tree rows) → length rows ≤ words → Noting which rows start words notes → Notes rows (noteAt which rows) notes
-  unfolding noteAt
-  ended t h n = notes-written _ _ _ t _ _ (let whole = t .whole in omega arith) (n .noted t)
 
 abbrev Inv-loop : tie.InvT-loop
 Inv-loop kinds rows loops₀ breakable₀ items₀ before₀ word₀ word-end loops breakable items before word =
     (word ≤ length rows)
-    × Noting InLoop rows loops₀ word loops
-    × Noting InLoopOrSwitch rows breakable₀ word breakable
-    × Noting SwitchItem rows items₀ word items
-    × Noting MarkBefore rows before₀ word before
+    × Noting inLoop rows loops₀ word loops
+    × Noting inLoopOrSwitch rows breakable₀ word breakable
+    × Noting switchItem rows items₀ word items
+    × Noting markBefore rows before₀ word before
 
 abbrev μ-loop : tie.MeasureT-loop
 μ-loop kinds rows loops₀ breakable₀ items₀ before₀ word₀ word-end loops breakable items before word =
@@ -55,7 +24,7 @@ abbrev μ-loop : tie.MeasureT-loop
 loop-holds : tie.Need-loop-holds Inv-loop μ-loop
 loop-holds c =
     let none = c .before .before .before .before .pre in
-    (omega arith, begun (none .1), begun (none .2), begun (none .3), begun (none .4))
+    (omega arith, noting-begun (none .1 .0) (none .1 .1), noting-begun (none .2 .0) (none .2 .1), noting-begun (none .3 .0) (none .3 .1), noting-begun (none .4 .0) (none .4 .1))
 
 link-requires : tie.Need-link-requires Inv-loop μ-loop
 link-requires c κs =
@@ -105,10 +74,10 @@ loop-again : tie.Need-loop-again Inv-loop μ-loop
 loop-again c =
     let held = c .before .before .before .before .before .before .before .before .before .before .before .before .before .before .before .before .before .before .loop .inv in (
       omega arith,
-      goes-on (omega arith) (held .1) (c .before .before .before .before .before .before .before .before .before .before .before .before .before .before .write-note .ensures),
-      goes-on (omega arith) (held .2) (c .before .before .before .before .before .before .before .before .before .before .write-note2 .ensures),
-      goes-on (omega arith) (held .3) (c .before .before .before .before .before .before .write-note3 .ensures),
-      goes-on (omega arith) (held .4) (c .before .before .write-note4 .ensures),
+      noting-on (omega arith) (held .1) (c .before .before .before .before .before .before .before .before .before .before .before .before .before .before .write-note .ensures),
+      noting-on (omega arith) (held .2) (c .before .before .before .before .before .before .before .before .before .before .write-note2 .ensures),
+      noting-on (omega arith) (held .3) (c .before .before .before .before .before .before .write-note3 .ensures),
+      noting-on (omega arith) (held .4) (c .before .before .write-note4 .ensures),
     )
 
 same-length : tie.Need-same-length Inv-loop μ-loop
@@ -132,10 +101,10 @@ returns c =
     let t = c .before .before .before .before .before .before .pre .0 in
     let held = c .before .loop .inv in
     record {
-      in-loop = ended t (omega arith) (held .1);
-      in-loop-or-switch = ended t (omega arith) (held .2);
-      switch-item = ended t (omega arith) (held .3);
-      mark-before = ended t (omega arith) (held .4);
+      in-loop = noting-ended t (omega arith) (held .1);
+      in-loop-or-switch = noting-ended t (omega arith) (held .2);
+      switch-item = noting-ended t (omega arith) (held .3);
+      mark-before = noting-ended t (omega arith) (held .4);
     }
 
 pub write-notes-spec : {M : Type 1} → statement M

@@ -3,9 +3,9 @@ use Prim.Native.Nat.{_-_, _≤_}
 use native.Mathlib.Omega.{arith}
 use lib.ListN.{length}
 use Rattle.words.specs.Links.{target}
-use Rattle.declaration_check.specs.PassLaws.{Noting, noting-begun, noting-on, noting-ended}
-use Rattle.declaration_check.proofs.notes.write_notes.Statement.{statement}
-use Rattle.declaration_check.proofs.notes.write_notes.Tie as tie
+use Rattle.row_notes.specs.RowNoteLaws.{Noting, noting-begun, noting-on, noting-ended}
+use Rattle.row_notes.proofs.write_notes.Statement.{statement}
+use Rattle.row_notes.proofs.write_notes.Tie as tie
 
 abbrev Inv-loop : tie.InvT-loop
 Inv-loop which kinds rows notes₀ word₀ word-end notes word =

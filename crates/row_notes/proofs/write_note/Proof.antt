@@ -3,8 +3,8 @@ use native.Mathlib.Omega.{arith}
 use Rattle.words.specs.Links.{target}
 use Rattle.structure.specs.WrittenLaws.{linked-inside, written-none, written-link}
 use borrow.Author.Needs.{needs}
-use Rattle.statement_places.proofs.notes.write_note.Statement.{statement}
-use Rattle.statement_places.proofs.notes.write_note.Tie as tie
+use Rattle.row_notes.proofs.write_note.Statement.{statement}
+use Rattle.row_notes.proofs.write_note.Tie as tie
 
 mul-hand : tie.Need-mul-hand
 mul-hand c = search needs

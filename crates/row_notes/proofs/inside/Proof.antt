@@ -1,7 +1,7 @@
 -- `inside` makes its two tests in order.
 use borrow.Author.Tests.{eq-eqb, ne-eqb}
-use Rattle.statement_places.proofs.notes.inside.Statement.{statement}
-use Rattle.statement_places.proofs.notes.inside.Tie as tie
+use Rattle.row_notes.proofs.inside.Statement.{statement}
+use Rattle.row_notes.proofs.inside.Tie as tie
 
 returns : tie.Need-returns
 returns c =

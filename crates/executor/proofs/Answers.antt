@@ -328,19 +328,9 @@ ran-left r n s = by (flowOf r)
     by (Goto l) = refl
     by Halted = refl
 
-answered-left : (r : ℤ) (n : ℕ) (s : List ℤ) → leftOf (answered r n s) ≡ n
-answered-left r n s = by (operandOf r)
-  where
-    by : (o : Operand) → leftOf (operandRest o r n s) ≡ n
-    by (Value v) = refl
-    by Stopped = refl
-
 module _ (r : ℤ) (n : ℕ) (s : List ℤ) (k : ℕ) (t : List ℤ) where
   pub ran-least : (m : Computation Signal) → ran r n s ≡ spend m k t → n ≤ k
   ran-least m h = let l : n ≡ leftOf (spend m k t) = sym (ran-left r n s) ∙ ap leftOf h in omega (arith, left-never-rises m k t)
-
-  pub answered-least : (m : Computation ℤ) → answered r n s ≡ spend m k t → n ≤ k
-  answered-least m h = let l : n ≡ leftOf (spend m k t) = sym (answered-left r n s) ∙ ap leftOf h in omega (arith, left-never-rises m k t)
 
 -- the last part of a round, whose value was handed on
 pub round-ends : (decides : Bool) (v r : ℤ) → mag v < 2 ^ 31 → mag r < 2 ^ 63 → EndsRound decides (toZ w32 (ofZ w32 v)) r → (n : ℕ) (s : List ℤ)

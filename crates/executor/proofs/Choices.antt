@@ -39,12 +39,12 @@ use Rattle.operations.specs.declared.Position.{Position}
 use Rattle.operations.specs.declared.Position.the-variants.{At, Nowhere}
 use Rattle.operations.proofs.Decoding.{handed, handed-is, operand-word, placed-word, placed-position}
 use Rattle.operations.proofs.Enter.{onward-same, onward-onward, forks}
-use Rattle.operations.proofs.Operands.{goes, stops, chosen-true, chosen-false}
+use Rattle.operations.proofs.Operands.{answered-least, goes, stops, chosen-true, chosen-false}
 use Rattle.operations.proofs.Rows.{link}
 use Rattle.executor.specs.Flows.{ran}
 use Rattle.executor.specs.Arms.{guardAt, armsFrom, blockFrom, chosen, ReadyArms, Chooses}
 use Rattle.executor.specs.Rows.{performAt, execAt}
-use Rattle.executor.proofs.Answers.{flow-stops, ran-handed, answered-least}
+use Rattle.executor.proofs.Answers.{flow-stops, ran-handed}
 use Rattle.executor.proofs.Enter.{loop-round}
 use Rattle.executor.proofs.Rows.{known, table-row, optional}
 

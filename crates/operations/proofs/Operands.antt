@@ -3,7 +3,7 @@
 use mathlib.Core.Path.{_≡_, refl, sym, ap, _∙_}
 use mathlib.Core.Bool.{Bool, true, false, not}
 use mathlib.Core.List.{List}
-use Prim.Native.Nat.{ℕ, _+_, _*_, _-_, _^_, _<_}
+use Prim.Native.Nat.{ℕ, _+_, _*_, _^_, _<_, _≤_}
 use native.Mathlib.Omega.{arith}
 use lib.IntN.{ℤ, pos}
 use lib.ListN.{length}
@@ -11,16 +11,16 @@ use lib.Signed.{mag}
 use mir.Syntax.{w32}
 use mir.Val.{toZ, ofZ}
 use Rattle.words.specs.Word.{pick}
-use Rattle.words.specs.Table.{rowCount, numberAt}
+use Rattle.words.specs.Table.{numberAt}
 use Rattle.arithmetic.specs.Arithmetic.{Outcome, isTrue, bit, truth, apply, element}
 use Rattle.arithmetic.specs.Answers.{computed}
 use Rattle.words.specs.Laws.{back}
 use Rattle.arithmetic.specs.declared.Computed.{Computed}
 use Rattle.words.specs.declared.Operator.{Operator}
-use Rattle.computation.specs.Computation.{settle}
-use Rattle.computation.specs.Remaining.{Rest, gives, halts, onward, spend}
+use Rattle.computation.specs.Computation.{Computation, settle}
+use Rattle.computation.specs.Remaining.{Rest, gives, halts, onward, leftOf, spend, left-never-rises}
 use Rattle.language.specs.Sound.{Link, PlaceLink}
-use Rattle.operations.specs.Answers.{stopOf, operandOf, answered, positionOf, placed, Settles}
+use Rattle.operations.specs.Answers.{stopOf, operandOf, operandRest, answered, positionOf, placed, Settles}
 use Rattle.operations.specs.Bounds.{layoutFrom}
 use Rattle.operations.specs.Ready.{Setting, Ready, ReadyPlace, Entered}
 use Rattle.operations.specs.declared.Operand.{Operand}
@@ -91,6 +91,18 @@ operands-handed o left right h g n s = rw (back left h, back right g)
 pub settled-is : (r : ℤ) (c : Computed) (o : Outcome ℤ) → mag r < 2 ^ 63 → Settles r (computed c) → computed c ≡ o → (n : ℕ) (s : List ℤ) → answered (handed r) n s ≡ spend (settle o) n s
 settled-is r c o fits p e n s = handed-on r n s fits ∙ p n s ∙ ap (λ (x : Outcome ℤ). spend (settle x) n s) e
 
+-- ---- the steps left never rise
+
+answered-left : (r : ℤ) (n : ℕ) (s : List ℤ) → leftOf (answered r n s) ≡ n
+answered-left r n s = by (operandOf r)
+  where
+    by : (o : Operand) → leftOf (operandRest o r n s) ≡ n
+    by (Value v) = refl
+    by Halted = refl
+
+pub answered-least : (r : ℤ) (n : ℕ) (s : List ℤ) (k : ℕ) (t : List ℤ) (m : Computation ℤ) → answered r n s ≡ spend m k t → n ≤ k
+answered-least r n s k t m h = let l : n ≡ leftOf (spend m k t) = sym (answered-left r n s) ∙ ap leftOf h in omega (arith, left-never-rises m k t)
+
 -- ---- what a call down a link asks
 
 module _ {rows : List ℤ} {bounds : List ℕ} {words row : ℕ} (here : Ready rows bounds words row) where
@@ -104,10 +116,6 @@ module _ {rows : List ℤ} {bounds : List ℕ} {words row : ℕ} (here : Ready r
     module _ {l : ℕ} (e : l ≡ numberAt rows row field) where
       pub linked : {size : ℕ} → size ≡ words → Ready rows bounds size l
       linked q = record { setting = resize q; below = rw e (link .inside) }
-
-      -- the measure falls along a link
-      pub nearer : (a b : ℕ) → a < 4 → 4 * (rowCount rows - l) + a < 4 * (rowCount rows - row) + b
-      nearer a b h = omega (arith, link .later, link .inside)
 
   module _ {field : ℕ} (link : PlaceLink rows (layoutFrom bounds) words row field) {l : ℕ} (e : l ≡ numberAt rows row field) where
     pub linked-place : {size : ℕ} → size ≡ words → ReadyPlace rows bounds size l

@@ -7,7 +7,8 @@ use lib.IntN.{ℤ}
 use lib.ListN.{set, length-set}
 use Rattle.words.specs.Laws.{back}
 use Rattle.computation.specs.Remaining.{gives}
-use Rattle.operations.proofs.Operands.{goes, hands-up, found, lost, handed-value, link-asks, linked, nearer, linked-place}
+use Rattle.operations.specs.Rows.{valueAt}
+use Rattle.operations.proofs.Operands.{answered-least, goes, hands-up, found, lost, handed-value, link-asks, linked, linked-place}
 use Rattle.evaluator.proofs.Positions.{given-at, place-inside}
 use Rattle.operations.proofs.Rows.{assign-links, assign-row}
 use Rattle.evaluator.proofs.expressions.assign.Reads as reads
@@ -25,7 +26,7 @@ eval-requires t c κs =
     let start = c .before .before .before .before in
     let past-link-at = c .before .before .link-at in
     let here = start .pre .1 in
-    (omega (arith, nearer (here .ready) (assign-links here .1) (past-link-at .ensures) 3 1 (omega arith), start .pre .0), linked (here .ready) (assign-links here .1) (past-link-at .ensures) (refl))
+    (omega (arith, start .pre .0), linked (here .ready) (assign-links here .1) (past-link-at .ensures) (refl))
 
 pub operand-requires : (t : ℕ) → lts.Need-operand-requires (assign-claims t) (assign-at t) reads.Post
 operand-requires t c κs = search needs
@@ -58,10 +59,11 @@ link-at-requires-2 t c κs =
 pub place-requires : (t : ℕ) → lts.Need-place-requires (assign-claims t) (assign-at t) reads.Post
 place-requires t c κs =
     let start = c .before .before .before .before .before .before .before .before .before .before .before .before .before in
+    let past-link-at = c .before .before .before .before .before .before .before .before .before .before .before .link-at in
     let past-eval = c .before .before .before .before .before .before .before .before .eval in
     let past-link-at2 = c .before .before .link-at2 in
     let here = start .pre .1 in
-    (omega (arith, nearer (here .ready) ((assign-links here .0) .0) (past-link-at2 .ensures) 1 1 (omega arith), start .pre .0), linked-place (here .ready) (assign-links here .0) (past-link-at2 .ensures) (past-eval .kept .1 .1 .1 .0))
+    (omega (arith, start .pre .0, answered-least (past-eval .result) (past-eval .last .1 .1 .1 .1 .0) (past-eval .last .1 .1 .1 .0) (start .args .left .now) (start .args .store .now) (valueAt (start .args .rows .now) (start .args .bounds .now) (past-link-at .result)) (past-eval .ensures)), linked-place (here .ready) (assign-links here .0) (past-link-at2 .ensures) (past-eval .kept .1 .1 .1 .0))
 
 pub position-requires : (t : ℕ) → lts.Need-position-requires (assign-claims t) (assign-at t) reads.Post
 position-requires t c κs = search needs

@@ -1,8 +1,6 @@
--- Claims: the measures of the members, and what each of them is handed of the others. A row's measure is four times the rows from
--- it on, and less for a function that is called at the same row.
-use Prim.Native.Nat.{_+_, _*_, _-_}
-use Rattle.words.specs.Table.{rowCount}
-use Prim.Native.Nat.{ℕ, _<_}
+-- Claims: the measures of the members, and what each of them is handed of the others. The measure is six times the unspent budget, as
+-- that of statement runs, and a little more for a function that calls before a step is made.
+use Prim.Native.Nat.{ℕ, _+_, _*_, _<_}
 use borrow.Fn.Kinds.{In}
 use borrow.Fn.PlainCycle.{Measures, is, falls, and}
 use Rattle.evaluator.proofs.expressions.assign.Reads as assign
@@ -64,43 +62,43 @@ use Rattle.words.proofs.table.number_at.Reads as number-at-reads
 use Rattle.words.proofs.table.word_at.Reads as word-at-reads
 
 abbrev pub μ-assign : Measures 4 assign-kinds.ps ℕ
-μ-assign κs a = 4 * (rowCount (a .0 .now) - a .1 .1 .0) + 1
+μ-assign κs a = 6 * a .1 .1 .1 .1 .0 .now + 1
 
 abbrev pub μ-binary : Measures 4 binary-kinds.ps ℕ
-μ-binary κs a = 4 * (rowCount (a .0 .now) - a .1 .1 .0) + 1
+μ-binary κs a = 6 * a .1 .1 .1 .1 .1 .0 .now + 1
 
 abbrev pub μ-comma : Measures 4 comma-kinds.ps ℕ
-μ-comma κs a = 4 * (rowCount (a .0 .now) - a .1 .1 .0) + 1
+μ-comma κs a = 6 * a .1 .1 .1 .1 .0 .now + 1
 
 abbrev pub μ-compound : Measures 4 compound-kinds.ps ℕ
-μ-compound κs a = 4 * (rowCount (a .0 .now) - a .1 .1 .0) + 1
+μ-compound κs a = 6 * a .1 .1 .1 .1 .1 .0 .now + 1
 
 abbrev pub μ-compute : Measures 4 compute-kinds.ps ℕ
-μ-compute κs a = 4 * (rowCount (a .0 .now) - a .1 .1 .0) + 2
+μ-compute κs a = 6 * a .1 .1 .1 .1 .0 .now + 5
 
 abbrev pub μ-element : Measures 4 element-kinds.ps ℕ
-μ-element κs a = 4 * (rowCount (a .0 .now) - a .1 .1 .0) + 1
+μ-element κs a = 6 * a .1 .1 .1 .1 .0 .now + 2
 
 abbrev pub μ-eval : Measures 4 eval-kinds.ps ℕ
-μ-eval κs a = 4 * (rowCount (a .0 .now) - a .1 .1 .0) + 3
+μ-eval κs a = 6 * a .1 .1 .1 .1 .0 .now + 0
 
 abbrev pub μ-increment : Measures 4 increment-kinds.ps ℕ
-μ-increment κs a = 4 * (rowCount (a .0 .now) - a .1 .1 .0) + 1
+μ-increment κs a = 6 * a .1 .1 .1 .1 .1 .1 .0 .now + 1
 
 abbrev pub μ-locate : Measures 4 locate-kinds.ps ℕ
-μ-locate κs a = 4 * (rowCount (a .0 .now) - a .1 .1 .0) + 0
+μ-locate κs a = 6 * a .1 .1 .1 .1 .0 .now + 1
 
 abbrev pub μ-logical : Measures 4 logical-kinds.ps ℕ
-μ-logical κs a = 4 * (rowCount (a .0 .now) - a .1 .1 .0) + 1
+μ-logical κs a = 6 * a .1 .1 .1 .1 .1 .0 .now + 1
 
 abbrev pub μ-place : Measures 4 place-kinds.ps ℕ
-μ-place κs a = 4 * (rowCount (a .0 .now) - a .1 .1 .0) + 1
+μ-place κs a = 6 * a .1 .1 .1 .1 .0 .now + 0
 
 abbrev pub μ-ternary : Measures 4 ternary-kinds.ps ℕ
-μ-ternary κs a = 4 * (rowCount (a .0 .now) - a .1 .1 .0) + 1
+μ-ternary κs a = 6 * a .1 .1 .1 .1 .0 .now + 1
 
 abbrev pub μ-unary : Measures 4 unary-kinds.ps ℕ
-μ-unary κs a = 4 * (rowCount (a .0 .now) - a .1 .1 .0) + 1
+μ-unary κs a = 6 * a .1 .1 .1 .1 .1 .0 .now + 1
 
 abbrev pub assign-at : ℕ → In 4 assign-kinds.ps
 assign-at t = and 4 assign-kinds.ps (is 4 assign-kinds.ps μ-assign t) assign.Pre

@@ -3,7 +3,8 @@ use borrow.Author.Needs.{needs}
 use mathlib.Core.Path.{refl, sym, _∙_}
 use Prim.Native.Nat.{ℕ, _-_}
 use native.Mathlib.Omega.{arith}
-use Rattle.operations.proofs.Operands.{goes, hands-up, handed-on, link-asks, linked, nearer}
+use Rattle.operations.specs.Rows.{valueAt}
+use Rattle.operations.proofs.Operands.{answered-least, goes, hands-up, handed-on, link-asks, linked}
 use Rattle.operations.proofs.Rows.{comma-links, comma-row}
 use Rattle.evaluator.proofs.expressions.comma.Reads as reads
 use Rattle.evaluator.proofs.expressions.+assign+binary+comma+compound+compute+element+eval+increment+locate+logical+place+ternary+unary.Lts-comma as lts
@@ -20,7 +21,7 @@ eval-requires t c κs =
     let start = c .before .before .before .before in
     let past-link-at = c .before .before .link-at in
     let here = start .pre .1 in
-    (omega (arith, nearer (here .ready) (comma-links here .0) (past-link-at .ensures) 3 1 (omega arith), start .pre .0), linked (here .ready) (comma-links here .0) (past-link-at .ensures) (refl))
+    (omega (arith, start .pre .0), linked (here .ready) (comma-links here .0) (past-link-at .ensures) (refl))
 
 pub operand-requires : (t : ℕ) → lts.Need-operand-requires (comma-claims t) (comma-at t) reads.Post
 operand-requires t c κs = search needs
@@ -53,10 +54,11 @@ link-at-requires-2 t c κs =
 pub eval-requires-2 : (t : ℕ) → lts.Need-eval-requires-2 (comma-claims t) (comma-at t) reads.Post
 eval-requires-2 t c κs =
     let start = c .before .before .before .before .before .before .before .before .before .before .before .before in
+    let past-link-at = c .before .before .before .before .before .before .before .before .before .before .link-at in
     let past-eval = c .before .before .before .before .before .before .before .eval in
     let past-link-at2 = c .before .before .link-at2 in
     let here = start .pre .1 in
-    (omega (arith, nearer (here .ready) (comma-links here .1) (past-link-at2 .ensures) 3 1 (omega arith), start .pre .0), linked (here .ready) (comma-links here .1) (past-link-at2 .ensures) (past-eval .kept .1 .1 .1 .0))
+    (omega (arith, start .pre .0, answered-least (past-eval .result) (past-eval .last .1 .1 .1 .1 .0) (past-eval .last .1 .1 .1 .0) (start .args .left .now) (start .args .store .now) (valueAt (start .args .rows .now) (start .args .bounds .now) (past-link-at .result)) (past-eval .ensures)), linked (here .ready) (comma-links here .1) (past-link-at2 .ensures) (past-eval .kept .1 .1 .1 .0))
 
 pub same-length-2 : (t : ℕ) → lts.Need-same-length-2 (comma-claims t) (comma-at t) reads.Post
 same-length-2 t c = search needs

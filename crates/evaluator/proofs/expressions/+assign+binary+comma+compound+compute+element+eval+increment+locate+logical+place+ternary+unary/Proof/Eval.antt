@@ -68,7 +68,7 @@ pub compute-requires : (t : ℕ) → lts.Need-compute-requires (eval-claims t) (
 compute-requires t c κs =
     let start = c .before .before .before .before .before .before .before .before in
     let here = start .pre .1 in
-    (omega (arith, start .pre .0), here)
+    (omega (arith, start .pre .0, c .before .before .before .before .before .if1 .left), here)
 
 pub same-length-2 : (t : ℕ) → lts.Need-same-length-2 (eval-claims t) (eval-at t) reads.Post
 same-length-2 t c = search needs

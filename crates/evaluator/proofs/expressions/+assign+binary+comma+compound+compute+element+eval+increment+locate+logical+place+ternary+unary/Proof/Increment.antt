@@ -4,7 +4,7 @@ use mathlib.Core.Path.{refl, sym, _∙_}
 use Prim.Native.Nat.{ℕ, _-_}
 use native.Mathlib.Omega.{arith}
 use Rattle.language.specs.Meaning.{update}
-use Rattle.operations.proofs.Operands.{found, lost, handed-on, link-asks, nearer, linked-place}
+use Rattle.operations.proofs.Operands.{found, lost, handed-on, link-asks, linked-place}
 use Rattle.evaluator.proofs.Positions.{given-at, place-inside}
 use Rattle.operations.proofs.Rows.{increment-link, increment-row}
 use Rattle.evaluator.proofs.expressions.increment.Reads as reads
@@ -22,7 +22,7 @@ place-requires t c κs =
     let start = c .before .before .before .before in
     let past-link-at = c .before .before .link-at in
     let here = start .pre .1 in
-    (omega (arith, nearer (here .ready) ((increment-link (start .args .old) (start .args .operator) here) .0) (past-link-at .ensures) 1 1 (omega arith), start .pre .0), linked-place (here .ready) (increment-link (start .args .old) (start .args .operator) here) (past-link-at .ensures) (refl))
+    (omega (arith, start .pre .0), linked-place (here .ready) (increment-link (start .args .old) (start .args .operator) here) (past-link-at .ensures) (refl))
 
 pub position-requires : (t : ℕ) → lts.Need-position-requires (increment-claims t) (increment-at t) reads.Post
 position-requires t c κs = search needs

@@ -4,7 +4,7 @@ use mathlib.Core.Path.{refl, sym, _∙_}
 use Prim.Native.Nat.{ℕ, _-_}
 use native.Mathlib.Omega.{arith}
 use Rattle.evaluator.proofs.Bounds.{lies}
-use Rattle.operations.proofs.Operands.{goes, hands-placed, handed-on-placed, element-handed, link-asks, linked, nearer, array-asks, array-is}
+use Rattle.operations.proofs.Operands.{goes, hands-placed, handed-on-placed, element-handed, link-asks, linked, array-asks, array-is}
 use Rattle.operations.proofs.Rows.{element-index, locate-row}
 use Rattle.evaluator.proofs.expressions.locate.Reads as reads
 use Rattle.evaluator.proofs.expressions.+assign+binary+comma+compound+compute+element+eval+increment+locate+logical+place+ternary+unary.Lts-locate as lts
@@ -21,7 +21,7 @@ eval-requires t c κs =
     let start = c .before .before .before .before in
     let past-link-at = c .before .before .link-at in
     let here = start .pre .1 in
-    (omega (arith, nearer (here .ready) (element-index here) (past-link-at .ensures) 3 0 (omega arith), start .pre .0), linked (here .ready) (element-index here) (past-link-at .ensures) (refl))
+    (omega (arith, start .pre .0), linked (here .ready) (element-index here) (past-link-at .ensures) (refl))
 
 pub operand-requires : (t : ℕ) → lts.Need-operand-requires (locate-claims t) (locate-at t) reads.Post
 operand-requires t c κs = search needs

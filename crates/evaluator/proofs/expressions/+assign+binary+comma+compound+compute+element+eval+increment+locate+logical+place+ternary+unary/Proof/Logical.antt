@@ -10,7 +10,8 @@ use Rattle.arithmetic.specs.Arithmetic.{isTrue, bit}
 use Rattle.words.specs.Laws.{back}
 use Rattle.computation.specs.Remaining.{gives}
 use Rattle.operations.proofs.Decoding.{wide-fits, answered-wide}
-use Rattle.operations.proofs.Operands.{goes, hands-up, link-asks, linked, nearer, decided-left, decided-right, decided-bit, truth-is}
+use Rattle.operations.specs.Rows.{valueAt}
+use Rattle.operations.proofs.Operands.{answered-least, goes, hands-up, link-asks, linked, decided-left, decided-right, decided-bit, truth-is}
 use Rattle.operations.proofs.Rows.{logical-row, logical-links}
 use Rattle.evaluator.proofs.expressions.logical.Reads as reads
 use Rattle.evaluator.proofs.expressions.+assign+binary+comma+compound+compute+element+eval+increment+locate+logical+place+ternary+unary.Lts-logical as lts
@@ -27,7 +28,7 @@ eval-requires t c κs =
     let start = c .before .before .before .before in
     let past-link-at = c .before .before .link-at in
     let here = start .pre .1 in
-    (omega (arith, nearer (here .ready) (logical-links (start .args .decided) here .0) (past-link-at .ensures) 3 1 (omega arith), start .pre .0), linked (here .ready) (logical-links (start .args .decided) here .0) (past-link-at .ensures) (refl))
+    (omega (arith, start .pre .0), linked (here .ready) (logical-links (start .args .decided) here .0) (past-link-at .ensures) (refl))
 
 pub operand-requires : (t : ℕ) → lts.Need-operand-requires (logical-claims t) (logical-at t) reads.Post
 operand-requires t c κs = search needs
@@ -89,10 +90,11 @@ link-at-requires-2 t c κs =
 pub eval-requires-2 : (t : ℕ) → lts.Need-eval-requires-2 (logical-claims t) (logical-at t) reads.Post
 eval-requires-2 t c κs =
     let start = c .before .before .before .before .before .before .before .before .before .before .before .before .before .before .before in
+    let past-link-at = c .before .before .before .before .before .before .before .before .before .before .before .before .before .link-at in
     let past-eval = c .before .before .before .before .before .before .before .before .before .before .eval in
     let past-link-at2 = c .before .before .link-at2 in
     let here = start .pre .1 in
-    (omega (arith, nearer (here .ready) (logical-links (start .args .decided) here .1) (past-link-at2 .ensures) 3 1 (omega arith), start .pre .0), linked (here .ready) (logical-links (start .args .decided) here .1) (past-link-at2 .ensures) (past-eval .kept .1 .1 .1 .0))
+    (omega (arith, start .pre .0, answered-least (past-eval .result) (past-eval .last .1 .1 .1 .1 .0) (past-eval .last .1 .1 .1 .0) (start .args .left .now) (start .args .store .now) (valueAt (start .args .rows .now) (start .args .bounds .now) (past-link-at .result)) (past-eval .ensures)), linked (here .ready) (logical-links (start .args .decided) here .1) (past-link-at2 .ensures) (past-eval .kept .1 .1 .1 .0))
 
 pub operand-requires-2 : (t : ℕ) → lts.Need-operand-requires-2 (logical-claims t) (logical-at t) reads.Post
 operand-requires-2 t c κs = search needs

@@ -40,7 +40,7 @@ locate-requires t c κs =
     let past-number-at = c .before .before .before .number-at in
     let past-if2 = c .before .before .if2 in
     let here = start .pre .1 in
-    (omega (arith, start .pre .0), numbered (here .ready) (past-number-at .ensures) 3 (past-if2 .taken))
+    (omega (arith, start .pre .0, c .before .before .before .before .if1 .left), numbered (here .ready) (past-number-at .ensures) 3 (past-if2 .taken))
 
 pub same-length : (t : ℕ) → lts.Need-same-length (place-claims t) (place-at t) reads.Post
 same-length t c = search needs

@@ -5,7 +5,8 @@ use Prim.Native.Nat.{ℕ, _-_}
 use native.Mathlib.Omega.{arith}
 use Rattle.arithmetic.specs.Arithmetic.{isTrue}
 use Rattle.words.specs.Laws.{back}
-use Rattle.operations.proofs.Operands.{goes, hands-up, handed-on, link-asks, linked, nearer, chosen-true, chosen-false}
+use Rattle.operations.specs.Rows.{valueAt}
+use Rattle.operations.proofs.Operands.{answered-least, goes, hands-up, handed-on, link-asks, linked, chosen-true, chosen-false}
 use Rattle.operations.proofs.Rows.{ternary-links, ternary-row}
 use Rattle.evaluator.proofs.expressions.ternary.Reads as reads
 use Rattle.evaluator.proofs.expressions.+assign+binary+comma+compound+compute+element+eval+increment+locate+logical+place+ternary+unary.Lts-ternary as lts
@@ -22,7 +23,7 @@ eval-requires t c κs =
     let start = c .before .before .before .before in
     let past-link-at = c .before .before .link-at in
     let here = start .pre .1 in
-    (omega (arith, nearer (here .ready) (ternary-links here .0) (past-link-at .ensures) 3 1 (omega arith), start .pre .0), linked (here .ready) (ternary-links here .0) (past-link-at .ensures) (refl))
+    (omega (arith, start .pre .0), linked (here .ready) (ternary-links here .0) (past-link-at .ensures) (refl))
 
 pub operand-requires : (t : ℕ) → lts.Need-operand-requires (ternary-claims t) (ternary-at t) reads.Post
 operand-requires t c κs = search needs
@@ -58,10 +59,11 @@ link-at-requires-2 t c κs =
 pub eval-requires-2 : (t : ℕ) → lts.Need-eval-requires-2 (ternary-claims t) (ternary-at t) reads.Post
 eval-requires-2 t c κs =
     let start = c .before .before .before .before .before .before .before .before .before .before .before .before .before .before .before in
+    let past-link-at = c .before .before .before .before .before .before .before .before .before .before .before .before .before .link-at in
     let past-eval = c .before .before .before .before .before .before .before .before .before .before .eval in
     let past-link-at2 = c .before .before .link-at2 in
     let here = start .pre .1 in
-    (omega (arith, nearer (here .ready) (ternary-links here .1) (past-link-at2 .ensures) 3 1 (omega arith), start .pre .0), linked (here .ready) (ternary-links here .1) (past-link-at2 .ensures) (past-eval .kept .1 .1 .1 .0))
+    (omega (arith, start .pre .0, answered-least (past-eval .result) (past-eval .last .1 .1 .1 .1 .0) (past-eval .last .1 .1 .1 .0) (start .args .left .now) (start .args .store .now) (valueAt (start .args .rows .now) (start .args .bounds .now) (past-link-at .result)) (past-eval .ensures)), linked (here .ready) (ternary-links here .1) (past-link-at2 .ensures) (past-eval .kept .1 .1 .1 .0))
 
 pub same-length-2 : (t : ℕ) → lts.Need-same-length-2 (ternary-claims t) (ternary-at t) reads.Post
 same-length-2 t c = search needs
@@ -91,10 +93,11 @@ link-at-requires-3 t c κs =
 pub eval-requires-3 : (t : ℕ) → lts.Need-eval-requires-3 (ternary-claims t) (ternary-at t) reads.Post
 eval-requires-3 t c κs =
     let start = c .before .before .before .before .before .before .before .before .before .before .before .before .before .before .before in
+    let past-link-at = c .before .before .before .before .before .before .before .before .before .before .before .before .before .link-at in
     let past-eval = c .before .before .before .before .before .before .before .before .before .before .eval in
     let past-link-at3 = c .before .before .link-at3 in
     let here = start .pre .1 in
-    (omega (arith, nearer (here .ready) (ternary-links here .2) (past-link-at3 .ensures) 3 1 (omega arith), start .pre .0), linked (here .ready) (ternary-links here .2) (past-link-at3 .ensures) (past-eval .kept .1 .1 .1 .0))
+    (omega (arith, start .pre .0, answered-least (past-eval .result) (past-eval .last .1 .1 .1 .1 .0) (past-eval .last .1 .1 .1 .0) (start .args .left .now) (start .args .store .now) (valueAt (start .args .rows .now) (start .args .bounds .now) (past-link-at .result)) (past-eval .ensures)), linked (here .ready) (ternary-links here .2) (past-link-at3 .ensures) (past-eval .kept .1 .1 .1 .0))
 
 pub same-length-3 : (t : ℕ) → lts.Need-same-length-3 (ternary-claims t) (ternary-at t) reads.Post
 same-length-3 t c = search needs

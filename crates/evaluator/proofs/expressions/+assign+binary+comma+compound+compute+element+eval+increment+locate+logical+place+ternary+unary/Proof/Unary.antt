@@ -8,7 +8,7 @@ use Rattle.arithmetic.specs.Arithmetic.{logicalNot, minus as minusWord}
 use Rattle.words.specs.Laws.{back}
 use Rattle.computation.specs.Remaining.{gives}
 use Rattle.operations.proofs.Decoding.{wide-fits, answered-wide}
-use Rattle.operations.proofs.Operands.{goes, hands-up, settled-is, link-asks, linked, nearer, chosen-true, chosen-false}
+use Rattle.operations.proofs.Operands.{goes, hands-up, settled-is, link-asks, linked, chosen-true, chosen-false}
 use Rattle.operations.proofs.Rows.{unary-link, unary-row}
 use Rattle.evaluator.proofs.expressions.unary.Reads as reads
 use Rattle.evaluator.proofs.expressions.+assign+binary+comma+compound+compute+element+eval+increment+locate+logical+place+ternary+unary.Lts-unary as lts
@@ -25,7 +25,7 @@ eval-requires t c κs =
     let start = c .before .before .before .before in
     let past-link-at = c .before .before .link-at in
     let here = start .pre .1 in
-    (omega (arith, nearer (here .ready) (unary-link (start .args .truth) here) (past-link-at .ensures) 3 1 (omega arith), start .pre .0), linked (here .ready) (unary-link (start .args .truth) here) (past-link-at .ensures) (refl))
+    (omega (arith, start .pre .0), linked (here .ready) (unary-link (start .args .truth) here) (past-link-at .ensures) (refl))
 
 pub operand-requires : (t : ℕ) → lts.Need-operand-requires (unary-claims t) (unary-at t) reads.Post
 operand-requires t c κs = search needs

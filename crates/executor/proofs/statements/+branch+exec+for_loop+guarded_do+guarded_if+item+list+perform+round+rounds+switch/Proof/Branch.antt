@@ -6,8 +6,8 @@ use native.Mathlib.Omega.{arith}
 use Rattle.arithmetic.specs.Arithmetic.{isTrue}
 use Rattle.words.specs.Laws.{back}
 use Rattle.operations.specs.Rows.{valueAt}
-use Rattle.operations.proofs.Operands.{goes, link-asks, linked, chosen-true, chosen-false}
-use Rattle.executor.proofs.Answers.{ran-next, ran-handed, hands-flow, answered-least}
+use Rattle.operations.proofs.Operands.{answered-least, goes, link-asks, linked, chosen-true, chosen-false}
+use Rattle.executor.proofs.Answers.{ran-next, ran-handed, hands-flow}
 use Rattle.executor.proofs.Rows.{if-links, optional-asks, optional, otherwise-none, otherwise-some, if-row}
 use Rattle.executor.proofs.statements.branch.Reads as reads
 use Rattle.executor.proofs.statements.+branch+exec+for_loop+guarded_do+guarded_if+item+list+perform+round+rounds+switch.Lts-branch as lts

@@ -4,9 +4,9 @@ use mathlib.Core.Path.{refl, sym, _∙_}
 use Prim.Native.Nat.{ℕ}
 use native.Mathlib.Omega.{arith}
 use lib.IntN.{pos}
-use Rattle.operations.proofs.Operands.{goes, link-asks, linked}
+use Rattle.operations.proofs.Operands.{answered-least, goes, link-asks, linked}
 use Rattle.executor.specs.Rows.{partOr}
-use Rattle.executor.proofs.Answers.{ran-handed, hands-flow, answered-least}
+use Rattle.executor.proofs.Answers.{ran-handed, hands-flow}
 use Rattle.executor.proofs.Rows.{optional-asks, optional, for-links, for-row}
 use Rattle.executor.proofs.statements.for_loop.Reads as reads
 use Rattle.executor.proofs.statements.+branch+exec+for_loop+guarded_do+guarded_if+item+list+perform+round+rounds+switch.Lts-for_loop as lts

@@ -10,9 +10,9 @@ use Rattle.words.specs.Laws.{back}
 use Rattle.computation.specs.Remaining.{spend}
 use Rattle.language.specs.Decode.{partAt}
 use Rattle.operations.specs.Bounds.{layoutFrom}
-use Rattle.operations.proofs.Operands.{goes, chosen-true, chosen-false}
+use Rattle.operations.proofs.Operands.{answered-least, goes, chosen-true, chosen-false}
 use Rattle.executor.specs.Rows.{closing, partOr, performAt}
-use Rattle.executor.proofs.Answers.{turned-last, hands-turn, not-continue, body-turns, goes-on, ends-round, answered-least, round-ends}
+use Rattle.executor.proofs.Answers.{turned-last, hands-turn, not-continue, body-turns, goes-on, ends-round, round-ends}
 use Rattle.executor.proofs.Enter.{closing-is, round-is}
 use Rattle.executor.proofs.Rows.{table-row}
 use Rattle.executor.proofs.statements.round.Reads as reads

@@ -11,9 +11,9 @@ use Rattle.language.specs.Decode.{listAt}
 use Rattle.language.specs.Meaning.{next, items}
 use Rattle.operations.specs.Bounds.{layoutFrom}
 use Rattle.operations.specs.Rows.{valueAt}
-use Rattle.operations.proofs.Operands.{goes, link-asks, linked}
+use Rattle.operations.proofs.Operands.{answered-least, goes, link-asks, linked}
 use Rattle.executor.specs.Lists.{startOf}
-use Rattle.executor.proofs.Answers.{ran-handed, hands-flow, switch-turns, answered-least}
+use Rattle.executor.proofs.Answers.{ran-handed, hands-flow, switch-turns}
 use Rattle.executor.proofs.Rows.{switch-links, in-table, table-row, optional-asks, optional, switch-row}
 use Rattle.executor.proofs.statements.switch.Reads as reads
 use Rattle.executor.proofs.statements.+branch+exec+for_loop+guarded_do+guarded_if+item+list+perform+round+rounds+switch.Lts-switch as lts

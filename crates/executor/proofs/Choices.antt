@@ -1,9 +1,9 @@
 -- Choices: the arms of a guarded statement by the rows that hold them, told by the steps left: the arm at a row, the rounds of a guarded do, and
 -- what follows the block that an answer names.
 use mathlib.Core.Path.{_≡_, refl, sym, ap, _∙_}
-use mathlib.Core.Bool.{true, false}
+use mathlib.Core.Bool.{Bool, true, false}
 use mathlib.Core.List.{List}
-use Prim.Native.Nat.{ℕ, zero, suc, _*_, _^_, _≤_, _<_}
+use Prim.Native.Nat.{ℕ, zero, suc, _*_, _-_, _^_, _≤_, _<_}
 use native.Mathlib.Omega.{arith}
 use lib.IntN.{ℤ, pos}
 use lib.ListN.{length}
@@ -37,15 +37,15 @@ use Rattle.operations.specs.declared.Operand.{Operand}
 use Rattle.operations.specs.declared.Operand.the-variants.{Value, Halted}
 use Rattle.operations.specs.declared.Position.{Position}
 use Rattle.operations.specs.declared.Position.the-variants.{At, Nowhere}
-use Rattle.operations.proofs.Decoding.{handed, handed-is, operand-word, placed-word, placed-position}
-use Rattle.operations.proofs.Enter.{onward-same, onward-onward, forks}
+use Rattle.operations.proofs.Decoding.{handed, handed-is, operand-word, operand-other, placed-word, placed-position, placed-spent}
+use Rattle.operations.proofs.Enter.{entered, not-entered, onward-same, onward-onward, forks}
 use Rattle.operations.proofs.Operands.{answered-least, goes, stops, chosen-true, chosen-false}
 use Rattle.operations.proofs.Rows.{link}
-use Rattle.executor.specs.Flows.{ran}
+use Rattle.flows.specs.Flows.{ran}
 use Rattle.executor.specs.Arms.{guardAt, armsFrom, blockFrom, chosen, ReadyArms, Chooses}
 use Rattle.executor.specs.Rows.{performAt, execAt}
-use Rattle.executor.proofs.Answers.{flow-stops, ran-handed}
-use Rattle.executor.proofs.Enter.{loop-round}
+use Rattle.flows.proofs.Answers.{flow-stops, ran-handed, rounded}
+use Rattle.executor.proofs.Loops.{loop-round}
 use Rattle.executor.proofs.Rows.{known, table-row, optional}
 
 -- ---- the arm at a row
@@ -136,6 +136,19 @@ module _ {rows : List ℤ} {bounds : List ℕ} {words first n : ℕ} {s : List �
     tried : spend (armsFrom rows bounds first) n s ≡ onward (spend (guardAt rows bounds at) left store) after-guard
     tried = trying .runs ∙ ap (λ (arms : Arms). spend (choose (layoutFrom bounds) arms) left store) (arm-list rows at z) ∙ arm-row arm-here left store
 
+    -- no step is left for the arm's row
+    pub chooses-spent : left ≡ 0 → Chooses rows bounds first n s (pos 2147483648) left store
+    chooses-spent e = record {
+      runs = ap (λ (r : Rest ℕ). onward r (λ block n s. spend (blockFrom rows bounds block) n s)) (placed-spent left store) ∙ sym (tried ∙ ap (λ (r : Rest ℤ). onward r after-guard) (not-entered (valueAt rows bounds (numberAt rows at 1)) store left e));
+      steps = trying .steps;
+      below = λ block g. absurd (let w : positionOf Halted ≡ At block = rw (operand-other (pos 2147483648) (omega arith)) at g in let v : _≡_ {A = ℕ} 0 1 = cc in omega arith);
+    }
+
+    -- the guard's answer, behind the step for the arm's row
+    pub guard-answered : (left ≡ 0 → ⊥) → (r : ℤ) (k : ℕ) (t : List ℤ) {l : ℕ} → l ≡ numberAt rows at 1 → answered r k t ≡ spend (valueAt rows bounds l) (left - 1) store
+        → answered r k t ≡ spend (guardAt rows bounds at) left store
+    guard-answered z r k t p h = h ∙ ap (λ (l : ℕ). spend (valueAt rows bounds l) (left - 1) store) p ∙ sym (entered (valueAt rows bounds (numberAt rows at 1)) store left z)
+
     -- the guard's answer
     module _ (r : ℤ) (k : ℕ) (t : List ℤ) (fits : mag r < 2 ^ 63) (h : answered r k t ≡ spend (guardAt rows bounds at) left store) (o : Operand) (e : o ≡ operandOf (handed r)) where
       fewer : k ≤ n
@@ -192,6 +205,53 @@ unfolding choose choiceRounds
 choice-round L noArm n s = no-round n s
 choice-round L (arm guard body arms) n s = round-of (tryArm (value L guard) (enter (perform L body)) (choose L arms)) n s
 
+-- what follows the arms of a guarded if
+choice-fails : (n : ℕ) (s : List ℤ) → spend (afterChoice noneTrue) n s ≡ halts (fault Guard) n s
+unfolding spend
+choice-fails n s = refl
+
+choice-ends : (m : Rest Signal) → onward m (λ signal n s. spend (afterChoice (ranWith signal)) n s) ≡ m
+unfolding spend
+choice-ends (gives signal n s) = refl
+choice-ends (halts why n s) = refl
+
+-- ---- what is left of a guarded statement, with its arms from `first` on; a do repeats
+
+abbrev pub guardedRest : Bool → List ℤ → List ℕ → ℕ → ℕ → List ℤ → Rest Signal
+guardedRest repeats rows bounds first n s =
+    pick repeats (spend (choiceRounds (layoutFrom bounds) (armListAt rows first)) n s) (onward (spend (armsFrom rows bounds first) n s) (λ choice n s. spend (afterChoice choice) n s))
+
+-- what follows its arms
+abbrev pub guardedAfter : Bool → List ℤ → List ℕ → ℕ → Choice → ℕ → List ℤ → Rest Signal
+guardedAfter repeats rows bounds first choice n s =
+    pick repeats (rounded (spend (choiceRounds (layoutFrom bounds) (armListAt rows first))) choice n s) (spend (afterChoice choice) n s)
+
+pub guarded-turn : (repeats : Bool) (rows : List ℤ) (bounds : List ℕ) (first n : ℕ) (s : List ℤ)
+    → guardedRest repeats rows bounds first n s ≡ onward (spend (armsFrom rows bounds first) n s) (guardedAfter repeats rows bounds first)
+guarded-turn true rows bounds first n s = choice-round (layoutFrom bounds) (armListAt rows first) n s
+guarded-turn false rows bounds first n s = refl
+
+module _ (repeats : Bool) (rows : List ℤ) (bounds : List ℕ) (first : ℕ) where
+  module _ (e : repeats ≡ true) where
+    -- no guard is true
+    pub guarded-ends : (n : ℕ) (s : List ℤ) → guardedAfter repeats rows bounds first noneTrue n s ≡ gives next n s
+    guarded-ends n s = rw e
+
+    -- a block ran
+    pub guarded-again : (m : Rest Signal) → onward m (λ signal n s. guardedAfter repeats rows bounds first (ranWith signal) n s)
+        ≡ onward m (λ signal n s. rounded (spend (choiceRounds (layoutFrom bounds) (armListAt rows first))) (ranWith signal) n s)
+    guarded-again m = rw e
+
+    pub guarded-rounds : (n : ℕ) (s : List ℤ) → spend (choiceRounds (layoutFrom bounds) (armListAt rows first)) n s ≡ guardedRest repeats rows bounds first n s
+    guarded-rounds n s = rw e
+
+  module _ (e : repeats ≡ false) where
+    pub guarded-fails : (n : ℕ) (s : List ℤ) → guardedAfter repeats rows bounds first noneTrue n s ≡ halts (fault Guard) n s
+    guarded-fails n s = rw e (choice-fails n s)
+
+    pub guarded-once : (m : Rest Signal) → onward m (λ signal n s. guardedAfter repeats rows bounds first (ranWith signal) n s) ≡ m
+    guarded-once m = rw e (choice-ends m)
+
 -- ---- rows of guarded statements
 
 module _ {rows : List ℤ} {bounds : List ℕ} {words row : ℕ} where
@@ -199,25 +259,35 @@ module _ {rows : List ℤ} {bounds : List ℕ} {words row : ℕ} where
     abbrev whole : length rows ≡ 6 * rowCount rows
     whole = here .ready .setting .sound .whole
 
-  pub guarded-if-link : Entered rows bounds words row (OfStatement GuardedIf) → ArmLink rows (layoutFrom bounds) words row 1
+  guarded-if-link : Entered rows bounds words row (OfStatement GuardedIf) → ArmLink rows (layoutFrom bounds) words row 1
   unfolding sortIn kindRow statementFields
   guarded-if-link here = arm-link-of (here .ready .setting .sound) (here .ready .below) (here .kind-is) 1 (omega arith) (omega arith) refl
 
-  pub guarded-do-link : Entered rows bounds words row (OfStatement GuardedDo) → ArmLink rows (layoutFrom bounds) words row 1
+  guarded-do-link : Entered rows bounds words row (OfStatement GuardedDo) → ArmLink rows (layoutFrom bounds) words row 1
   unfolding sortIn kindRow statementFields
   guarded-do-link here = arm-link-of (here .ready .setting .sound) (here .ready .below) (here .kind-is) 1 (omega arith) (omega arith) refl
 
-  pub guarded-if-row : Entered rows bounds words row (OfStatement GuardedIf) → {a : ℕ} → a ≡ numberAt rows row 1 → (n : ℕ) (s : List ℤ)
+  guarded-if-row : Entered rows bounds words row (OfStatement GuardedIf) → {a : ℕ} → a ≡ numberAt rows row 1 → (n : ℕ) (s : List ℤ)
       → spend (performAt rows bounds row) n s ≡ onward (spend (armsFrom rows bounds a) n s) (λ choice n s. spend (afterChoice choice) n s)
   unfolding spend perform
   guarded-if-row here p n s =
       known rows bounds row _ n s (at-guardedIf rows (whole here) row (here .kind-is) (λ h. guarded-if-link here h .0 .later) ∙ ap (λ (k : ℕ). guardedIf (armListAt rows k)) (sym p))
 
-  pub guarded-do-row : Entered rows bounds words row (OfStatement GuardedDo) → {a : ℕ} → a ≡ numberAt rows row 1 → (n : ℕ) (s : List ℤ)
+  guarded-do-row : Entered rows bounds words row (OfStatement GuardedDo) → {a : ℕ} → a ≡ numberAt rows row 1 → (n : ℕ) (s : List ℤ)
       → spend (performAt rows bounds row) n s ≡ spend (choiceRounds (layoutFrom bounds) (armListAt rows a)) n s
   unfolding perform
   guarded-do-row here p n s =
       known rows bounds row _ n s (at-guardedDo rows (whole here) row (here .kind-is) (λ h. guarded-do-link here h .0 .later) ∙ ap (λ (k : ℕ). guardedDo (armListAt rows k)) (sym p))
+
+  -- both: what is left of a guarded statement, a do where it repeats, with its arms from `first` on
+  pub guarded-link : (repeats : Bool) → Entered rows bounds words row (OfStatement (pick repeats GuardedDo GuardedIf)) → ArmLink rows (layoutFrom bounds) words row 1
+  guarded-link true here = guarded-do-link here
+  guarded-link false here = guarded-if-link here
+
+  pub guarded-row : (repeats : Bool) → Entered rows bounds words row (OfStatement (pick repeats GuardedDo GuardedIf)) → {a : ℕ} → a ≡ numberAt rows row 1 → (n : ℕ) (s : List ℤ)
+      → spend (performAt rows bounds row) n s ≡ guardedRest repeats rows bounds a n s
+  guarded-row true here p n s = guarded-do-row here p n s
+  guarded-row false here p n s = guarded-if-row here p n s
 
   pub abort-row : Entered rows bounds words row (OfStatement Abort) → (n : ℕ) (s : List ℤ) → spend (performAt rows bounds row) n s ≡ halts (fault Guard) n s
   unfolding spend perform
@@ -252,13 +322,3 @@ module _ {rows : List ℤ} {bounds : List ℕ} {first n : ℕ} {s : List ℤ} (r
         let here : chosen rows bounds r k t ≡ onward (spend (execAt rows bounds block) k t) (λ signal n s. gives (ranWith signal) n s) = rw (position-says, q) (block-there rows bounds block z k t) in
         ap (λ (x : Rest Choice). onward x f) (sym (choice .runs) ∙ here)
         ∙ sym (onward-onward (spend (execAt rows bounds block) k t) (λ signal n s. gives (ranWith signal) n s) f)
-
--- what follows the arms of a guarded if
-pub choice-fails : (n : ℕ) (s : List ℤ) → spend (afterChoice noneTrue) n s ≡ halts (fault Guard) n s
-unfolding spend
-choice-fails n s = refl
-
-pub choice-ends : (m : Rest Signal) → onward m (λ signal n s. spend (afterChoice (ranWith signal)) n s) ≡ m
-unfolding spend
-choice-ends (gives signal n s) = refl
-choice-ends (halts why n s) = refl

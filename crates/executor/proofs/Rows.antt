@@ -29,9 +29,9 @@ use Rattle.operations.specs.Ready.{Ready, Entered}
 use Rattle.operations.specs.Rows.{valueAt}
 use Rattle.operations.proofs.Enter.{onward-same, forks}
 use Rattle.operations.proofs.Rows.{link}
-use Rattle.executor.specs.Lists.{startOf, InTable}
+use Rattle.flows.specs.Lists.{startOf, InTable}
 use Rattle.executor.specs.Rows.{valueOr, roundOf, partOr, performAt, execAt, itemsFrom, roundsAt}
-use Rattle.executor.proofs.Enter.{switch-starts}
+use Rattle.flows.proofs.Enter.{switch-starts}
 
 -- the tree at the row is known
 pub known : (rows : List ℤ) (bounds : List ℕ) (row : ℕ) (t : Statement) (n : ℕ) (s : List ℤ) → statementAt rows row ≡ t

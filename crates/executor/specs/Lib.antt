@@ -1,10 +1,6 @@
--- What statement runs and list runs answer and ask. A line of comment for each file.
+-- What evaluations, statement runs and list runs answer and ask. A line of comment for each file.
 
 -- ---- definitions
--- Flows: what a statement's answer says of a run.
-pub mod Flows
--- Lists: where a list goes on.
-pub mod Lists
 -- Rows: what is done at a row, and what the code asks for it.
 pub mod Rows
 -- Arms: what the arms of a guarded statement come to.

@@ -23,7 +23,7 @@ use Rattle.arithmetic.specs.declared.Located.{Located}
 use Rattle.arithmetic.specs.declared.Located.the-variants.{At as LiesAt, Outside}
 use Rattle.row_fields.specs.Fields.{boundsIn}
 use Rattle.operations.specs.Bounds.{layoutFrom}
-use Rattle.evaluator.proofs.Bounds.{Lies, lies-in}
+use Rattle.operations.proofs.Bounds.{Lies, lies-in}
 use Rattle.flat.specs.Lines.{operate, fetch, does, valueOf, stored, onward, nextOf}
 use Rattle.flat.specs.Words.{targetOf, Parts, parts, lineOf, lineCount, fieldAt, operationAt, kindOf, leftConstant, rightConstant, operandOf, partsAt, lineAt}
 use Rattle.flat.specs.Legal.{NamesVariable, NamesArray, WithinOperand, Within}

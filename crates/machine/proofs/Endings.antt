@@ -22,11 +22,11 @@ use Rattle.operations.specs.Answers.{beyond, stopOf, operandOf}
 use Rattle.operations.specs.declared.Operand.{Operand}
 use Rattle.operations.specs.declared.Operand.the-variants.{Value, Halted as Stopped}
 use Rattle.operations.proofs.Decoding.{handed, handed-is}
-use Rattle.executor.specs.Flows.{passingOf, flowRest, ran}
+use Rattle.flows.specs.Flows.{passingOf, flowRest, ran}
 use Rattle.machine.specs.Whole.{endingOfStop, endingOfAnswer}
-use Rattle.executor.specs.declared.Flow.{Flow}
-use Rattle.executor.specs.declared.Flow.the-variants.{Next, Break, Continue, Goto, Halted}
-use Rattle.executor.proofs.Answers.{flow-stops, flow-passes}
+use Rattle.flows.specs.declared.Flow.{Flow}
+use Rattle.flows.specs.declared.Flow.the-variants.{Next, Break, Continue, Goto, Halted}
+use Rattle.flows.proofs.Answers.{flow-stops, flow-passes}
 
 -- an answer that is no word, and not that of a spent run, is a fault's
 unspent : (z : ℤ) → (z ≡ pos 2147483648 → ⊥) → stopOf z ≡ fault (faultNumbered (beyond z))

@@ -1,5 +1,5 @@
 // The run of a program.
-use executor::statements::exec;
+use executor::cycle::exec;
 use operations::Operand;
 use operations::SPENT;
 use operations::answers::beyond;
@@ -19,7 +19,7 @@ ghost use Rattle.words.specs.Layout.{sum};
 ghost use Rattle.computation.specs.Remaining.{spend};
 ghost use Rattle.language.specs.Program.{runTable};
 ghost use Rattle.operations.specs.Bounds.{boundsFrom};
-ghost use Rattle.executor.specs.Flows.{ran};
+ghost use Rattle.flows.specs.Flows.{ran};
 ghost use Rattle.machine.specs.Whole.{endingOfAnswer, finishedOf, wholeAt, Runnable, Startable};
 
 // The bounds of the arrays: where each begins, and where the last one ends.

@@ -8,3 +8,7 @@ pub mod Enter
 pub mod Rows
 -- Operands: what a call's answer says of the run that asked for it, and what a call asks.
 pub mod Operands
+-- Bounds: where an array lies, read off the list.
+pub mod Bounds
+-- Positions that a place's answer gives lie in the store.
+pub mod Positions

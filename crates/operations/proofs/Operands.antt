@@ -6,13 +6,13 @@ use mathlib.Core.List.{List}
 use Prim.Native.Nat.{ℕ, _+_, _*_, _^_, _<_, _≤_}
 use native.Mathlib.Omega.{arith}
 use lib.IntN.{ℤ, pos}
-use lib.ListN.{length}
+use lib.ListN.{length, getD}
 use lib.Signed.{mag}
 use mir.Syntax.{w32}
 use mir.Val.{toZ, ofZ}
 use Rattle.words.specs.Word.{pick}
 use Rattle.words.specs.Table.{numberAt}
-use Rattle.arithmetic.specs.Arithmetic.{Outcome, isTrue, bit, truth, apply, element}
+use Rattle.arithmetic.specs.Arithmetic.{Outcome, isTrue, bit, truth, logicalNot, apply, minus, element}
 use Rattle.arithmetic.specs.Answers.{computed}
 use Rattle.words.specs.Laws.{back}
 use Rattle.arithmetic.specs.declared.Computed.{Computed}
@@ -20,7 +20,7 @@ use Rattle.words.specs.declared.Operator.{Operator}
 use Rattle.computation.specs.Computation.{Computation, settle}
 use Rattle.computation.specs.Remaining.{Rest, gives, halts, onward, leftOf, spend, left-never-rises}
 use Rattle.language.specs.Sound.{Link, PlaceLink}
-use Rattle.operations.specs.Answers.{stopOf, operandOf, operandRest, answered, positionOf, placed, Settles}
+use Rattle.operations.specs.Answers.{stopOf, operandOf, operandRest, answered, positionOf, placed, Settles, Fetches, Negates}
 use Rattle.operations.specs.Bounds.{layoutFrom}
 use Rattle.operations.specs.Ready.{Setting, Ready, ReadyPlace, Entered}
 use Rattle.operations.specs.declared.Operand.{Operand}
@@ -81,6 +81,16 @@ handed-on r n s fits = ap (λ (z : ℤ). answered z n s) (handed-is r fits)
 
 pub handed-on-placed : (r : ℤ) (n : ℕ) (s : List ℤ) → mag r < 2 ^ 63 → placed (handed r) n s ≡ placed r n s
 handed-on-placed r n s fits = ap (λ (z : ℤ). placed z n s) (handed-is r fits)
+
+-- the word at a place's answer, and the negation of an operand's, handed on
+pub fetched : {m : Rest ℕ} (r : ℤ) (n : ℕ) (s : List ℤ) → mag r < 2 ^ 63 → placed r n s ≡ m → (z : ℤ) → mag z < 2 ^ 63 → Fetches (handed r) s z
+    → answered (handed z) n s ≡ onward m (λ i n s. gives (getD s i (pos 0)) n s)
+fetched r n s fits h z ok e = handed-on z n s ok ∙ e n ∙ ap (λ (x : Rest ℕ). onward x (λ i n s. gives (getD s i (pos 0)) n s)) (handed-on-placed r n s fits ∙ h)
+
+pub negated : {m : Rest ℤ} (ofTruth : Bool) (r : ℤ) (n : ℕ) (s : List ℤ) → mag r < 2 ^ 63 → answered r n s ≡ m → (z : ℤ) → mag z < 2 ^ 63 → Negates ofTruth (handed r) z
+    → answered (handed z) n s ≡ onward m (λ v n s. pick ofTruth (gives (logicalNot v) n s) (spend (settle (minus v)) n s))
+negated ofTruth r n s fits h z ok e =
+    handed-on z n s ok ∙ e n s ∙ ap (λ (x : Rest ℤ). onward x (λ v n s. pick ofTruth (gives (logicalNot v) n s) (spend (settle (minus v)) n s))) (handed-on r n s fits ∙ h)
 
 -- an operation of words that were handed on
 pub operands-handed : (o : Operator) (left right : ℤ) → mag left < 2 ^ 31 → mag right < 2 ^ 31 → (n : ℕ) (s : List ℤ)

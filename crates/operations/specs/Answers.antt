@@ -1,17 +1,19 @@
 -- Answers: what the code's answers say of a run, in the words of `spend`. An answer is one number, so that it comes back in a
 -- register: a word is a value, and the numbers behind the words say why the run stopped.
 use mathlib.Core.Path.{_≡_}
+use mathlib.Core.Bool.{Bool}
 use mathlib.Core.List.{List}
 use Prim.Native.Nat.{ℕ, _+_, _-_}
 use lib.Dec.{eqb}
 use lib.IntN.{ℤ, pos, negsuc}
+use lib.ListN.{getD}
 use Rattle.words.specs.Word.{isWord, natural, pick}
-use Rattle.arithmetic.specs.Arithmetic.{Outcome}
+use Rattle.arithmetic.specs.Arithmetic.{Outcome, logicalNot, minus}
 use Rattle.words.specs.Answers.{faultNumber, faultNumbered, endingNumber}
 use Rattle.words.specs.declared.Ending.the-variants.{Spent}
 use Rattle.computation.specs.Computation.{settle}
 use Rattle.computation.specs.Run.{Stop, spent, fault}
-use Rattle.computation.specs.Remaining.{Rest, gives, halts, spend}
+use Rattle.computation.specs.Remaining.{Rest, gives, halts, onward, spend}
 use Rattle.operations.specs.declared.Operand.{Operand}
 use Rattle.operations.specs.declared.Operand.the-variants.{Value, Halted}
 use Rattle.operations.specs.declared.Position.{Position}
@@ -61,3 +63,12 @@ Settles answer outcome = (n : ℕ) (s : List ℤ) → answered answer n s ≡ sp
 -- The answer is the bounds test's position, or its fault.
 abbrev pub Places : ℤ → Outcome ℕ → Type 0
 Places answer outcome = (n : ℕ) (s : List ℤ) → placed answer n s ≡ spend (settle outcome) n s
+
+-- The answer is the word at the position that a place's answer gives, or its stop.
+abbrev pub Fetches : ℤ → List ℤ → ℤ → Type 0
+Fetches place s answer = (n : ℕ) → answered answer n s ≡ onward (placed place n s) (λ i n s. gives (getD s i (pos 0)) n s)
+
+-- The answer is minus the operand that an answer gives, or with `ofTruth` its logical not, or its stop.
+abbrev pub Negates : Bool → ℤ → ℤ → Type 0
+Negates ofTruth operand answer =
+    (n : ℕ) (s : List ℤ) → answered answer n s ≡ onward (answered operand n s) (λ v n s. pick ofTruth (gives (logicalNot v) n s) (spend (settle (minus v)) n s))

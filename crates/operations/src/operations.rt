@@ -1,5 +1,9 @@
-// What an evaluation does without entering a row: links, the bounds test, stores.
+// What an evaluation does without entering a row: links, words of the store, negation, the bounds test, stores.
+use super::Operand;
+use super::Position;
 use super::answers::fault;
+use super::answers::operand;
+use super::answers::position;
 use super::answers::settled;
 use arithmetic::Computed;
 use arithmetic::Located;
@@ -9,23 +13,32 @@ use arithmetic::bit;
 use arithmetic::divide;
 use arithmetic::element;
 use arithmetic::is_true;
+use arithmetic::logical_not;
+use arithmetic::minus;
 use arithmetic::multiply;
 use arithmetic::remainder;
 use arithmetic::subtract;
 use words::FaultSort;
 use words::Operator;
+use words::table::word_at;
 ghost use mathlib.Core.Path.{_≡_};
 ghost use mathlib.Core.Bool.{not};
+ghost use mathlib.Core.List.{List};
 ghost use Prim.Native.Nat.{ℕ, _+_, _*_, _-_, _<_};
+ghost use lib.IntN.{ℤ};
 ghost use lib.ListN.{length, getD};
 ghost use Rattle.words.specs.Word.{pick};
-ghost use Rattle.words.specs.Table.{numberAt};
+ghost use Rattle.words.specs.Table.{wordAt, numberAt};
 ghost use Rattle.words.specs.Kinds.{between};
+ghost use Rattle.words.specs.declared.Kind.the-variants.{OfExpression};
+ghost use Rattle.words.specs.declared.ExpressionKind.the-variants.{Variable};
 ghost use Rattle.arithmetic.specs.Arithmetic.{isTrue, apply as applyOf, element as elementOf};
-ghost use Rattle.computation.specs.Remaining.{spend};
+ghost use Rattle.computation.specs.Remaining.{gives, spend};
 ghost use Rattle.language.specs.Meaning.{update as updateOf, oldValue, newValue};
-ghost use Rattle.operations.specs.Answers.{answered, Settles, Places};
-ghost use Rattle.operations.specs.Ready.{Bounded};
+ghost use Rattle.operations.specs.Answers.{operandOf, answered, positionOf, Settles, Places, Fetches, Negates};
+ghost use Rattle.operations.specs.Ready.{Bounded, Entered};
+ghost use Rattle.operations.specs.Rows.{evaluateAt};
+ghost use Rattle.operations.specs.declared.Position.the-variants.{At};
 
 // A field that is no negative word, as the number it names.
 pub fn link_at(rows: &[i32], row: usize, field: usize) -> usize
@@ -33,6 +46,49 @@ pub fn link_at(rows: &[i32], row: usize, field: usize) -> usize
     ensures { λ r. ⌜ r ≡ numberAt (now (rows .entry)) row field ⌝ }
 {
     rows[6 * row + field] as usize
+}
+
+// A constant's row, entered.
+pub fn constant(rows: &[i32], row: usize) -> i64
+    requires { ⌜ 6 * row + 1 < length (now rows) ⌝ }
+    ensures { λ r. ⌜ ((n : ℕ) (s : List ℤ) → answered r n s ≡ gives (wordAt (now (rows .entry)) row 1) n s) ⌝ }
+{
+    word_at(rows, row, 1) as i64
+}
+
+// A variable's row, entered: its word of the store.
+pub fn variable(rows: &[i32], bounds: &[usize], row: usize, store: &[i32]) -> i64
+    requires { ⌜ Entered (now rows) (now bounds) (length (now store)) row (OfExpression Variable) ⌝ }
+    ensures { λ r. ⌜ ((n : ℕ) → answered r n (now (store .entry)) ≡ spend (evaluateAt (now (rows .entry)) (now (bounds .entry)) row) n (now (store .entry))) ⌝ }
+{
+    let at = link_at(rows, row, 1);
+    store[at] as i64
+}
+
+// The word at the position that a place's answer gives; a stop is handed on.
+pub fn fetch(answer: i64, store: &[i32]) -> i64
+    requires { ⌜ (length (now store) < 65536) × ((i : ℕ) → positionOf (operandOf answer) ≡ At i → i < length (now store)) ⌝ }
+    ensures { λ r. ⌜ Fetches answer (now (store .entry)) r ⌝ }
+{
+    let place = position(answer);
+    let Position::At(at) = place else {
+        return answer;
+    };
+    store[at] as i64
+}
+
+// Minus, or not, of the operand that an answer gives; a stop is handed on.
+pub fn negate(answer: i64, truth: bool) -> i64
+    ensures { λ r. ⌜ Negates truth answer r ⌝ }
+{
+    let first = operand(answer);
+    let Operand::Value(value) = first else {
+        return answer;
+    };
+    if truth {
+        return logical_not(value) as i64;
+    }
+    settled(minus(value))
 }
 
 // Whether this is the number of a binary operation: kinds 6 to 16.

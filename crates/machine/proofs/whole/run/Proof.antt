@@ -10,7 +10,7 @@ use Rattle.words.proofs.Signed.{natural-again}
 use Rattle.language.specs.Program.{tableProgram, runTableUnder, runTable}
 use Rattle.operations.proofs.Decoding.{handed-is}
 use Rattle.machine.specs.Whole.{endingOfAnswer}
-use Rattle.executor.proofs.Answers.{ran-least}
+use Rattle.flows.proofs.Answers.{ran-least}
 use Rattle.machine.proofs.Bounds.{startable, whole-program}
 use Rattle.machine.proofs.Endings.{run-finished}
 use Rattle.machine.proofs.whole.run.Statement.{statement}

@@ -5,7 +5,7 @@ use mathlib.Core.List.{List}
 use Prim.Native.Nat.{ℕ}
 use Rattle.computation.specs.Remaining.{spend}
 use Rattle.executor.specs.Rows.{execAt}
-use Rattle.executor.proofs.Answers.{ran-handed}
+use Rattle.flows.proofs.Answers.{ran-handed}
 use Rattle.machine.proofs.whole.start.Statement.{statement}
 use Rattle.machine.proofs.whole.start.Tie as tie
 

@@ -6,26 +6,18 @@ use lib.ListN.{length}
 use Rattle.words.specs.Word.{pick}
 use Rattle.command_lines.specs.Lines.{usageLine, wrongBudgetLine, longTextLine, longStoreLine}
 use Rattle.command_request.specs.declared.request.Request.{Request}
-use Rattle.command_request.specs.declared.request.Request.the-variants.{Check, Start, Translate, Writes, Join, Page, Flatten, FlatCheck, WrongArguments, WrongBudget}
+use Rattle.command_request.specs.declared.request.Request.the-variants.{Ask, Translate, Start, Join, WrongArguments, WrongBudget}
 use Rattle.command_text.specs.Texts.{textLimit, storeLimit}
-use Rattle.command_runs.specs.Checks.{checkOutput}
 use Rattle.command_runs.specs.Tasks.{startedOutput}
-use Rattle.command_translation.specs.Translations.{translateOutput}
-use Rattle.command_translation.specs.Pages.{pageOutput}
-use Rattle.command_flat.specs.Flattenings.{flattenOutput}
-use Rattle.command_flat.specs.Lists.{listCheckOutput}
-use Rattle.command_writes.specs.Writes.{writesOutput}
-use Rattle.command_join.specs.Joins.{joinOutput}
+use Rattle.command_questions.specs.Questions.{questionOutput}
+use Rattle.command_questions.specs.Translations.{translationOutput}
+use Rattle.command_questions.specs.Joins.{joinOutput}
 
 unfoldable pub requestOutput : Request → (text stored : List ℕ) → List ℕ
-requestOutput (Check form) text stored = checkOutput form text
+requestOutput (Ask question) text stored = questionOutput question text
+requestOutput (Translate sheet) text stored = translationOutput sheet text
 requestOutput (Start task budget given) text stored = startedOutput task budget text given stored
-requestOutput Translate text stored = translateOutput text
-requestOutput Writes text stored = writesOutput text
 requestOutput Join text stored = joinOutput text stored
-requestOutput (Page form) text stored = pageOutput form text
-requestOutput Flatten text stored = flattenOutput text
-requestOutput FlatCheck text stored = listCheckOutput text
 requestOutput WrongArguments text stored = usageLine
 requestOutput WrongBudget text stored = wrongBudgetLine
 

@@ -1,20 +1,16 @@
 // What is printed for a request and what was read for it. The bytes stand at the start of `out`, and the answer is how many they are.
 use super::Input;
-use command_flat::flattenings::flatten_answer;
-use command_flat::list_check_answer;
-use command_join::join_answer;
 use command_lines::long_store_line;
 use command_lines::long_text_line;
 use command_lines::unreadable_store_line;
 use command_lines::unreadable_text_line;
 use command_lines::usage_line;
 use command_lines::wrong_budget_line;
+use command_questions::joins::join_answer;
+use command_questions::questions::question_answer;
+use command_questions::translations::translation_answer;
 use command_request::request::Request;
-use command_runs::checks::check_answer;
 use command_runs::tasks::start_answer;
-use command_translation::pages::page_answer;
-use command_translation::translate_answer;
-use command_writes::writes_answer;
 ghost use mathlib.Core.Path.{_≡_};
 ghost use Prim.Native.Nat.{_≤_};
 ghost use lib.ListN.{length};
@@ -39,16 +35,12 @@ fn request_answer(
     ensures { λ r. ⌜ Put (requestOutput request (now (text .entry)) (now (stored .entry))) (now (out .entry)) r (now (out .exit)) ⌝ }
 {
     match request {
-        Request::Check(form) => check_answer(form, text, header, rows, out),
+        Request::Ask(question) => question_answer(question, text, header, rows, out),
+        Request::Translate(sheet) => translation_answer(sheet, text, header, rows, out),
         Request::Start(task, budget, given) => {
             start_answer(task, budget, text, given, stored, header, rows, out)
         }
-        Request::Translate => translate_answer(text, header, rows, out),
-        Request::Writes => writes_answer(text, header, rows, out),
         Request::Join => join_answer(text, stored, out),
-        Request::Page(form) => page_answer(form, text, header, rows, out),
-        Request::Flatten => flatten_answer(text, header, rows, out),
-        Request::FlatCheck => list_check_answer(text, header, rows, out),
         Request::WrongArguments => usage_line(out),
         Request::WrongBudget => wrong_budget_line(out),
     }

@@ -5,14 +5,12 @@ use lib.Dec.{leb}
 use lib.IntN.{ℤ}
 use lib.ListN.{length}
 use Rattle.words.specs.Word.{pick}
-use Rattle.words.specs.declared.Form.the-variants.{Kernel}
 use Rattle.words.specs.declared.Verdict.{Verdict}
 use Rattle.words.specs.declared.Verdict.the-variants.{Accepted, Refused}
 use Rattle.report.specs.Lines.{refusedLine}
 use Rattle.kernel_check.specs.Refusal.{refusal as kernelRefusal}
 use Rattle.flat_fate.specs.FlatWords.{flattened}
 use Rattle.flat_text.specs.Text.{flatBytes}
-use Rattle.command_text.specs.Texts.{textOutput}
 
 -- Words of a list that is printed: those of 24,576 lines.
 abbrev pub flattenRoom : ℕ
@@ -29,6 +27,3 @@ verdictList Accepted header rows = acceptedList header rows
 
 abbrev pub listText : (header rows : List ℤ) → List ℕ
 listText header rows = verdictList (kernelRefusal header rows) header rows
-
-unfoldable pub flattenOutput : List ℕ → List ℕ
-flattenOutput text = textOutput Kernel text listText

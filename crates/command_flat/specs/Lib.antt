@@ -1,5 +1,5 @@
 -- What is printed for the text of a flat list, and the text of one. A line of comment for each file.
--- Lists: what `flat-check` prints, and the line of a flat run.
+-- Lists: what is printed for a text, the line of a check and that of a run.
 pub mod Lists
--- Flattenings: what `flatten` prints.
+-- Flattenings: the list of a kernel program.
 pub mod Flattenings

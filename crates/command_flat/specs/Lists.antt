@@ -30,9 +30,6 @@ listOutput text output = parsedList (parseFlat text) output
 abbrev pub listCheckLine : (header list : List ℤ) → List ℕ
 listCheckLine header list = verdictLine (flatRefusal header list)
 
-unfoldable pub listCheckOutput : List ℕ → List ℕ
-listCheckOutput text = listOutput text listCheckLine
-
 -- ---- flat-run
 
 abbrev pub flatLine : FlatResult → List ℕ

@@ -1,18 +1,14 @@
 // What `flatten` prints. A writer puts its bytes at the start of `out`, and answers how many they are.
 use clight::flat_lists::flatten;
 use command_text::put_table;
-use command_text::read_program;
 use flattener::FlattenAnswer;
 use report::line::refused_line;
-use text_form::ReadAnswer;
-use words::Form;
 ghost use mathlib.Core.Path.{_≡_};
 ghost use Prim.Native.Nat.{_≤_};
 ghost use lib.ListN.{length};
-ghost use Rattle.words.specs.declared.Form.the-variants.{Kernel};
 ghost use Rattle.text_numbers.specs.Writer.{Put};
-ghost use Rattle.command_text.specs.Texts.{Roomy, outputRoom};
-ghost use Rattle.command_flat.specs.Flattenings.{flattenRoom, listText, flattenOutput};
+ghost use Rattle.command_text.specs.Texts.{outputRoom};
+ghost use Rattle.command_flat.specs.Flattenings.{flattenRoom, listText};
 
 // Flattens a program into the lent table, and writes the text of its list: a word takes at most twelve bytes, so that it has room.
 fn put_list(header: &[i32], rows: &[i32], list: &mut [i32], out: &mut [u8]) -> usize
@@ -28,25 +24,10 @@ fn put_list(header: &[i32], rows: &[i32], list: &mut [i32], out: &mut [u8]) -> u
 }
 
 // The same in a table of its own.
-fn put_flattened(header: &[i32], rows: &[i32], out: &mut [u8]) -> usize
+pub fn put_flattened(header: &[i32], rows: &[i32], out: &mut [u8]) -> usize
     requires { ⌜ outputRoom ≤ length (now out) ⌝ }
     ensures { λ r. ⌜ Put (listText (now (header .entry)) (now (rows .entry))) (now (out .entry)) r (now (out .exit)) ⌝ }
 {
     let mut list = [0i32; 122880];
     put_list(header, rows, &mut list, out)
-}
-
-// `flatten`.
-pub fn flatten_answer(text: &[u8], header: &mut [i32], rows: &mut [i32], out: &mut [u8]) -> usize
-    requires { ⌜ Roomy Kernel (now header) (now rows) ⌝ }
-    requires { ⌜ outputRoom ≤ length (now out) ⌝ }
-    ensures { λ r. ⌜ Put (flattenOutput (now (text .entry))) (now (out .entry)) r (now (out .exit)) ⌝ }
-{
-    let answer = read_program(Form::Kernel, text, header, rows);
-    match answer {
-        ReadAnswer::Refused(refusal) => refused_line(refusal, out),
-        ReadAnswer::Read(numbers, words) => {
-            put_flattened(&header[0..numbers], &rows[0..words], out)
-        }
-    }
 }

@@ -5,7 +5,6 @@ use clight::flat_lists::flat_check;
 use clight::flat_lists::flat_run;
 use command_lines::run_line;
 use command_lines::verdict_line;
-use report::line::refused_line;
 use text_form::ReadAnswer;
 ghost use mathlib.Core.Path.{_≡_};
 ghost use Prim.Native.Nat.{_≤_};
@@ -15,7 +14,7 @@ ghost use Rattle.text_numbers.specs.Writer.{Put};
 ghost use Rattle.report.specs.Lines.{lineRoom};
 ghost use Rattle.command_text.specs.Texts.{Roomy, outputRoom};
 ghost use Rattle.command_text.specs.Read.{ReadFor};
-ghost use Rattle.command_flat.specs.Lists.{listRoom, listOutput, listCheckOutput, listRunLine};
+ghost use Rattle.command_flat.specs.Lists.{listRoom, listOutput, listCheckLine, listRunLine};
 
 fn list_room() -> usize
     ensures { λ r. ⌜ r ≡ listRoom ⌝ }
@@ -32,20 +31,13 @@ pub fn read_list(text: &[u8], header: &mut [i32], list: &mut [i32]) -> ReadAnswe
     flat_text::read(text, header, &mut list[0..room])
 }
 
-// `flat-check`.
-pub fn list_check_answer(text: &[u8], header: &mut [i32], list: &mut [i32], out: &mut [u8]) -> usize
-    requires { ⌜ Roomy Kernel (now header) (now list) ⌝ }
+// Checks a list, and writes the line.
+pub fn put_list_check(header: &[i32], list: &[i32], out: &mut [u8]) -> usize
     requires { ⌜ outputRoom ≤ length (now out) ⌝ }
-    ensures { λ r. ⌜ Put (listCheckOutput (now (text .entry))) (now (out .entry)) r (now (out .exit)) ⌝ }
+    ensures { λ r. ⌜ Put (listCheckLine (now (header .entry)) (now (list .entry))) (now (out .entry)) r (now (out .exit)) ⌝ }
 {
-    let answer = read_list(text, header, list);
-    match answer {
-        ReadAnswer::Refused(refusal) => refused_line(refusal, out),
-        ReadAnswer::Read(numbers, words) => {
-            let verdict = flat_check(&header[0..numbers], &list[0..words]);
-            verdict_line(verdict, out)
-        }
-    }
+    let verdict = flat_check(header, list);
+    verdict_line(verdict, out)
 }
 
 // Runs a list on the store, and writes the line.

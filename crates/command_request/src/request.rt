@@ -8,7 +8,7 @@ ghost use Rattle.words.specs.Word.{pick};
 ghost use Rattle.text_numbers.specs.Reader.{digitsValue};
 ghost use Rattle.command_request.specs.declared.request.Verb.the-variants.{Start as StartVerb};
 ghost use Rattle.command_request.specs.declared.request.Request.the-variants.{WrongArguments};
-ghost use Rattle.command_request.specs.Requests.{sameBytes, flatVerbOf, kernelVerbOf, verbOf, startRequest, requestBy, requestOf, readsText, readsStore, fileArgument};
+ghost use Rattle.command_request.specs.Requests.{sameBytes, Tried, verbOf, startRequest, requestBy, requestOf, readsText, readsStore, fileArgument};
 
 // What starts from a store: the run of a program, the preview of a source program's run, the run of a kernel program that a dispatcher
 // sees, or the run of a flat list.
@@ -19,30 +19,38 @@ pub enum Task {
     FlatRun,
 }
 
-// What the first argument says.
-pub enum Verb {
+// What is asked of one text: the check of a program, what a source program can write, the page or the flat list of a kernel program, the check of
+// a flat list.
+pub enum Question {
     Check(Form),
-    Start(Task),
-    Translate,
     Writes,
-    Join,
-    Page(Form),
+    Page,
     Flatten,
     FlatCheck,
+}
+
+// How the translation of a source text is shown: its text, or its page.
+pub enum Sheet {
+    Text,
+    Page,
+}
+
+// What the first argument says.
+pub enum Verb {
+    Ask(Question),
+    Translate(Sheet),
+    Start(Task),
+    Join,
     Unknown,
 }
 
 // What all arguments ask for; what starts from a store has its budget, and says whether a store file is named. A join names a file with the
-// second text. A page is that of a kernel text, or of the translation of a source text.
+// second text.
 pub enum Request {
-    Check(Form),
+    Ask(Question),
+    Translate(Sheet),
     Start(Task, u32, bool),
-    Translate,
-    Writes,
     Join,
-    Page(Form),
-    Flatten,
-    FlatCheck,
     WrongArguments,
     WrongBudget,
 }
@@ -65,7 +73,7 @@ fn is_same(bytes: &[u8], name: &[u8]) -> bool
 
 // One name tried: its verb, or what the names behind it say.
 fn verb_or(name: &[u8], known: &[u8], verb: Verb, others: Verb) -> Verb
-    ensures { λ r. ⌜ r ≡ pick (sameBytes (now (name .entry)) (now (known .entry))) verb others ⌝ }
+    ensures { λ r. ⌜ Tried (now (name .entry)) (now (known .entry)) verb others r ⌝ }
 {
     if is_same(name, known) {
         return verb;
@@ -73,48 +81,59 @@ fn verb_or(name: &[u8], known: &[u8], verb: Verb, others: Verb) -> Verb
     others
 }
 
-// The names of what is done with the text of a flat list, from the last to the first.
-fn flat_verb_of(name: &[u8]) -> Verb
-    ensures { λ r. ⌜ r ≡ flatVerbOf (now (name .entry)) ⌝ }
+// The names from the last to the first: those of what is done with the text of a flat list, with a kernel text, with a source text.
+fn verb_of(name: &[u8]) -> Verb
+    ensures { λ r. ⌜ r ≡ verbOf (now (name .entry)) ⌝ }
 {
-    let run = verb_or(name, b"flat-run", Verb::Start(Task::FlatRun), Verb::Unknown);
-    verb_or(name, b"flat-check", Verb::FlatCheck, run)
-}
-
-// The names of what is done with a kernel text, then with a flat list's.
-fn kernel_verb_of(name: &[u8]) -> Verb
-    ensures { λ r. ⌜ r ≡ kernelVerbOf (now (name .entry)) ⌝ }
-{
-    let others = flat_verb_of(name);
-    let list = verb_or(name, b"flatten", Verb::Flatten, others);
-    let page = verb_or(name, b"page", Verb::Page(Form::Kernel), list);
+    let flat_run = verb_or(name, b"flat-run", Verb::Start(Task::FlatRun), Verb::Unknown);
+    let flat_check = verb_or(
+        name,
+        b"flat-check",
+        Verb::Ask(Question::FlatCheck),
+        flat_run,
+    );
+    let flatten = verb_or(name, b"flatten", Verb::Ask(Question::Flatten), flat_check);
+    let page = verb_or(name, b"page", Verb::Ask(Question::Page), flatten);
     let shown = verb_or(
         name,
         b"dispatcher-run",
         Verb::Start(Task::DispatcherRun),
         page,
     );
-    let run = verb_or(
+    let kernel_run = verb_or(
         name,
         b"kernel-run",
         Verb::Start(Task::Run(Form::Kernel)),
         shown,
     );
-    verb_or(name, b"kernel-check", Verb::Check(Form::Kernel), run)
-}
-
-// The names of what is done with a source text, then the others.
-fn verb_of(name: &[u8]) -> Verb
-    ensures { λ r. ⌜ r ≡ verbOf (now (name .entry)) ⌝ }
-{
-    let others = kernel_verb_of(name);
-    let join = verb_or(name, b"join", Verb::Join, others);
-    let writes = verb_or(name, b"writes", Verb::Writes, join);
-    let page = verb_or(name, b"translate-page", Verb::Page(Form::Source), writes);
-    let translate = verb_or(name, b"translate", Verb::Translate, page);
+    let kernel_check = verb_or(
+        name,
+        b"kernel-check",
+        Verb::Ask(Question::Check(Form::Kernel)),
+        kernel_run,
+    );
+    let join = verb_or(name, b"join", Verb::Join, kernel_check);
+    let writes = verb_or(name, b"writes", Verb::Ask(Question::Writes), join);
+    let translate_page = verb_or(
+        name,
+        b"translate-page",
+        Verb::Translate(Sheet::Page),
+        writes,
+    );
+    let translate = verb_or(
+        name,
+        b"translate",
+        Verb::Translate(Sheet::Text),
+        translate_page,
+    );
     let preview = verb_or(name, b"preview", Verb::Start(Task::Preview), translate);
     let run = verb_or(name, b"run", Verb::Start(Task::Run(Form::Source)), preview);
-    verb_or(name, b"check", Verb::Check(Form::Source), run)
+    verb_or(
+        name,
+        b"check",
+        Verb::Ask(Question::Check(Form::Source)),
+        run,
+    )
 }
 
 fn start_request(task: Task, budget: Digits, stored: bool) -> Request
@@ -163,14 +182,10 @@ fn request_by(verb: Verb, count: usize, second: &[u8]) -> Request
     ensures { λ r. ⌜ r ≡ requestBy verb count (now (second .entry)) ⌝ }
 {
     match verb {
-        Verb::Check(form) => alone(Request::Check(form), count),
+        Verb::Ask(question) => alone(Request::Ask(question), count),
+        Verb::Translate(sheet) => alone(Request::Translate(sheet), count),
         Verb::Start(task) => start_arguments(task, count, second),
-        Verb::Translate => alone(Request::Translate, count),
-        Verb::Writes => alone(Request::Writes, count),
         Verb::Join => with_file(Request::Join, count),
-        Verb::Page(form) => alone(Request::Page(form), count),
-        Verb::Flatten => alone(Request::Flatten, count),
-        Verb::FlatCheck => alone(Request::FlatCheck, count),
         Verb::Unknown => Request::WrongArguments,
     }
 }
@@ -187,14 +202,10 @@ pub fn reads_text(request: Request) -> bool
     ensures { λ r. ⌜ r ≡ readsText request ⌝ }
 {
     match request {
-        Request::Check(_) => true,
+        Request::Ask(_) => true,
+        Request::Translate(_) => true,
         Request::Start(_, _, _) => true,
-        Request::Translate => true,
-        Request::Writes => true,
         Request::Join => true,
-        Request::Page(_) => true,
-        Request::Flatten => true,
-        Request::FlatCheck => true,
         Request::WrongArguments => false,
         Request::WrongBudget => false,
     }
@@ -205,14 +216,10 @@ pub fn reads_store(request: Request) -> bool
     ensures { λ r. ⌜ r ≡ readsStore request ⌝ }
 {
     match request {
-        Request::Check(_) => false,
+        Request::Ask(_) => false,
+        Request::Translate(_) => false,
         Request::Start(_, _, stored) => stored,
-        Request::Translate => false,
-        Request::Writes => false,
         Request::Join => true,
-        Request::Page(_) => false,
-        Request::Flatten => false,
-        Request::FlatCheck => false,
         Request::WrongArguments => false,
         Request::WrongBudget => false,
     }
@@ -223,14 +230,10 @@ pub fn file_argument(request: Request) -> usize
     ensures { λ r. ⌜ r ≡ fileArgument request ⌝ }
 {
     match request {
-        Request::Check(_) => 3,
+        Request::Ask(_) => 3,
+        Request::Translate(_) => 3,
         Request::Start(_, _, _) => 3,
-        Request::Translate => 3,
-        Request::Writes => 3,
         Request::Join => 2,
-        Request::Page(_) => 3,
-        Request::Flatten => 3,
-        Request::FlatCheck => 3,
         Request::WrongArguments => 3,
         Request::WrongBudget => 3,
     }

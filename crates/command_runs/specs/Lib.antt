@@ -1,8 +1,6 @@
--- What the checks and the runs print. A line of comment for each file.
+-- What the runs print. A line of comment for each file.
 
 -- ---- definitions
--- Checks: what `check` and `kernel-check` print.
-pub mod Checks
 -- Tasks: what a run, a preview and a dispatcher's run print.
 pub mod Tasks
 -- ---- laws

@@ -1,4 +1,3 @@
-// What the checks and the runs print.
-pub mod checks; // checks.rt: what `check` and `kernel-check` print
+// What the runs print.
 mod previews; // previews.rt: previews a program, and writes the lines
 pub mod tasks; // tasks.rt: what the runs, from zeros or a store file, and the previews print

@@ -1,3 +1,0 @@
--- What `join` prints.
--- Joins: what `join` prints.
-pub mod Joins

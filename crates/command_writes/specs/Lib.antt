@@ -1,3 +1,0 @@
--- What `writes` prints.
--- Writes: what `writes` prints.
-pub mod Writes

@@ -231,12 +231,13 @@ pub guarded-turn : (repeats : Bool) (rows : List ℤ) (bounds : List ℕ) (first
 guarded-turn true rows bounds first n s = choice-round (layoutFrom bounds) (armListAt rows first) n s
 guarded-turn false rows bounds first n s = refl
 
+-- no guard is true
+pub guarded-none : (repeats : Bool) (rows : List ℤ) (bounds : List ℕ) (first n : ℕ) (s : List ℤ) → guardedAfter repeats rows bounds first noneTrue n s ≡ pick repeats (gives next n s) (halts (fault Guard) n s)
+guarded-none true rows bounds first n s = refl
+guarded-none false rows bounds first n s = choice-fails n s
+
 module _ (repeats : Bool) (rows : List ℤ) (bounds : List ℕ) (first : ℕ) where
   module _ (e : repeats ≡ true) where
-    -- no guard is true
-    pub guarded-ends : (n : ℕ) (s : List ℤ) → guardedAfter repeats rows bounds first noneTrue n s ≡ gives next n s
-    guarded-ends n s = rw e
-
     -- a block ran
     pub guarded-again : (m : Rest Signal) → onward m (λ signal n s. guardedAfter repeats rows bounds first (ranWith signal) n s)
         ≡ onward m (λ signal n s. rounded (spend (choiceRounds (layoutFrom bounds) (armListAt rows first))) (ranWith signal) n s)
@@ -246,9 +247,6 @@ module _ (repeats : Bool) (rows : List ℤ) (bounds : List ℕ) (first : ℕ) wh
     guarded-rounds n s = rw e
 
   module _ (e : repeats ≡ false) where
-    pub guarded-fails : (n : ℕ) (s : List ℤ) → guardedAfter repeats rows bounds first noneTrue n s ≡ halts (fault Guard) n s
-    guarded-fails n s = rw e (choice-fails n s)
-
     pub guarded-once : (m : Rest Signal) → onward m (λ signal n s. guardedAfter repeats rows bounds first (ranWith signal) n s) ≡ m
     guarded-once m = rw e (choice-ends m)
 

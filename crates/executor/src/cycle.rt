@@ -18,6 +18,7 @@ use flows::flows::after_last;
 use flows::flows::after_switch;
 use flows::flows::flow;
 use flows::flows::jump;
+use flows::flows::without_guard;
 use flows::lists::find_start;
 use flows::lists::resume;
 use operations::GUARD;
@@ -584,10 +585,7 @@ fn guarded(
             return answer;
         };
         if block == 0 {
-            if repeats {
-                return NEXT;
-            }
-            return GUARD;
+            return without_guard(repeats);
         }
         let ended = exec(&*rows, &*bounds, block, store, left);
         if !repeats {

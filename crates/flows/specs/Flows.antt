@@ -9,6 +9,8 @@ use lib.ListN.{set}
 use Rattle.words.specs.Word.{sameWord, natural, pick}
 use Rattle.arithmetic.specs.Arithmetic.{isTrue}
 use Rattle.computation.specs.Computation.{Turn, again, leave, ret}
+use Rattle.words.specs.declared.FaultSort.the-variants.{Guard}
+use Rattle.computation.specs.Run.{fault}
 use Rattle.computation.specs.Remaining.{Rest, gives, halts, onward, spend}
 use Rattle.language.specs.Trees.{label}
 use Rattle.language.specs.Meaning.{Signal, next, breaking, continuing, seeking, afterSwitch, afterBody}
@@ -60,6 +62,10 @@ EndsExpression answer r = (n : ℕ) (s : List ℤ) → ran r n s ≡ onward (ans
 -- r is the answer of a declaration whose initial expression has `answer`, and t the store: the value is in the word of the new object.
 abbrev pub EndsDeclaration : ℕ → ℤ → List ℤ → ℤ → List ℤ → Type 0
 EndsDeclaration word answer s r t = (n : ℕ) → ran r n t ≡ onward (answered answer n s) (λ v n s. gives next n (set s word v))
+
+-- r is the answer of a guarded statement none of whose guards is true: a guarded do, which repeats, or a guarded if.
+abbrev pub EndsUnguarded : Bool → ℤ → Type 0
+EndsUnguarded repeats r = (n : ℕ) (s : List ℤ) → ran r n s ≡ pick repeats (gives next n s) (halts (fault Guard) n s)
 
 -- r is the answer of a switch whose items end with `answer`.
 abbrev pub EndsSwitch : ℤ → ℤ → Type 0

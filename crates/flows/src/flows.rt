@@ -5,6 +5,7 @@ use super::Flow;
 use super::NEXT;
 use super::NO_LABEL;
 use arithmetic::is_true;
+use operations::GUARD;
 use operations::Operand;
 use operations::answers::operand;
 use operations::operations::link_at;
@@ -19,7 +20,7 @@ ghost use Rattle.words.specs.Table.{numberAt};
 ghost use Rattle.language.specs.Trees.{label as labelOf};
 ghost use Rattle.language.specs.Meaning.{seeking};
 ghost use Rattle.computation.specs.Remaining.{gives};
-ghost use Rattle.flows.specs.Flows.{flowOf, passingOf, ran, EndsExpression, EndsDeclaration, EndsSwitch, EndsBody, EndsRound};
+ghost use Rattle.flows.specs.Flows.{flowOf, passingOf, ran, EndsExpression, EndsDeclaration, EndsUnguarded, EndsSwitch, EndsBody, EndsRound};
 
 // How the statement with this answer ended.
 pub fn flow(answer: i64) -> Flow
@@ -81,6 +82,16 @@ pub fn after_initial(answer: i64, rows: &[i32], row: usize, store: &mut [i32]) -
     let at = link_at(rows, row, 1);
     store[at] = value;
     NEXT
+}
+
+// The answer of a guarded statement none of whose guards is true: a guarded do is at its end, a guarded if fails.
+pub fn without_guard(repeats: bool) -> i64
+    ensures { λ r. ⌜ EndsUnguarded repeats r ⌝ }
+{
+    if repeats {
+        return NEXT;
+    }
+    GUARD
 }
 
 // The answer of a switch whose items ended with this one.

@@ -48,7 +48,7 @@ pub +branch+exec+guarded+item+list+perform+rounds+switch+turn-spec : {M : Type 1
     close μ-branch μ-exec μ-guarded μ-item μ-list μ-perform μ-rounds μ-switch μ-turn
     (λ t. branch-lts.spec (branch-claims t) (branch-at t) branch-reads.Post (branch.link-at-requires t) (branch.eval-requires t) (branch.operand-requires t) (branch.enum-known-test t) (branch.enum-told t) (branch.same-length t) (branch.returns t) (branch.is-true-requires t) (branch.link-at-requires-2 t) (branch.exec-requires t) (branch.same-length-2 t) (branch.returns-2 t) (branch.link-at-requires-3 t) (branch.same-length-3 t) (branch.returns-3 t) (branch.exec-requires-2 t) (branch.same-length-4 t) (branch.returns-4 t))
     (λ t. exec-lts.spec (exec-claims t) (exec-at t) exec-reads.Post (exec.returns t) (exec.sub-left t) (exec.perform-requires t) (exec.same-length t) (exec.returns-2 t))
-    (λ t. guarded-lts.spec (guarded-claims t) (guarded-at t) guarded-reads.Post guarded-Inv-loop guarded-μ-loop (guarded.link-at-requires t) (guarded.loop-holds t) (guarded.choose-requires t) (guarded.position-requires t) (guarded.enum-known-chosen t) (guarded.enum-told t) (guarded.same-length t) (guarded.returns t) (guarded.same-length-2 t) (guarded.returns-2 t) (guarded.same-length-3 t) (guarded.returns-3 t) (guarded.exec-requires t) (guarded.same-length-4 t) (guarded.returns-4 t) (guarded.flow-requires t) (guarded.enum-told-2 t) (guarded.loop-less t) (guarded.loop-again t) (guarded.same-length-5 t) (guarded.returns-5 t))
+    (λ t. guarded-lts.spec (guarded-claims t) (guarded-at t) guarded-reads.Post guarded-Inv-loop guarded-μ-loop (guarded.link-at-requires t) (guarded.loop-holds t) (guarded.choose-requires t) (guarded.position-requires t) (guarded.enum-known-chosen t) (guarded.enum-told t) (guarded.same-length t) (guarded.returns t) (guarded.without-guard-requires t) (guarded.same-length-2 t) (guarded.returns-2 t) (guarded.exec-requires t) (guarded.same-length-3 t) (guarded.returns-3 t) (guarded.flow-requires t) (guarded.enum-told-2 t) (guarded.loop-less t) (guarded.loop-again t) (guarded.same-length-4 t) (guarded.returns-4 t))
     (λ t. item-lts.spec (item-claims t) (item-at t) item-reads.Post (item.returns t) (item.sub-left t) (item.number-at-requires t) (item.express-requires t) (item.same-length t) (item.returns-2 t) (item.perform-requires t) (item.same-length-2 t) (item.returns-3 t))
     (λ t. list-lts.spec (list-claims t) (list-at t) list-reads.Post list-Inv-loop list-μ-loop (list.loop-holds t) (list.item-requires t) (list.resume-requires t) (list.loop-less t) (list.loop-again t) (list.same-length t) (list.returns t))
     (λ t. perform-lts.spec (perform-claims t) (perform-at t) perform-reads.Post (perform.number-at-requires t) (perform.express-requires t) (perform.link-at-requires t) (perform.list-requires t) (perform.branch-requires t) (perform.link-at-requires-2 t) (perform.link-at-requires-3 t) (perform.rounds-requires t) (perform.link-at-requires-4 t) (perform.link-at-requires-5 t) (perform.rounds-requires-2 t) (perform-for.link-at-requires-6 t) (perform-for.part-requires t) (perform-for.operand-requires t) (perform-for.enum-told t) (perform-for.enum-told-2 t) (perform-for.same-length t) (perform-for.returns t) (perform-for.link-at-requires-7 t) (perform-for.link-at-requires-8 t) (perform-for.link-at-requires-9 t) (perform-for.rounds-requires-3 t) (perform.switch-requires t) (perform.word-at-requires t) (perform.jump-requires t) (perform.link-at-requires-10 t) (perform.eval-requires t) (perform.after-initial-requires t) (perform.guarded-requires t) (perform.returns-2 t) (perform.same-length-2 t) (perform.returns-3 t) (perform.same-length-3 t) (perform.returns-4 t) (perform.same-length-4 t) (perform.returns-5 t) (perform.same-length-5 t) (perform.returns-6 t) (perform.same-length-6 t) (perform.returns-7 t) (perform-for.same-length-7 t) (perform-for.returns-8 t) (perform.same-length-8 t) (perform.returns-9 t) (perform.returns-10 t) (perform.returns-11 t) (perform.returns-12 t) (perform.returns-13 t) (perform.same-length-9 t) (perform.returns-14 t) (perform.same-length-10 t) (perform.returns-15 t) (perform.returns-16 t) (perform.returns-17 t))

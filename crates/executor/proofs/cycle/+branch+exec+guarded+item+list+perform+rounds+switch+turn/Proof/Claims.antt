@@ -52,6 +52,7 @@ use Rattle.flows.proofs.flows.after_last.Reads as after-last-reads
 use Rattle.flows.proofs.flows.after_switch.Reads as after-switch-reads
 use Rattle.flows.proofs.flows.flow.Reads as flow-reads
 use Rattle.flows.proofs.flows.jump.Reads as jump-reads
+use Rattle.flows.proofs.flows.without_guard.Reads as without-guard-reads
 use Rattle.flows.proofs.lists.find_start.Reads as find-start-reads
 use Rattle.flows.proofs.lists.resume.Reads as resume-reads
 use Rattle.executor.proofs.cycle.express.Reads as express-reads
@@ -189,4 +190,4 @@ abbrev pub switch-claims : ℕ → switch-lts.Claims
 switch-claims t = (link-at-reads.Asked, link-at-reads.Learnt, eval-reads.Asked, eval-reads.Learnt, operand-reads.Asked, operand-reads.Learnt, find-start-reads.Asked, find-start-reads.Learnt, list-below t, list.Post, after-switch-reads.Asked, after-switch-reads.Learnt)
 
 abbrev pub guarded-claims : ℕ → guarded-lts.Claims
-guarded-claims t = (link-at-reads.Asked, link-at-reads.Learnt, choose-reads.Asked, choose-reads.Learnt, position-reads.Asked, position-reads.Learnt, exec-below t, exec.Post, flow-reads.Asked, flow-reads.Learnt)
+guarded-claims t = (link-at-reads.Asked, link-at-reads.Learnt, choose-reads.Asked, choose-reads.Learnt, position-reads.Asked, position-reads.Learnt, without-guard-reads.Asked, without-guard-reads.Learnt, exec-below t, exec.Post, flow-reads.Asked, flow-reads.Learnt)

@@ -10,8 +10,8 @@ use Rattle.language.specs.Decode.{armListAt}
 use Rattle.language.specs.Meaning.{choiceRounds}
 use Rattle.operations.specs.Bounds.{layoutFrom}
 use Rattle.executor.specs.Rows.{performAt, execAt}
-use Rattle.flows.proofs.Answers.{ran-next, ran-guard, ran-handed, not-next, arms-again, arms-left, block-falls}
-use Rattle.executor.proofs.Choices.{arms-ready, guardedAfter, guarded-turn, guarded-ends, guarded-fails, guarded-again, guarded-rounds, guarded-once, guarded-link, guarded-row, choice-stops, block-below, choice-none, choice-block}
+use Rattle.flows.proofs.Answers.{ran-handed, not-next, arms-again, arms-left, block-falls}
+use Rattle.executor.proofs.Choices.{arms-ready, guardedAfter, guarded-turn, guarded-none, guarded-again, guarded-rounds, guarded-once, guarded-link, guarded-row, choice-stops, block-below, choice-none, choice-block}
 use Rattle.executor.proofs.Rows.{table-row, optional-asks}
 use Rattle.executor.proofs.cycle.guarded.Reads as reads
 use Rattle.executor.proofs.cycle.+branch+exec+guarded+item+list+perform+rounds+switch+turn.Lts-guarded as lts
@@ -54,6 +54,9 @@ returns t c =
     let past-position = c .before .before .position in
     choice-stops (past-choose .result) (past-choose .last .1 .1 .1 .1 .0) (past-choose .last .1 .1 .1 .0) (past-choose .ensures) (past-choose .ok) (past-position .result) (past-position .ensures) (c .enum-told .given .1) (guardedAfter (start .args .repeats) (start .args .rows .now) (start .args .bounds .now) (past-link-at .result)) ∙ sym (guarded-row (start .args .repeats) here (past-link-at .ensures) (start .args .left .now) (start .args .store .now) ∙ past-loop .inv .2 ∙ guarded-turn (start .args .repeats) (start .args .rows .now) (start .args .bounds .now) (past-link-at .result) (past-loop .left) (past-loop .store))
 
+pub without-guard-requires : (t : ℕ) → lts.Need-without-guard-requires (guarded-claims t) (guarded-at t) reads.Post guarded-Inv-loop guarded-μ-loop
+without-guard-requires t c κs = search needs
+
 pub same-length-2 : (t : ℕ) → lts.Need-same-length-2 (guarded-claims t) (guarded-at t) reads.Post guarded-Inv-loop guarded-μ-loop
 same-length-2 t c = c .before .before .before .before .before .before .before .choose .kept .1 .1 .1 .0 ∙ c .before .before .before .before .before .before .before .before .before .before .loop .inv .0
 
@@ -66,21 +69,7 @@ returns-2 t c =
     let past-choose = c .before .before .before .before .before .before .before .choose in
     let past-position = c .before .before .before .before .before .position in
     let past-chosen = c .before .before .before .chosen in
-    ran-next _ _ ∙ sym (guarded-row (start .args .repeats) here (past-link-at .ensures) (start .args .left .now) (start .args .store .now) ∙ past-loop .inv .2 ∙ guarded-turn (start .args .repeats) (start .args .rows .now) (start .args .bounds .now) (past-link-at .result) (past-loop .left) (past-loop .store) ∙ choice-none (past-choose .result) (past-choose .last .1 .1 .1 .1 .0) (past-choose .last .1 .1 .1 .0) (past-choose .ensures) (past-choose .ok) (past-position .result) (past-position .ensures) (past-chosen .given .0 .0) (past-chosen .given .1) (c .before .if1 .taken) (guardedAfter (start .args .repeats) (start .args .rows .now) (start .args .bounds .now) (past-link-at .result)) ∙ guarded-ends (start .args .repeats) (start .args .rows .now) (start .args .bounds .now) (past-link-at .result) (c .if2 .taken) _ _)
-
-pub same-length-3 : (t : ℕ) → lts.Need-same-length-3 (guarded-claims t) (guarded-at t) reads.Post guarded-Inv-loop guarded-μ-loop
-same-length-3 t c = c .before .before .before .before .before .before .before .choose .kept .1 .1 .1 .0 ∙ c .before .before .before .before .before .before .before .before .before .before .loop .inv .0
-
-pub returns-3 : (t : ℕ) → lts.Need-returns-3 (guarded-claims t) (guarded-at t) reads.Post guarded-Inv-loop guarded-μ-loop
-returns-3 t c =
-    let start = c .before .before .before .before .before .before .before .before .before .before .before .before .before in
-    let here = start .pre .1 in
-    let past-link-at = c .before .before .before .before .before .before .before .before .before .before .before .link-at in
-    let past-loop = c .before .before .before .before .before .before .before .before .before .before .loop in
-    let past-choose = c .before .before .before .before .before .before .before .choose in
-    let past-position = c .before .before .before .before .before .position in
-    let past-chosen = c .before .before .before .chosen in
-    ran-guard _ _ ∙ sym (guarded-row (start .args .repeats) here (past-link-at .ensures) (start .args .left .now) (start .args .store .now) ∙ past-loop .inv .2 ∙ guarded-turn (start .args .repeats) (start .args .rows .now) (start .args .bounds .now) (past-link-at .result) (past-loop .left) (past-loop .store) ∙ choice-none (past-choose .result) (past-choose .last .1 .1 .1 .1 .0) (past-choose .last .1 .1 .1 .0) (past-choose .ensures) (past-choose .ok) (past-position .result) (past-position .ensures) (past-chosen .given .0 .0) (past-chosen .given .1) (c .before .if1 .taken) (guardedAfter (start .args .repeats) (start .args .rows .now) (start .args .bounds .now) (past-link-at .result)) ∙ guarded-fails (start .args .repeats) (start .args .rows .now) (start .args .bounds .now) (past-link-at .result) (c .if2 .left) _ _)
+    ran-handed (c .without-guard .result) _ _ (c .without-guard .ok) ∙ c .without-guard .ensures _ _ ∙ sym (guarded-row (start .args .repeats) here (past-link-at .ensures) (start .args .left .now) (start .args .store .now) ∙ past-loop .inv .2 ∙ guarded-turn (start .args .repeats) (start .args .rows .now) (start .args .bounds .now) (past-link-at .result) (past-loop .left) (past-loop .store) ∙ choice-none (past-choose .result) (past-choose .last .1 .1 .1 .1 .0) (past-choose .last .1 .1 .1 .0) (past-choose .ensures) (past-choose .ok) (past-position .result) (past-position .ensures) (past-chosen .given .0 .0) (past-chosen .given .1) (c .before .if1 .taken) (guardedAfter (start .args .repeats) (start .args .rows .now) (start .args .bounds .now) (past-link-at .result)) ∙ guarded-none (start .args .repeats) (start .args .rows .now) (start .args .bounds .now) (past-link-at .result) _ _)
 
 pub exec-requires : (t : ℕ) → lts.Need-exec-requires (guarded-claims t) (guarded-at t) reads.Post guarded-Inv-loop guarded-μ-loop
 exec-requires t c κs =
@@ -92,11 +81,11 @@ exec-requires t c κs =
     let past-chosen = c .before .before .before .before .chosen in
     (omega (arith, start .pre .0, past-loop .inv .1, past-choose .ensures .steps), table-row (here .ready) (block-below (past-choose .result) (past-choose .last .1 .1 .1 .1 .0) (past-choose .last .1 .1 .1 .0) (past-choose .ensures) (past-choose .ok) (past-position .result) (past-position .ensures) (past-chosen .given .0 .0) (past-chosen .given .1)) (past-choose .kept .1 .1 .1 .0 ∙ past-loop .inv .0))
 
-pub same-length-4 : (t : ℕ) → lts.Need-same-length-4 (guarded-claims t) (guarded-at t) reads.Post guarded-Inv-loop guarded-μ-loop
-same-length-4 t c = c .before .before .exec .kept .1 .1 .1 .0 ∙ c .before .before .before .before .before .before .before .before .before .before .before .choose .kept .1 .1 .1 .0 ∙ c .before .before .before .before .before .before .before .before .before .before .before .before .before .before .loop .inv .0
+pub same-length-3 : (t : ℕ) → lts.Need-same-length-3 (guarded-claims t) (guarded-at t) reads.Post guarded-Inv-loop guarded-μ-loop
+same-length-3 t c = c .before .before .exec .kept .1 .1 .1 .0 ∙ c .before .before .before .before .before .before .before .before .before .before .before .choose .kept .1 .1 .1 .0 ∙ c .before .before .before .before .before .before .before .before .before .before .before .before .before .before .loop .inv .0
 
-pub returns-4 : (t : ℕ) → lts.Need-returns-4 (guarded-claims t) (guarded-at t) reads.Post guarded-Inv-loop guarded-μ-loop
-returns-4 t c =
+pub returns-3 : (t : ℕ) → lts.Need-returns-3 (guarded-claims t) (guarded-at t) reads.Post guarded-Inv-loop guarded-μ-loop
+returns-3 t c =
     let start = c .before .before .before .before .before .before .before .before .before .before .before .before .before .before .before .before .before in
     let here = start .pre .1 in
     let past-link-at = c .before .before .before .before .before .before .before .before .before .before .before .before .before .before .before .link-at in
@@ -105,7 +94,7 @@ returns-4 t c =
     let past-position = c .before .before .before .before .before .before .before .before .before .position in
     let past-chosen = c .before .before .before .before .before .before .before .chosen in
     let past-exec = c .before .before .exec in
-    ran-handed (past-exec .result) _ _ (past-exec .ok) ∙ past-exec .ensures ∙ sym (guarded-row (start .args .repeats) here (past-link-at .ensures) (start .args .left .now) (start .args .store .now) ∙ past-loop .inv .2 ∙ guarded-turn (start .args .repeats) (start .args .rows .now) (start .args .bounds .now) (past-link-at .result) (past-loop .left) (past-loop .store) ∙ choice-block (past-choose .result) (past-choose .last .1 .1 .1 .1 .0) (past-choose .last .1 .1 .1 .0) (past-choose .ensures) (past-choose .ok) (past-position .result) (past-position .ensures) (past-chosen .given .0 .0) (past-chosen .given .1) (c .before .before .before .before .before .if1 .left) (guardedAfter (start .args .repeats) (start .args .rows .now) (start .args .bounds .now) (past-link-at .result)) ∙ guarded-once (start .args .repeats) (start .args .rows .now) (start .args .bounds .now) (past-link-at .result) (not-true _ (c .if3 .taken)) (spend (execAt (start .args .rows .now) (start .args .bounds .now) (past-chosen .given .0 .0)) (past-choose .last .1 .1 .1 .1 .0) (past-choose .last .1 .1 .1 .0)))
+    ran-handed (past-exec .result) _ _ (past-exec .ok) ∙ past-exec .ensures ∙ sym (guarded-row (start .args .repeats) here (past-link-at .ensures) (start .args .left .now) (start .args .store .now) ∙ past-loop .inv .2 ∙ guarded-turn (start .args .repeats) (start .args .rows .now) (start .args .bounds .now) (past-link-at .result) (past-loop .left) (past-loop .store) ∙ choice-block (past-choose .result) (past-choose .last .1 .1 .1 .1 .0) (past-choose .last .1 .1 .1 .0) (past-choose .ensures) (past-choose .ok) (past-position .result) (past-position .ensures) (past-chosen .given .0 .0) (past-chosen .given .1) (c .before .before .before .before .before .if1 .left) (guardedAfter (start .args .repeats) (start .args .rows .now) (start .args .bounds .now) (past-link-at .result)) ∙ guarded-once (start .args .repeats) (start .args .rows .now) (start .args .bounds .now) (past-link-at .result) (not-true _ (c .if2 .taken)) (spend (execAt (start .args .rows .now) (start .args .bounds .now) (past-chosen .given .0 .0)) (past-choose .last .1 .1 .1 .1 .0) (past-choose .last .1 .1 .1 .0)))
 
 pub flow-requires : (t : ℕ) → lts.Need-flow-requires (guarded-claims t) (guarded-at t) reads.Post guarded-Inv-loop guarded-μ-loop
 flow-requires t c κs = search needs
@@ -132,18 +121,18 @@ loop-again t c =
     let past-chosen = c .before .before .before .before .before .before .before .before .before .before .chosen in
     let past-exec = c .before .before .before .before .before .exec in
     let past-flow = c .before .before .flow in
-    let repeats-is = not-false _ (c .before .before .before .if3 .left) in (
+    let repeats-is = not-false _ (c .before .before .before .if2 .left) in (
       past-exec .kept .1 .1 .1 .0 ∙ past-choose .kept .1 .1 .1 .0 ∙ past-loop .inv .0,
       omega (arith, past-loop .inv .1, past-choose .ensures .steps, block-falls (past-exec .result) (past-exec .last .1 .1 .1 .1 .0) (past-exec .last .1 .1 .1 .0) (past-exec .ok) (past-flow .result) (past-flow .ensures) (c .enum-told2 .given .1) (performAt (start .args .rows .now) (start .args .bounds .now) (past-chosen .given .0 .0)) (past-choose .last .1 .1 .1 .1 .0) (past-choose .last .1 .1 .1 .0) (past-exec .ensures)),
       past-loop .inv .2 ∙ guarded-turn (start .args .repeats) (start .args .rows .now) (start .args .bounds .now) (past-link-at .result) (past-loop .left) (past-loop .store) ∙ choice-block (past-choose .result) (past-choose .last .1 .1 .1 .1 .0) (past-choose .last .1 .1 .1 .0) (past-choose .ensures) (past-choose .ok) (past-position .result) (past-position .ensures) (past-chosen .given .0 .0) (past-chosen .given .1) (c .before .before .before .before .before .before .before .before .if1 .left) (guardedAfter (start .args .repeats) (start .args .rows .now) (start .args .bounds .now) (past-link-at .result)) ∙ guarded-again (start .args .repeats) (start .args .rows .now) (start .args .bounds .now) (past-link-at .result) repeats-is (spend (execAt (start .args .rows .now) (start .args .bounds .now) (past-chosen .given .0 .0)) (past-choose .last .1 .1 .1 .1 .0) (past-choose .last .1 .1 .1 .0))
           ∙ arms-again (past-exec .result) (past-exec .last .1 .1 .1 .1 .0) (past-exec .last .1 .1 .1 .0) (past-exec .ok) (past-exec .ensures) (past-flow .result) (past-flow .ensures) (c .enum-told2 .given .1) (spend (choiceRounds (layoutFrom (start .args .bounds .now)) (armListAt (start .args .rows .now) (past-link-at .result)))) ∙ guarded-rounds (start .args .repeats) (start .args .rows .now) (start .args .bounds .now) (past-link-at .result) repeats-is _ _,
     )
 
-pub same-length-5 : (t : ℕ) → lts.Need-same-length-5 (guarded-claims t) (guarded-at t) reads.Post guarded-Inv-loop guarded-μ-loop
-same-length-5 t c = c .before .before .before .before .exec .kept .1 .1 .1 .0 ∙ c .before .before .before .before .before .before .before .before .before .before .before .before .before .choose .kept .1 .1 .1 .0 ∙ c .before .before .before .before .before .before .before .before .before .before .before .before .before .before .before .before .loop .inv .0
+pub same-length-4 : (t : ℕ) → lts.Need-same-length-4 (guarded-claims t) (guarded-at t) reads.Post guarded-Inv-loop guarded-μ-loop
+same-length-4 t c = c .before .before .before .before .exec .kept .1 .1 .1 .0 ∙ c .before .before .before .before .before .before .before .before .before .before .before .before .before .choose .kept .1 .1 .1 .0 ∙ c .before .before .before .before .before .before .before .before .before .before .before .before .before .before .before .before .loop .inv .0
 
-pub returns-5 : (t : ℕ) → lts.Need-returns-5 (guarded-claims t) (guarded-at t) reads.Post guarded-Inv-loop guarded-μ-loop
-returns-5 t c =
+pub returns-4 : (t : ℕ) → lts.Need-returns-4 (guarded-claims t) (guarded-at t) reads.Post guarded-Inv-loop guarded-μ-loop
+returns-4 t c =
     let start = c .before .before .before .before .before .before .before .before .before .before .before .before .before .before .before .before .before .before .before in
     let here = start .pre .1 in
     let past-link-at = c .before .before .before .before .before .before .before .before .before .before .before .before .before .before .before .before .before .link-at in
@@ -153,5 +142,5 @@ returns-5 t c =
     let past-chosen = c .before .before .before .before .before .before .before .before .before .chosen in
     let past-exec = c .before .before .before .before .exec in
     let past-flow = c .before .flow in
-    sym (guarded-row (start .args .repeats) here (past-link-at .ensures) (start .args .left .now) (start .args .store .now) ∙ past-loop .inv .2 ∙ guarded-turn (start .args .repeats) (start .args .rows .now) (start .args .bounds .now) (past-link-at .result) (past-loop .left) (past-loop .store) ∙ choice-block (past-choose .result) (past-choose .last .1 .1 .1 .1 .0) (past-choose .last .1 .1 .1 .0) (past-choose .ensures) (past-choose .ok) (past-position .result) (past-position .ensures) (past-chosen .given .0 .0) (past-chosen .given .1) (c .before .before .before .before .before .before .before .if1 .left) (guardedAfter (start .args .repeats) (start .args .rows .now) (start .args .bounds .now) (past-link-at .result)) ∙ guarded-again (start .args .repeats) (start .args .rows .now) (start .args .bounds .now) (past-link-at .result) (not-false _ (c .before .before .if3 .left)) (spend (execAt (start .args .rows .now) (start .args .bounds .now) (past-chosen .given .0 .0)) (past-choose .last .1 .1 .1 .1 .0) (past-choose .last .1 .1 .1 .0))
+    sym (guarded-row (start .args .repeats) here (past-link-at .ensures) (start .args .left .now) (start .args .store .now) ∙ past-loop .inv .2 ∙ guarded-turn (start .args .repeats) (start .args .rows .now) (start .args .bounds .now) (past-link-at .result) (past-loop .left) (past-loop .store) ∙ choice-block (past-choose .result) (past-choose .last .1 .1 .1 .1 .0) (past-choose .last .1 .1 .1 .0) (past-choose .ensures) (past-choose .ok) (past-position .result) (past-position .ensures) (past-chosen .given .0 .0) (past-chosen .given .1) (c .before .before .before .before .before .before .before .if1 .left) (guardedAfter (start .args .repeats) (start .args .rows .now) (start .args .bounds .now) (past-link-at .result)) ∙ guarded-again (start .args .repeats) (start .args .rows .now) (start .args .bounds .now) (past-link-at .result) (not-false _ (c .before .before .if2 .left)) (spend (execAt (start .args .rows .now) (start .args .bounds .now) (past-chosen .given .0 .0)) (past-choose .last .1 .1 .1 .1 .0) (past-choose .last .1 .1 .1 .0))
     ∙ arms-left (past-exec .result) (past-exec .last .1 .1 .1 .1 .0) (past-exec .last .1 .1 .1 .0) (past-exec .ok) (past-exec .ensures) (past-flow .result) (past-flow .ensures) (not-next (past-flow .result) (c .match2 .keys2)) (spend (choiceRounds (layoutFrom (start .args .bounds .now)) (armListAt (start .args .rows .now) (past-link-at .result)))))

@@ -1,10 +1,10 @@
 // A line of a page in its frame (docs/PAGES.md): its number in five columns, a blank, the indent, the statement, blanks, and the newline.
+use page_atoms::atoms::number_below;
+use page_statements::lines::line;
 use page_words::Line;
 use page_words::LineRead;
 use page_words::Names;
 use page_words::NumberRead;
-use page_words::atoms::number_below;
-use page_words::lines::line;
 ghost use mathlib.Core.Path.{_≡_};
 ghost use Prim.Native.Nat.{_-_};
 ghost use lib.ListN.{length};

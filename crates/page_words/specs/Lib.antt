@@ -10,6 +10,10 @@ pub mod Reads
 -- ---- laws
 -- Laws of comparing: framed bytes are those with these around them.
 pub mod CompareLaws
+-- First bytes: numbers up to a limit, and words by their first byte.
+pub mod FirstBytes
+-- Parts: texts by where a separator parts them, or by what stands around them.
+pub mod Parts
 -- Sound: bytes that are read as a line are that line's, and it fits.
 pub mod Sound
 -- Complete: the bytes of each line that fits are read as it.

@@ -1,9 +1,5 @@
-// What the words of a page's line say (docs/PAGES.md): its statement's bytes, without the blanks around them, are read as a line.
-pub mod atoms; // atoms.rt: numbers, atoms and elements
-pub mod compare; // compare.rt: whether bytes stand in others
-pub mod lines; // lines.rt: the line that a statement's bytes are
-pub mod values; // values.rt: operators and what is assigned
-
+// What the words of a page's line say (docs/PAGES.md): its statement's bytes, without the blanks around them, are read as a line. The types
+// alone; definitions and laws stand in specs/.
 use words::Operator;
 
 // The names that a page can have: variables and arrays by the header, declared words, l from 0, and temporaries, t from 0.

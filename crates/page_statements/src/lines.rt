@@ -1,0 +1,169 @@
+// The line that a statement's bytes are.
+use super::values::value;
+use page_atoms::atoms::atom;
+use page_atoms::atoms::element;
+use page_atoms::atoms::name_of;
+use page_atoms::atoms::number_below;
+use page_atoms::compare::is_framed;
+use page_atoms::compare::is_word;
+use page_words::Atom;
+use page_words::AtomRead;
+use page_words::ElementRead;
+use page_words::Line;
+use page_words::LineRead;
+use page_words::Names;
+use page_words::NumberRead;
+use page_words::Value;
+use page_words::ValueRead;
+ghost use mathlib.Core.Path.{_≡_};
+ghost use Rattle.page_words.specs.Reads.{gotoOf, labelOf, ifOf, whileOf, storeOf, putOf, assignedOf, assignmentOf, assignmentRead, jumpRead, testRead, lineRead};
+use text_lines::line::piece_end;
+
+fn goto_of(number: NumberRead) -> LineRead
+    ensures { λ r. ⌜ r ≡ gotoOf number ⌝ }
+{
+    match number {
+        NumberRead::Number(label) => LineRead::Read(Line::Goto(label)),
+        NumberRead::Malformed => LineRead::Malformed,
+    }
+}
+
+fn label_of(number: NumberRead) -> LineRead
+    ensures { λ r. ⌜ r ≡ labelOf number ⌝ }
+{
+    match number {
+        NumberRead::Number(label) => LineRead::Read(Line::Label(label)),
+        NumberRead::Malformed => LineRead::Malformed,
+    }
+}
+
+fn if_of(test: AtomRead) -> LineRead
+    ensures { λ r. ⌜ r ≡ ifOf test ⌝ }
+{
+    let AtomRead::Read(tested) = test else {
+        return LineRead::Malformed;
+    };
+    LineRead::Read(Line::If(tested))
+}
+
+fn while_of(test: AtomRead) -> LineRead
+    ensures { λ r. ⌜ r ≡ whileOf test ⌝ }
+{
+    let AtomRead::Read(tested) = test else {
+        return LineRead::Malformed;
+    };
+    LineRead::Read(Line::While(tested))
+}
+
+// A name takes any value.
+fn store_of(name: AtomRead, value: ValueRead) -> LineRead
+    ensures { λ r. ⌜ r ≡ storeOf name value ⌝ }
+{
+    let AtomRead::Read(target) = name else {
+        return LineRead::Malformed;
+    };
+    let ValueRead::Read(assigned) = value else {
+        return LineRead::Malformed;
+    };
+    LineRead::Read(Line::Store(target, assigned))
+}
+
+// An element takes an atom.
+fn put_of(array: u32, index: Atom, value: ValueRead) -> LineRead
+    ensures { λ r. ⌜ r ≡ putOf array index value ⌝ }
+{
+    let ValueRead::Read(assigned) = value else {
+        return LineRead::Malformed;
+    };
+    match assigned {
+        Value::Single(single) => LineRead::Read(Line::Put(array, index, single)),
+        Value::Element(_, _) => LineRead::Malformed,
+        Value::Minus(_) => LineRead::Malformed,
+        Value::Binary(_, _, _) => LineRead::Malformed,
+    }
+}
+
+fn assigned_of(element: ElementRead, name: AtomRead, value: ValueRead) -> LineRead
+    ensures { λ r. ⌜ r ≡ assignedOf element name value ⌝ }
+{
+    match element {
+        ElementRead::Read(array, index) => put_of(array, index, value),
+        ElementRead::Malformed => store_of(name, value),
+    }
+}
+
+// An assignment by its target, and the rest from its first blank on.
+fn assignment_of(names: Names, target: &[u8], rest: &[u8]) -> LineRead
+    ensures { λ r. ⌜ r ≡ assignmentOf names (now (target .entry)) (now (rest .entry)) ⌝ }
+{
+    if !is_framed(b" = ", b";", rest) {
+        return LineRead::Malformed;
+    }
+    let last = rest.len() - 1;
+    let assigned = value(names, &rest[3..last]);
+    assigned_of(
+        element(names, target),
+        name_of(atom(names, target)),
+        assigned,
+    )
+}
+
+// `P = X;` and the others with an equals sign.
+fn assignment(names: Names, text: &[u8]) -> LineRead
+    ensures { λ r. ⌜ r ≡ assignmentRead names (now (text .entry)) ⌝ }
+{
+    let end = piece_end(text, 0, b' ');
+    assignment_of(names, &text[0..end], &text[end..])
+}
+
+// `if (X) {`, `while (X) {`, or an assignment.
+fn tested(names: Names, text: &[u8]) -> LineRead
+    ensures { λ r. ⌜ r ≡ testRead names (now (text .entry)) ⌝ }
+{
+    if is_framed(b"if (", b") {", text) {
+        let last = text.len() - 3;
+        return if_of(atom(names, &text[4..last]));
+    }
+    if is_framed(b"while (", b") {", text) {
+        let last = text.len() - 3;
+        return while_of(atom(names, &text[7..last]));
+    }
+    assignment(names, text)
+}
+
+// `goto LN;`, `LN:;`, or one of those.
+fn jump(names: Names, text: &[u8]) -> LineRead
+    ensures { λ r. ⌜ r ≡ jumpRead names (now (text .entry)) ⌝ }
+{
+    if is_framed(b"goto L", b";", text) {
+        let last = text.len() - 1;
+        return goto_of(number_below(&text[6..last], 40980));
+    }
+    if is_framed(b"L", b":;", text) {
+        let last = text.len() - 2;
+        return label_of(number_below(&text[1..last], 40980));
+    }
+    tested(names, text)
+}
+
+// The lines that are one fixed word, or one of those.
+pub fn line(names: Names, text: &[u8]) -> LineRead
+    ensures { λ r. ⌜ r ≡ lineRead names (now (text .entry)) ⌝ }
+{
+    if is_word(b";", text) {
+        return LineRead::Read(Line::Empty);
+    }
+    if is_word(b"{", text) {
+        return LineRead::Read(Line::Opens);
+    }
+    if is_word(b"}", text) {
+        return LineRead::Read(Line::Closes);
+    }
+    if is_word(b"} else {", text) {
+        return LineRead::Read(Line::Turns);
+    }
+    if is_word(b"abort();", text) {
+        return LineRead::Read(Line::Abort);
+    }
+    jump(names, text)
+}

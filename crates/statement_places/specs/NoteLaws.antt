@@ -30,4 +30,4 @@ pub switch-item-note : (rows : List ℤ) (row : ℕ) → noteAt switchItem rows 
 switch-item-note rows row = item-note 47 2 rows row
 
 pub mark-notes : {rows : List ℤ} {before : List ℕ} → Notes rows (noteAt markBefore rows) before → Notes rows (earlierAt (markAt rows) rows) before
-mark-notes {rows} notes = same-notes (before-note 48 49 rows) notes
+mark-notes {rows} notes = same-notes (before-note _ _ rows) notes

@@ -82,14 +82,15 @@ fn deep_sources() -> Vec<Program> {
     programs
 }
 
-/// The deepest legal program that nests so around this core.
+/// The deepest legal program that nests so around this core, behind a declaration: its names are resolved before a run or a translation.
 fn deepest(name: &str, core: Tree, nest: impl Fn(Tree) -> Tree) -> Program {
     let header = vec![1, 3];
     let mut found = None;
     let mut inner = core;
     for _ in 0..66 {
         let item = if inner.kind < EMPTY { expression(inner.clone()) } else { inner.clone() };
-        let rows = number(&block(vec![item]), Order::Pre, &mut Random::new(1, 1));
+        let items = vec![declare(0, n(1)), item];
+        let rows = number(&block(items), Order::Pre, &mut Random::new(1, 1));
         if check(Source, &header, &rows).is_ok() {
             found = Some(rows);
         }
@@ -131,7 +132,7 @@ fn deep_kernels() -> Vec<Program> {
         rows.push([ELEMENT, 0, at + 3, 0, 0, 0]);
         rows.push([CONSTANT, 0, 0, 0, 0, 0]);
         rows.push([VARIABLE, 0, 0, 0, 0, 0]);
-        let header = vec![1, 0, 3];
+        let header = vec![1, 0, 0, 3];
         let rows = rows.concat();
         assert_eq!(check(Kernel, &header, &rows), Ok(()), "kernel {name}");
         programs.push(Program { name: name.to_string(), header, rows });

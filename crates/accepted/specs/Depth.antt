@@ -10,8 +10,8 @@ use Rattle.words.specs.Table.{rowCount}
 use Rattle.words.specs.Layout.{depthLimit}
 use Rattle.words.specs.declared.Form.{Form}
 use Rattle.language.specs.Trees.{read}
-use Rattle.language.specs.Decode.{expressionAt, statementAt, decode, listAt, armListAt, partAt}
-use Rattle.language.specs.Sizes.{expressionDepth, placeDepth, partDepth, statementDepth, armsDepth, itemsDepth}
+use Rattle.language.specs.Decode.{expressionAt, argumentListAt, statementAt, decode, listAt, armListAt, partAt}
+use Rattle.language.specs.Sizes.{expressionDepth, placeDepth, argumentsDepth, partDepth, statementDepth, armsDepth, itemsDepth}
 use Rattle.words.specs.Kinds.{between}
 use Rattle.words.specs.Links.{link}
 use Rattle.row_fields.specs.declared.Bounds.{Bounds}
@@ -19,8 +19,8 @@ use Rattle.structure.specs.Structured.{Leads, Structured, Depth, root, owned, b
 use Rattle.structure.specs.StructuredLaws.{structured-tree}
 use Rattle.structure.specs.DepthLaws.{depth-inside}
 use Rattle.accepted.specs.Sorts.{between-true}
-use Rattle.accepted.specs.Expressions.{ExpressionRow, constant-row, variable-row, element-row, minus-row, not-row, binary-row, and-row, or-row, comma-row, conditional-row, assign-row, compound-row, prefix-row, postfix-row, placeAt}
-use Rattle.accepted.specs.Statements.{PartRow, absent-part, present-part, StatementRow, empty-row, express-row, block-row, ifThen-row, ifElse-row, while-row, doWhile-row, for-row, switch-row, case-row, default-row, break-row, continue-row, goto-row, label-row, guardedIf-row, guardedDo-row, abort-row, declare-row, ArmsRow, no-arms, arm-row, ListRow, no-items, item, case-item, default-item, label-item, root-row}
+use Rattle.accepted.specs.Expressions.{ExpressionRow, constant-row, variable-row, element-row, minus-row, not-row, binary-row, and-row, or-row, comma-row, conditional-row, assign-row, compound-row, prefix-row, postfix-row, call-row, ArgumentsRow, no-arguments, argument-row, placeAt}
+use Rattle.accepted.specs.Statements.{PartRow, absent-part, present-part, StatementRow, empty-row, express-row, block-row, ifThen-row, ifElse-row, while-row, doWhile-row, for-row, switch-row, case-row, default-row, break-row, continue-row, goto-row, label-row, guardedIf-row, guardedDo-row, abort-row, declare-row, return-row, ArmsRow, no-arms, arm-row, ListRow, no-items, item, case-item, default-item, label-item, root-row}
 
 module _ (form : Form) (bounds : Bounds) (rows : List ℤ) (s : Structured form bounds rows) (shallow : Shallow form rows) where
   abbrev limit : ℕ
@@ -54,25 +54,32 @@ module _ (form : Form) (bounds : Bounds) (rows : List ℤ) (s : Structured form 
   unfolding expressionDepth
   deep-place row depth e n = subst (λ tree. Fits depth (expressionDepth tree)) e n
 
-  deep-expression : {row : ℕ} → ExpressionRow rows row → (depth : ℕ) → Depth rows row depth → Fits depth (expressionDepth (expressionAt rows row))
-  unfolding expressionDepth placeDepth
-  deep-expression (constant-row k e) depth d = rw e (room d)
-  deep-expression (variable-row k e) depth d = rw e (room d)
-  deep-expression (element-row k p e x) depth d = rw e (omega (arith, deep-expression x _ (below d 2 refl p)))
-  deep-expression (minus-row k p e x) depth d = rw e (omega (arith, deep-expression x _ (below d 1 refl p)))
-  deep-expression (not-row k p e x) depth d = rw e (omega (arith, deep-expression x _ (below d 1 refl p)))
-  deep-expression (binary-row k p q e x y) depth d = rw e (omega (arith, deep-expression x _ (below d 1 refl p), deep-expression y _ (below d 2 refl q)))
-  deep-expression (and-row k p q e x y) depth d = rw e (omega (arith, deep-expression x _ (below d 1 refl p), deep-expression y _ (below d 2 refl q)))
-  deep-expression (or-row k p q e x y) depth d = rw e (omega (arith, deep-expression x _ (below d 1 refl p), deep-expression y _ (below d 2 refl q)))
-  deep-expression (comma-row k p q e x y) depth d = rw e (omega (arith, deep-expression x _ (below d 1 refl p), deep-expression y _ (below d 2 refl q)))
-  deep-expression (conditional-row k p q r e x y z) depth d =
-      rw e (omega (arith, deep-expression x _ (below d 1 refl p), deep-expression y _ (below d 2 refl q), deep-expression z _ (below d 3 refl r)))
-  deep-expression {row} (assign-row k p q i e x y) depth d =
-      rw e (omega (arith, deep-place (link rows row 1) (depth + 1) i (deep-expression x _ (below d 1 refl p)), deep-expression y _ (below d 2 refl q)))
-  deep-expression {row} (compound-row k p q i e x y) depth d =
-      rw e (omega (arith, deep-place (link rows row 1) (depth + 1) i (deep-expression x _ (below d 1 refl p)), deep-expression y _ (below d 2 refl q)))
-  deep-expression {row} (prefix-row k p i e x) depth d = rw e (omega (arith, deep-place (link rows row 1) (depth + 1) i (deep-expression x _ (below d 1 refl p))))
-  deep-expression {row} (postfix-row k p i e x) depth d = rw e (omega (arith, deep-place (link rows row 1) (depth + 1) i (deep-expression x _ (below d 1 refl p))))
+  mutual
+    unfolding expressionDepth placeDepth
+
+    deep-expression : {row : ℕ} → ExpressionRow rows row → (depth : ℕ) → Depth rows row depth → Fits depth (expressionDepth (expressionAt rows row))
+    deep-expression (constant-row k e) depth d = rw e (room d)
+    deep-expression (variable-row k e) depth d = rw e (room d)
+    deep-expression (element-row k p e x) depth d = rw e (omega (arith, deep-expression x _ (below d 2 refl p)))
+    deep-expression (minus-row k p e x) depth d = rw e (omega (arith, deep-expression x _ (below d 1 refl p)))
+    deep-expression (not-row k p e x) depth d = rw e (omega (arith, deep-expression x _ (below d 1 refl p)))
+    deep-expression (binary-row k p q e x y) depth d = rw e (omega (arith, deep-expression x _ (below d 1 refl p), deep-expression y _ (below d 2 refl q)))
+    deep-expression (and-row k p q e x y) depth d = rw e (omega (arith, deep-expression x _ (below d 1 refl p), deep-expression y _ (below d 2 refl q)))
+    deep-expression (or-row k p q e x y) depth d = rw e (omega (arith, deep-expression x _ (below d 1 refl p), deep-expression y _ (below d 2 refl q)))
+    deep-expression (comma-row k p q e x y) depth d = rw e (omega (arith, deep-expression x _ (below d 1 refl p), deep-expression y _ (below d 2 refl q)))
+    deep-expression (conditional-row k p q r e x y z) depth d =
+        rw e (omega (arith, deep-expression x _ (below d 1 refl p), deep-expression y _ (below d 2 refl q), deep-expression z _ (below d 3 refl r)))
+    deep-expression {row} (assign-row k p q i e x y) depth d =
+        rw e (omega (arith, deep-place (link rows row 1) (depth + 1) i (deep-expression x _ (below d 1 refl p)), deep-expression y _ (below d 2 refl q)))
+    deep-expression {row} (compound-row k p q i e x y) depth d =
+        rw e (omega (arith, deep-place (link rows row 1) (depth + 1) i (deep-expression x _ (below d 1 refl p)), deep-expression y _ (below d 2 refl q)))
+    deep-expression {row} (prefix-row k p i e x) depth d = rw e (omega (arith, deep-place (link rows row 1) (depth + 1) i (deep-expression x _ (below d 1 refl p))))
+    deep-expression {row} (postfix-row k p i e x) depth d = rw e (omega (arith, deep-place (link rows row 1) (depth + 1) i (deep-expression x _ (below d 1 refl p))))
+    deep-expression {row} (call-row k e x) depth d = rw e (omega (arith, deep-arguments x _ (room d) (below-any d 2 refl)))
+
+    deep-arguments : {l : ℕ} → ArgumentsRow rows l → (depth : ℕ) → depth ≤ limit + 1 → (0 < l → Depth rows l depth) → Fits depth (argumentsDepth (argumentListAt rows l))
+    deep-arguments (no-arguments z e) depth h d = rw e (omega arith)
+    deep-arguments {l} (argument-row p k q e x y) depth h d = rw e (omega (arith, deep-expression x _ (below (d p) 1 refl q), deep-arguments y depth h (next l depth (d p))))
 
   deep-part : {l : ℕ} → PartRow rows l → (depth : ℕ) → depth ≤ limit + 1 → (0 < l → Depth rows l depth) → Fits depth (partDepth (partAt rows l))
   deep-part (absent-part z e) depth h d = rw e (omega arith)
@@ -103,6 +110,7 @@ module _ (form : Form) (bounds : Bounds) (rows : List ℤ) (s : Structured form 
     deep-statement (guardedDo-row k e x) depth d = rw e (omega (arith, deep-arms x _ (room d) (below-any d 1 refl)))
     deep-statement (abort-row k e) depth d = rw e (room d)
     deep-statement (declare-row k p e x) depth d = rw e (omega (arith, deep-expression x _ (below d 2 refl p)))
+    deep-statement (return-row k e x) depth d = rw e (omega (arith, deep-part x _ (room d) (below-any d 1 refl)))
 
     deep-arms : {l : ℕ} → ArmsRow rows l → (depth : ℕ) → depth ≤ limit + 1 → (0 < l → Depth rows l depth) → Fits depth (armsDepth (armListAt rows l))
     deep-arms (no-arms z e) depth h d = rw e (omega arith)

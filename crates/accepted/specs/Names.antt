@@ -6,7 +6,7 @@ use Prim.Native.Nat.{ℕ, _≤_, _<_}
 use native.Mathlib.Omega.{arith}
 use lib.IntN.{ℤ}
 use Rattle.words.specs.Table.{rowCount, numberAt}
-use Rattle.words.specs.Kinds.{kindAt, kindRow, expressionFields, statementFields, markFields, memberFields, sortIn}
+use Rattle.words.specs.Kinds.{kindAt, kindRow, expressionFields, statementFields, markFields, definitionFields, memberFields, sortIn}
 use Rattle.words.specs.Layout.{Layout, layoutOf, storeSize, headerStore}
 use Rattle.words.specs.declared.Form.{Form}
 use Rattle.words.specs.declared.Form.the-variants.{Source}
@@ -21,7 +21,7 @@ use Rattle.structure.specs.Structured.{Structured}
 use Rattle.accepted.specs.Fields.{NamesVariable, stays, names-variable, names-declared}
 use Rattle.accepted.specs.Expressions.{ExpressionRow}
 use Rattle.accepted.specs.NamedBelow.{named-below, named-part-below}
-use Rattle.accepted.specs.Statements.{PartRow, StatementRow, empty-row, express-row, block-row, ifThen-row, ifElse-row, while-row, doWhile-row, for-row, switch-row, case-row, default-row, break-row, continue-row, goto-row, label-row, guardedIf-row, guardedDo-row, abort-row, declare-row, ArmsRow, no-arms, arm-row, ListRow, no-items, item, case-item, default-item, label-item, root-inside, program-list, program-contents, program-block}
+use Rattle.accepted.specs.Statements.{PartRow, StatementRow, empty-row, express-row, block-row, ifThen-row, ifElse-row, while-row, doWhile-row, for-row, switch-row, case-row, default-row, break-row, continue-row, goto-row, label-row, guardedIf-row, guardedDo-row, abort-row, declare-row, return-row, ArmsRow, no-arms, arm-row, ListRow, no-items, item, case-item, default-item, label-item, root-inside, program-list, program-contents, program-block}
 
 -- `Names` is what variable numbers within the bounds satisfy.
 module _ (form : Form) (bounds : Bounds) (rows : List ℤ) (s : Structured form bounds rows)
@@ -34,17 +34,17 @@ module _ (form : Form) (bounds : Bounds) (rows : List ℤ) (s : Structured form 
   Anywhere row = Unit {0}
 
   variable-named : (row : ℕ) → row < rowCount rows → kindAt rows row ≡ OfExpression Variable → Anywhere row → Names (numberAt rows row 1)
-  unfolding sortIn kindRow expressionFields statementFields markFields memberFields
+  unfolding sortIn kindRow expressionFields statementFields markFields definitionFields memberFields
   variable-named row inside k b = names _ (names-variable form bounds rows s row inside k 1 refl)
 
   pub named-expression : {row : ℕ} → ExpressionRow rows row → row < rowCount rows → NamedExpression Names arrays (expressionAt rows row)
-  named-expression x inside = named-below form bounds rows s Names Anywhere variable-named (λ row field h l b. tt) x inside tt
+  named-expression x inside = named-below form bounds rows s Names Anywhere variable-named (λ row field h l b. tt) (λ row k l b. tt) x inside tt
 
   named-part : {l : ℕ} → PartRow rows l → (0 < l → l < rowCount rows) → NamedPart Names arrays (partAt rows l)
-  named-part x inside = named-part-below form bounds rows s Names Anywhere variable-named (λ row field h l b. tt) x (λ p. (inside p, tt))
+  named-part x inside = named-part-below form bounds rows s Names Anywhere variable-named (λ row field h l b. tt) (λ row k l b. tt) x (λ p. (inside p, tt))
 
   mutual
-    unfolding NamedStatement NamedArms NamedItems sortIn kindRow expressionFields statementFields markFields memberFields
+    unfolding NamedStatement NamedArms NamedItems sortIn kindRow expressionFields statementFields markFields definitionFields memberFields
 
     pub named-statement : {row : ℕ} → StatementRow rows row → row < rowCount rows → NamedStatement Names arrays (statementAt rows row)
     named-statement (empty-row k e) inside = rw e tt
@@ -68,6 +68,7 @@ module _ (form : Form) (bounds : Bounds) (rows : List ℤ) (s : Structured form 
     named-statement {row} (guardedDo-row k e x) inside = rw e (named-arms x (stays form bounds rows s row inside 1 refl))
     named-statement (abort-row k e) inside = rw e tt
     named-statement {row} (declare-row k p e x) inside = rw e (names _ (names-declared form bounds rows s row inside k 1 refl), named-expression x (p .inside))
+    named-statement {row} (return-row k e x) inside = rw e (named-part x (stays form bounds rows s row inside 1 refl))
 
     named-arms : {l : ℕ} → ArmsRow rows l → (0 < l → l < rowCount rows) → NamedArms Names arrays (armListAt rows l)
     named-arms (no-arms z e) inside = rw e tt

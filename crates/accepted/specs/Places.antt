@@ -8,14 +8,15 @@ use Prim.Native.Nat.{ℕ, _+_, _*_, _<_}
 use native.Mathlib.Omega.{arith}
 use lib.IntN.{ℤ}
 use Rattle.words.specs.Table.{rowCount, numberAt}
-use Rattle.words.specs.Kinds.{kindAt, statementRow, armRow, between, standsIn, inLanguage, sortIn, kindRow, expressionFields, statementFields, markFields, memberFields}
+use Rattle.words.specs.Kinds.{kindAt, statementRow, armRow, between, standsIn, inLanguage, sortIn, kindRow, expressionFields, statementFields, markFields, definitionFields, memberFields}
 use Rattle.words.specs.declared.Form.the-variants.{Source}
 use Rattle.words.specs.declared.Kind.{Kind}
 use Rattle.words.specs.declared.Kind.the-variants.{OfStatement}
 use Rattle.words.specs.declared.StatementKind.the-variants.{Block, Switch}
+use Rattle.language.specs.Trees.{Items, none, _then_, _here_, define}
 use Rattle.language.specs.Decode.{statementAt, decode, listAt, armListAt}
 use Rattle.language.specs.Program.{contents}
-use Rattle.language.specs.WellFormed.{Placed, PlacedArms, PlacedItems}
+use Rattle.language.specs.WellFormed.{Placed, PlacedArms, PlacedItems, PlacedProgram}
 use Rattle.words.specs.Links.{link}
 use Rattle.structure.specs.LinkLaws.{linker-of}
 use Rattle.structure.specs.StructuredLaws.{structured-tree}
@@ -26,7 +27,15 @@ use Rattle.statement_places.specs.Places.{isLoop, isLoopOrSwitch, isMark}
 use Rattle.source_check.specs.Legal.{Inside, part, along, SwitchItem, Placed as PlacedRow}
 use Rattle.accepted.specs.Sorts.{between-true, statementNumber, number-is, in-language}
 use Rattle.accepted.specs.Fields.{leads-on}
-use Rattle.accepted.specs.Statements.{StatementRow, empty-row, express-row, block-row, ifThen-row, ifElse-row, while-row, doWhile-row, for-row, switch-row, case-row, default-row, break-row, continue-row, goto-row, label-row, guardedIf-row, guardedDo-row, abort-row, declare-row, ArmsRow, no-arms, arm-row, ListRow, no-items, item, case-item, default-item, label-item, root-inside, root-row, program-block}
+use Rattle.accepted.specs.Statements.{StatementRow, empty-row, express-row, block-row, ifThen-row, ifElse-row, while-row, doWhile-row, for-row, switch-row, case-row, default-row, break-row, continue-row, goto-row, label-row, guardedIf-row, guardedDo-row, abort-row, declare-row, return-row, ArmsRow, no-arms, arm-row, ListRow, no-items, item, case-item, default-item, label-item, root-inside, root-row, program-block}
+
+-- A program without definitions.
+without-definitions : (program : Items) → PlacedItems false false false false program → PlacedProgram program
+unfolding PlacedItems PlacedProgram
+without-definitions none h = h
+without-definitions (s then is) h = h
+without-definitions (m here is) h = h
+without-definitions (define f words body is) h = absurd h
 
 -- ---- a row has one owner
 
@@ -104,7 +113,7 @@ module _ (bounds : Bounds) (rows : List ℤ) (s : Structured Source bounds rows)
 
   -- the first item of a block
   first-item : {row : ℕ} {mayBreak mayContinue : Bool} → kindAt rows row ≡ OfStatement Block → Around mayBreak mayContinue row → 0 < link rows row 1 → AroundItem false mayBreak mayContinue (link rows row 1)
-  unfolding sortIn kindRow expressionFields statementFields markFields memberFields statementNumber
+  unfolding sortIn kindRow expressionFields statementFields markFields definitionFields memberFields statementNumber
   first-item {row} k around p =
       let l = leads-on Source bounds rows s _ (around .inside) 1 refl p in
       record {
@@ -114,7 +123,7 @@ module _ (bounds : Bounds) (rows : List ℤ) (s : Structured Source bounds rows)
 
   -- the first item of a switch
   first-in-switch : {row : ℕ} {mayBreak mayContinue : Bool} → kindAt rows row ≡ OfStatement Switch → Around mayBreak mayContinue row → 0 < link rows row 2 → AroundItem true true mayContinue (link rows row 2)
-  unfolding sortIn kindRow expressionFields statementFields markFields memberFields statementNumber
+  unfolding sortIn kindRow expressionFields statementFields markFields definitionFields memberFields statementNumber
   first-in-switch {row} k around p =
       let l = leads-on Source bounds rows s _ (around .inside) 2 refl p in
       record {
@@ -157,9 +166,9 @@ module _ (bounds : Bounds) (rows : List ℤ) (s : Structured Source bounds rows)
   not-in-source {row} inside k f = true≢false (sym (in-language Source rows row (s .known row inside) k) ∙ f)
 
   mutual
-    unfolding Placed PlacedArms PlacedItems sortIn kindRow expressionFields statementFields markFields memberFields statementNumber inLanguage
+    unfolding Placed PlacedArms PlacedItems sortIn kindRow expressionFields statementFields markFields definitionFields memberFields statementNumber inLanguage
 
-    placed-statement : {row : ℕ} → StatementRow rows row → (mayBreak mayContinue : Bool) → Around mayBreak mayContinue row → Placed mayBreak mayContinue (statementAt rows row)
+    placed-statement : {row : ℕ} → StatementRow rows row → (mayBreak mayContinue : Bool) → Around mayBreak mayContinue row → Placed false mayBreak mayContinue (statementAt rows row)
     placed-statement (empty-row k e) b c a = rw e tt
     placed-statement (express-row k p e x) b c a = rw e tt
     placed-statement (block-row k e x) b c a = rw e (placed-list x false b c (first-item k a))
@@ -180,14 +189,16 @@ module _ (bounds : Bounds) (rows : List ℤ) (s : Structured Source bounds rows)
     placed-statement (guardedDo-row k e x) b c a = rw e (placed-arms x b c (through-any k refl refl refl a 1 refl))
     placed-statement (abort-row k e) b c a = absurd (not-in-source (a .inside) k refl)
     placed-statement (declare-row k p e x) b c a = rw e tt
+    -- no form has returns yet
+    placed-statement (return-row k e x) b c a = absurd (not-in-source (a .inside) k refl)
 
     -- what stands around a guarded statement stands around its arms' blocks
-    placed-arms : {l : ℕ} → ArmsRow rows l → (mayBreak mayContinue : Bool) → (0 < l → Around mayBreak mayContinue l) → PlacedArms mayBreak mayContinue (armListAt rows l)
+    placed-arms : {l : ℕ} → ArmsRow rows l → (mayBreak mayContinue : Bool) → (0 < l → Around mayBreak mayContinue l) → PlacedArms false mayBreak mayContinue (armListAt rows l)
     placed-arms (no-arms z e) b c a = rw e tt
     placed-arms (arm-row p k q r e x y z) b c a =
         rw e (placed-statement y b c (through k refl refl refl (a p) 2 (omega arith) r), placed-arms z b c (through-any k refl refl refl (a p) 5 refl))
 
-    placed-list : {l : ℕ} → ListRow rows l → (inSwitch mayBreak mayContinue : Bool) → (0 < l → AroundItem inSwitch mayBreak mayContinue l) → PlacedItems inSwitch mayBreak mayContinue (listAt rows l)
+    placed-list : {l : ℕ} → ListRow rows l → (inSwitch mayBreak mayContinue : Bool) → (0 < l → AroundItem inSwitch mayBreak mayContinue l) → PlacedItems false inSwitch mayBreak mayContinue (listAt rows l)
     placed-list (no-items z e) w b c a = rw e tt
     placed-list (item p e x y) w b c a = rw e (placed-statement x b c (a p .around), placed-list y w b c (next-item (a p)))
     placed-list (case-item p k e x y) w b c a = rw e (mark-allowed (a p) k refl refl, placed-list y w b c (next-item (a p)))
@@ -195,13 +206,14 @@ module _ (bounds : Bounds) (rows : List ℤ) (s : Structured Source bounds rows)
     placed-list (label-item p k e x y) w b c a = absurd (not-in-source (a p .around .inside) k refl)
 
   -- nothing stands around the program
-  pub placed-contents : PlacedItems false false false (contents rows)
+  pub placed-contents : PlacedProgram (contents rows)
   unfolding Placed decode
   placed-contents =
-      rw (program-block Source bounds rows s) at
+      without-definitions (contents rows)
+      (rw (program-block Source bounds rows s) at
       (placed-statement (root-row Source bounds rows s) false false
       (record {
         inside = root-inside Source bounds rows s;
         breaks = λ i. absurd (outermost rows t isLoopOrSwitch 0 i refl);
         continues = λ i. absurd (outermost rows t isLoop 0 i refl);
-      }))
+      })))

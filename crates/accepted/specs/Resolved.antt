@@ -16,6 +16,8 @@ use Rattle.computation.specs.Run.{Limit, start}
 use Rattle.language.specs.Trees.{block}
 use Rattle.language.specs.Decode.{decode}
 use Rattle.language.specs.Meaning.{next}
+use Rattle.language.specs.Functions.{contextOf}
+use Rattle.language.specs.PlainCalls.{plain-calls}
 use Rattle.language.specs.Program.{contents, tableProgram, runTableUnder}
 use Rattle.language.specs.Sizes.{statementRows, statementDepth}
 use Rattle.language.specs.Sound.{Sound}
@@ -75,6 +77,8 @@ module _ (header rows : List ℤ) (legal : Legal header rows) where
   table-tree = record {
     named = named-contents Source _ table table-structured (SourceName L words) (source-name L words (omega arith));
     placed = placed-contents _ table table-structured (resolved-placed S rows (legal .placed));
+    -- no form has functions yet
+    calls = plain-calls table (table-sound .whole) (table-sound .no-function);
   }
 
   -- Its tree has as many rows as the table.
@@ -95,4 +99,4 @@ module _ (header rows : List ℤ) (legal : Legal header rows) where
   -- A run that comes to its end is not on its way out of a loop or switch, nor to a mark, under any limit and from any store.
   pub table-ends-normally : (limit : Limit) (store : List ℤ) → Gives (λ signal. signal ≡ next) (runTableUnder limit Source header table store)
   unfolding runTableUnder tableProgram
-  table-ends-normally limit store = rw table-block (program-ends L limit (contents table) (table-tree .placed) (start store))
+  table-ends-normally limit store = rw table-block (program-ends (contextOf L (contents table)) limit (contents table) (table-tree .placed) (start store))

@@ -11,37 +11,37 @@ use lib.IntN.{ℤ}
 use borrow.Author.Tests.{eqb-true, ne-eqb}
 use Rattle.words.specs.Word.{pick}
 use Rattle.words.specs.Table.{rowCount, numberAt, Whole}
-use Rattle.words.specs.Kinds.{kindAt, isStatementKind, expression, optionalExpression, place, branch, optionalBranch, optionalItem, bodyBlock, optionalArm, statementRow, armRow, sortAt, isLink, isRequired, sortIn, kindRow, expressionFields, statementFields, markFields, memberFields}
+use Rattle.words.specs.Kinds.{kindAt, isStatementKind, expression, optionalExpression, place, branch, optionalBranch, optionalItem, bodyBlock, optionalArm, optionalArgument, statementRow, armRow, argumentRow, sortAt, isLink, isRequired, sortIn, kindRow, expressionFields, statementFields, markFields, definitionFields, memberFields}
 use Rattle.words.specs.Laws.{both}
 use Rattle.words.specs.declared.Form.{Form}
 use Rattle.words.specs.declared.Kind.{Kind}
 use Rattle.words.specs.declared.Kind.the-variants.{OfStatement, OfMember}
 use Rattle.words.specs.declared.StatementKind.the-variants.{Block}
-use Rattle.words.specs.declared.MemberKind.the-variants.{Arm}
+use Rattle.words.specs.declared.MemberKind.{MemberKind}
 use Rattle.language.specs.Trees.{read}
-use Rattle.language.specs.Decode.{expressionAt, statementOf, statementAt, itemsAt, armsAt, decode, listAt, armListAt, partAt}
+use Rattle.language.specs.Decode.{expressionAt, argumentsAt, argumentListAt, statementOf, statementAt, itemsAt, armsAt, decode, listAt, armListAt, partAt}
 use Rattle.language.specs.DecodeLaws.{statement-at, at-item, at-case, at-default, at-label, part-some}
-use Rattle.language.specs.Sizes.{expressionRows, placeRows, partRows, statementRows, armsRows, itemsRows}
-use Rattle.words.specs.Links.{isExpression, isStatement, isBlock, isArm, link, fits}
+use Rattle.language.specs.Sizes.{expressionRows, placeRows, argumentsRows, partRows, statementRows, armsRows, itemsRows}
+use Rattle.words.specs.Links.{isExpression, isStatement, isBlock, isArm, isArgument, link, fits}
 use Rattle.structure.specs.NoteLaws.{above-zero}
 use Rattle.structure.specs.StructuredLaws.{structured-tree}
 use Rattle.row_fields.specs.declared.Bounds.{Bounds}
 use Rattle.structure.specs.Structured.{Leads, Structured}
-use Rattle.accepted.specs.Sorts.{expression-statement-or-arm, statement-kind, block-statement, arm-is}
+use Rattle.accepted.specs.Sorts.{row-sort, no-definition, argument-is, statement-kind, block-statement, arm-is}
 use Rattle.accepted.specs.Fields.{holds, noLink, MayLink, link-none, linked, may-link, next-link}
 use Rattle.accepted.specs.Sums.{totalFrom, along, brought, total-one, gathers}
-use Rattle.accepted.specs.Expressions.{ExpressionRow, constant-row, variable-row, element-row, minus-row, not-row, binary-row, and-row, or-row, comma-row, conditional-row, assign-row, compound-row, prefix-row, postfix-row, placeAt, whole-rows, place-expression, expression-row}
-use Rattle.accepted.specs.Statements.{StatementRow, empty-row, express-row, block-row, ifThen-row, ifElse-row, while-row, doWhile-row, for-row, switch-row, case-row, default-row, break-row, continue-row, goto-row, label-row, guardedIf-row, guardedDo-row, abort-row, declare-row, ArmsRow, no-arms, arm-row, list-some, arms-some, root-inside, root-kind, root-statement, statement-row, arms-row}
+use Rattle.accepted.specs.Expressions.{ExpressionRow, constant-row, variable-row, element-row, minus-row, not-row, binary-row, and-row, or-row, comma-row, conditional-row, assign-row, compound-row, prefix-row, postfix-row, call-row, ArgumentsRow, no-arguments, argument-row, placeAt, whole-rows, place-expression, expression-row, arguments-some, arguments-row}
+use Rattle.accepted.specs.Statements.{StatementRow, empty-row, express-row, block-row, ifThen-row, ifElse-row, while-row, doWhile-row, for-row, switch-row, case-row, default-row, break-row, continue-row, goto-row, label-row, guardedIf-row, guardedDo-row, abort-row, declare-row, return-row, ArmsRow, no-arms, arm-row, list-some, arms-some, root-inside, root-kind, root-statement, statement-row, arms-row}
 
 unfoldable all : (ℕ → Bool) → ℕ → ℕ → Bool
 all test from zero = true
 all test from (suc count) = test from && all test (from + 1) count
 
--- The rows of the tree at a row; from a statement on, with the items behind it; from an arm on, with the arms behind it.
+-- The rows of the tree at a row; from a statement on, with the items behind it; from an arm or an argument on, with those behind it.
 unfoldable pub treeRows : List ℤ → ℕ → ℕ
 treeRows rows row =
     pick (isExpression rows row) (expressionRows (expressionAt rows row))
-    (pick (isArm rows row) (armsRows (armsAt rows row)) (itemsRows (itemsAt rows row)))
+    (pick (isArm rows row) (armsRows (armsAt rows row)) (pick (isArgument rows row) (argumentsRows (argumentsAt rows row)) (itemsRows (itemsAt rows row))))
 
 module _ (form : Form) (bounds : Bounds) (rows : List ℤ) (s : Structured form bounds rows) where
   whole : Whole rows
@@ -52,12 +52,16 @@ module _ (form : Form) (bounds : Bounds) (rows : List ℤ) (s : Structured form 
   expression-weight row e = rw e
 
   statement-weight : (row : ℕ) → isStatement rows row ≡ true → treeRows rows row ≡ itemsRows (itemsAt rows row)
-  unfolding treeRows isExpression isStatement isArm
+  unfolding treeRows isExpression isStatement isArm isArgument
   statement-weight row e = rw (eqb-true (sortAt rows row 0) statementRow e)
 
   arm-weight : (row : ℕ) → isArm rows row ≡ true → treeRows rows row ≡ armsRows (armsAt rows row)
   unfolding treeRows isExpression isArm
   arm-weight row e = rw (eqb-true (sortAt rows row 0) armRow e)
+
+  argument-weight : (row : ℕ) → isArgument rows row ≡ true → treeRows rows row ≡ argumentsRows (argumentsAt rows row)
+  unfolding treeRows isExpression isArm isArgument
+  argument-weight row e = rw (eqb-true (sortAt rows row 0) argumentRow e)
 
   some-link : (l : ℕ) → 0 < l → along (treeRows rows) l ≡ treeRows rows l
   unfolding along
@@ -73,7 +77,8 @@ module _ (form : Form) (bounds : Bounds) (rows : List ℤ) (s : Structured form 
       (⊎-elim (λ t. rw (at-item rows whole row t (next .later)))
       (⊎-elim (λ k. rw (at-case rows whole row k (next .later), statement-at rows whole row, k))
       (⊎-elim (λ k. rw (at-default rows whole row k (next .later), statement-at rows whole row, k))
-      (λ k. rw (at-label rows whole row k (next .later), statement-at rows whole row, k))))
+      (⊎-elim (λ k. rw (at-label rows whole row k (next .later), statement-at rows whole row, k))
+      (λ k. absurd (no-definition form rows row (s .known row inside) k)))))
       (statement-kind rows row (eqb-true _ _ e)))
 
   -- a statement behind which nothing stands
@@ -169,6 +174,17 @@ module _ (form : Form) (bounds : Bounds) (rows : List ℤ) (s : Structured form 
             let fit = may-link form bounds rows s row inside k optionalArm field refl t .fit p in
             some-link _ p ∙ arm-weight _ fit ∙ ap armsRows (sym (arms-some rows _ p))
 
+    arguments-bring : {kind : Kind} → kindAt rows row ≡ kind → (field : ℕ) → holds (eqb optionalArgument) kind field ≡ true → brings field ≡ argumentsRows (argumentListAt rows (link rows row field))
+    unfolding expressionRows isLink fits
+    arguments-bring k field t = go (link rows row field) refl
+      where
+        go : (l : ℕ) → link rows row field ≡ l → brings field ≡ argumentsRows (argumentListAt rows (link rows row field))
+        go zero z = absent-brings field z ∙ (rw z)
+        go (suc l) z =
+            let p : 0 < link rows row field = omega arith in
+            let fit = may-link form bounds rows s row inside k optionalArgument field refl t .fit p in
+            some-link _ p ∙ argument-weight _ fit ∙ ap argumentsRows (sym (arguments-some rows _ p))
+
     -- fields without links bring nothing
     free : {kind : Kind} → kindAt rows row ≡ kind → (from count : ℕ) → all (holds noLink kind) from count ≡ true → totalFrom brings from count ≡ 0
     unfolding totalFrom all
@@ -180,7 +196,7 @@ module _ (form : Form) (bounds : Bounds) (rows : List ℤ) (s : Structured form 
     -- ---- a row counts itself and what its links bring
 
     expression-adds : ExpressionRow rows row → expressionRows (expressionAt rows row) ≡ 1 + totalFrom brings 1 5
-    unfolding expressionRows placeRows totalFrom all sortIn kindRow expressionFields statementFields markFields memberFields isLink
+    unfolding expressionRows placeRows totalFrom all sortIn kindRow expressionFields statementFields markFields definitionFields memberFields isLink
     expression-adds (constant-row k e) = rw e (omega (arith, free k 1 5 refl))
     expression-adds (variable-row k e) = rw e (omega (arith, free k 1 5 refl))
     expression-adds (element-row k p e x) = rw e (omega (arith, none-brings k 1 refl, operand-brings k 2 refl, free k 3 3 refl))
@@ -196,9 +212,10 @@ module _ (form : Form) (bounds : Bounds) (rows : List ℤ) (s : Structured form 
     expression-adds (compound-row k p q i e x y) = rw e (omega (arith, place-brings k 1 refl i, operand-brings k 2 refl, free k 3 3 refl))
     expression-adds (prefix-row k p i e x) = rw e (omega (arith, place-brings k 1 refl i, free k 2 4 refl))
     expression-adds (postfix-row k p i e x) = rw e (omega (arith, place-brings k 1 refl i, free k 2 4 refl))
+    expression-adds (call-row k e x) = rw e (omega (arith, none-brings k 1 refl, arguments-bring k 2 refl, free k 3 3 refl))
 
     statement-adds : StatementRow rows row → statementRows (statementAt rows row) ≡ 1 + totalFrom brings 1 4
-    unfolding statementRows totalFrom all sortIn kindRow expressionFields statementFields markFields memberFields isLink
+    unfolding statementRows totalFrom all sortIn kindRow expressionFields statementFields markFields definitionFields memberFields isLink
     statement-adds (empty-row k e) = rw e (omega (arith, free k 1 4 refl))
     statement-adds (express-row k p e x) = rw e (omega (arith, operand-brings k 1 refl, free k 2 3 refl))
     statement-adds (block-row k e x) = rw e (omega (arith, items-bring k 1 refl, free k 2 3 refl))
@@ -221,18 +238,24 @@ module _ (form : Form) (bounds : Bounds) (rows : List ℤ) (s : Structured form 
     statement-adds (guardedDo-row k e x) = rw e (omega (arith, arms-bring k 1 refl, free k 2 3 refl))
     statement-adds (abort-row k e) = rw e (omega (arith, free k 1 4 refl))
     statement-adds (declare-row k p e x) = rw e (omega (arith, none-brings k 1 refl, operand-brings k 2 refl, free k 3 2 refl))
+    statement-adds (return-row k e x) = rw e (omega (arith, part-brings k 1 refl, free k 2 3 refl))
 
     arms-add : ArmsRow rows row → 0 < row → armsRows (armListAt rows row) ≡ 1 + totalFrom brings 1 5
-    unfolding armsRows totalFrom all sortIn kindRow expressionFields statementFields markFields memberFields isLink
+    unfolding armsRows totalFrom all sortIn kindRow expressionFields statementFields markFields definitionFields memberFields isLink
     arms-add (no-arms z e) some = absurd (omega arith)
     arms-add (arm-row p k q r e x y z) some = rw e (omega (arith, operand-brings k 1 refl, block-brings k 2 refl, free k 3 2 refl, arms-bring k 5 refl))
 
-    -- row 0 is a block, and no arm
-    arm-some : isArm rows row ≡ true → 0 < row
-    arm-some e = above-zero row (λ z. no-arm (sym (root-kind form bounds rows s) ∙ (rw z at (arm-is rows row e))))
+    arguments-add : ArgumentsRow rows row → 0 < row → argumentsRows (argumentListAt rows row) ≡ 1 + totalFrom brings 1 5
+    unfolding expressionRows totalFrom all sortIn kindRow expressionFields statementFields markFields definitionFields memberFields isLink
+    arguments-add (no-arguments z e) some = absurd (omega arith)
+    arguments-add (argument-row p k q e x y) some = rw e (omega (arith, operand-brings k 1 refl, free k 2 3 refl, arguments-bring k 5 refl))
+
+    -- row 0 is a block, and no member
+    member-some : {kind : MemberKind} → kindAt rows row ≡ OfMember kind → 0 < row
+    member-some {kind} k = above-zero row (λ z. no-member (sym (root-kind form bounds rows s) ∙ (rw z at k)))
       where
-        no-arm : OfStatement Block ≡ OfMember Arm → ⊥
-        no-arm e = true≢false (ap isStatementKind e)
+        no-member : OfStatement Block ≡ OfMember kind → ⊥
+        no-member e = true≢false (ap isStatementKind e)
 
     row-adds : treeRows rows row ≡ 1 + totalFrom brings 1 5
     unfolding totalFrom
@@ -242,10 +265,13 @@ module _ (form : Form) (bounds : Bounds) (rows : List ℤ) (s : Structured form 
         let own = statement-adds (statement-row form bounds rows s row inside e) in
         let behind = list-brings 5 (next-link form bounds rows s row inside e) in
         omega (arith, statement-weight row e, split-items row inside e, own, behind))
+        (⊎-elim (λ e.
+        let some = member-some (arm-is rows row e) in
+        arm-weight row e ∙ ap armsRows (sym (arms-some rows row some)) ∙ arms-add (arms-row form bounds rows s row inside e some) some)
         (λ e.
-        let some = arm-some e in
-        arm-weight row e ∙ ap armsRows (sym (arms-some rows row some)) ∙ arms-add (arms-row form bounds rows s row inside e some) some))
-        (expression-statement-or-arm form rows row (s .known row inside))
+        let some = member-some (argument-is rows row e) in
+        argument-weight row e ∙ ap argumentsRows (sym (arguments-some rows row some)) ∙ arguments-add (arguments-row form bounds rows s row inside e some) some)))
+        (row-sort form rows row (s .known row inside))
 
 -- "Every other row is linked exactly once": the tree has a row for each row of the table.
 pub decoded-rows : (form : Form) (bounds : Bounds) (rows : List ℤ) → Structured form bounds rows → statementRows (decode rows) ≡ rowCount rows

@@ -10,25 +10,25 @@ use lib.IntN.{ℤ}
 use borrow.Author.Tests.{leb-true, eqb-true}
 use Rattle.words.specs.Word.{pick}
 use Rattle.words.specs.Table.{numberAt}
-use Rattle.words.specs.Kinds.{kinds, kindIn, kindOf, kindAt, isStatementKind, optionalItem, expressionRow, placeRow, statementRow, armRow, between, kindRow, expressionFields, statementFields, markFields, memberFields, sortIn, sortOf, sortAt, standsIn, inLanguage}
-use Rattle.words.specs.KindLaws.{everyLine, every-number, arm-kind}
-use Rattle.words.specs.Laws.{both, either}
+use Rattle.words.specs.Kinds.{kinds, kindIn, kindOf, kindAt, isStatementKind, optionalItem, expressionRow, placeRow, statementRow, armRow, argumentRow, between, kindRow, expressionFields, statementFields, markFields, definitionFields, memberFields, sortIn, sortOf, sortAt, standsIn, inLanguage, isFunctionNumber}
+use Rattle.words.specs.KindLaws.{everyLine, every-number, arm-kind, argument-kind, function-foreign}
+use Rattle.words.specs.Laws.{both, either, by-cases}
 use Rattle.words.specs.declared.Form.{Form}
 use Rattle.words.specs.declared.Kind.{Kind}
-use Rattle.words.specs.declared.Kind.the-variants.{OfExpression, OfStatement, OfMark, OfMember, Other}
+use Rattle.words.specs.declared.Kind.the-variants.{OfExpression, OfStatement, OfMark, OfMember, Definition, Other}
 use Rattle.words.specs.declared.ExpressionKind.{ExpressionKind}
 use Rattle.words.specs.declared.ExpressionKind.the-variants.{Variable, Element}
-use Rattle.words.specs.declared.StatementKind.the-variants.{Empty, Express, Block, If, While, Do, For, Switch, Break, Continue, Goto, GuardedIf, GuardedDo, Abort, Declare}
+use Rattle.words.specs.declared.StatementKind.the-variants.{Empty, Express, Block, If, While, Do, For, Switch, Break, Continue, Goto, GuardedIf, GuardedDo, Abort, Declare, Return}
 use Rattle.words.specs.declared.MarkKind.the-variants.{Case, Default, Label}
-use Rattle.words.specs.declared.MemberKind.the-variants.{Arm}
-use Rattle.words.specs.Links.{isExpression, isStatement, isArm}
+use Rattle.words.specs.declared.MemberKind.the-variants.{Arm, Argument}
+use Rattle.words.specs.Links.{isExpression, isStatement, isArm, isArgument}
 
 pub between-true : (least most number : ℕ) → between least most number ≡ true → (least ≤ number) × (number ≤ most)
 between-true least most number e =
     let parts = both (leb least number) (leb number most) e in
     (leb-true _ _ (parts .0), leb-true _ _ (parts .1))
 
--- ---- the number of a statement's, mark's or arm's kind
+-- ---- the number of a statement's, mark's, definition's or arm's kind
 
 unfoldable pub statementNumber : Kind → ℕ
 statementNumber (OfExpression kind) = 0
@@ -51,6 +51,9 @@ statementNumber (OfStatement GuardedDo) = 55
 statementNumber (OfMember Arm) = 56
 statementNumber (OfStatement Abort) = 57
 statementNumber (OfStatement Declare) = 58
+statementNumber (OfStatement Return) = 60
+statementNumber (OfMember Argument) = 0
+statementNumber Definition = 59
 statementNumber Other = 0
 
 abbrev numbered : ℕ → Kind → Bool
@@ -63,6 +66,7 @@ isOperand (OfExpression kind) = true
 isOperand (OfStatement kind) = false
 isOperand (OfMark kind) = false
 isOperand (OfMember kind) = false
+isOperand Definition = false
 isOperand Other = false
 
 -- a row of an expression's kind is an expression or a place
@@ -70,19 +74,19 @@ abbrev operandSort : ℕ → Kind → Bool
 operandSort number kind = pick (isOperand kind) (between expressionRow placeRow (sortIn kind 0)) true
 
 operand-sort : (number : ℕ) → operandSort number (kindOf number) ≡ true
-unfolding everyLine kinds sortIn kindRow expressionFields statementFields markFields memberFields isOperand
+unfolding everyLine kinds sortIn kindRow expressionFields statementFields markFields definitionFields memberFields isOperand
 operand-sort number = every-number operandSort refl (λ number. refl) number
 
 abbrev placeNumber : ℕ → Kind → Bool
 placeNumber number kind = pick (eqb (sortIn kind 0) placeRow) (eqb number 2 || eqb number 3) true
 
 place-number : (number : ℕ) → placeNumber number (kindOf number) ≡ true
-unfolding everyLine kinds sortIn kindRow expressionFields statementFields markFields memberFields
+unfolding everyLine kinds sortIn kindRow expressionFields statementFields markFields definitionFields memberFields
 place-number number = every-number placeNumber refl (λ number. refl) number
 
 module _ (rows : List ℤ) (row : ℕ) where
   own-number : between statementRow armRow (sortIn (kindAt rows row) 0) ≡ true → numberAt rows row 0 ≡ statementNumber (kindAt rows row)
-  unfolding kindAt everyLine kinds sortIn kindRow expressionFields statementFields markFields memberFields statementNumber
+  unfolding kindAt everyLine kinds sortIn kindRow expressionFields statementFields markFields definitionFields memberFields statementNumber
   own-number e = sym (eqb-true _ _ (rw e at (every-number numbered refl (λ number. refl) (numberAt rows row 0))))
 
   pub number-is : {kind : Kind} → kindAt rows row ≡ kind → between statementRow armRow (sortIn kind 0) ≡ true → numberAt rows row 0 ≡ statementNumber kind
@@ -104,20 +108,22 @@ module _ (rows : List ℤ) (row : ℕ) where
   unfolding kindAt isOperand
   operand-is k = rw k at (operand-sort (numberAt rows row 0))
 
-  -- a row of a statement's kind is a statement or a mark
-  pub statement-kind : sortAt rows row 0 ≡ statementRow → (isStatementKind (kindAt rows row) ≡ true) ⊎ ((kindAt rows row ≡ OfMark Case) ⊎ ((kindAt rows row ≡ OfMark Default) ⊎ (kindAt rows row ≡ OfMark Label)))
-  unfolding sortIn kindRow memberFields
+  -- a row of a statement's sort is a statement, a mark or a definition
+  pub statement-kind : sortAt rows row 0 ≡ statementRow → (isStatementKind (kindAt rows row) ≡ true) ⊎ ((kindAt rows row ≡ OfMark Case) ⊎ ((kindAt rows row ≡ OfMark Default) ⊎ ((kindAt rows row ≡ OfMark Label) ⊎ (kindAt rows row ≡ Definition))))
+  unfolding sortIn kindRow definitionFields memberFields
   statement-kind e = go (kindAt rows row) refl (sym (sort-is 0) ∙ e)
     where
       go : (kind : Kind) → kindAt rows row ≡ kind → sortIn kind 0 ≡ statementRow
-          → (isStatementKind kind ≡ true) ⊎ ((kind ≡ OfMark Case) ⊎ ((kind ≡ OfMark Default) ⊎ (kind ≡ OfMark Label)))
+          → (isStatementKind kind ≡ true) ⊎ ((kind ≡ OfMark Case) ⊎ ((kind ≡ OfMark Default) ⊎ ((kind ≡ OfMark Label) ⊎ (kind ≡ Definition))))
       go (OfExpression kind) k t = absurd (false≢true (rw t at (operand-is k)))
       go (OfStatement kind) k t = inl refl
       go (OfMark Case) k t = inr (inl refl)
       go (OfMark Default) k t = inr (inr (inl refl))
-      go (OfMark Label) k t = inr (inr (inr refl))
-      go (OfMember Arm) k t = absurd (let z : _≡_ {A = ℕ} 17 16 = t in omega arith)
-      go Other k t = absurd (let z : _≡_ {A = ℕ} 0 16 = t in omega arith)
+      go (OfMark Label) k t = inr (inr (inr (inl refl)))
+      go (OfMember Arm) k t = absurd (let z : _≡_ {A = ℕ} 21 20 = t in omega arith)
+      go (OfMember Argument) k t = absurd (let z : _≡_ {A = ℕ} 22 20 = t in omega arith)
+      go Definition k t = inr (inr (inr (inr refl)))
+      go Other k t = absurd (let z : _≡_ {A = ℕ} 0 20 = t in omega arith)
 
   -- a block is a statement
   pub block-statement : numberAt rows row 0 ≡ 42 → isStatement rows row ≡ true
@@ -126,7 +132,7 @@ module _ (rows : List ℤ) (row : ℕ) where
 
   -- "Items of a block or switch are linked by next."
   pub item-next : isStatement rows row ≡ true → sortAt rows row 5 ≡ optionalItem
-  unfolding isStatement sortIn kindRow memberFields
+  unfolding isStatement sortIn kindRow definitionFields memberFields
   item-next e = go (kindAt rows row) refl (rw (sort-is 0) at e)
     where
       go : (kind : Kind) → kindAt rows row ≡ kind → eqb (sortIn kind 0) statementRow ≡ true → sortAt rows row 5 ≡ optionalItem
@@ -134,12 +140,19 @@ module _ (rows : List ℤ) (row : ℕ) where
       go (OfStatement kind) k t = rw (sort-is 5, k)
       go (OfMark kind) k t = rw (sort-is 5, k)
       go (OfMember Arm) k t = absurd (false≢true t)
+      go (OfMember Argument) k t = absurd (false≢true t)
+      go Definition k t = rw (sort-is 5, k)
       go Other k t = absurd (false≢true t)
 
   -- "Kind 56 (arm)".
   pub arm-is : isArm rows row ≡ true → kindAt rows row ≡ OfMember Arm
   unfolding isArm sortAt sortOf kindAt
   arm-is e = arm-kind (numberAt rows row 0) e
+
+  -- "Kind 32 is an argument".
+  pub argument-is : isArgument rows row ≡ true → kindAt rows row ≡ OfMember Argument
+  unfolding isArgument sortAt sortOf kindAt
+  argument-is e = argument-kind (numberAt rows row 0) e
 
 module _ (form : Form) (rows : List ℤ) (row : ℕ) (known : inLanguage form (numberAt rows row 0) ≡ true) where
   -- the form has the row's kind
@@ -151,13 +164,27 @@ module _ (form : Form) (rows : List ℤ) (row : ℕ) (known : inLanguage form (n
   unfolding kindRow
   kind-known e = false≢true (in-language e)
 
-  pub expression-statement-or-arm : (isExpression rows row ≡ true) ⊎ ((isStatement rows row ≡ true) ⊎ (isArm rows row ≡ true))
-  unfolding isExpression isStatement isArm sortIn kindRow memberFields
-  expression-statement-or-arm = go (kindAt rows row) refl
+  -- no form has definitions yet, nor the other kinds of functions
+  pub no-definition : kindAt rows row ≡ Definition → ⊥
+  unfolding kindRow definitionFields
+  no-definition e = false≢true (in-language e)
+
+  pub no-function-number : isFunctionNumber (numberAt rows row 0) ≡ false
+  no-function-number = by-cases (isFunctionNumber (numberAt rows row 0)) (λ e. absurd (false≢true (sym (function-foreign form (numberAt rows row 0) e) ∙ known))) (λ e. e)
+
+  -- An expression, a statement, an arm or an argument.
+  abbrev pub RowSort : Type 0
+  RowSort = (isExpression rows row ≡ true) ⊎ ((isStatement rows row ≡ true) ⊎ ((isArm rows row ≡ true) ⊎ (isArgument rows row ≡ true)))
+
+  pub row-sort : RowSort
+  unfolding isExpression isStatement isArm isArgument sortIn kindRow definitionFields memberFields
+  row-sort = go (kindAt rows row) refl
     where
-      go : (kind : Kind) → kindAt rows row ≡ kind → (isExpression rows row ≡ true) ⊎ ((isStatement rows row ≡ true) ⊎ (isArm rows row ≡ true))
+      go : (kind : Kind) → kindAt rows row ≡ kind → RowSort
       go (OfExpression kind) k = inl (rw (sort-is rows row 0, k) (operand-is rows row k))
       go (OfStatement kind) k = inr (inl (rw (sort-is rows row 0, k)))
       go (OfMark kind) k = inr (inl (rw (sort-is rows row 0, k)))
-      go (OfMember Arm) k = inr (inr (rw (sort-is rows row 0, k)))
+      go (OfMember Arm) k = inr (inr (inl (rw (sort-is rows row 0, k))))
+      go (OfMember Argument) k = inr (inr (inr (rw (sort-is rows row 0, k))))
+      go Definition k = inr (inl (rw (sort-is rows row 0, k)))
       go Other k = absurd (kind-known k)

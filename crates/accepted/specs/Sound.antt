@@ -23,7 +23,7 @@ use Rattle.words.specs.Links.{isPlace, link, fits}
 use Rattle.row_fields.specs.Fields.{boundsIn, boundsOf, variableFits, numberFits}
 use Rattle.structure.specs.StructuredLaws.{structured-tree}
 use Rattle.structure.specs.Structured.{Structured}
-use Rattle.accepted.specs.Sorts.{sort-is, arm-is, kind-known}
+use Rattle.accepted.specs.Sorts.{sort-is, arm-is, kind-known, no-function-number}
 
 module _ (form : Form) (L : Layout) (words : ℕ) (rows : List ℤ) (store-fits : storeSize L ≤ words) (s : Structured form (boundsIn L words) rows) where
   variables-fit : L .variables ≤ storeSize L
@@ -103,6 +103,7 @@ module _ (form : Form) (L : Layout) (words : ℕ) (rows : List ℤ) (store-fits 
         known = λ row inside. kind-known form rows row (s .known row inside);
         fields = sound-field;
         store-fits = store-fits;
+        no-function = λ row inside. no-function-number form rows row (s .known row inside);
       }
 
 -- The same with the bounds that a header gives.
@@ -131,6 +132,7 @@ module _ {rows : List ℤ} {L : Layout} {words more : ℕ} (most : words ≤ mor
     known = s .known;
     fields = λ row inside field first last. wider-field (s .fields row inside field first last);
     store-fits = let fits = s .store-fits in omega arith;
+    no-function = s .no-function;
   }
 
 -- The same with the words of a run's store.

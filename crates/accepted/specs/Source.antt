@@ -14,6 +14,8 @@ use Rattle.computation.specs.Run.{Limit, start}
 use Rattle.language.specs.Trees.{block}
 use Rattle.language.specs.Decode.{decode}
 use Rattle.language.specs.Meaning.{next}
+use Rattle.language.specs.Functions.{contextOf}
+use Rattle.language.specs.PlainCalls.{plain-calls}
 use Rattle.language.specs.Program.{contents, tableProgram, runTableUnder}
 use Rattle.language.specs.Sizes.{statementRows, statementDepth}
 use Rattle.language.specs.Sound.{Sound}
@@ -52,6 +54,8 @@ module _ (header rows : List ℤ) (legal : Legal header rows) where
   legal-tree first fits = record {
     named = numbers-named first fits;
     placed = placed-contents _ rows (legal .structured) (legal .placed);
+    -- no form has functions yet
+    calls = plain-calls rows (legal-sound .whole) (legal-sound .no-function);
   }
 
   -- Its tree has as many rows as the table.
@@ -70,4 +74,4 @@ module _ (header rows : List ℤ) (legal : Legal header rows) where
   -- says no less than document 01's "ends plainly".
   pub legal-ends-normally : (limit : Limit) (store : List ℤ) → Gives (λ signal. signal ≡ next) (runTableUnder limit Source header rows store)
   unfolding runTableUnder tableProgram
-  legal-ends-normally limit store = rw legal-block (program-ends (layoutOf Source header) limit (contents rows) (placed-contents _ rows (legal .structured) (legal .placed)) (start store))
+  legal-ends-normally limit store = rw legal-block (program-ends (contextOf (layoutOf Source header) (contents rows)) limit (contents rows) (placed-contents _ rows (legal .structured) (legal .placed)) (start store))

@@ -10,23 +10,23 @@ use lib.Dec.{eqb}
 use lib.IntN.{ℤ}
 use borrow.Author.Tests.{eqb-true}
 use Rattle.words.specs.Table.{rowCount, wordAt, numberAt, Whole}
-use Rattle.words.specs.Kinds.{kinds, kindIn, kindOf, kindAt, expression, optionalExpression, branch, optionalBranch, optionalItem, bodyBlock, optionalArm, statementRow, isLink, isRequired, sortIn, kindRow, expressionFields, statementFields, markFields, memberFields}
+use Rattle.words.specs.Kinds.{kinds, kindIn, kindOf, kindAt, expression, optionalExpression, branch, optionalBranch, optionalItem, bodyBlock, optionalArm, statementRow, isLink, isRequired, sortIn, kindRow, expressionFields, statementFields, markFields, definitionFields, memberFields}
 use Rattle.words.specs.Laws.{both}
 use Rattle.words.specs.declared.Form.{Form}
 use Rattle.words.specs.declared.Kind.{Kind}
-use Rattle.words.specs.declared.Kind.the-variants.{OfExpression, OfStatement, OfMark, OfMember, Other}
-use Rattle.words.specs.declared.StatementKind.the-variants.{Empty, Express, Block, If, While, Do, For, Switch, Break, Continue, Goto, GuardedIf, GuardedDo, Abort, Declare}
+use Rattle.words.specs.declared.Kind.the-variants.{OfExpression, OfStatement, OfMark, OfMember, Definition, Other}
+use Rattle.words.specs.declared.StatementKind.the-variants.{Empty, Express, Block, If, While, Do, For, Switch, Break, Continue, Goto, GuardedIf, GuardedDo, Abort, Declare, Return}
 use Rattle.words.specs.declared.MarkKind.the-variants.{Case, Default, Label}
-use Rattle.words.specs.declared.MemberKind.the-variants.{Arm}
-use Rattle.language.specs.Trees.{Expression, absent, present, case, default, label, Statement, empty, express, block, ifThen, ifElse, while, doWhile, for, switch, break, continue, goto, guardedIf, guardedDo, abort, declare, noArm, arm, none, _then_, _here_}
+use Rattle.words.specs.declared.MemberKind.the-variants.{Arm, Argument}
+use Rattle.language.specs.Trees.{Expression, absent, present, case, default, label, Statement, empty, express, block, ifThen, ifElse, while, doWhile, for, switch, break, continue, goto, guardedIf, guardedDo, abort, declare, giveBack, noArm, arm, none, _then_, _here_}
 use Rattle.language.specs.Decode.{expressionAt, statementOf, statementAt, itemsAt, armsAt, decode, listAt, armListAt, partAt}
-use Rattle.language.specs.DecodeLaws.{statement-at, at-empty, at-express, at-block, at-ifThen, at-ifElse, at-while, at-doWhile, at-for, at-switch, at-break, at-continue, at-goto, at-guardedIf, at-guardedDo, at-abort, at-declare, at-item, at-case, at-default, at-label, at-arm, part-some}
+use Rattle.language.specs.DecodeLaws.{statement-at, at-empty, at-express, at-block, at-ifThen, at-ifElse, at-while, at-doWhile, at-for, at-switch, at-break, at-continue, at-goto, at-guardedIf, at-guardedDo, at-abort, at-declare, at-return, at-item, at-case, at-default, at-label, at-arm, part-some}
 use Rattle.words.specs.Links.{link, isStatement, isBlock, isArm, fits}
 use Rattle.language.specs.Program.{contents}
 use Rattle.structure.specs.StructuredLaws.{structured-tree}
 use Rattle.row_fields.specs.declared.Bounds.{Bounds}
 use Rattle.structure.specs.Structured.{Leads, Structured}
-use Rattle.accepted.specs.Sorts.{sort-is, operand-is, statement-kind, block-statement, arm-is}
+use Rattle.accepted.specs.Sorts.{sort-is, operand-is, statement-kind, block-statement, arm-is, no-definition}
 use Rattle.accepted.specs.Fields.{holds, Linked, MayLink, linked, may-link, next-link}
 use Rattle.accepted.specs.Expressions.{ExpressionRow, whole-rows, expression-row}
 
@@ -81,6 +81,7 @@ module _ (rows : List ℤ) where
       abort-row : {row : ℕ} → kindAt rows row ≡ OfStatement Abort → statementAt rows row ≡ abort → StatementRow row
       declare-row : {row : ℕ} → kindAt rows row ≡ OfStatement Declare → Leads rows row 2
           → statementAt rows row ≡ declare (numberAt rows row 1) (expressionOf row 2) → ExpressionRow rows (link rows row 2) → StatementRow row
+      return-row : {row : ℕ} → kindAt rows row ≡ OfStatement Return → statementAt rows row ≡ giveBack (partAt rows (link rows row 1)) → PartRow (link rows row 1) → StatementRow row
 
     -- A list, at a link: empty, or a statement or mark and the list behind it.
     pub data ListRow : ℕ → Type 0 where
@@ -179,7 +180,7 @@ module _ (form : Form) (bounds : Bounds) (rows : List ℤ) (s : Structured form 
             later-rows _ (l .leads p .later) (l .leads p .inside) .arms (l .fit p) p
 
     if-by : kindAt rows row ≡ OfStatement If → (l : ℕ) → link rows row 3 ≡ l → StatementRow rows row
-    unfolding sortIn kindRow expressionFields statementFields markFields memberFields isLink
+    unfolding sortIn kindRow expressionFields statementFields markFields definitionFields memberFields isLink
     if-by k zero z =
         let a = link-at k 1 refl in
         let b = body-at k 2 refl in
@@ -196,7 +197,7 @@ module _ (form : Form) (bounds : Bounds) (rows : List ℤ) (s : Structured form 
         (operand a) (body b) (otherwise c p)
 
     statement-by : (kind : Kind) → kindAt rows row ≡ kind → eqb (sortIn kind 0) statementRow ≡ true → StatementRow rows row
-    unfolding sortIn kindRow expressionFields statementFields markFields memberFields isLink statementOf
+    unfolding sortIn kindRow expressionFields statementFields markFields definitionFields memberFields isLink statementOf
     statement-by (OfStatement Empty) k t = empty-row k (at-empty rows whole row k)
     statement-by (OfStatement Express) k t =
         let a = link-at k 1 refl in
@@ -240,7 +241,13 @@ module _ (form : Form) (bounds : Bounds) (rows : List ℤ) (s : Structured form 
     statement-by (OfStatement Declare) k t =
         let b = link-at k 2 refl in
         declare-row k (b .leads) (rw (b .same) (at-declare rows whole row k (b .later))) (operand b)
+    statement-by (OfStatement Return) k t =
+        let a = may-at k optionalExpression 1 refl refl in
+        return-row k (rw (a .same) (at-return rows whole row k (a .later))) (part a)
     statement-by (OfMember Arm) k t = absurd (false≢true t)
+    statement-by (OfMember Argument) k t = absurd (false≢true t)
+    -- no form has definitions yet
+    statement-by Definition k t = absurd (no-definition form rows row (s .known row inside) k)
     statement-by (OfExpression kind) k t = absurd (false≢true (rw (eqb-true (sortIn (OfExpression kind) 0) statementRow t) at (operand-is rows row k)))
     statement-by Other k t = absurd (false≢true t)
 
@@ -252,11 +259,12 @@ module _ (form : Form) (bounds : Bounds) (rows : List ℤ) (s : Structured form 
         ⊎-elim (λ t. item p (rw (next .same) (begins ∙ at-item rows whole row t (next .later))) held (items next))
         (⊎-elim (λ k. case-item p k (rw (next .same) (begins ∙ at-case rows whole row k (next .later))) held (items next))
         (⊎-elim (λ k. default-item p k (rw (next .same) (begins ∙ at-default rows whole row k (next .later))) held (items next))
-        (λ k. label-item p k (rw (next .same) (begins ∙ at-label rows whole row k (next .later))) held (items next))))
+        (⊎-elim (λ k. label-item p k (rw (next .same) (begins ∙ at-label rows whole row k (next .later))) held (items next))
+        (λ k. absurd (no-definition form rows row (s .known row inside) k)))))
         (statement-kind rows row (eqb-true _ _ e))
 
     arms-by : 0 < row → kindAt rows row ≡ OfMember Arm → ArmsRow rows row
-    unfolding sortIn kindRow expressionFields statementFields markFields memberFields isLink isRequired
+    unfolding sortIn kindRow expressionFields statementFields markFields definitionFields memberFields isLink isRequired
     arms-by p k =
         let a = link-at k 1 refl in
         let b = linked form bounds rows s row inside k bodyBlock 2 refl refl in
@@ -305,7 +313,7 @@ module _ (form : Form) (bounds : Bounds) (rows : List ℤ) (s : Structured form 
 
   -- The program is a block, and its items hang at row 0's field a.
   root-link : MayLink rows 0 optionalItem 1
-  unfolding sortIn kindRow expressionFields statementFields markFields memberFields isLink
+  unfolding sortIn kindRow expressionFields statementFields markFields definitionFields memberFields isLink
   root-link = may-link form bounds rows s 0 root-inside root-kind optionalItem 1 refl refl
 
   pub program-list : ListRow rows (link rows 0 1)

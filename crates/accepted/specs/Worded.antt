@@ -2,7 +2,7 @@
 use Prim.Native.Nat.{_^_, _<_}
 use lib.IntN.{ℤ}
 use lib.Signed.{mag}
-use Rattle.language.specs.Trees.{Expression, constant, read, minus, not, binary, and, or, comma, conditional, assign, compound, prefix, postfix, Place, variable, element, Part, absent, present, Mark, case, default, label, Statement, empty, express, block, ifThen, ifElse, while, doWhile, for, switch, break, continue, goto, guardedIf, guardedDo, abort, declare, Arms, noArm, arm, Items, none, _then_, _here_}
+use Rattle.language.specs.Trees.{Expression, constant, read, minus, not, binary, and, or, comma, conditional, assign, compound, prefix, postfix, call, Place, variable, element, Arguments, noMore, _also_, Part, absent, present, Mark, case, default, label, Statement, empty, express, block, ifThen, ifElse, while, doWhile, for, switch, break, continue, goto, guardedIf, guardedDo, abort, declare, giveBack, Arms, noArm, arm, Items, none, _then_, _here_, define}
 
 -- Every constant and every case value of a tree satisfies Value.
 module _ (Value : ℤ → Type 0) where
@@ -21,10 +21,15 @@ module _ (Value : ℤ → Type 0) where
     ValuedExpression (compound o p e) = ValuedPlace p × ValuedExpression e
     ValuedExpression (prefix o p) = ValuedPlace p
     ValuedExpression (postfix o p) = ValuedPlace p
+    ValuedExpression (call f arguments) = ValuedArguments arguments
 
     pub ValuedPlace : Place → Type 0
     ValuedPlace (variable i) = Unit {0}
     ValuedPlace (element array e) = ValuedExpression e
+
+    pub ValuedArguments : Arguments → Type 0
+    ValuedArguments noMore = Unit {0}
+    ValuedArguments (e also arguments) = ValuedExpression e × ValuedArguments arguments
 
   abbrev pub ValuedPart : Part → Type 0
   ValuedPart absent = Unit {0}
@@ -53,6 +58,7 @@ module _ (Value : ℤ → Type 0) where
     ValuedStatement (guardedDo arms) = ValuedArms arms
     ValuedStatement abort = Unit {0}
     ValuedStatement (declare word e) = ValuedExpression e
+    ValuedStatement (giveBack value) = ValuedPart value
 
     pub ValuedArms : Arms → Type 0
     ValuedArms noArm = Unit {0}
@@ -62,6 +68,7 @@ module _ (Value : ℤ → Type 0) where
     ValuedItems none = Unit {0}
     ValuedItems (s then is) = ValuedStatement s × ValuedItems is
     ValuedItems (m here is) = ValuedMark m × ValuedItems is
+    ValuedItems (define f words body is) = ValuedItems body × ValuedItems is
 
 -- "Values are signed 32-bit integers."
 abbrev pub IsWord : ℤ → Type 0

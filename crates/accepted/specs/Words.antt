@@ -8,13 +8,13 @@ use lib.Signed.{mag}
 use Rattle.words.specs.Table.{wordAt}
 use Rattle.words.specs.declared.Form.{Form}
 use Rattle.language.specs.Trees.{read}
-use Rattle.language.specs.Decode.{expressionAt, statementAt, decode, listAt, armListAt, partAt}
+use Rattle.language.specs.Decode.{expressionAt, argumentListAt, statementAt, decode, listAt, armListAt, partAt}
 use Rattle.words.specs.Links.{link}
 use Rattle.row_fields.specs.declared.Bounds.{Bounds}
 use Rattle.structure.specs.Structured.{Structured}
-use Rattle.accepted.specs.Worded.{ValuedExpression, ValuedPlace, ValuedPart, ValuedStatement, ValuedArms, ValuedItems, IsWord, Worded}
-use Rattle.accepted.specs.Expressions.{ExpressionRow, constant-row, variable-row, element-row, minus-row, not-row, binary-row, and-row, or-row, comma-row, conditional-row, assign-row, compound-row, prefix-row, postfix-row, placeAt}
-use Rattle.accepted.specs.Statements.{PartRow, absent-part, present-part, StatementRow, empty-row, express-row, block-row, ifThen-row, ifElse-row, while-row, doWhile-row, for-row, switch-row, case-row, default-row, break-row, continue-row, goto-row, label-row, guardedIf-row, guardedDo-row, abort-row, declare-row, ArmsRow, no-arms, arm-row, ListRow, no-items, item, case-item, default-item, label-item, program-list, program-contents, program-block}
+use Rattle.accepted.specs.Worded.{ValuedExpression, ValuedPlace, ValuedArguments, ValuedPart, ValuedStatement, ValuedArms, ValuedItems, IsWord, Worded}
+use Rattle.accepted.specs.Expressions.{ExpressionRow, constant-row, variable-row, element-row, minus-row, not-row, binary-row, and-row, or-row, comma-row, conditional-row, assign-row, compound-row, prefix-row, postfix-row, call-row, ArgumentsRow, no-arguments, argument-row, placeAt}
+use Rattle.accepted.specs.Statements.{PartRow, absent-part, present-part, StatementRow, empty-row, express-row, block-row, ifThen-row, ifElse-row, while-row, doWhile-row, for-row, switch-row, case-row, default-row, break-row, continue-row, goto-row, label-row, guardedIf-row, guardedDo-row, abort-row, declare-row, return-row, ArmsRow, no-arms, arm-row, ListRow, no-items, item, case-item, default-item, label-item, program-list, program-contents, program-block}
 
 module _ (rows : List ℤ) (Value : ℤ → Type 0) (values : (i : ℕ) → Value (getD rows i (pos 0))) where
   -- an operand that is a place
@@ -22,22 +22,29 @@ module _ (rows : List ℤ) (Value : ℤ → Type 0) (values : (i : ℕ) → Valu
   unfolding ValuedExpression
   valued-place row e n = subst (ValuedExpression Value) e n
 
-  pub valued-expression : {row : ℕ} → ExpressionRow rows row → ValuedExpression Value (expressionAt rows row)
-  unfolding ValuedExpression ValuedPlace wordAt
-  valued-expression {row} (constant-row k e) = rw e (values (6 * row + 1))
-  valued-expression (variable-row k e) = rw e tt
-  valued-expression (element-row k p e x) = rw e (valued-expression x)
-  valued-expression (minus-row k p e x) = rw e (valued-expression x)
-  valued-expression (not-row k p e x) = rw e (valued-expression x)
-  valued-expression (binary-row k p q e x y) = rw e (valued-expression x, valued-expression y)
-  valued-expression (and-row k p q e x y) = rw e (valued-expression x, valued-expression y)
-  valued-expression (or-row k p q e x y) = rw e (valued-expression x, valued-expression y)
-  valued-expression (comma-row k p q e x y) = rw e (valued-expression x, valued-expression y)
-  valued-expression (conditional-row k p q r e x y z) = rw e (valued-expression x, valued-expression y, valued-expression z)
-  valued-expression {row} (assign-row k p q i e x y) = rw e (valued-place (link rows row 1) i (valued-expression x), valued-expression y)
-  valued-expression {row} (compound-row k p q i e x y) = rw e (valued-place (link rows row 1) i (valued-expression x), valued-expression y)
-  valued-expression {row} (prefix-row k p i e x) = rw e (valued-place (link rows row 1) i (valued-expression x))
-  valued-expression {row} (postfix-row k p i e x) = rw e (valued-place (link rows row 1) i (valued-expression x))
+  mutual
+    unfolding ValuedExpression ValuedPlace wordAt
+
+    pub valued-expression : {row : ℕ} → ExpressionRow rows row → ValuedExpression Value (expressionAt rows row)
+    valued-expression {row} (constant-row k e) = rw e (values (6 * row + 1))
+    valued-expression (variable-row k e) = rw e tt
+    valued-expression (element-row k p e x) = rw e (valued-expression x)
+    valued-expression (minus-row k p e x) = rw e (valued-expression x)
+    valued-expression (not-row k p e x) = rw e (valued-expression x)
+    valued-expression (binary-row k p q e x y) = rw e (valued-expression x, valued-expression y)
+    valued-expression (and-row k p q e x y) = rw e (valued-expression x, valued-expression y)
+    valued-expression (or-row k p q e x y) = rw e (valued-expression x, valued-expression y)
+    valued-expression (comma-row k p q e x y) = rw e (valued-expression x, valued-expression y)
+    valued-expression (conditional-row k p q r e x y z) = rw e (valued-expression x, valued-expression y, valued-expression z)
+    valued-expression {row} (assign-row k p q i e x y) = rw e (valued-place (link rows row 1) i (valued-expression x), valued-expression y)
+    valued-expression {row} (compound-row k p q i e x y) = rw e (valued-place (link rows row 1) i (valued-expression x), valued-expression y)
+    valued-expression {row} (prefix-row k p i e x) = rw e (valued-place (link rows row 1) i (valued-expression x))
+    valued-expression {row} (postfix-row k p i e x) = rw e (valued-place (link rows row 1) i (valued-expression x))
+    valued-expression (call-row k e x) = rw e (valued-arguments x)
+
+    valued-arguments : {l : ℕ} → ArgumentsRow rows l → ValuedArguments Value (argumentListAt rows l)
+    valued-arguments (no-arguments z e) = rw e tt
+    valued-arguments (argument-row p k q e x y) = rw e (valued-expression x, valued-arguments y)
 
   valued-part : {l : ℕ} → PartRow rows l → ValuedPart Value (partAt rows l)
   valued-part (absent-part z e) = rw e tt
@@ -66,6 +73,7 @@ module _ (rows : List ℤ) (Value : ℤ → Type 0) (values : (i : ℕ) → Valu
     valued-statement (guardedDo-row k e x) = rw e (valued-arms x)
     valued-statement (abort-row k e) = rw e tt
     valued-statement (declare-row k p e x) = rw e (valued-expression x)
+    valued-statement (return-row k e x) = rw e (valued-part x)
 
     valued-arms : {l : ℕ} → ArmsRow rows l → ValuedArms Value (armListAt rows l)
     valued-arms (no-arms z e) = rw e tt

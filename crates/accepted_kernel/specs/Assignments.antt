@@ -12,7 +12,7 @@ use lib.IntN.{ℤ}
 use borrow.Author.Tests.{eqb-true, eq-eqb, ne-eqb}
 use Rattle.words.specs.Word.{pick}
 use Rattle.words.specs.Table.{rowCount, numberAt}
-use Rattle.words.specs.Kinds.{kinds, kindIn, kindOf, kindAt, expression, place, isRequired, sortIn, kindRow, expressionFields, statementFields, markFields, memberFields}
+use Rattle.words.specs.Kinds.{kinds, kindIn, kindOf, kindAt, expression, place, isRequired, sortIn, kindRow, expressionFields, statementFields, markFields, definitionFields, memberFields}
 use Rattle.words.specs.Laws.{both, either}
 use Rattle.words.specs.declared.Form.the-variants.{Kernel}
 use Rattle.words.specs.declared.Kind.{Kind}
@@ -57,7 +57,7 @@ module _ (bounds : Bounds) (rows : List ℤ) (s : Structured Kernel bounds rows)
   operand row n k field t = linked Kernel bounds rows s row n k expression field refl t
 
   target : (row : ℕ) → row < rowCount rows → kindAt rows row ≡ OfExpression Assign → Linked rows row place 1
-  unfolding isRequired sortIn kindRow expressionFields statementFields markFields memberFields
+  unfolding isRequired sortIn kindRow expressionFields statementFields markFields definitionFields memberFields
   target row n k = linked Kernel bounds rows s row n k place 1 refl refl
 
   -- "An atom is a constant or variable."
@@ -81,7 +81,7 @@ module _ (bounds : Bounds) (rows : List ℤ) (s : Structured Kernel bounds rows)
     atom : IsAtom index
 
   element-at : (row : ℕ) → row < rowCount rows → isAtomElement rows row ≡ true → ElementAt row
-  unfolding isAtomElement kindOf kindIn kinds sortIn kindRow expressionFields statementFields markFields memberFields
+  unfolding isAtomElement kindOf kindIn kinds sortIn kindRow expressionFields statementFields markFields definitionFields memberFields
   element-at row n e =
       let parts = both (eqb (numberAt rows row 0) 3) _ e in
       let kind = kind-of row 3 (eqb-true _ _ (parts .0)) in
@@ -94,14 +94,14 @@ module _ (bounds : Bounds) (rows : List ℤ) (s : Structured Kernel bounds rows)
 
   -- "To a variable it assigns an atom, minus an atom, one of kinds 6 to 16 on two atoms, or an element with an atom index."
   minus-at : (i row : ℕ) → row < rowCount rows → isAtomMinus rows row ≡ true → Assigns (assign (variable i) (expressionAt rows row))
-  unfolding isAtomMinus kindOf kindIn kinds sortIn kindRow expressionFields statementFields markFields memberFields
+  unfolding isAtomMinus kindOf kindIn kinds sortIn kindRow expressionFields statementFields markFields definitionFields memberFields
   minus-at i row n e =
       let parts = both (eqb (numberAt rows row 0) 4) _ e in
       let kind = kind-of row 4 (eqb-true _ _ (parts .0)) in
       rw (at-minus rows (whole-rows Kernel bounds rows s) row kind (operand row n kind 1 refl .later)) (assigns-minus (atom-at (numberAt rows row 1) (parts .1)))
 
   operation-at : (i row : ℕ) → row < rowCount rows → isAtomOperation rows row ≡ true → Assigns (assign (variable i) (expressionAt rows row))
-  unfolding isAtomOperation sortIn kindRow expressionFields statementFields markFields memberFields
+  unfolding isAtomOperation sortIn kindRow expressionFields statementFields markFields definitionFields memberFields
   operation-at i row n e =
       let parts = both _ _ e in
       let atoms = both (isAtom rows (numberAt rows row 1)) _ (parts .1) in
@@ -122,7 +122,7 @@ module _ (bounds : Bounds) (rows : List ℤ) (s : Structured Kernel bounds rows)
 
   -- "An expression statement that assigns."
   pub assignment-at : (row : ℕ) → row < rowCount rows → isAssignment rows row ≡ true → Assigns (expressionAt rows row)
-  unfolding isAssignment kindOf kindIn kinds sortIn kindRow expressionFields statementFields markFields memberFields
+  unfolding isAssignment kindOf kindIn kinds sortIn kindRow expressionFields statementFields markFields definitionFields memberFields
   assignment-at row n e =
       let parts = both (eqb (numberAt rows row 0) 21) _ e in
       let kind = kind-of row 21 (eqb-true _ _ (parts .0)) in

@@ -11,7 +11,7 @@ use lib.Dec.{eqb}
 use lib.IntN.{ℤ}
 use borrow.Author.Tests.{eqb-true, eq-eqb}
 use Rattle.words.specs.Table.{rowCount, numberAt, Whole}
-use Rattle.words.specs.Kinds.{kinds, kindIn, kindOf, kindAt, expression, branch, optionalBranch, optionalItem, inLanguage, isLink, isRequired, sortIn, kindRow, expressionFields, statementFields, markFields, memberFields, standsIn}
+use Rattle.words.specs.Kinds.{kinds, kindIn, kindOf, kindAt, expression, branch, optionalBranch, optionalItem, inLanguage, isLink, isRequired, sortIn, kindRow, expressionFields, statementFields, markFields, definitionFields, memberFields, standsIn}
 use Rattle.words.specs.Laws.{both, either}
 use Rattle.words.specs.declared.Form.the-variants.{Kernel}
 use Rattle.words.specs.declared.Kind.{Kind}
@@ -33,7 +33,7 @@ use Rattle.kernel_check.specs.Accepts.{structured-lone, structured-labels}
 use Rattle.kernel_check.specs.Legal.{Owner, part, beside, behind, outward, Legal}
 use Rattle.kernel_check.specs.ListLaws.{owner-earlier}
 use Rattle.kernel_statements.specs.Statements.{isAtom, isBlock, isKernelIf, isKernelWhile, isKernelExpression, isKernelStatement}
-use Rattle.accepted.specs.Sorts.{statementNumber, number-is, statement-kind, block-statement, in-language}
+use Rattle.accepted.specs.Sorts.{statementNumber, number-is, statement-kind, block-statement, in-language, no-definition}
 use Rattle.accepted.specs.Fields.{holds, Linked, MayLink, linked, may-link, next-link}
 use Rattle.accepted.specs.Expressions.{whole-rows}
 use Rattle.accepted.specs.Statements.{list-some, program-contents}
@@ -58,7 +58,7 @@ module _ (header rows : List ℤ) (legal : Legal header rows) where
 
   -- the list of a block
   first-item : (row : ℕ) → row < rowCount rows → kindAt rows row ≡ OfStatement Block → MayLink rows row optionalItem 1
-  unfolding isLink sortIn kindRow expressionFields statementFields markFields memberFields
+  unfolding isLink sortIn kindRow expressionFields statementFields markFields definitionFields memberFields
   first-item row n k = may-link Kernel bounds rows s row n k optionalItem 1 refl refl
 
   begins-in : (row : ℕ) → row < rowCount rows → kindAt rows row ≡ OfStatement Block → 0 < link rows row 1 → Begins row (link rows row 1)
@@ -75,7 +75,7 @@ module _ (header rows : List ℤ) (legal : Legal header rows) where
 
   -- ---- a statement, given the lists of later rows
 
-  module _ (row : ℕ) (n : row < rowCount rows) (lists : (owner : ℕ) (ahead : Items) → row ≤ owner → owner < rowCount rows → kindAt rows owner ≡ OfStatement Block → Covers bounds rows s ahead owner → KernelItems ahead (listAt rows (link rows owner 1))) (ahead : Items) (covers : Covers bounds rows s ahead row) where
+  module _ (row : ℕ) (n : row < rowCount rows) (lists : (owner : ℕ) (ahead : Items) → row ≤ owner → owner < rowCount rows → kindAt rows owner ≡ OfStatement Block → Covers bounds rows s ahead owner → KernelItems false ahead (listAt rows (link rows owner 1))) (ahead : Items) (covers : Covers bounds rows s ahead row) where
     kind-of : (number : ℕ) → numberAt rows row 0 ≡ number → kindAt rows row ≡ kindOf number
     unfolding kindAt
     kind-of number e = ap kindOf e
@@ -91,7 +91,7 @@ module _ (header rows : List ℤ) (legal : Legal header rows) where
     record BranchAt (field : ℕ) : Type 0 where
       later : row < numberAt rows row field
       is : statementAt rows (numberAt rows row field) ≡ block (listAt rows (link rows (numberAt rows row field) 1))
-      form : KernelItems ahead (listAt rows (link rows (numberAt rows row field) 1))
+      form : KernelItems false ahead (listAt rows (link rows (numberAt rows row field) 1))
 
     branch-by : (field : ℕ) → field < 5 → Leads rows row field → link rows row field ≡ numberAt rows row field → numberAt rows (link rows row field) 5 ≡ 0 → isBlock rows (numberAt rows row field) ≡ true → BranchAt field
     unfolding isBlock kindAt kindOf kindIn kinds
@@ -117,22 +117,22 @@ module _ (header rows : List ℤ) (legal : Legal header rows) where
         branch-by field h (b .leads) (b .same) (eqb-true _ _ (both (isStatement rows (link rows row field)) _ (b .fit) .1)) e
 
     else-at : kindAt rows row ≡ OfStatement If → isBlock rows (numberAt rows row 3) ≡ true → BranchAt 3
-    unfolding isLink sortIn kindRow expressionFields statementFields markFields memberFields fits isBlock
+    unfolding isLink sortIn kindRow expressionFields statementFields markFields definitionFields memberFields fits isBlock
     else-at k e =
         let c = may-link Kernel bounds rows s row n k optionalBranch 3 refl refl in
         let there : 0 < link rows row 3 = rw (c .same) (above-zero _ (λ q. true≢false (sym (both (not (eqb (numberAt rows row 3) 0)) _ e .0) ∙ ap not (eq-eqb _ _ q)))) in
         branch-by 3 (omega arith) (c .leads there) (c .same) (eqb-true _ _ (both (isStatement rows (link rows row 3)) _ (c .fit there) .1)) e
 
-    empty-form : numberAt rows row 0 ≡ 40 → KernelStatement ahead (statementAt rows row)
+    empty-form : numberAt rows row 0 ≡ 40 → KernelStatement false ahead (statementAt rows row)
     unfolding kindOf kindIn kinds
     empty-form e = rw (at-empty rows whole row (kind-of 40 e)) kernel-empty
 
-    block-form : numberAt rows row 0 ≡ 42 → KernelStatement ahead (statementAt rows row)
+    block-form : numberAt rows row 0 ≡ 42 → KernelStatement false ahead (statementAt rows row)
     unfolding kindOf kindIn kinds
     block-form e = rw (block-at row n (kind-of 42 e)) (kernel-block (lists row ahead (omega arith) n (kind-of 42 e) covers))
 
-    if-form : isKernelIf rows row ≡ true → KernelStatement ahead (statementAt rows row)
-    unfolding isKernelIf kindOf kindIn kinds sortIn kindRow expressionFields statementFields markFields memberFields
+    if-form : isKernelIf rows row ≡ true → KernelStatement false ahead (statementAt rows row)
+    unfolding isKernelIf kindOf kindIn kinds sortIn kindRow expressionFields statementFields markFields definitionFields memberFields
     if-form e =
         let parts = both (eqb (numberAt rows row 0) 43) _ e in
         let others = both (isAtom rows (numberAt rows row 1)) _ (parts .1) in
@@ -143,8 +143,8 @@ module _ (header rows : List ℤ) (legal : Legal header rows) where
         rw (at-ifElse rows whole row k (test k 1 refl .later) (b .later) (c .later), b .is, c .is)
         (kernel-if (atom-at bounds rows s (numberAt rows row 1) (others .0)) (b .form) (c .form))
 
-    while-form : isKernelWhile rows row ≡ true → KernelStatement ahead (statementAt rows row)
-    unfolding isKernelWhile kindOf kindIn kinds sortIn kindRow expressionFields statementFields markFields memberFields
+    while-form : isKernelWhile rows row ≡ true → KernelStatement false ahead (statementAt rows row)
+    unfolding isKernelWhile kindOf kindIn kinds sortIn kindRow expressionFields statementFields markFields definitionFields memberFields
     while-form e =
         let parts = both (eqb (numberAt rows row 0) 44) _ e in
         let others = both (isAtom rows (numberAt rows row 1)) _ (parts .1) in
@@ -152,30 +152,30 @@ module _ (header rows : List ℤ) (legal : Legal header rows) where
         let b = branch-at k 2 (omega arith) refl (others .1) in
         rw (at-while rows whole row k (test k 1 refl .later) (b .later), b .is) (kernel-while (atom-at bounds rows s (numberAt rows row 1) (others .0)) (b .form))
 
-    goto-form : numberAt rows row 0 ≡ 52 → KernelStatement ahead (statementAt rows row)
+    goto-form : numberAt rows row 0 ≡ 52 → KernelStatement false ahead (statementAt rows row)
     unfolding kindOf kindIn kinds
     goto-form e =
         rw (at-goto rows whole row (kind-of 52 e))
         (kernel-goto (structured-labels bounds rows s row n (rw e)) (covers (numberAt rows row 1) (legal .gotos-ahead row n e)))
 
     -- a label by itself does nothing
-    label-form : numberAt rows row 0 ≡ 53 → KernelStatement ahead (statementAt rows row)
+    label-form : numberAt rows row 0 ≡ 53 → KernelStatement false ahead (statementAt rows row)
     unfolding kindOf kindIn kinds statementOf
     label-form e = rw (statement-at rows whole row, kind-of 53 e) kernel-empty
 
-    abort-form : numberAt rows row 0 ≡ 57 → KernelStatement ahead (statementAt rows row)
+    abort-form : numberAt rows row 0 ≡ 57 → KernelStatement false ahead (statementAt rows row)
     unfolding kindOf kindIn kinds
     abort-form e = rw (at-abort rows whole row (kind-of 57 e)) kernel-abort
 
-    expression-form : isKernelExpression rows row ≡ true → KernelStatement ahead (statementAt rows row)
-    unfolding isKernelExpression kindOf kindIn kinds sortIn kindRow expressionFields statementFields markFields memberFields
+    expression-form : isKernelExpression rows row ≡ true → KernelStatement false ahead (statementAt rows row)
+    unfolding isKernelExpression kindOf kindIn kinds sortIn kindRow expressionFields statementFields markFields definitionFields memberFields
     expression-form e =
         let parts = both (eqb (numberAt rows row 0) 41) _ e in
         let k = kind-of 41 (eqb-true _ _ (parts .0)) in
         let a = test k 1 refl in
         rw (at-express rows whole row k (a .later)) (kernel-assign (assignment-at bounds rows s (numberAt rows row 1) (rw (a .same) at (a .leads .inside)) (parts .1)))
 
-    statement-form : isStatement rows row ≡ true → KernelStatement ahead (statementAt rows row)
+    statement-form : isStatement rows row ≡ true → KernelStatement false ahead (statementAt rows row)
     unfolding isKernelStatement
     statement-form t =
         ⊎-elim (λ h. empty-form (eqb-true _ _ h))
@@ -196,35 +196,37 @@ module _ (header rows : List ℤ) (legal : Legal header rows) where
 
   -- what the lists of later blocks give
   abbrev Lists : ℕ → Type 0
-  Lists row = (other : ℕ) (ahead : Items) → row ≤ other → other < rowCount rows → kindAt rows other ≡ OfStatement Block → Covers bounds rows s ahead other → KernelItems ahead (listAt rows (link rows other 1))
+  Lists row = (other : ℕ) (ahead : Items) → row ≤ other → other < rowCount rows → kindAt rows other ≡ OfStatement Block → Covers bounds rows s ahead other → KernelItems false ahead (listAt rows (link rows other 1))
 
   list-step : (row : ℕ) (ahead : Items) (owner : ℕ) → Begins owner row → 0 < row → Covers bounds rows s ahead owner → Lists row
-      → KernelItems ahead (listAt rows (link rows row 5)) → KernelItems ahead (listAt rows row)
-  unfolding inLanguage isStatement sortIn kindRow expressionFields statementFields markFields memberFields statementNumber
+      → KernelItems false ahead (listAt rows (link rows row 5)) → KernelItems false ahead (listAt rows row)
+  unfolding inLanguage isStatement sortIn kindRow expressionFields statementFields markFields definitionFields memberFields statementNumber
   list-step row ahead owner b p covers lists rest =
       let next = next-link Kernel bounds rows s row (b .inside) (b .statement) in
       let own = statement-form row (b .inside) lists (listAt rows (link rows row 5) ⧺ ahead) (covers-item bounds rows s ahead owner row (b .owned) covers) (b .statement) in
       ⊎-elim (λ t. rw (list-some rows row p ∙ at-item rows whole row t (next .later), ← next .same) (kernel-then own rest))
       (⊎-elim (λ k. absurd (not-in-kernel row (b .inside) k refl))
       (⊎-elim (λ k. absurd (not-in-kernel row (b .inside) k refl))
-      (λ k. rw (list-some rows row p ∙ at-label rows whole row k (next .later), ← next .same)
-      (kernel-label (structured-labels bounds rows s row (b .inside) (rw (number-is rows row k refl))) rest))))
+      (⊎-elim (λ k. rw (list-some rows row p ∙ at-label rows whole row k (next .later), ← next .same)
+      (kernel-label (structured-labels bounds rows s row (b .inside) (rw (number-is rows row k refl))) rest))
+      -- no form has definitions yet
+      (λ k. absurd (no-definition Kernel rows row (s .known row (b .inside)) k)))))
       (statement-kind rows row (eqb-true _ _ (b .statement)))
 
-  no-list : (row : ℕ) (ahead : Items) → row ≡ 0 → KernelItems ahead (listAt rows row)
+  no-list : (row : ℕ) (ahead : Items) → row ≡ 0 → KernelItems false ahead (listAt rows row)
   no-list row ahead z = rw z kernel-none
 
   -- `links` bounds the rows from the list's first on
-  list-form : (links row : ℕ) (ahead : Items) (owner : ℕ) → (0 < row → rowCount rows ≤ row + links) → (0 < row → Begins owner row) → Covers bounds rows s ahead owner → KernelItems ahead (listAt rows row)
+  list-form : (links row : ℕ) (ahead : Items) (owner : ℕ) → (0 < row → rowCount rows ≤ row + links) → (0 < row → Begins owner row) → Covers bounds rows s ahead owner → KernelItems false ahead (listAt rows row)
   list-form zero row ahead owner h begins covers = go (ℕ-discrete row 0)
     where
-      go : Dec (row ≡ 0) → KernelItems ahead (listAt rows row)
+      go : Dec (row ≡ 0) → KernelItems false ahead (listAt rows row)
       go (yes z) = no-list row ahead z
       go (no z) = absurd (let p = above-zero row z in let n = begins p .inside in let e = h p in omega arith)
   list-form (suc links) row ahead owner h begins covers = go (ℕ-discrete row 0) (λ r more o. list-form links r more o)
     where
-      go : Dec (row ≡ 0) → ((r : ℕ) (more : Items) (o : ℕ) → (0 < r → rowCount rows ≤ r + links) → (0 < r → Begins o r) → Covers bounds rows s more o → KernelItems more (listAt rows r))
-          → KernelItems ahead (listAt rows row)
+      go : Dec (row ≡ 0) → ((r : ℕ) (more : Items) (o : ℕ) → (0 < r → rowCount rows ≤ r + links) → (0 < r → Begins o r) → Covers bounds rows s more o → KernelItems false more (listAt rows r))
+          → KernelItems false ahead (listAt rows row)
       go (yes z) rec = no-list row ahead z
       go (no z) rec =
           let p = above-zero row z in
@@ -243,9 +245,9 @@ module _ (header rows : List ℤ) (legal : Legal header rows) where
       next-there : {item : ℕ} → Step rows 0 item → 0 < link rows 0 5
       next-there (once leads) = leads .later
       next-there (on leads b) = leads .later
-  root-covers number (outward o a) = absurd (let e = owner-earlier rows (structured-tree Kernel bounds rows s) o in omega arith)
+  root-covers number (outward o d a) = absurd (let e = owner-earlier rows (structured-tree Kernel bounds rows s) o in omega arith)
 
-  pub contents-form : KernelItems none (contents rows)
+  pub contents-form : KernelItems false none (contents rows)
   unfolding kindAt kindOf kindIn kinds
   contents-form =
       let some = structured-tree Kernel bounds rows s .some-rows in

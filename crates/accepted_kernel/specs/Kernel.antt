@@ -7,13 +7,17 @@ use Rattle.words.specs.Table.{rowCount}
 use Rattle.words.specs.Layout.{layoutOf, headerStore}
 use Rattle.words.specs.declared.Form.the-variants.{Kernel}
 use Rattle.computation.specs.Run.{Limit, start}
-use Rattle.language.specs.Trees.{block, none}
+use Rattle.language.specs.Trees.{block}
 use Rattle.language.specs.Decode.{decode}
 use Rattle.language.specs.Meaning.{next}
+use Rattle.language.specs.Functions.{functionCount, contextOf}
+use Rattle.language.specs.PlainTables.{no-functions}
+use Rattle.language.specs.PlainCalls.{plain-calls}
 use Rattle.language.specs.Program.{contents, tableProgram, runTableUnder}
 use Rattle.language.specs.Sizes.{statementRows, statementDepth}
 use Rattle.language.specs.Sound.{Sound}
-use Rattle.translation.specs.KernelForm.{KernelItems}
+use Rattle.translation.specs.KernelForm.{KernelProgram, kernel-main}
+use Rattle.translation.specs.PlainKernel.{PlainKernel, plain-kernel}
 use Rattle.kernel_check.specs.Legal.{Legal}
 use Rattle.accepted.specs.Gives.{Gives}
 use Rattle.accepted.specs.Sound.{header-sound}
@@ -32,8 +36,15 @@ module _ (header rows : List ℤ) (legal : Legal header rows) where
   pub legal-block : decode rows ≡ block (contents rows)
   legal-block = program-block Kernel _ rows (legal .structured)
 
-  pub legal-form : KernelItems none (contents rows)
-  legal-form = contents-form header rows legal
+  pub legal-form : KernelProgram (contents rows)
+  legal-form = kernel-main (contents-form header rows legal)
+
+  -- no form has functions yet
+  pub legal-functionless : functionCount (contents rows) ≡ 0
+  legal-functionless = no-functions rows (legal-sound .whole) (legal-sound .no-function)
+
+  pub legal-plain : PlainKernel (contents rows)
+  legal-plain = plain-kernel legal-functionless legal-form (plain-calls rows (legal-sound .whole) (legal-sound .no-function))
 
   -- Its tree has as many rows as the table. "Depth up to 512."
   pub legal-rows : statementRows (block (contents rows)) ≡ rowCount rows
@@ -45,4 +56,4 @@ module _ (header rows : List ℤ) (legal : Legal header rows) where
   -- "Goto: the run goes on at its label": a run that comes to its end is not on its way to a label, under any limit and from any store.
   pub legal-jumps : (limit : Limit) (store : List ℤ) → Gives (λ signal. signal ≡ next) (runTableUnder limit Kernel header rows store)
   unfolding runTableUnder tableProgram
-  legal-jumps limit store = rw legal-block (program-lands (layoutOf Kernel header) limit (contents rows) legal-form (start store))
+  legal-jumps limit store = rw legal-block (program-lands (contextOf (layoutOf Kernel header) (contents rows)) limit (contents rows) legal-form (start store))

@@ -7,11 +7,11 @@ use native.Mathlib.Omega.{arith}
 use lib.IntN.{ℤ}
 use borrow.Author.Tests.{eq-eqb}
 use Rattle.words.specs.Table.{rowCount}
-use Rattle.words.specs.Kinds.{kinds, kindIn, kindOf, kindAt, isLink, sortIn, kindRow, markFields, memberFields}
+use Rattle.words.specs.Kinds.{kinds, kindIn, kindOf, kindAt, isLink, sortIn, kindRow, markFields, definitionFields, memberFields}
 use Rattle.words.specs.declared.Form.the-variants.{Kernel}
 use Rattle.words.specs.declared.Kind.{Kind}
-use Rattle.words.specs.declared.Kind.the-variants.{OfExpression, OfStatement, OfMark, OfMember, Other}
-use Rattle.words.specs.declared.MemberKind.the-variants.{Arm}
+use Rattle.words.specs.declared.Kind.the-variants.{OfExpression, OfStatement, OfMark, OfMember, Definition, Other}
+use Rattle.words.specs.declared.MemberKind.the-variants.{Arm, Argument}
 use Rattle.words.specs.declared.MarkKind.the-variants.{Label}
 use Rattle.language.specs.Trees.{Mark, label, sameMark, has, Items, _⧺_}
 use Rattle.language.specs.TreeLaws.{has-next, has-left, has-right}
@@ -39,7 +39,7 @@ or-left a b e = rw e
 module _ (bounds : Bounds) (rows : List ℤ) (s : Structured Kernel bounds rows) where
   -- in the kernel only an item has a next: there are no arms
   has-next-item : (row : ℕ) → row < rowCount rows → 0 < link rows row 5 → isStatement rows row ≡ true
-  unfolding isStatement sortIn kindRow memberFields isLink
+  unfolding isStatement sortIn kindRow definitionFields memberFields isLink
   has-next-item row n p = go (kindAt rows row) refl
     where
       go : (kind : Kind) → kindAt rows row ≡ kind → isStatement rows row ≡ true
@@ -47,6 +47,9 @@ module _ (bounds : Bounds) (rows : List ℤ) (s : Structured Kernel bounds rows)
       go (OfStatement kind) k = rw (sort-is rows row 0, k)
       go (OfMark kind) k = rw (sort-is rows row 0, k)
       go (OfMember Arm) k = absurd (false≢true (in-language Kernel rows row (s .known row n) k))
+      -- no form has functions yet
+      go (OfMember Argument) k = absurd (false≢true (in-language Kernel rows row (s .known row n) k))
+      go Definition k = rw (sort-is rows row 0, k)
       go Other k = absurd (kind-known Kernel rows row (s .known row n) k)
 
   -- an item of a list, which another leads to
@@ -94,7 +97,7 @@ module _ (bounds : Bounds) (rows : List ℤ) (s : Structured Kernel bounds rows)
   -- for an item of a list: those behind it, and those ahead of the list's owner
   pub covers-item : (ahead : Items) (owner row : ℕ) → Owner rows owner row → Covers ahead owner → Covers (listAt rows (link rows row 5) ⧺ ahead) row
   covers-item ahead owner row o c number (behind b l) = has-left (label number) (listAt rows (link rows row 5)) ahead (behind-has number b l)
-  covers-item ahead owner row o c number (outward p a) =
+  covers-item ahead owner row o c number (outward p d a) =
       let t = structured-tree Kernel bounds rows s in
       has-right (label number) (listAt rows (link rows row 5)) ahead (c number (subst (Ahead rows number) (sym (owner-is rows t p) ∙ owner-is rows t o) a))
 
@@ -105,6 +108,6 @@ module _ (bounds : Bounds) (rows : List ℤ) (s : Structured Kernel bounds rows)
       next-of : {item row : ℕ} → Before rows item row → 0 < link rows item 5
       next-of (adjacent leads) = let l = leads .later in omega arith
       next-of (further b leads) = next-of b
-  covers-branch ahead owner row o lone c number (outward p a) =
+  covers-branch ahead owner row o lone c number (outward p d a) =
       let t = structured-tree Kernel bounds rows s in
       c number (subst (Ahead rows number) (sym (owner-is rows t p) ∙ owner-is rows t o) a)

@@ -19,7 +19,8 @@ use Rattle.row_fields.specs.Fields.{foreign, mislinked, boundsOf, outside}
 use Rattle.structure.specs.Links.{notOnce, tooDeep}
 use Rattle.structure.specs.Refusal.{at, unless, _next_}
 use Rattle.repeated_marks.specs.Marks.{repeated}
-use Rattle.declaration_causes.specs.Causes.{declarationRefusal}
+use Rattle.declaration_causes.specs.Causes.{declaredBefore, declarationRefusal}
+use Rattle.function_causes.specs.Causes.{returnsOutside, functionRefusal}
 use Rattle.source_check.specs.Refusal.{wronglyPlaced}
 use Rattle.kernel_statements.specs.Statements.{notKernelForm}
 use Rattle.kernel_check.specs.Labels.{labelFault}
@@ -61,11 +62,13 @@ briefSource header rows =
     next at 8 (lowestRow rows (repeated rows))
     next at 9 (briefDepth Source rows)
     next declarationRefusal rows
+    next functionRefusal rows
 
 -- What the check of kernel programs answers.
 unfoldable pub briefKernel : List ℤ → List ℤ → Verdict
 briefKernel header rows =
     briefStructure Kernel header rows
-    next at 9 (briefDepth Kernel rows)
-    next at 12 (lowestRow rows (notKernelForm rows))
-    next at 13 (lowestRow rows (labelFault rows))
+    next at 7 (lowestRow rows (returnsOutside rows))
+    next (at 9 (briefDepth Kernel rows) next at 12 (lowestRow rows (notKernelForm rows)) next at 13 (lowestRow rows (labelFault rows)))
+    next at 19 (lowestRow rows (declaredBefore rows))
+    next functionRefusal rows

@@ -24,8 +24,10 @@ use Rattle.structure.specs.DepthLaws.{depth-inside, shallow-none-deep}
 use Rattle.structure.specs.Refusal.{at, unless, _next_, rowCauses, structuralRefusal}
 use Rattle.structure.specs.Structured.{Depth, root, owned, beside}
 use Rattle.structure.specs.StructuredLaws.{accepted-structured, structured-tree}
+use Rattle.declaration_causes.specs.Causes.{declaredBefore}
+use Rattle.function_causes.specs.Causes.{functionRefusal}
 use Rattle.source_check.specs.Refusal.{laterRefusal, refusal as sourceRefusal}
-use Rattle.kernel_check.specs.Refusal.{kernelCauses, refusal as kernelRefusal}
+use Rattle.kernel_check.specs.Refusal.{formCauses, kernelCauses, refusal as kernelRefusal}
 use Rattle.brief_checks.specs.Brief.{targets, times, briefCauses, briefStructure, briefDepth, briefSource, briefKernel}
 
 -- ---- links
@@ -89,10 +91,11 @@ same-source header rows =
     same-next (at 7 _) _ _ (λ _. same-next (at 8 _) _ _ (λ _. skip-depth Source header rows _ e))))
 
 pub same-kernel : (header rows : List ℤ) → kernelRefusal header rows ≡ briefKernel header rows
-unfolding briefKernel kernelRefusal kernelCauses
+unfolding briefKernel kernelRefusal kernelCauses formCauses
 same-kernel header rows =
     rw (← same-structure Kernel header rows)
-    (same-next (structuralRefusal Kernel header rows) _ _ (λ e. skip-depth Kernel header rows _ e))
+    (same-next (structuralRefusal Kernel header rows) _ _ (λ e.
+    same-next (at 7 _) _ _ (λ _. ap (λ (verdict : Verdict). verdict next at 19 (lowestRow rows (declaredBefore rows)) next functionRefusal rows) (skip-depth Kernel header rows _ e))))
 
 -- ---- tables
 

@@ -11,7 +11,11 @@ use Rattle.words.specs.Kinds.{kindOf, kindIn, kinds, sortIn, kindRow, expressio
 use Rattle.structure.specs.Links.{loneBlock, notOnce}
 use Rattle.structure.specs.Refusal.{at, unless, _next_}
 use Rattle.words.specs.Search.{lowest, some, lowestRow, someField}
-use Rattle.kernel_check.specs.Labels.{isLabel, repeatedLabel, owning, ownerAt, labelBehind, labelAhead, gotoWithoutLabel, labelFault}
+use Rattle.words.specs.Declarations.{isDeclaration}
+use Rattle.declaration_causes.specs.Causes.{declaredBefore}
+use Rattle.function_causes.specs.Functions.{isDefinition, isCall, isReturn}
+use Rattle.function_causes.specs.Causes.{returnsOutside, outOfOrder, wrongCall, functionRefusal}
+use Rattle.kernel_check.specs.Labels.{isLabel, repeatedLabel, owning, ownerAt, aroundAt, labelBehind, labelAhead, gotoWithoutLabel, labelFault}
 use Rattle.kernel_check.specs.Refusal.{refusal}
 use Rattle.kernel_statements.specs.Statements.{isAtom, isAtomMinus, isAtomOperation, isAtomElement, fitsVariable, isAssignment, isBlock, isKernelIf, isKernelWhile, isKernelExpression, isKernelStatement, notKernelForm}
 use Rattle.brief_checks.specs.Brief.{targets, times, briefCauses, briefStructure, briefDepth, briefKernel}
@@ -30,7 +34,7 @@ abbrev tested : Sample → Verdict
 tested sample = briefKernel (sample .header) (sample .rows)
 
 samples-tested : map tested kernelSamples ≡ map expected kernelSamples
-unfolding natural wordAt numberAt layoutOf sum storeSize headerStore allWithin headerFits countFits foreign fits leadsRight mislinked boundsOf numberFits outside kindOf kindIn kinds sortIn kindRow expressionFields statementFields markFields memberFields sortOf sortAt inLanguage isExpression isPlace isStatement isLink isRequired link target loneBlock notOnce linker received noteBy note at unless _next_ lowest some lowestRow someField targets times briefCauses briefStructure briefDepth briefKernel isLabel repeatedLabel owning ownerAt labelBehind labelAhead gotoWithoutLabel labelFault isAtom isAtomMinus isAtomOperation isAtomElement fitsVariable isAssignment isBlock isKernelIf isKernelWhile isKernelExpression isKernelStatement notKernelForm
+unfolding natural wordAt numberAt layoutOf sum storeSize headerStore allWithin headerFits countFits foreign fits leadsRight mislinked boundsOf numberFits outside kindOf kindIn kinds sortIn kindRow expressionFields statementFields markFields memberFields sortOf sortAt inLanguage isExpression isPlace isStatement isLink isRequired link target loneBlock notOnce linker received noteBy note at unless _next_ lowest some lowestRow someField targets times briefCauses briefStructure briefDepth briefKernel isLabel repeatedLabel owning ownerAt aroundAt labelBehind labelAhead gotoWithoutLabel labelFault isDeclaration declaredBefore isDefinition isCall isReturn returnsOutside outOfOrder wrongCall functionRefusal isAtom isAtomMinus isAtomOperation isAtomElement fitsVariable isAssignment isBlock isKernelIf isKernelWhile isKernelExpression isKernelStatement notKernelForm
 samples-tested = refl
 
 pub kernel-answers : map checked kernelSamples ≡ map expected kernelSamples

@@ -7,7 +7,7 @@ use Rattle.words.specs.Layout.{layoutOf, sum, storeSize, headerStore, allWithin
 use Rattle.words.specs.declared.Verdict.{Verdict}
 use Rattle.words.specs.Links.{fits, isExpression, isPlace, isStatement, isBlock, isArm, link, target, linker, received, noteBy, note}
 use Rattle.row_fields.specs.Fields.{foreign, leadsRight, mislinked, boundsOf, numberFits, outside}
-use Rattle.words.specs.Kinds.{kindOf, kindIn, kinds, sortIn, kindRow, expressionFields, statementFields, markFields, memberFields, sortOf, sortAt, inLanguage, isLink, isRequired}
+use Rattle.words.specs.Kinds.{kindOf, kindIn, kinds, sortIn, kindRow, expressionFields, statementFields, markFields, definitionFields, memberFields, sortOf, sortAt, inLanguage, isLink, isRequired}
 use Rattle.structure.specs.Links.{loneBlock, notOnce}
 use Rattle.structure.specs.Refusal.{at, unless, _next_}
 use Rattle.words.specs.Search.{lowest, some, lowestRow, someField}
@@ -18,6 +18,8 @@ use Rattle.statement_places.specs.Places.{outOfPlace, misplaced}
 use Rattle.words.specs.Declarations.{isDeclaration, declarationsBefore}
 use Rattle.names.specs.Names.{isName}
 use Rattle.declaration_causes.specs.Causes.{outsideBlock, namesNumber, namedWithin, namedFrom, namesItself, sameNumber, declaredBefore, oneTooMany, declarationRefusal}
+use Rattle.function_causes.specs.Functions.{isDefinition, isCall, isReturn}
+use Rattle.function_causes.specs.Causes.{returnsOutside, outOfOrder, wrongCall, functionRefusal}
 use Rattle.source_check.specs.Refusal.{wronglyPlaced, refusal}
 use Rattle.brief_checks.specs.Brief.{targets, times, briefCauses, briefStructure, briefDepth, briefSource}
 use Rattle.brief_checks.specs.BriefLaws.{same-source, map-same}
@@ -35,7 +37,7 @@ abbrev tested : Sample → Verdict
 tested sample = briefSource (sample .header) (sample .rows)
 
 samples-tested : map tested sourceSamples ≡ map expected sourceSamples
-unfolding sameWord natural wordAt numberAt layoutOf sum storeSize headerStore allWithin headerFits countFits foreign fits leadsRight mislinked boundsOf numberFits outside kindOf kindIn kinds sortIn kindRow expressionFields statementFields markFields memberFields sortOf sortAt inLanguage isExpression isPlace isStatement isBlock isArm isLink isRequired link target loneBlock notOnce linker received noteBy note at unless _next_ lowest some lowestRow someField targets times briefCauses briefStructure briefDepth briefSource sameMark itemOf itemAt earlierOf earlierAt someFrom someEarlier repeated handed noteAt outOfPlace misplaced isDeclaration declarationsBefore isName outsideBlock namesNumber namedWithin namedFrom namesItself sameNumber declaredBefore oneTooMany declarationRefusal wronglyPlaced
+unfolding sameWord natural wordAt numberAt layoutOf sum storeSize headerStore allWithin headerFits countFits foreign fits leadsRight mislinked boundsOf numberFits outside kindOf kindIn kinds sortIn kindRow expressionFields statementFields markFields definitionFields memberFields sortOf sortAt inLanguage isExpression isPlace isStatement isBlock isArm isLink isRequired link target loneBlock notOnce linker received noteBy note at unless _next_ lowest some lowestRow someField targets times briefCauses briefStructure briefDepth briefSource sameMark itemOf itemAt earlierOf earlierAt someFrom someEarlier repeated handed noteAt outOfPlace misplaced isDeclaration declarationsBefore isName outsideBlock namesNumber namedWithin namedFrom namesItself sameNumber declaredBefore oneTooMany declarationRefusal isDefinition isCall isReturn returnsOutside outOfOrder wrongCall functionRefusal wronglyPlaced
 samples-tested = refl
 
 pub source-answers : map checked sourceSamples ≡ map expected sourceSamples

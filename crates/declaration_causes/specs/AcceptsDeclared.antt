@@ -55,11 +55,15 @@ module _ (rows : List ℤ) (none : declarationCount rows ≡ 0) where
   none-declared row n =
       by-cases (isDeclaration rows row) (λ d. absurd (let more = before-later rows row (rowCount rows) d n in omega arith)) (λ d. d)
 
+  pub undeclared-once : lowestRow rows (declaredBefore rows) ≡ Nothing
+  unfolding declaredBefore
+  undeclared-once = all-lowestRow rows (declaredBefore rows) (λ row n. rw (none-declared row n))
+
   pub undeclared-accepted : declarationRefusal rows ≡ Accepted
-  unfolding declarationRefusal namesItself declaredBefore oneTooMany
+  unfolding declarationRefusal namesItself oneTooMany
   undeclared-accepted =
       accepts-next (at 18 _) _ (accepts-at 18 _ (all-lowestRow rows (namesItself rows) (λ row n. rw (none-declared row n))))
-      (accepts-next (at 19 _) _ (accepts-at 19 _ (all-lowestRow rows (declaredBefore rows) (λ row n. rw (none-declared row n))))
+      (accepts-next (at 19 _) _ (accepts-at 19 _ undeclared-once)
       (accepts-at 20 _ (all-lowestRow rows (oneTooMany rows) (λ row n. rw (none-declared row n)))))
 
   pub undeclared-inside : lowestRow rows (outsideBlock rows) ≡ Nothing

@@ -22,15 +22,7 @@ unfoldable pub left : List ℤ → ℕ → ℕ
 left rows row = pick (eqb row 0) 0 (rowCount rows - row)
 
 module _ (rows : List ℤ) (t : Tree rows) where
-  -- what a field links, or 0, is in the table
-  pub part-inside : (row field part : ℕ) → row < rowCount rows → field < 6 → part ≡ link rows row field → part < rowCount rows
-  part-inside row field part n h e = go (ℕ-discrete part 0)
-    where
-      go : Dec (part ≡ 0) → part < rowCount rows
-      go (yes z) = omega arith
-      go (no z) = rw e (t .forward row field n h (rw (← e) (above-zero part z)) .inside)
-
-  -- and fewer rows are left there
+  -- fewer rows are left at a row that a field links, or at 0
   pub part-falls : (row field part : ℕ) → (row ≡ 0 → ⊥) → row < rowCount rows → field < 6 → part ≡ link rows row field → left rows part < left rows row
   unfolding left
   part-falls row field part p n h e = rw (ne-eqb row 0 p) (go (ℕ-discrete part 0))

@@ -4,11 +4,12 @@ use mathlib.Core.Bool.{Bool, false}
 use mathlib.Core.List.{List, [], _∷_, _++_}
 use Prim.Native.Nat.{ℕ, _+_}
 use lib.IntN.{ℤ, pos}
+use lib.ListN.{length}
 use Rattle.words.specs.Word.{pick}
 use Rattle.words.specs.declared.Operator.{Operator}
 use Rattle.words.specs.declared.Operator.the-variants.{Add, Subtract, Multiply, Divide, Remainder, Less, Greater, LessOrEqual, GreaterOrEqual, Equal, NotEqual}
-use Rattle.language.specs.Trees.{Expression, constant, read, minus, not, binary, and, or, comma, conditional, assign, compound, prefix, postfix, Place, variable, element, Part, absent, present, Mark, case, default, label, Statement, empty, express, block, ifThen, ifElse, while, doWhile, for, switch, break, continue, goto, guardedIf, guardedDo, abort, declare, Arms, noArm, arm, Items, none, _then_, _here_}
-use Rattle.language.specs.Sizes.{expressionRows, placeRows, partRows, statementRows}
+use Rattle.language.specs.Trees.{Expression, constant, read, minus, not, binary, and, or, comma, conditional, assign, compound, prefix, postfix, call, Place, variable, element, Arguments, noMore, _also_, Part, absent, present, Mark, case, default, label, Statement, empty, express, block, ifThen, ifElse, while, doWhile, for, switch, break, continue, goto, guardedIf, guardedDo, abort, declare, giveBack, Arms, noArm, arm, Items, none, _then_, _here_, define}
+use Rattle.language.specs.Sizes.{expressionRows, placeRows, partRows, statementRows, itemsRows}
 
 -- "kind, a, b, c, d, next"; a is a value or a number, the others are numbers.
 abbrev pub rowOf : ℕ → ℤ → ℕ → ℕ → ℕ → ℕ → List ℤ
@@ -27,6 +28,11 @@ operatorNumber LessOrEqual = 7
 operatorNumber GreaterOrEqual = 8
 operatorNumber Equal = 9
 operatorNumber NotEqual = 10
+
+-- The link to arguments that would begin at `base`.
+abbrev pub argumentsLink : Arguments → ℕ → ℕ
+argumentsLink noMore base = 0
+argumentsLink (e also arguments) base = base
 
 unfoldable mutual
   -- The rows of an expression, from the row `base` on.
@@ -48,12 +54,19 @@ unfoldable mutual
       rowOf (22 + operatorNumber o) (pos (base + 1)) (base + 1 + placeRows p) 0 0 0 ++ emitPlace p (base + 1) ++ emitExpression e (base + 1 + placeRows p)
   emitExpression (prefix o p) base = rowOf (27 + operatorNumber o) (pos (base + 1)) 0 0 0 0 ++ emitPlace p (base + 1)
   emitExpression (postfix o p) base = rowOf (29 + operatorNumber o) (pos (base + 1)) 0 0 0 0 ++ emitPlace p (base + 1)
+  emitExpression (call f arguments) base = rowOf 31 (pos f) (argumentsLink arguments (base + 1)) 0 0 0 ++ emitArguments arguments (base + 1)
 
   pub emitPlace : Place → ℕ → List ℤ
   emitPlace (variable i) base = rowOf 2 (pos i) 0 0 0 0
   emitPlace (element array e) base = rowOf 3 (pos array) (base + 1) 0 0 0 ++ emitExpression e (base + 1)
 
--- A part of a for, and the link to it.
+  -- The rows of arguments, from the row `base` on.
+  pub emitArguments : Arguments → ℕ → List ℤ
+  emitArguments noMore base = []
+  emitArguments (e also arguments) base =
+      rowOf 32 (pos (base + 1)) 0 0 0 (argumentsLink arguments (base + 1 + expressionRows e)) ++ emitExpression e (base + 1) ++ emitArguments arguments (base + 1 + expressionRows e)
+
+-- A part of a for or the value of a return, and the link to it.
 abbrev pub emitPart : Part → ℕ → List ℤ
 emitPart absent base = []
 emitPart (present e) base = emitExpression e base
@@ -68,6 +81,7 @@ abbrev pub listLink : Bool → Items → ℕ → ℕ
 listLink follows none base = pick follows base 0
 listLink follows (s then is) base = base
 listLink follows (m here is) base = base
+listLink follows (define f words body is) base = base
 
 abbrev pub emitMark : Mark → ℕ → List ℤ
 emitMark (case v) next = rowOf 48 v 0 0 0 next
@@ -78,6 +92,15 @@ emitMark (label l) next = rowOf 53 (pos l) 0 0 0 next
 abbrev pub armsLink : Arms → ℕ → ℕ
 armsLink noArm base = 0
 armsLink (arm e s arms) base = base
+
+-- The link to parameters that would begin at `base`; and their rows from there on.
+abbrev pub parametersLink : List ℕ → ℕ → ℕ
+parametersLink [] base = 0
+parametersLink (word ∷ words) base = base
+
+unfoldable pub emitParameters : List ℕ → ℕ → List ℤ
+emitParameters [] base = []
+emitParameters (word ∷ words) base = rowOf 58 (pos word) 0 0 0 (parametersLink words (base + 1)) ++ emitParameters words (base + 1)
 
 unfoldable mutual
   -- The rows of a statement, from the row `base` on; `next` is its own next field.
@@ -107,6 +130,7 @@ unfoldable mutual
   emitStatement (guardedDo arms) base next = rowOf 55 (pos (armsLink arms (base + 1))) 0 0 0 next ++ emitArms arms (base + 1)
   emitStatement abort base next = rowOf 57 (pos 0) 0 0 0 next
   emitStatement (declare i e) base next = rowOf 58 (pos i) (base + 1) 0 0 next ++ emitExpression e (base + 1)
+  emitStatement (giveBack value) base next = rowOf 60 (pos (partLink value (base + 1))) 0 0 0 next ++ emitPart value (base + 1)
 
   -- The rows of arms, from the row `base` on.
   pub emitArms : Arms → ℕ → List ℤ
@@ -120,6 +144,12 @@ unfoldable mutual
   emitItems follows none base = []
   emitItems follows (s then is) base = emitStatement s base (listLink follows is (base + statementRows s)) ++ emitItems follows is (base + statementRows s)
   emitItems follows (m here is) base = emitMark m (listLink follows is (base + 1)) ++ emitItems follows is (base + 1)
+  -- a definition: its row, its parameters, its block; and then the items behind it
+  emitItems follows (define f words body is) base =
+      let own = base + 1 + length words in
+      let behind = own + 1 + itemsRows body in
+      rowOf 59 (pos f) (parametersLink words (base + 1)) own 0 (listLink follows is behind)
+      ++ emitParameters words (base + 1) ++ (rowOf 42 (pos (listLink false body (own + 1))) 0 0 0 0 ++ emitItems false body (own + 1)) ++ emitItems follows is behind
 
 -- The table of a program.
 unfoldable pub emit : Statement → List ℤ

@@ -2,7 +2,7 @@
 -- emission gives (`emitted`); each law of emitted tables is then an induction over them.
 use mathlib.Core.Path.{_≡_, refl, ap, _∙_}
 use mathlib.Core.Bool.{false}
-use mathlib.Core.List.{List, [], _++_}
+use mathlib.Core.List.{List, [], _∷_, _++_}
 use Prim.Native.Nat.{ℕ, _+_, _*_, _≤_, _<_}
 use native.Mathlib.Nat.{zero-add}
 use native.Mathlib.Omega.{arith}
@@ -12,11 +12,11 @@ use lib.Seq.{getD-append-add}
 use Rattle.words.specs.Word.{natural}
 use Rattle.words.specs.Table.{rowCount, wordAt, numberAt}
 use Rattle.words.specs.declared.Operator.{Operator}
-use Rattle.language.specs.Trees.{Expression, constant, read, minus, binary, assign, Place, variable, element, label, Statement, empty, express, block, ifElse, while, goto, abort, Items, none, _then_, _here_}
-use Rattle.language.specs.Sizes.{expressionRows, placeRows, statementRows}
-use Rattle.emission.specs.Emission.{rowOf, operatorNumber, emitExpression, emitPlace, listLink, emitStatement, emitItems, emit}
-use Rattle.emission.specs.EmissionLaws.{length-expression, length-place, length-statement}
-use Rattle.emission.specs.KernelKinds.{ExpressionInKernel, a-constant, a-read, a-minus, a-binary, an-assign, PlaceInKernel, a-variable, an-element, StatementInKernel, an-empty, an-express, a-block, an-if, a-while, a-goto, an-abort, ItemsInKernel, no-items, a-statement, a-label}
+use Rattle.language.specs.Trees.{Expression, constant, read, minus, binary, assign, call, Place, variable, element, Arguments, noMore, _also_, present, label, Statement, empty, express, block, ifElse, while, goto, abort, giveBack, Items, none, _then_, _here_, define}
+use Rattle.language.specs.Sizes.{expressionRows, placeRows, statementRows, itemsRows}
+use Rattle.emission.specs.Emission.{rowOf, operatorNumber, argumentsLink, emitExpression, emitPlace, emitArguments, listLink, parametersLink, emitParameters, emitStatement, emitItems, emit}
+use Rattle.emission.specs.EmissionLaws.{length-expression, length-place, length-parameters, length-statement, length-items}
+use Rattle.emission.specs.KernelKinds.{ExpressionInKernel, a-constant, a-read, a-minus, a-binary, an-assign, a-call, PlaceInKernel, a-variable, an-element, ArgumentsInKernel, no-arguments, an-argument, StatementInKernel, an-empty, an-express, a-block, an-if, a-while, a-goto, an-abort, a-return, ItemsInKernel, no-items, a-statement, a-label, a-definition}
 
 -- ---- the relations
 
@@ -40,10 +40,23 @@ mutual
         → EmittedExpression rows a (base + 1) → EmittedExpression rows b (base + 1 + expressionRows a) → EmittedExpression rows (binary o a b) base
     assign-at : {p : Place} {e : Expression} {base : ℕ} → Row rows base 21 (base + 1) (base + 1 + placeRows p) 0 0 0
         → EmittedPlace rows p (base + 1) → EmittedExpression rows e (base + 1 + placeRows p) → EmittedExpression rows (assign p e) base
+    call-at : {f : ℕ} {arguments : Arguments} {base : ℕ} → Row rows base 31 f (argumentsLink arguments (base + 1)) 0 0 0 → EmittedArguments rows arguments (base + 1)
+        → EmittedExpression rows (call f arguments) base
 
   pub data EmittedPlace (rows : List ℤ) : Place → ℕ → Type 0 where
     variable-at : {i base : ℕ} → Row rows base 2 i 0 0 0 0 → EmittedPlace rows (variable i) base
     element-at : {array : ℕ} {e : Expression} {base : ℕ} → Row rows base 3 array (base + 1) 0 0 0 → EmittedExpression rows e (base + 1) → EmittedPlace rows (element array e) base
+
+  pub data EmittedArguments (rows : List ℤ) : Arguments → ℕ → Type 0 where
+    no-more-at : {base : ℕ} → EmittedArguments rows noMore base
+    argument-at : {e : Expression} {arguments : Arguments} {base : ℕ} → Row rows base 32 (base + 1) 0 0 0 (argumentsLink arguments (base + 1 + expressionRows e))
+        → EmittedExpression rows e (base + 1) → EmittedArguments rows arguments (base + 1 + expressionRows e) → EmittedArguments rows (e also arguments) base
+
+-- The rows of parameters.
+pub data EmittedParameters (rows : List ℤ) : List ℕ → ℕ → Type 0 where
+  no-parameter-at : {base : ℕ} → EmittedParameters rows [] base
+  parameter-at : {word : ℕ} {words : List ℕ} {base : ℕ} → Row rows base 58 word 0 0 0 (parametersLink words (base + 1)) → EmittedParameters rows words (base + 1)
+      → EmittedParameters rows (word ∷ words) base
 
 mutual
   -- The rows of a statement stand from the row `base` on; `next` is its own next field.
@@ -59,6 +72,7 @@ mutual
         → EmittedExpression rows e (base + 1) → EmittedStatement rows body (base + 1 + expressionRows e) 0 → EmittedStatement rows (while e body) base next
     goto-at : {l base next : ℕ} → Row rows base 52 l 0 0 0 next → EmittedStatement rows (goto l) base next
     abort-at : {base next : ℕ} → Row rows base 57 0 0 0 0 next → EmittedStatement rows abort base next
+    return-at : {e : Expression} {base next : ℕ} → Row rows base 60 (base + 1) 0 0 0 next → EmittedExpression rows e (base + 1) → EmittedStatement rows (giveBack (present e)) base next
 
   -- The rows of a list.
   pub data EmittedItems (rows : List ℤ) : Items → ℕ → Type 0 where
@@ -66,6 +80,10 @@ mutual
     then-at : {s : Statement} {is : Items} {base : ℕ} → EmittedStatement rows s base (listLink false is (base + statementRows s)) → EmittedItems rows is (base + statementRows s)
         → EmittedItems rows (s then is) base
     label-at : {l : ℕ} {is : Items} {base : ℕ} → Row rows base 53 l 0 0 0 (listLink false is (base + 1)) → EmittedItems rows is (base + 1) → EmittedItems rows (label l here is) base
+    define-at : {f : ℕ} {words : List ℕ} {body is : Items} {base : ℕ}
+        → Row rows base 59 f (parametersLink words (base + 1)) (base + 1 + length words) 0 (listLink false is (base + 1 + length words + 1 + itemsRows body))
+        → EmittedParameters rows words (base + 1) → EmittedStatement rows (block body) (base + 1 + length words) 0 → EmittedItems rows is (base + 1 + length words + 1 + itemsRows body)
+        → EmittedItems rows (define f words body is) base
 
 -- ---- from the words to the relations
 
@@ -137,12 +155,34 @@ mutual
       let rest = row-rest 21 (pos (base + 1)) m 0 0 0 (u ++ v) g in
       assign-at (row-first 21 (pos (base + 1)) m 0 0 0 (u ++ v) g)
       (emitted-place (base + 1) k (segment-left u v rest)) (emitted-expression m j (segment-right (placeRows p) u v (length-place p (base + 1)) rest))
+  emitted-expression base (a-call {f} {arguments} k) g =
+      let first = argumentsLink arguments (base + 1) in
+      let rest = row-rest 31 (pos f) first 0 0 0 (emitArguments arguments (base + 1)) g in
+      call-at (row-first 31 (pos f) first 0 0 0 (emitArguments arguments (base + 1)) g) (emitted-arguments (base + 1) k rest)
 
   emitted-place : {rows : List ℤ} {p : Place} (base : ℕ) → PlaceInKernel p → Segment rows base (emitPlace p base) → EmittedPlace rows p base
   emitted-place base (a-variable {i}) g = variable-at (row-first 2 (pos i) 0 0 0 0 [] g)
   emitted-place base (an-element {array} {e} k) g =
       let rest = row-rest 3 (pos array) (base + 1) 0 0 0 (emitExpression e (base + 1)) g in
       element-at (row-first 3 (pos array) (base + 1) 0 0 0 (emitExpression e (base + 1)) g) (emitted-expression (base + 1) k rest)
+
+  emitted-arguments : {rows : List ℤ} {arguments : Arguments} (base : ℕ) → ArgumentsInKernel arguments → Segment rows base (emitArguments arguments base) → EmittedArguments rows arguments base
+  emitted-arguments base no-arguments g = no-more-at
+  emitted-arguments base (an-argument {e} {arguments} k j) g =
+      let m = base + 1 + expressionRows e in
+      let u = emitExpression e (base + 1) in
+      let v = emitArguments arguments m in
+      let rest = row-rest 32 (pos (base + 1)) 0 0 0 (argumentsLink arguments m) (u ++ v) g in
+      argument-at (row-first 32 (pos (base + 1)) 0 0 0 (argumentsLink arguments m) (u ++ v) g)
+      (emitted-expression (base + 1) k (segment-left u v rest)) (emitted-arguments m j (segment-right (expressionRows e) u v (length-expression e (base + 1)) rest))
+
+emitted-parameters : {rows : List ℤ} (words : List ℕ) (base : ℕ) → Segment rows base (emitParameters words base) → EmittedParameters rows words base
+unfolding emitParameters natural
+emitted-parameters [] base g = no-parameter-at
+emitted-parameters (word ∷ words) base g =
+    let next = parametersLink words (base + 1) in
+    let rest = emitParameters words (base + 1) in
+    parameter-at (row-first 58 (pos word) 0 0 0 next rest g) (emitted-parameters words (base + 1) (row-rest 58 (pos word) 0 0 0 next rest g))
 
 mutual
   unfolding emitStatement natural
@@ -180,6 +220,9 @@ mutual
       (emitted-expression (base + 1) k (segment-left u v rest)) (emitted-statement m 0 j (segment-right (expressionRows e) u v (length-expression e (base + 1)) rest))
   emitted-statement base next (a-goto {l}) g = goto-at (row-first 52 (pos l) 0 0 0 next [] g)
   emitted-statement base next an-abort g = abort-at (row-first 57 (pos 0) 0 0 0 next [] g)
+  emitted-statement base next (a-return {e} k) g =
+      let rest = row-rest 60 (pos (base + 1)) 0 0 0 next (emitExpression e (base + 1)) g in
+      return-at (row-first 60 (pos (base + 1)) 0 0 0 next (emitExpression e (base + 1)) g) (emitted-expression (base + 1) k rest)
 
   emitted-items : {rows : List ℤ} {is : Items} (base : ℕ) → ItemsInKernel is → Segment rows base (emitItems false is base) → EmittedItems rows is base
   emitted-items base no-items g = none-at
@@ -191,6 +234,24 @@ mutual
   emitted-items base (a-label {l} {is} k) g =
       let rest = emitItems false is (base + 1) in
       label-at (row-first 53 (pos l) 0 0 0 (listLink false is (base + 1)) rest g) (emitted-items (base + 1) k (row-rest 53 (pos l) 0 0 0 (listLink false is (base + 1)) rest g))
+  emitted-items base (a-definition {f} {words} {body} {is} k j) g =
+      let own = base + 1 + length words in
+      let behind = own + 1 + itemsRows body in
+      let first = listLink false body (own + 1) in
+      let inner = emitItems false body (own + 1) in
+      let p = emitParameters words (base + 1) in
+      let b = rowOf 42 (pos first) 0 0 0 0 ++ inner in
+      let w = emitItems false is behind in
+      let size : length (p ++ b) ≡ 6 * (length words + 1 + itemsRows body) = omega (arith, length-append p b, length-parameters words (base + 1), length-items false body (own + 1)) in
+      let rest = row-rest 59 (pos f) (parametersLink words (base + 1)) own 0 (listLink false is behind) ((p ++ b) ++ w) g in
+      let front = segment-left (p ++ b) w rest in
+      let back = segment-right (length words + 1 + itemsRows body) (p ++ b) w size rest in
+      let its-block = segment-right (length words) p b (length-parameters words (base + 1)) front in
+      let end : base + 1 + (length words + 1 + itemsRows body) ≡ behind = omega arith in
+      define-at (row-first 59 (pos f) (parametersLink words (base + 1)) own 0 (listLink false is behind) ((p ++ b) ++ w) g)
+      (emitted-parameters words (base + 1) (segment-left p b front))
+      (block-at (row-first 42 (pos first) 0 0 0 0 inner its-block) (emitted-items (own + 1) k (row-rest 42 (pos first) 0 0 0 0 inner its-block)))
+      (emitted-items behind j (rw end at back))
 
 -- The table of a program has the program's rows from row 0 on.
 pub emitted : {program : Statement} → StatementInKernel program → EmittedStatement (emit program) program 0 0

@@ -2,28 +2,33 @@
 -- language's.
 use mathlib.Core.Path.{_≡_, refl, ap, ap₂, _∙_}
 use mathlib.Core.Bool.{true, false}
-use mathlib.Core.List.{List}
+use mathlib.Core.List.{List, [], _∷_}
 use Prim.Native.Nat.{ℕ, zero, suc, _+_, _≤_, _<_}
 use native.Mathlib.Omega.{arith}
 use lib.IntN.{ℤ}
+use lib.Dec.{eqb}
+use lib.ListN.{length}
 use Rattle.words.specs.Table.{numberAt, Whole}
+use Rattle.words.specs.Declarations.{isDeclaration, declarationKind}
 use Rattle.words.specs.Kinds.{kinds, kindIn, kindOf, kindAt, isStatementKind}
 use Rattle.words.specs.declared.Operator.{Operator}
 use Rattle.words.specs.declared.Operator.the-variants.{Add, Subtract, Multiply, Divide, Remainder, Less, Greater, LessOrEqual, GreaterOrEqual, Equal, NotEqual}
 use Rattle.words.specs.declared.Kind.{Kind}
-use Rattle.words.specs.declared.Kind.the-variants.{OfExpression, OfStatement, OfMark}
-use Rattle.words.specs.declared.ExpressionKind.the-variants.{Constant, Variable, Element, Minus, Binary, Assign}
-use Rattle.words.specs.declared.StatementKind.the-variants.{Empty, Express, Block, If, While, Goto, Abort}
+use Rattle.words.specs.declared.Kind.the-variants.{OfExpression, OfStatement, OfMark, OfMember, Definition}
+use Rattle.words.specs.declared.ExpressionKind.the-variants.{Constant, Variable, Element, Minus, Binary, Assign, Call}
+use Rattle.words.specs.declared.StatementKind.the-variants.{Empty, Express, Block, If, While, Goto, Abort, Return}
 use Rattle.words.specs.declared.MarkKind.the-variants.{Label}
-use Rattle.language.specs.Trees.{Expression, constant, read, minus, binary, assign, Place, variable, element, label, Statement, express, block, while, goto, Items, none, _then_, _here_}
-use Rattle.language.specs.Decode.{placeOf, expressionAt, statementAt, itemsAt, decode, Forward, listAt}
-use Rattle.language.specs.DecodeLaws.{at-constant, at-variable, at-element, at-minus, at-binary, at-assign, at-empty, at-express, at-block, at-ifElse, at-while, at-goto, at-abort, at-item, at-label}
-use Rattle.language.specs.Sizes.{statementRows}
+use Rattle.words.specs.declared.MemberKind.the-variants.{Argument}
+use Rattle.language.specs.Trees.{Expression, constant, read, minus, binary, assign, call, Place, variable, element, Arguments, noMore, _also_, present, label, Statement, express, block, while, goto, giveBack, Items, none, _then_, _here_, define}
+use Rattle.language.specs.Decode.{placeOf, expressionAt, argumentsAt, parametersAt, partAt, blockItems, statementAt, itemsAt, decode, Forward, listAt, argumentListAt, parameterListAt}
+use Rattle.language.specs.DecodeLaws.{part-some, at-constant, at-variable, at-element, at-minus, at-binary, at-assign, at-call, at-empty, at-express, at-block, at-ifElse, at-while, at-goto, at-abort, at-return, at-item, at-label, at-definition, at-parameter, at-argument}
+use Rattle.language.specs.Sizes.{statementRows, itemsRows}
 use Rattle.language.specs.TreeLaws.{statement-some}
-use Rattle.emission.specs.Emission.{operatorNumber, listLink, emit}
+use Rattle.language.specs.Program.{contents}
+use Rattle.emission.specs.Emission.{operatorNumber, argumentsLink, listLink, parametersLink, emit}
 use Rattle.emission.specs.EmissionLaws.{length-emit}
-use Rattle.emission.specs.KernelKinds.{StatementInKernel}
-use Rattle.emission.specs.Emitted.{Row, EmittedExpression, constant-at, read-at, minus-at, binary-at, assign-at, EmittedPlace, variable-at, element-at, EmittedStatement, empty-at, express-at, block-at, if-at, while-at, goto-at, abort-at, EmittedItems, none-at, then-at, label-at, emitted}
+use Rattle.emission.specs.KernelKinds.{StatementInKernel, a-block, ItemsInKernel}
+use Rattle.emission.specs.Emitted.{Row, EmittedExpression, constant-at, read-at, minus-at, binary-at, assign-at, call-at, EmittedPlace, variable-at, element-at, EmittedArguments, no-more-at, argument-at, EmittedParameters, no-parameter-at, parameter-at, EmittedStatement, empty-at, express-at, block-at, if-at, while-at, goto-at, abort-at, return-at, EmittedItems, none-at, then-at, label-at, define-at, emitted}
 
 -- ---- links forward
 
@@ -32,11 +37,21 @@ pub link-most : (is : Items) (base : ℕ) → listLink false is base ≤ base
 link-most none base = omega arith
 link-most (s then is) base = omega arith
 link-most (m here is) base = omega arith
+link-most (define f words body is) base = omega arith
 
 pub link-forward : (is : Items) (row base : ℕ) → row < base → Forward row (listLink false is base)
 link-forward none row base h p = absurd (omega arith)
 link-forward (s then is) row base h p = h
 link-forward (m here is) row base h p = h
+link-forward (define f words body is) row base h p = h
+
+pub arguments-forward : (arguments : Arguments) (row base : ℕ) → row < base → Forward row (argumentsLink arguments base)
+arguments-forward noMore row base h p = absurd (omega arith)
+arguments-forward (e also arguments) row base h p = h
+
+pub parameters-forward : (words : List ℕ) (row base : ℕ) → row < base → Forward row (parametersLink words base)
+parameters-forward [] row base h p = absurd (omega arith)
+parameters-forward (word ∷ words) row base h p = h
 
 -- ---- kinds
 
@@ -59,6 +74,11 @@ row-kind : {rows : List ℤ} {row kind a b c d next : ℕ} (k : Kind) → kindOf
 unfolding kindAt
 row-kind k e r = ap kindOf (r .kind-is) ∙ e
 
+-- The row of a parameter is a declaration's.
+parameter-declared : {rows : List ℤ} {row word b c d next : ℕ} → Row rows row 58 word b c d next → isDeclaration rows row ≡ true
+unfolding isDeclaration
+parameter-declared r = ap (λ k. eqb k declarationKind) (r .kind-is)
+
 -- The kind of a statement's row is a statement's; its next field.
 statement-row : {rows : List ℤ} {s : Statement} {base next : ℕ} → EmittedStatement rows s base next → (isStatementKind (kindAt rows base) ≡ true) × (numberAt rows base 5 ≡ next)
 unfolding kindOf kindIn kinds
@@ -69,8 +89,18 @@ statement-row (if-at r m n o) = (ap isStatementKind (row-kind (OfStatement If) r
 statement-row (while-at r m n) = (ap isStatementKind (row-kind (OfStatement While) refl r), r .next-is)
 statement-row (goto-at r) = (ap isStatementKind (row-kind (OfStatement Goto) refl r), r .next-is)
 statement-row (abort-at r) = (ap isStatementKind (row-kind (OfStatement Abort) refl r), r .next-is)
+statement-row (return-at r m) = (ap isStatementKind (row-kind (OfStatement Return) refl r), r .next-is)
 
 module _ (rows : List ℤ) (whole : Whole rows) where
+  -- The arguments and the parameters at a link.
+  arguments-link : (base : ℕ) → 0 < base → argumentListAt rows base ≡ argumentsAt rows base
+  arguments-link zero h = absurd (omega arith)
+  arguments-link (suc base) h = refl
+
+  parameters-link : (base : ℕ) → 0 < base → parameterListAt rows base ≡ parametersAt rows base
+  parameters-link zero h = absurd (omega arith)
+  parameters-link (suc base) h = refl
+
   mutual
     unfolding kindOf kindIn kinds
 
@@ -84,12 +114,30 @@ module _ (rows : List ℤ) (whole : Whole rows) where
     read-expression (assign-at {p} {e} {base} r m n) =
         at-assign rows whole base (row-kind (OfExpression Assign) refl r) (omega (arith, r .a-is)) (omega (arith, r .b-is))
         ∙ rw (r .a-is, r .b-is) (ap₂ assign (ap placeOf (read-place m)) (read-expression n))
+    read-expression (call-at {f} {arguments} {base} r m) =
+        at-call rows whole base (row-kind (OfExpression Call) refl r) (rw (r .b-is) (arguments-forward arguments base (base + 1) (omega arith)))
+        ∙ rw (r .a-is, r .b-is) (ap (call f) (read-arguments (omega arith) m))
 
     pub read-place : {p : Place} {base : ℕ} → EmittedPlace rows p base → expressionAt rows base ≡ read p
     read-place (variable-at {i} {base} r) = at-variable rows whole base (row-kind (OfExpression Variable) refl r) ∙ ap (λ n. read (variable n)) (r .a-is)
     read-place (element-at {array} {e} {base} r m) =
         at-element rows whole base (row-kind (OfExpression Element) refl r) (omega (arith, r .b-is))
         ∙ rw (r .a-is, r .b-is) (ap (λ i. read (element array i)) (read-expression m))
+
+    -- The arguments that begin at their link.
+    pub read-arguments : {arguments : Arguments} {base : ℕ} → 0 < base → EmittedArguments rows arguments base → argumentListAt rows (argumentsLink arguments base) ≡ arguments
+    read-arguments h no-more-at = refl
+    read-arguments h (argument-at {e} {arguments} {base} r m n) =
+        arguments-link base h
+        ∙ at-argument rows whole base (row-kind (OfMember Argument) refl r) (omega (arith, r .a-is)) (rw (r .next-is) (arguments-forward arguments base _ (omega arith)))
+        ∙ rw (r .a-is, r .next-is) (ap₂ _also_ (read-expression m) (read-arguments (omega arith) n))
+
+  pub read-parameters : {words : List ℕ} {base : ℕ} → 0 < base → EmittedParameters rows words base → parameterListAt rows (parametersLink words base) ≡ words
+  read-parameters h no-parameter-at = refl
+  read-parameters h (parameter-at {word} {words} {base} r n) =
+      parameters-link base h
+      ∙ at-parameter rows whole base (parameter-declared r) (rw (r .next-is) (parameters-forward words base (base + 1) (omega arith)))
+      ∙ rw (r .a-is, r .next-is) (ap (λ (rest : List ℕ). word ∷ rest) (read-parameters (omega arith) n))
 
   -- The list at a link.
   list-at : (base : ℕ) → 0 < base → listAt rows base ≡ itemsAt rows base
@@ -113,6 +161,9 @@ module _ (rows : List ℤ) (whole : Whole rows) where
         ∙ rw (r .a-is, r .b-is) (ap₂ while (read-expression m) (read-statement n))
     read-statement (goto-at {l} {base} r) = at-goto rows whole base (row-kind (OfStatement Goto) refl r) ∙ ap goto (r .a-is)
     read-statement (abort-at {base} r) = at-abort rows whole base (row-kind (OfStatement Abort) refl r)
+    read-statement (return-at {e} {base} r m) =
+        at-return rows whole base (row-kind (OfStatement Return) refl r) (λ p. omega (arith, r .a-is))
+        ∙ rw (r .a-is) (ap giveBack (part-some rows (base + 1) (omega arith) ∙ ap present (read-expression m)))
 
     -- The list that begins at a list's link.
     pub read-items : {is : Items} {base : ℕ} → 0 < base → EmittedItems rows is base → listAt rows (listLink false is base) ≡ is
@@ -128,6 +179,23 @@ module _ (rows : List ℤ) (whole : Whole rows) where
         list-at base h
         ∙ at-label rows whole base (row-kind (OfMark Label) refl r) (rw (r .next-is) (link-forward is base (base + 1) (omega arith)))
         ∙ rw (r .a-is, r .next-is) (ap (λ b. label l here b) (read-items (omega arith) n))
+    read-items h (define-at {f} {words} {body} {is} {base} r p m n) =
+        let own = base + 1 + length words in
+        list-at base h
+        ∙ at-definition rows whole base (row-kind Definition refl r) (rw (r .b-is) (parameters-forward words base (base + 1) (omega arith))) (omega (arith, r .c-is))
+        (rw (r .next-is) (link-forward is base (own + 1 + itemsRows body) (omega arith)))
+        ∙ rw (r .a-is, r .b-is, r .c-is, r .next-is) (cc (read-parameters (omega arith) p, ap blockItems (read-statement m), read-items (omega arith) n))
+
+-- The items of the table of a program are the program.
+pub contents-emit : {program : Items} → ItemsInKernel program → contents (emit (block program)) ≡ program
+unfolding contents
+contents-emit {program} k = go (emitted (a-block k))
+  where
+    size : Whole (emit (block program))
+    size = let own = length-emit (block program) in omega arith
+
+    go : EmittedStatement (emit (block program)) (block program) 0 0 → listAt (emit (block program)) (numberAt (emit (block program)) 0 1) ≡ program
+    go (block-at r m) = rw (r .a-is) (read-items (emit (block program)) size (omega arith) m)
 
 -- Decode reads back what emission writes.
 pub decode-emit : {program : Statement} → StatementInKernel program → decode (emit program) ≡ program

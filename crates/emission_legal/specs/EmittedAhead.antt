@@ -10,18 +10,22 @@ use lib.Dec.{eqb}
 use borrow.Author.Tests.{eqb-true}
 use lib.IntN.{ℤ}
 use Rattle.words.specs.Table.{rowCount, numberAt}
-use Rattle.language.specs.Trees.{Expression, Place, Mark, label, sameMark, has, Statement, Items, none, _then_, _here_, _⧺_}
-use Rattle.language.specs.Sizes.{expressionRows, placeRows, statementRows, itemsRows}
+use lib.ListN.{length}
+use Rattle.language.specs.Trees.{Expression, Place, Arguments, Mark, label, sameMark, has, Statement, Items, none, _then_, _here_, define, _⧺_}
+use Rattle.language.specs.Sizes.{expressionRows, placeRows, argumentsRows, statementRows, itemsRows}
 use Rattle.language.specs.TreeLaws.{statement-some}
+use Rattle.language.specs.Calls.{StatementCallsBelow, ItemsCallBelow}
 use Rattle.translation.specs.KernelForm.{KernelStatement, kernel-block, kernel-if, kernel-while, kernel-goto, kernel-abort, KernelItems, kernel-then, kernel-label}
-use Rattle.words.specs.Kinds.{sortOf, isLink, kindOf, kindIn, kinds, sortIn, kindRow, expressionFields, statementFields, markFields}
+use Rattle.words.specs.Kinds.{sortOf, isLink, kindOf, kindIn, kinds, sortIn, kindRow, expressionFields, statementFields, markFields, definitionFields, memberFields}
+use borrow.Author.Tests.{ne-eqb}
 use Rattle.words.specs.Links.{isStatement, link}
 use Rattle.structure.specs.Structured.{Leads}
 use Rattle.structure.specs.Lists.{Before, adjacent, further}
 use Rattle.kernel_statements.specs.Statements.{isKernelStatement}
+use Rattle.function_causes.specs.Functions.{isDefinition}
 use Rattle.kernel_check.specs.Legal.{Owner, part, beside, Ahead, behind, outward}
 use Rattle.emission.specs.Emission.{listLink}
-use Rattle.emission.specs.Emitted.{Row, EmittedExpression, constant-at, read-at, minus-at, binary-at, assign-at, EmittedPlace, variable-at, element-at, EmittedStatement, empty-at, express-at, block-at, if-at, while-at, goto-at, abort-at, EmittedItems, none-at, then-at, label-at}
+use Rattle.emission.specs.Emitted.{Row, EmittedExpression, constant-at, read-at, minus-at, binary-at, assign-at, call-at, EmittedPlace, variable-at, element-at, EmittedArguments, no-more-at, argument-at, EmittedParameters, no-parameter-at, parameter-at, EmittedStatement, empty-at, express-at, block-at, if-at, while-at, goto-at, abort-at, return-at, EmittedItems, none-at, then-at, label-at, define-at}
 use Rattle.emission.specs.ReadBack.{link-forward}
 use Rattle.emission_legal.specs.Ranges.{Each, none-of, join, first-and}
 use Rattle.emission_legal.specs.Suits.{row-link}
@@ -32,7 +36,7 @@ use Rattle.emission_legal.specs.EmittedForms.{form-statement, form-label
 
 module _ {rows : List ℤ} where
   mutual
-    unfolding isStatement sortOf kindOf kindIn kinds sortIn kindRow expressionFields statementFields markFields expressionRows
+    unfolding isStatement sortOf kindOf kindIn kinds sortIn kindRow expressionFields statementFields markFields definitionFields memberFields expressionRows
 
     pub plain-expression : {e : Expression} {base : ℕ} (end : ℕ) → base + expressionRows e ≡ end → EmittedExpression rows e base → Each (λ row. isStatement rows row ≡ false) base end
     plain-expression end q (constant-at {v} {base} r w) = first-and _ base end (rw (row-sort r)) (none-of _ (base + 1) end (omega arith))
@@ -42,17 +46,23 @@ module _ {rows : List ℤ} where
         first-and _ base end (rw (row-sort r, sort-binary o 0)) (join _ (base + 1) (base + 1 + expressionRows a) end (plain-expression _ refl m) (plain-expression end (omega arith) n))
     plain-expression end q (assign-at {p} {e} {base} r m n) =
         first-and _ base end (rw (row-sort r)) (join _ (base + 1) (base + 1 + placeRows p) end (plain-place _ refl m) (plain-expression end (omega arith) n))
+    plain-expression end q (call-at {f} {arguments} {base} r m) = first-and _ base end (rw (row-sort r)) (plain-arguments end (omega arith) m)
 
     plain-place : {p : Place} {base : ℕ} (end : ℕ) → base + placeRows p ≡ end → EmittedPlace rows p base → Each (λ row. isStatement rows row ≡ false) base end
     plain-place end q (variable-at {i} {base} r) = first-and _ base end (rw (row-sort r)) (none-of _ (base + 1) end (omega arith))
     plain-place end q (element-at {array} {e} {base} r m) = first-and _ base end (rw (row-sort r)) (plain-expression end (omega arith) m)
+
+    plain-arguments : {arguments : Arguments} {base : ℕ} (end : ℕ) → base + argumentsRows arguments ≡ end → EmittedArguments rows arguments base → Each (λ row. isStatement rows row ≡ false) base end
+    plain-arguments end q (no-more-at {base}) = none-of _ base end (omega arith)
+    plain-arguments end q (argument-at {e} {arguments} {base} r m n) =
+        first-and _ base end (rw (row-sort r)) (join _ (base + 1) (base + 1 + expressionRows e) end (plain-expression _ refl m) (plain-arguments end (omega arith) n))
 
 -- ---- links between items
 
 module _ {rows : List ℤ} where
   -- The next field of an item links the row behind it.
   statement-next : {s : Statement} {base next : ℕ} → EmittedStatement rows s base next → link rows base 5 ≡ next
-  unfolding sortOf kindOf kindIn kinds sortIn kindRow expressionFields statementFields markFields isLink
+  unfolding sortOf kindOf kindIn kinds sortIn kindRow expressionFields statementFields markFields definitionFields memberFields isLink
   statement-next (empty-at {base} {next} r) = row-link r 5 next (r .next-is)
   statement-next (express-at {base} {next} r m) = row-link r 5 next (r .next-is)
   statement-next (block-at {base} {next} r m) = row-link r 5 next (r .next-is)
@@ -60,16 +70,22 @@ module _ {rows : List ℤ} where
   statement-next (while-at {base} {next} r m n) = row-link r 5 next (r .next-is)
   statement-next (goto-at {base} {next} r) = row-link r 5 next (r .next-is)
   statement-next (abort-at {base} {next} r) = row-link r 5 next (r .next-is)
+  statement-next (return-at {base} {next} r m) = row-link r 5 next (r .next-is)
 
   label-next : {row l next : ℕ} → Row rows row 53 l 0 0 0 next → link rows row 5 ≡ next
-  unfolding sortOf kindOf kindIn kinds sortIn kindRow expressionFields statementFields markFields isLink
+  unfolding sortOf kindOf kindIn kinds sortIn kindRow expressionFields statementFields markFields definitionFields memberFields isLink
   label-next {row} {l} {next} r = row-link r 5 next (r .next-is)
+
+  definition-next : {row f b c next : ℕ} → Row rows row 59 f b c 0 next → link rows row 5 ≡ next
+  unfolding sortOf kindOf kindIn kinds sortIn kindRow expressionFields statementFields markFields definitionFields memberFields isLink
+  definition-next {row} {f} {b} {c} {next} r = row-link r 5 next (r .next-is)
 
   -- The link to a list leads into the table.
   list-inside : {is : Items} {base : ℕ} → EmittedItems rows is base → 0 < listLink false is base → listLink false is base < rowCount rows
   list-inside none-at h = absurd (omega arith)
   list-inside (then-at m n) h = first-statement m .0 .inside
   list-inside (label-at r n) h = r .inside
+  list-inside (define-at r p m n) h = r .inside
 
 leads-to : {rows : List ℤ} (row field n : ℕ) → link rows row field ≡ n → row < n → n < rowCount rows → Leads rows row field
 leads-to row field n e h k = record { later = omega arith; inside = omega arith }
@@ -80,6 +96,7 @@ has-either : (m : Mark) (xs ys : Items) → has m (xs ⧺ ys) ≡ true → (has 
 unfolding has _⧺_
 has-either m none ys e = inr e
 has-either m (s then xs) ys e = has-either m xs ys e
+has-either m (define f words body xs) ys e = has-either m xs ys e
 has-either m (n here xs) ys e = go (sameMark m n) (has-either m xs ys) e
   where
     go : (b : Bool) → (has m (xs ⧺ ys) ≡ true → (has m xs ≡ true) ⊎ (has m ys ≡ true)) → (b || has m (xs ⧺ ys)) ≡ true → ((b || has m xs) ≡ true) ⊎ (has m ys ≡ true)
@@ -92,6 +109,7 @@ unfolding has
 has-some m none base e = absurd (let z : _≡_ {A = ℕ} 0 1 = cc in omega arith)
 has-some m (s then is) base e = refl
 has-some m (n here is) base e = refl
+has-some m (define f words body is) base e = refl
 
 module _ {rows : List ℤ} (l : ℕ) where
   -- The item behind an item of a list, where the items behind have the label.
@@ -109,6 +127,7 @@ module _ {rows : List ℤ} (l : ℕ) where
   ahead-in-list start before (then-at {s} {is} {base} m n) e =
       let some = statement-some s in
       ahead-in-list start (next-item before (statement-next m) (omega arith) n e) n e
+  ahead-in-list start before (define-at {f} {words} {body} {is} {base} r p m n) e = ahead-in-list start (next-item before (definition-next r) (omega arith) n e) n e
   ahead-in-list start before (label-at {l = k} {is} {base} r n) e =
       go (eqb l k) refl (λ some. ahead-in-list start (next-item before (label-next r) (omega arith) n some) n some) e
     where
@@ -131,7 +150,8 @@ pub record StatementLegal (rows : List ℤ) (row : ℕ) : Type 0 where
   pub formed : isKernelStatement rows row ≡ true
   pub ahead : numberAt rows row 0 ≡ 52 → Ahead rows (numberAt rows row 1) row
 
-module _ (rows : List ℤ) where
+-- No call goes anywhere, no return and no definition stands here, since no form has functions yet.
+module _ (rows : List ℤ) (arity : ℕ → ℕ) where
   abbrev Formed : ℕ → ℕ → Type 0
   Formed low high = Each (λ row. isStatement rows row ≡ true → StatementLegal rows row) low high
 
@@ -145,6 +165,10 @@ module _ (rows : List ℤ) where
   no-goto : {row kind a b c d next : ℕ} → Row rows row kind a b c d next → (kind ≡ 52 → ⊥) → isKernelStatement rows row ≡ true → StatementLegal rows row
   no-goto r h form = record { formed = form; ahead = λ e. absurd (h (sym (r .kind-is) ∙ e)) }
 
+  not-definition : {row kind a b c d next : ℕ} → Row rows row kind a b c d next → (kind ≡ 59 → ⊥) → isDefinition rows row ≡ false
+  unfolding isDefinition
+  not-definition {row} r h = ne-eqb (numberAt rows row 0) 59 (λ e. h (sym (r .kind-is) ∙ e))
+
   owner-of : (row field n : ℕ) → field < 5 → link rows row field ≡ n → row < n → n < rowCount rows → Owner rows row n
   owner-of row field n f e h k = subst (Owner rows row) e (part f (leads-to row field n e h k))
 
@@ -154,44 +178,44 @@ module _ (rows : List ℤ) where
       subst (Owner rows owner) e (beside own (leads-to row 5 (listLink false is m) e (link-forward is row m h some) (list-inside n some)))
 
   mutual
-    unfolding statementRows sortOf kindOf kindIn kinds sortIn kindRow expressionFields statementFields markFields isLink
+    unfolding statementRows StatementCallsBelow sortOf kindOf kindIn kinds sortIn kindRow expressionFields statementFields markFields definitionFields memberFields isLink
 
-    pub formed-statement : {ahead : Items} {s : Statement} {base next : ℕ} (end : ℕ) → base + statementRows s ≡ end → EmittedStatement rows s base next → KernelStatement ahead s → LabelsAhead ahead base → Formed base end
-    formed-statement end q (empty-at {base} r) f labels = first-and _ base end (λ e. no-goto r (λ k. omega arith) (form-statement rows f (empty-at r))) (none-of _ (base + 1) end (omega arith))
-    formed-statement end q (express-at {e} {base} r m) f labels = first-and _ base end (λ e. no-goto r (λ k. omega arith) (form-statement rows f (express-at r m))) (formed-expression end (omega arith) m)
-    formed-statement end q (block-at {is} {base} r m) (kernel-block f) labels =
-        first-and _ base end (λ e. no-goto r (λ k. omega arith) (form-statement rows (kernel-block f) (block-at r m)))
-        (formed-items base end (omega arith) m f (omega arith)
+    pub formed-statement : {ahead : Items} {s : Statement} {base next : ℕ} (end : ℕ) → base + statementRows s ≡ end → EmittedStatement rows s base next → KernelStatement false ahead s → StatementCallsBelow arity 0 s → LabelsAhead ahead base → Formed base end
+    formed-statement end q (empty-at {base} r) f calls labels = first-and _ base end (λ e. no-goto r (λ k. omega arith) (form-statement rows arity f calls (empty-at r))) (none-of _ (base + 1) end (omega arith))
+    formed-statement end q (express-at {e} {base} r m) f calls labels = first-and _ base end (λ e. no-goto r (λ k. omega arith) (form-statement rows arity f calls (express-at r m))) (formed-expression end (omega arith) m)
+    formed-statement end q (block-at {is} {base} r m) (kernel-block f) calls labels =
+        first-and _ base end (λ e. no-goto r (λ k. omega arith) (form-statement rows arity (kernel-block f) calls (block-at r m)))
+        (formed-items base end (omega arith) m f calls (omega arith) (not-definition r (λ k. omega arith))
         (λ h. owner-of base 1 (listLink false is (base + 1)) (omega arith) (row-link r 1 (listLink false is (base + 1)) (r .a-is)) (link-forward is base (base + 1) (omega arith) h) (list-inside m h)) labels)
-    formed-statement end q (if-at {e} {onTrue} {onFalse} {base} r m n o) (kernel-if t f g) labels =
+    formed-statement end q (if-at {e} {onTrue} {onFalse} {base} r m n o) (kernel-if t f g) calls labels =
         let second = base + 1 + expressionRows e in
         let third = base + 1 + expressionRows e + statementRows onTrue in
         let own-second = owner-of base 2 second (omega arith) (row-link r 2 second (r .b-is)) (omega arith) (first-statement n .0 .inside) in
         let own-third = owner-of base 3 third (omega arith) (row-link r 3 third (r .c-is)) (omega arith) (first-statement o .0 .inside) in
-        first-and _ base end (λ e. no-goto r (λ k. omega arith) (form-statement rows (kernel-if t f g) (if-at r m n o)))
+        first-and _ base end (λ e. no-goto r (λ k. omega arith) (form-statement rows arity (kernel-if t f g) calls (if-at r m n o)))
         (join _ (base + 1) second end (formed-expression _ refl m)
-        (join _ second third end (formed-statement _ refl n (kernel-block f) (λ l h. outward own-second (labels l h))) (formed-statement end (omega arith) o (kernel-block g) (λ l h. outward own-third (labels l h)))))
-    formed-statement end q (while-at {e} {body} {base} r m n) (kernel-while t f) labels =
+        (join _ second third end (formed-statement _ refl n (kernel-block f) (calls .1) (λ l h. outward own-second (not-definition r (λ k. omega arith)) (labels l h))) (formed-statement end (omega arith) o (kernel-block g) (calls .2) (λ l h. outward own-third (not-definition r (λ k. omega arith)) (labels l h)))))
+    formed-statement end q (while-at {e} {body} {base} r m n) (kernel-while t f) calls labels =
         let second = base + 1 + expressionRows e in
         let own-second = owner-of base 2 second (omega arith) (row-link r 2 second (r .b-is)) (omega arith) (first-statement n .0 .inside) in
-        first-and _ base end (λ e. no-goto r (λ k. omega arith) (form-statement rows (kernel-while t f) (while-at r m n)))
-        (join _ (base + 1) second end (formed-expression _ refl m) (formed-statement end (omega arith) n (kernel-block f) (λ l h. outward own-second (labels l h))))
-    formed-statement end q (goto-at {l} {base} r) (kernel-goto b h) labels =
-        first-and _ base end (λ e. record { formed = form-statement rows (kernel-goto b h) (goto-at r); ahead = λ k. rw (r .a-is) (labels l h) }) (none-of _ (base + 1) end (omega arith))
-    formed-statement end q (abort-at {base} r) f labels = first-and _ base end (λ e. no-goto r (λ k. omega arith) (form-statement rows f (abort-at r))) (none-of _ (base + 1) end (omega arith))
+        first-and _ base end (λ e. no-goto r (λ k. omega arith) (form-statement rows arity (kernel-while t f) calls (while-at r m n)))
+        (join _ (base + 1) second end (formed-expression _ refl m) (formed-statement end (omega arith) n (kernel-block f) (calls .1) (λ l h. outward own-second (not-definition r (λ k. omega arith)) (labels l h))))
+    formed-statement end q (goto-at {l} {base} r) (kernel-goto b h) calls labels =
+        first-and _ base end (λ e. record { formed = form-statement rows arity (kernel-goto b h) calls (goto-at r); ahead = λ k. rw (r .a-is) (labels l h) }) (none-of _ (base + 1) end (omega arith))
+    formed-statement end q (abort-at {base} r) f calls labels = first-and _ base end (λ e. no-goto r (λ k. omega arith) (form-statement rows arity f calls (abort-at r))) (none-of _ (base + 1) end (omega arith))
 
     -- The items of a list, whose owner has labels ahead of it.
-    formed-items : {ahead is : Items} {base : ℕ} (owner end : ℕ) → base + itemsRows is ≡ end → EmittedItems rows is base → KernelItems ahead is → 0 < base
+    formed-items : {ahead is : Items} {base : ℕ} (owner end : ℕ) → base + itemsRows is ≡ end → EmittedItems rows is base → KernelItems false ahead is → ItemsCallBelow arity 0 is → 0 < base → isDefinition rows owner ≡ false
         → (0 < listLink false is base → Owner rows owner (listLink false is base)) → LabelsAhead ahead owner → Formed base end
-    formed-items owner end q (none-at {base}) f positive own labels = none-of _ base end (omega arith)
-    formed-items {ahead} owner end q (then-at {s} {is} {base} m n) (kernel-then f g) positive own labels =
+    formed-items owner end q (none-at {base}) f calls positive plain own labels = none-of _ base end (omega arith)
+    formed-items {ahead} owner end q (then-at {s} {is} {base} m n) (kernel-then f g) calls positive plain own labels =
         let some = statement-some s in
         let middle = base + statementRows s in
         let next = statement-next m in
         join _ base middle end
-        (formed-statement _ refl m f (λ l h. ⊎-elim (ahead-behind l base next (omega arith) n) (λ k. outward (own positive) (labels l k)) (has-either (label l) is ahead h)))
-        (formed-items owner end (omega arith) n g (omega arith) (λ h. own-next owner base is middle (own positive) next (omega arith) n h) labels)
-    formed-items owner end q (label-at {l} {is} {base} r n) (kernel-label b g) positive own labels =
+        (formed-statement _ refl m f (calls .0) (λ l h. ⊎-elim (ahead-behind l base next (omega arith) n) (λ k. outward (own positive) plain (labels l k)) (has-either (label l) is ahead h)))
+        (formed-items owner end (omega arith) n g (calls .1) (omega arith) plain (λ h. own-next owner base is middle (own positive) next (omega arith) n h) labels)
+    formed-items owner end q (label-at {l} {is} {base} r n) (kernel-label b g) calls positive plain own labels =
         let next = label-next r in
-        first-and _ base end (λ e. no-goto r (λ k. omega arith) (form-label rows r))
-        (formed-items owner end (omega arith) n g (omega arith) (λ h. own-next owner base is (base + 1) (own positive) next (omega arith) n h) labels)
+        first-and _ base end (λ e. no-goto r (λ k. omega arith) (form-label rows arity r))
+        (formed-items owner end (omega arith) n g calls (omega arith) plain (λ h. own-next owner base is (base + 1) (own positive) next (omega arith) n h) labels)

@@ -17,10 +17,10 @@ use Rattle.words.specs.Table.{rowCount, wordAt, numberAt}
 use Rattle.language.specs.Trees.{Expression, Statement, Items}
 use Rattle.language.specs.Sizes.{expressionRows, statementRows, itemsRows}
 use Rattle.translation.specs.KernelForm.{statementTimes, itemsTimes}
-use Rattle.words.specs.Kinds.{sortOf, sortAt, kindOf, kindIn, kinds, sortIn, kindRow, expressionFields, statementFields, markFields}
+use Rattle.words.specs.Kinds.{sortOf, sortAt, kindOf, kindIn, kinds, sortIn, kindRow, expressionFields, statementFields, markFields, definitionFields, memberFields}
 use Rattle.words.specs.Links.{isStatement}
 use Rattle.kernel_check.specs.Legal.{Label}
-use Rattle.emission.specs.Emitted.{Row, EmittedExpression, EmittedStatement, empty-at, express-at, block-at, if-at, while-at, goto-at, abort-at, EmittedItems, none-at, then-at, label-at}
+use Rattle.emission.specs.Emitted.{Row, EmittedExpression, EmittedParameters, no-parameter-at, parameter-at, EmittedStatement, empty-at, express-at, block-at, if-at, while-at, goto-at, abort-at, return-at, EmittedItems, none-at, then-at, label-at, define-at}
 use Rattle.emission_legal.specs.Ranges.{Each}
 use Rattle.emission_legal.specs.EmittedAhead.{plain-expression}
 
@@ -39,7 +39,7 @@ module _ (rows : List ℤ) (l : ℕ) where
 
   -- The rows of an expression have no label.
   no-label : (row : ℕ) → isStatement rows row ≡ false → stands row ≡ false
-  unfolding isStatement sortAt sortOf kindOf kindIn kinds sortIn kindRow expressionFields statementFields markFields
+  unfolding isStatement sortAt sortOf kindOf kindIn kinds sortIn kindRow expressionFields statementFields markFields definitionFields memberFields
   no-label row e = go (eqb (numberAt rows row 0) 53) refl
     where
       go : (b : Bool) → eqb (numberAt rows row 0) 53 ≡ b → (b && eqb l (numberAt rows row 1)) ≡ false
@@ -67,6 +67,10 @@ module _ (rows : List ℤ) (l : ℕ) where
   label-row : {row k b c d next : ℕ} → Row rows row 53 k b c d next → labelsBefore (row + 1) ≡ labelsBefore row + one (eqb l k)
   label-row {row} r = before-next row ∙ rw (r .kind-is, r .a-is)
 
+  before-parameters : {words : List ℕ} {base : ℕ} (end : ℕ) → base + length words ≡ end → EmittedParameters rows words base → labelsBefore end ≡ labelsBefore base
+  before-parameters end q (no-parameter-at {base}) = let z : end ≡ base = omega arith in ap labelsBefore z
+  before-parameters end q (parameter-at {word} {words} {base} r n) = before-parameters end (omega arith) n ∙ other-row r refl
+
   mutual
     unfolding statementRows statementTimes
 
@@ -80,11 +84,15 @@ module _ (rows : List ℤ) (l : ℕ) where
         omega (arith, other-row r refl, before-expression (base + 1 + expressionRows e) refl m, before-statement end (omega arith) n)
     before-statement end q (goto-at {l = k} {base} r) = let z : end ≡ base + 1 = omega arith in rw z (omega (arith, other-row r refl))
     before-statement end q (abort-at {base} r) = let z : end ≡ base + 1 = omega arith in rw z (omega (arith, other-row r refl))
+    before-statement end q (return-at {e} {base} r m) = omega (arith, other-row r refl, before-expression end (omega arith) m)
 
     before-items : {is : Items} {base : ℕ} (end : ℕ) → base + itemsRows is ≡ end → EmittedItems rows is base → labelsBefore end ≡ labelsBefore base + itemsTimes l is
     before-items end q (none-at {base}) = let z : end ≡ base = omega arith in rw z (omega arith)
     before-items end q (then-at {s} {is} {base} m n) = omega (arith, before-statement (base + statementRows s) refl m, before-items end (omega arith) n)
     before-items end q (label-at {l = k} {is} {base} r n) = omega (arith, label-row r, before-items end (omega arith) n)
+    before-items end q (define-at {f} {words} {body} {is} {base} r p m n) =
+        let own = base + 1 + length words in
+        omega (arith, other-row r refl, before-parameters own refl p, before-statement (own + 1 + itemsRows body) (omega arith) m, before-items end (omega arith) n)
 
   before-grows : (row n : ℕ) → labelsBefore row ≤ labelsBefore (row + n)
   unfolding labelsBefore

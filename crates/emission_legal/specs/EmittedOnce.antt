@@ -2,7 +2,7 @@
 -- once and to no other: a count that adds up along the tree.
 use mathlib.Core.Path.{_≡_, refl, _∙_}
 use mathlib.Core.Bool.{false}
-use mathlib.Core.List.{List}
+use mathlib.Core.List.{List, []}
 use Prim.Native.Nat.{ℕ, suc, _+_, _*_, _/_, _%_, _<_}
 use native.Mathlib.Omega.{arith}
 use native.Mathlib.Decide.{ℕ-discrete, decLt}
@@ -12,13 +12,14 @@ use borrow.Author.Tests.{lt-ltb, le-ltb, eq-eqb, ne-eqb}
 use lib.IntN.{ℤ}
 use Rattle.words.specs.Word.{one}
 use Rattle.words.specs.Table.{rowCount}
-use Rattle.language.specs.Trees.{Expression, Place, Statement, Items}
-use Rattle.language.specs.Sizes.{expressionRows, placeRows, statementRows, itemsRows}
-use Rattle.words.specs.Kinds.{sortOf, isLink, kindOf, kindIn, kinds, sortIn, kindRow, expressionFields, statementFields, markFields}
+use lib.ListN.{length}
+use Rattle.language.specs.Trees.{Expression, Place, Arguments, Statement, Items}
+use Rattle.language.specs.Sizes.{expressionRows, placeRows, argumentsRows, statementRows, itemsRows}
+use Rattle.words.specs.Kinds.{sortOf, isLink, kindOf, kindIn, kinds, sortIn, kindRow, expressionFields, statementFields, markFields, definitionFields, memberFields}
 use Rattle.words.specs.Links.{link, target}
 use Rattle.structure.specs.Links.{linksAmong, linkCount}
-use Rattle.emission.specs.Emission.{listLink}
-use Rattle.emission.specs.Emitted.{Row, EmittedExpression, constant-at, read-at, minus-at, binary-at, assign-at, EmittedPlace, variable-at, element-at, EmittedStatement, empty-at, express-at, block-at, if-at, while-at, goto-at, abort-at, EmittedItems, none-at, then-at, label-at}
+use Rattle.emission.specs.Emission.{argumentsLink, listLink, parametersLink}
+use Rattle.emission.specs.Emitted.{Row, EmittedExpression, constant-at, read-at, minus-at, binary-at, assign-at, call-at, EmittedPlace, variable-at, element-at, EmittedArguments, no-more-at, argument-at, EmittedParameters, no-parameter-at, parameter-at, EmittedStatement, empty-at, express-at, block-at, if-at, while-at, goto-at, abort-at, return-at, EmittedItems, none-at, then-at, label-at, define-at}
 use Rattle.emission_legal.specs.Suits.{linkBy, row-link}
 use Rattle.emission_legal.specs.EmittedRows.{sort-binary}
 
@@ -80,7 +81,7 @@ module _ (rows : List ℤ) where
         ∙ rw (row-link r 0 kind (r .kind-is), row-link r 1 a (r .a-is), row-link r 2 b (r .b-is), row-link r 3 c (r .c-is), row-link r 4 d (r .d-is), row-link r 5 next (r .next-is))
 
     mutual
-      unfolding before sortOf kindOf kindIn kinds sortIn kindRow expressionFields statementFields markFields isLink expressionRows
+      unfolding before sortOf kindOf kindIn kinds sortIn kindRow expressionFields statementFields markFields definitionFields memberFields isLink expressionRows
 
       once-expression : {e : Expression} {base : ℕ} (end : ℕ) → base + expressionRows e ≡ end → EmittedExpression rows e base → before end + below (base + 1) j ≡ before base + below end j
       once-expression end q (constant-at {v} {base} r w) = let z : end ≡ base + 1 = omega arith in rw z (omega (arith, row-links r, miss))
@@ -94,13 +95,26 @@ module _ (rows : List ℤ) where
       once-expression end q (assign-at {p} {e} {base} r m n) =
           let middle = base + 1 + placeRows p in
           omega (arith, row-links r, miss, step (base + 1) j, once-place middle refl m, step middle j, once-expression end (omega arith) n)
+      once-expression end q (call-at {f} {arguments} {base} r m) = omega (arith, row-links r, miss, once-arguments end (omega arith) m)
 
       once-place : {p : Place} {base : ℕ} (end : ℕ) → base + placeRows p ≡ end → EmittedPlace rows p base → before end + below (base + 1) j ≡ before base + below end j
       once-place end q (variable-at {i} {base} r) = let z : end ≡ base + 1 = omega arith in rw z (omega (arith, row-links r, miss))
       once-place end q (element-at {array} {e} {base} r m) = omega (arith, row-links r, miss, step (base + 1) j, once-expression end (omega arith) m)
 
+      once-arguments : {arguments : Arguments} {base : ℕ} (end : ℕ) → base + argumentsRows arguments ≡ end → EmittedArguments rows arguments base
+          → before end + hit (argumentsLink arguments base) j + below base j ≡ before base + below end j
+      once-arguments end q (no-more-at {base}) = let z : end ≡ base = omega arith in rw z (omega (arith, miss))
+      once-arguments end q (argument-at {e} {arguments} {base} r m n) =
+          let middle = base + 1 + expressionRows e in
+          omega (arith, step base j, row-links r, miss, step (base + 1) j, once-expression middle refl m, once-arguments end (omega arith) n)
+
+    once-parameters : {words : List ℕ} {base : ℕ} (end : ℕ) → base + length words ≡ end → EmittedParameters rows words base → before end + hit (parametersLink words base) j + below base j ≡ before base + below end j
+    unfolding before sortOf kindOf kindIn kinds sortIn kindRow expressionFields statementFields markFields definitionFields memberFields isLink
+    once-parameters end q (no-parameter-at {base}) = let z : end ≡ base = omega arith in rw z (omega (arith, miss))
+    once-parameters end q (parameter-at {word} {words} {base} r n) = omega (arith, step base j, row-links r, miss, once-parameters end (omega arith) n)
+
     mutual
-      unfolding before sortOf kindOf kindIn kinds sortIn kindRow expressionFields statementFields markFields isLink statementRows
+      unfolding before sortOf kindOf kindIn kinds sortIn kindRow expressionFields statementFields markFields definitionFields memberFields isLink statementRows
 
       once-statement : {s : Statement} {base next : ℕ} (end : ℕ) → base + statementRows s ≡ end → EmittedStatement rows s base next
           → before end + below (base + 1) j ≡ before base + below end j + hit next j
@@ -126,6 +140,7 @@ module _ (rows : List ℤ) where
           omega (arith, row-links r, miss, step (base + 1) j, once-expression second refl m, step second j, once-statement end (omega arith) n)
       once-statement end q (goto-at {l} {base} r) = let z : end ≡ base + 1 = omega arith in rw z (omega (arith, row-links r, miss))
       once-statement end q (abort-at {base} r) = let z : end ≡ base + 1 = omega arith in rw z (omega (arith, row-links r, miss))
+      once-statement end q (return-at {e} {base} r m) = omega (arith, row-links r, miss, step (base + 1) j, once-expression end (omega arith) m)
 
       once-items : {is : Items} {base : ℕ} (end : ℕ) → base + itemsRows is ≡ end → EmittedItems rows is base → before end + hit (listLink false is base) j + below base j ≡ before base + below end j
       once-items end q (none-at {base}) = let z : end ≡ base = omega arith in rw z (omega (arith, miss))
@@ -133,6 +148,10 @@ module _ (rows : List ℤ) where
           let middle = base + statementRows s in
           omega (arith, step base j, once-statement middle refl m, once-items end (omega arith) n)
       once-items end q (label-at {l} {is} {base} r n) = omega (arith, step base j, row-links r, miss, once-items end (omega arith) n)
+      once-items end q (define-at {f} {words} {body} {is} {base} r p m n) =
+          let own = base + 1 + length words in
+          let behind = own + 1 + itemsRows body in
+          omega (arith, step base j, row-links r, miss, once-parameters own refl p, step own j, once-statement behind (omega arith) m, once-items end (omega arith) n)
 
     -- In a table that one statement fills, each row but row 0 is linked once.
     pub linked-once : {s : Statement} → rowCount rows ≡ statementRows s → EmittedStatement rows s 0 0 → j < rowCount rows → linkCount rows j ≡ 1

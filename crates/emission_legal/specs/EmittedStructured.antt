@@ -16,6 +16,7 @@ use Rattle.language.specs.Trees.{block, Items, none}
 use Rattle.language.specs.WellFormed.{NamedStatement, NamedItems}
 use Rattle.language.specs.Sizes.{statementRows}
 use Rattle.language.specs.TreeLaws.{statement-some}
+use Rattle.language.specs.Calls.{StatementCallsBelow, ItemsCallBelow}
 use Rattle.translation.specs.KernelForm.{isLabelNumber, KernelName, name-variable, name-temporary, KernelItems, kernel-block}
 use Rattle.words.specs.Kinds.{variable, array, label}
 use Rattle.row_fields.specs.Fields.{boundsOf, numberFits}
@@ -49,11 +50,12 @@ label-fits : (header : List ℤ) (l : ℕ) → isLabelNumber l → numberFits (b
 unfolding numberFits
 label-fits header l h = rw (lt-ltb _ _ h)
 
-module _ (header : List ℤ) {contents : Items} (few : statementRows (block contents) ≤ 40980) (form : KernelItems none contents)
+-- No form has functions yet.
+module _ (header : List ℤ) {contents : Items} (few : statementRows (block contents) ≤ 40980) (form : KernelItems false none contents) (arity : ℕ → ℕ) (calls : ItemsCallBelow arity 0 contents)
     (named : NamedItems (KernelName (layoutOf Kernel header) (behindOf Kernel header)) (length (layoutOf Kernel header .lengths)) contents) where
   -- The table of a block of kernel form, whose numbers are in range.
   pub emitted-structured : Structured Kernel (boundsOf Kernel header) (emit (block contents))
-  unfolding NamedStatement
+  unfolding NamedStatement StatementCallsBelow
   emitted-structured =
       let rows = emit (block contents) in
       let size = length-emit (block contents) in
@@ -61,8 +63,8 @@ module _ (header : List ℤ) {contents : Items} (few : statementRows (block cont
       let some = statement-some (block contents) in
       let first = emitted (a-block (items-kinds form)) in
       let bounds = boundsOf Kernel header in
-      let legal = legal-statement bounds rows (KernelName (layoutOf Kernel header) (behindOf Kernel header)) (length (layoutOf Kernel header .lengths)) (name-fits header) (array-fits header) (label-fits header)
-      (rowCount rows) (omega arith) first (suits-absent bounds rows 0) named (kernel-block form) in
+      let legal = legal-statement bounds rows (KernelName (layoutOf Kernel header) (behindOf Kernel header)) (length (layoutOf Kernel header .lengths)) (name-fits header) (array-fits header) (label-fits header) arity
+      (rowCount rows) (omega arith) first (suits-absent bounds rows 0) named (kernel-block form) calls in
       let row-legal : (row : ℕ) → row < rowCount rows → RowLegal bounds rows row = λ row h. legal row (omega arith) h in
       let root = block-row first in
       record {

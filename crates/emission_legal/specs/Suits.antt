@@ -10,7 +10,7 @@ use lib.IntN.{ℤ}
 use Rattle.words.specs.Word.{pick}
 use Rattle.words.specs.Table.{rowCount, numberAt}
 use Rattle.words.specs.declared.Form.the-variants.{Kernel}
-use Rattle.words.specs.Kinds.{unused, value, variable, array, label, declaredNumber, expression, place, branch, optionalItem, bodyBlock, optionalArm, sortOf, sortAt, inLanguage, isLink, isRequired}
+use Rattle.words.specs.Kinds.{unused, value, variable, array, label, declaredNumber, expression, place, branch, optionalItem, bodyBlock, absentLink, sortOf, sortAt, inLanguage, isLink, isRequired}
 use Rattle.words.specs.Links.{link, fits}
 use Rattle.row_fields.specs.Fields.{numberFits}
 use Rattle.grammar.specs.GrammarLaws.{kind-links-none}
@@ -118,7 +118,7 @@ module _ (bounds : Bounds) (rows : List ℤ) (row : ℕ) where
   pub suits-link-to : (sort number : ℕ) → expression ≤ sort → sort ≤ optionalItem → row < number → number < rowCount rows → fits rows sort number ≡ true → Suits bounds rows row sort number
   unfolding isRequired isLink numberFits
   suits-link-to sort number l m later inside fitting =
-      let linking : isLink sort ≡ true = rw (le-leb expression sort l, le-leb sort optionalArm (omega arith)) in
+      let linking : isLink sort ≡ true = rw (le-leb expression sort l, le-leb sort absentLink (omega arith)) in
       record {
         zero-where-unused = λ q. absurd (omega arith);
         there-where-required = λ q. (linking, omega arith);

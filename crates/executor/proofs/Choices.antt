@@ -13,7 +13,6 @@ use mir.Val.{toZ}
 use Rattle.words.specs.Word.{natural, pick}
 use Rattle.words.specs.Table.{rowCount, numberAt}
 use Rattle.words.specs.Kinds.{isRequired, statementFields, memberFields, kindRow, sortIn}
-use Rattle.words.specs.Layout.{Layout}
 use Rattle.arithmetic.specs.Arithmetic.{isTrue}
 use Rattle.words.specs.declared.Kind.{Kind}
 use Rattle.words.specs.declared.Kind.the-variants.{OfStatement, OfMember}
@@ -26,18 +25,18 @@ use Rattle.computation.specs.Remaining.{Rest, gives, halts, onward, pay, onTurn
 use Rattle.language.specs.Trees.{Arms, noArm, arm, guardedIf, guardedDo}
 use Rattle.language.specs.Decode.{armsAt, armListAt}
 use Rattle.language.specs.DecodeLaws.{at-guardedIf, at-guardedDo, at-abort, at-arm}
-use Rattle.language.specs.Meaning.{Signal, next, Choice, noneTrue, ran as ranWith, enter, value, tryArm, afterChoice, afterArms, perform, choose, choiceRounds}
+use Rattle.language.specs.Meaning.{Context, Signal, next, Choice, noneTrue, ran as ranWith, enter, value, tryArm, afterChoice, afterArms, perform, choose, choiceRounds}
 use Rattle.language.specs.Sound.{Link, ArmLink}
 use Rattle.language.specs.SoundLaws.{arm-link-of}
 use Rattle.operations.specs.Answers.{operandOf, answered, positionOf}
 use Rattle.operations.specs.Bounds.{layoutFrom}
 use Rattle.operations.specs.Ready.{Entered}
-use Rattle.operations.specs.Rows.{valueAt}
+use Rattle.operations.specs.Rows.{contextAt, valueAt}
 use Rattle.operations.specs.declared.Operand.{Operand}
 use Rattle.operations.specs.declared.Operand.the-variants.{Value, Halted}
 use Rattle.operations.specs.declared.Position.{Position}
 use Rattle.operations.specs.declared.Position.the-variants.{At, Nowhere}
-use Rattle.operations.proofs.Decoding.{handed, handed-is, operand-word, operand-other, placed-word, placed-position, placed-spent}
+use Rattle.operations.proofs.Decoding.{handed, handed-is, operand-word, operand-other, no-return-below, placed-word, placed-position, placed-spent}
 use Rattle.operations.proofs.Enter.{entered, not-entered, onward-same, onward-onward, forks}
 use Rattle.operations.proofs.Operands.{answered-least, goes, stops, chosen-true, chosen-false}
 use Rattle.operations.proofs.Rows.{link}
@@ -79,11 +78,11 @@ module _ {rows : List ℤ} {bounds : List ℕ} {words row : ℕ} (here : Entered
     arm-link-of (here .ready .setting .sound) (here .ready .below) (here .kind-is) 5 (omega arith) (omega arith) refl,
   )
 
-  pub arm-row : (n : ℕ) (s : List ℤ) → spend (choose (layoutFrom bounds) (armsAt rows row)) n s
+  pub arm-row : (n : ℕ) (s : List ℤ) → spend (choose (contextAt rows bounds) (armsAt rows row)) n s
       ≡ onward (spend (guardAt rows bounds row) n s) (λ v n s. pick (isTrue v) (spend (blockFrom rows bounds (numberAt rows row 2)) n s) (spend (armsFrom rows bounds (numberAt rows row 5)) n s))
   unfolding choose
   arm-row n s =
-      ap (λ (arms : Arms). spend (choose (layoutFrom bounds) arms) n s) (at-arm rows (here .ready .setting .sound .whole) row (here .kind-is) (arm-links .0 .later) (arm-links .1 .later) (λ h. arm-links .2 h .0 .later))
+      ap (λ (arms : Arms). spend (choose (contextAt rows bounds) arms) n s) (at-arm rows (here .ready .setting .sound .whole) row (here .kind-is) (arm-links .0 .later) (arm-links .1 .later) (λ h. arm-links .2 h .0 .later))
       ∙ enter-arm (valueAt rows bounds (numberAt rows row 1)) (execAt rows bounds (numberAt rows row 2)) (armsFrom rows bounds (numberAt rows row 5)) n s
       ∙ onward-same (spend (guardAt rows bounds row) n s) _ _ (λ v n s. ap (λ (r : Rest Choice). pick (isTrue v) r (spend (armsFrom rows bounds (numberAt rows row 5)) n s)) (sym (block-there rows bounds (numberAt rows row 2) (λ e. omega (arith, arm-links .1 .later)) n s)))
 
@@ -134,14 +133,14 @@ module _ {rows : List ℤ} {bounds : List ℕ} {words first n : ℕ} {s : List �
     after-guard v n s = pick (isTrue v) (spend (blockFrom rows bounds (numberAt rows at 2)) n s) (spend (armsFrom rows bounds (numberAt rows at 5)) n s)
 
     tried : spend (armsFrom rows bounds first) n s ≡ onward (spend (guardAt rows bounds at) left store) after-guard
-    tried = trying .runs ∙ ap (λ (arms : Arms). spend (choose (layoutFrom bounds) arms) left store) (arm-list rows at z) ∙ arm-row arm-here left store
+    tried = trying .runs ∙ ap (λ (arms : Arms). spend (choose (contextAt rows bounds) arms) left store) (arm-list rows at z) ∙ arm-row arm-here left store
 
     -- no step is left for the arm's row
     pub chooses-spent : left ≡ 0 → Chooses rows bounds first n s (pos 2147483648) left store
     chooses-spent e = record {
       runs = ap (λ (r : Rest ℕ). onward r (λ block n s. spend (blockFrom rows bounds block) n s)) (placed-spent left store) ∙ sym (tried ∙ ap (λ (r : Rest ℤ). onward r after-guard) (not-entered (valueAt rows bounds (numberAt rows at 1)) store left e));
       steps = trying .steps;
-      below = λ block g. absurd (let w : positionOf Halted ≡ At block = rw (operand-other (pos 2147483648) (omega arith)) at g in let v : _≡_ {A = ℕ} 0 1 = cc in omega arith);
+      below = λ block g. absurd (let w : positionOf Halted ≡ At block = rw (operand-other (pos 2147483648) (omega arith) (no-return-below 2147483648 (omega arith))) at g in let v : _≡_ {A = ℕ} 0 1 = cc in omega arith);
     }
 
     -- the guard's answer, behind the step for the arm's row
@@ -199,11 +198,11 @@ no-round : (n : ℕ) (s : List ℤ) → spend (ret next) n s ≡ onward (spend (
 unfolding spend
 no-round n s = refl
 
-pub choice-round : (L : Layout) (arms : Arms) (n : ℕ) (s : List ℤ) → spend (choiceRounds L arms) n s
-    ≡ onward (spend (choose L arms) n s) (λ choice n s. onTurn (spend (choiceRounds L arms)) (afterArms choice) n s)
+pub choice-round : (C : Context) (arms : Arms) (n : ℕ) (s : List ℤ) → spend (choiceRounds C arms) n s
+    ≡ onward (spend (choose C arms) n s) (λ choice n s. onTurn (spend (choiceRounds C arms)) (afterArms choice) n s)
 unfolding choose choiceRounds
-choice-round L noArm n s = no-round n s
-choice-round L (arm guard body arms) n s = round-of (tryArm (value L guard) (enter (perform L body)) (choose L arms)) n s
+choice-round C noArm n s = no-round n s
+choice-round C (arm guard body arms) n s = round-of (tryArm (value C guard) (enter (perform C body)) (choose C arms)) n s
 
 -- what follows the arms of a guarded if
 choice-fails : (n : ℕ) (s : List ℤ) → spend (afterChoice noneTrue) n s ≡ halts (fault Guard) n s
@@ -219,16 +218,16 @@ choice-ends (halts why n s) = refl
 
 abbrev pub guardedRest : Bool → List ℤ → List ℕ → ℕ → ℕ → List ℤ → Rest Signal
 guardedRest repeats rows bounds first n s =
-    pick repeats (spend (choiceRounds (layoutFrom bounds) (armListAt rows first)) n s) (onward (spend (armsFrom rows bounds first) n s) (λ choice n s. spend (afterChoice choice) n s))
+    pick repeats (spend (choiceRounds (contextAt rows bounds) (armListAt rows first)) n s) (onward (spend (armsFrom rows bounds first) n s) (λ choice n s. spend (afterChoice choice) n s))
 
 -- what follows its arms
 abbrev pub guardedAfter : Bool → List ℤ → List ℕ → ℕ → Choice → ℕ → List ℤ → Rest Signal
 guardedAfter repeats rows bounds first choice n s =
-    pick repeats (rounded (spend (choiceRounds (layoutFrom bounds) (armListAt rows first))) choice n s) (spend (afterChoice choice) n s)
+    pick repeats (rounded (spend (choiceRounds (contextAt rows bounds) (armListAt rows first))) choice n s) (spend (afterChoice choice) n s)
 
 pub guarded-turn : (repeats : Bool) (rows : List ℤ) (bounds : List ℕ) (first n : ℕ) (s : List ℤ)
     → guardedRest repeats rows bounds first n s ≡ onward (spend (armsFrom rows bounds first) n s) (guardedAfter repeats rows bounds first)
-guarded-turn true rows bounds first n s = choice-round (layoutFrom bounds) (armListAt rows first) n s
+guarded-turn true rows bounds first n s = choice-round (contextAt rows bounds) (armListAt rows first) n s
 guarded-turn false rows bounds first n s = refl
 
 -- no guard is true
@@ -240,10 +239,10 @@ module _ (repeats : Bool) (rows : List ℤ) (bounds : List ℕ) (first : ℕ) wh
   module _ (e : repeats ≡ true) where
     -- a block ran
     pub guarded-again : (m : Rest Signal) → onward m (λ signal n s. guardedAfter repeats rows bounds first (ranWith signal) n s)
-        ≡ onward m (λ signal n s. rounded (spend (choiceRounds (layoutFrom bounds) (armListAt rows first))) (ranWith signal) n s)
+        ≡ onward m (λ signal n s. rounded (spend (choiceRounds (contextAt rows bounds) (armListAt rows first))) (ranWith signal) n s)
     guarded-again m = rw e
 
-    pub guarded-rounds : (n : ℕ) (s : List ℤ) → spend (choiceRounds (layoutFrom bounds) (armListAt rows first)) n s ≡ guardedRest repeats rows bounds first n s
+    pub guarded-rounds : (n : ℕ) (s : List ℤ) → spend (choiceRounds (contextAt rows bounds) (armListAt rows first)) n s ≡ guardedRest repeats rows bounds first n s
     guarded-rounds n s = rw e
 
   module _ (e : repeats ≡ false) where
@@ -272,7 +271,7 @@ module _ {rows : List ℤ} {bounds : List ℕ} {words row : ℕ} where
       known rows bounds row _ n s (at-guardedIf rows (whole here) row (here .kind-is) (λ h. guarded-if-link here h .0 .later) ∙ ap (λ (k : ℕ). guardedIf (armListAt rows k)) (sym p))
 
   guarded-do-row : Entered rows bounds words row (OfStatement GuardedDo) → {a : ℕ} → a ≡ numberAt rows row 1 → (n : ℕ) (s : List ℤ)
-      → spend (performAt rows bounds row) n s ≡ spend (choiceRounds (layoutFrom bounds) (armListAt rows a)) n s
+      → spend (performAt rows bounds row) n s ≡ spend (choiceRounds (contextAt rows bounds) (armListAt rows a)) n s
   unfolding perform
   guarded-do-row here p n s =
       known rows bounds row _ n s (at-guardedDo rows (whole here) row (here .kind-is) (λ h. guarded-do-link here h .0 .later) ∙ ap (λ (k : ℕ). guardedDo (armListAt rows k)) (sym p))

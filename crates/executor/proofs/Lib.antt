@@ -5,3 +5,5 @@ pub mod Loops
 pub mod Rows
 -- Choices: the arms of a guarded statement by the rows that hold them.
 pub mod Choices
+-- Bindings: the arguments of a call in turn, and then the parameters.
+pub mod Bindings

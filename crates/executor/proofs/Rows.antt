@@ -5,38 +5,48 @@ use mathlib.Core.Bool.{true, false}
 use mathlib.Core.List.{List}
 use Prim.Native.Nat.{ℕ, zero, suc, _+_, _*_, _≤_, _<_}
 use native.Mathlib.Omega.{arith}
+use borrow.Author.Tests.{eq-eqb, ne-eqb}
 use lib.IntN.{ℤ, pos}
 use lib.ListN.{length, set}
 use Rattle.words.specs.Word.{natural, pick}
 use Rattle.words.specs.Table.{rowCount, wordAt, numberAt}
 use Rattle.words.specs.Kinds.{kindOf, isStatementKind, isLink, isRequired, statementFields, kindRow, sortIn}
 use Rattle.words.specs.KindLaws.{kind-numbered, no-statement}
-use Rattle.words.specs.Layout.{Layout}
 use Rattle.arithmetic.specs.Arithmetic.{isTrue}
 use Rattle.words.specs.declared.Kind.{Kind}
 use Rattle.words.specs.declared.Kind.the-variants.{OfStatement}
-use Rattle.words.specs.declared.StatementKind.the-variants.{Empty, Express, Block, If, While, Do, For, Switch, Break, Continue, Goto, Declare}
+use Rattle.words.specs.declared.StatementKind.the-variants.{Empty, Express, Block, If, While, Do, For, Switch, Break, Continue, Goto, Declare, Return}
 use Rattle.computation.specs.Computation.{Computation, ret, _>>=_, loop}
 use Rattle.computation.specs.Remaining.{Rest, gives, onward, spend}
-use Rattle.language.specs.Trees.{Part, absent, present, label, Statement, express, block, ifThen, ifElse, while, doWhile, for, switch, declare}
+use Rattle.language.specs.Trees.{Part, absent, present, label, Statement, express, block, ifThen, ifElse, while, doWhile, for, switch, declare, giveBack}
 use Rattle.language.specs.Decode.{expressionAt, statementAt, listAt, partAt}
-use Rattle.language.specs.DecodeLaws.{at-no-statement, at-empty, at-express, at-block, at-ifThen, at-ifElse, at-while, at-doWhile, at-for, at-switch, at-break, at-continue, at-goto, at-declare, part-some}
-use Rattle.language.specs.Meaning.{Signal, next, breaking, continuing, seeking, perform, items, afterSwitch}
+use Rattle.language.specs.DecodeLaws.{at-no-statement, at-empty, at-express, at-block, at-ifThen, at-ifElse, at-while, at-doWhile, at-for, at-switch, at-break, at-continue, at-goto, at-declare, at-return, part-some}
+use Rattle.language.specs.Meaning.{Context, Signal, next, breaking, continuing, seeking, returning, perform, items, afterSwitch}
 use Rattle.language.specs.Sound.{Link, OptionalLink}
 use Rattle.language.specs.SoundLaws.{field-of, optional-link-of}
 use Rattle.operations.specs.Bounds.{layoutFrom}
 use Rattle.operations.specs.Ready.{Ready, Entered}
-use Rattle.operations.specs.Rows.{valueAt}
+use Rattle.operations.specs.Rows.{contextAt, valueAt}
 use Rattle.operations.proofs.Enter.{onward-same, forks}
 use Rattle.operations.proofs.Rows.{link}
 use Rattle.flows.specs.Lists.{startOf, InTable}
-use Rattle.executor.specs.Rows.{valueOr, roundOf, partOr, performAt, execAt, itemsFrom, roundsAt}
+use Rattle.executor.specs.Rows.{valueOr, roundOf, partOr, performAt, execAt, itemAt, itemsFrom, roundsAt}
 use Rattle.flows.proofs.Enter.{switch-starts}
 
 -- the tree at the row is known
 pub known : (rows : List ℤ) (bounds : List ℕ) (row : ℕ) (t : Statement) (n : ℕ) (s : List ℤ) → statementAt rows row ≡ t
-    → spend (performAt rows bounds row) n s ≡ spend (perform (layoutFrom bounds) t) n s
-known rows bounds row t n s e = ap (λ (x : Statement). spend (perform (layoutFrom bounds) x) n s) e
+    → spend (performAt rows bounds row) n s ≡ spend (perform (contextAt rows bounds) t) n s
+known rows bounds row t n s e = ap (λ (x : Statement). spend (perform (contextAt rows bounds) x) n s) e
+
+-- ---- the item at a row, as the code tests for it
+
+module _ (rows : List ℤ) (bounds : List ℕ) (row : ℕ) {number : ℕ} (p : number ≡ numberAt rows row 0) (n : ℕ) (s : List ℤ) where
+  pub defined-item : number ≡ 59 → spend (itemAt rows bounds row) n s ≡ gives next n s
+  unfolding spend
+  defined-item e = rw (eq-eqb (numberAt rows row 0) 59 (sym p ∙ e))
+
+  pub stated-item : (number ≡ 59 → ⊥) → spend (itemAt rows bounds row) n s ≡ spend (execAt rows bounds row) n s
+  stated-item q = rw (ne-eqb (numberAt rows row 0) 59 (λ e. q (p ∙ e)))
 
 -- ---- links that may be absent
 
@@ -85,13 +95,19 @@ module _ (rows : List ℤ) (bounds : List ℕ) (n : ℕ) (s : List ℤ) where
   otherwise-some (suc c) z = refl
 
 -- a for: its start, then the rounds
-enter-for : (L : Layout) (n : ℕ) (s : List ℤ) (first test step : Part) (body : Statement) → spend (perform L (for first test step body)) n s
-    ≡ onward (spend (valueOr L (pos 0) first) n s) (λ _ n s. spend (loop (roundOf L test (perform L body) step false)) n s)
+enter-for : (C : Context) (n : ℕ) (s : List ℤ) (first test step : Part) (body : Statement) → spend (perform C (for first test step body)) n s
+    ≡ onward (spend (valueOr C (pos 0) first) n s) (λ _ n s. spend (loop (roundOf C test (perform C body) step false)) n s)
 unfolding spend perform
-enter-for L n s absent absent step body = refl
-enter-for L n s absent (present t) step body = refl
-enter-for L n s (present e) absent step body = refl
-enter-for L n s (present e) (present t) step body = refl
+enter-for C n s absent absent step body = refl
+enter-for C n s absent (present t) step body = refl
+enter-for C n s (present e) absent step body = refl
+enter-for C n s (present e) (present t) step body = refl
+
+-- a return: its value
+enter-return : (C : Context) (n : ℕ) (s : List ℤ) (p : Part) → spend (perform C (giveBack p)) n s ≡ onward (spend (valueOr C (pos 0) p) n s) (λ v n s. gives (returning v) n s)
+unfolding spend perform
+enter-return C n s absent = refl
+enter-return C n s (present e) = refl
 
 module _ {rows : List ℤ} {bounds : List ℕ} {words row : ℕ} where
   module _ {kind : Kind} (here : Entered rows bounds words row kind) where
@@ -158,7 +174,7 @@ module _ {rows : List ℤ} {bounds : List ℕ} {words row : ℕ} where
       let t : statementAt rows row ≡ while (expressionAt rows a) (statementAt rows b) =
       at-while rows (whole here) row (here .kind-is) (while-links here .0 .later) (while-links here .1 .later) ∙ rw (← p, ← q) in
       known rows bounds row _ n s t
-      ∙ ap (λ (test : Part). spend (loop (roundOf (layoutFrom bounds) test (performAt rows bounds b) absent false)) n s) (sym (part-some rows a (omega (arith, p, while-links here .0 .later))))
+      ∙ ap (λ (test : Part). spend (loop (roundOf (contextAt rows bounds) test (performAt rows bounds b) absent false)) n s) (sym (part-some rows a (omega (arith, p, while-links here .0 .later))))
 
   pub do-links : Entered rows bounds words row (OfStatement Do) → Link rows (layoutFrom bounds) words row 1 × Link rows (layoutFrom bounds) words row 2
   unfolding isLink isRequired sortIn kindRow statementFields
@@ -171,7 +187,7 @@ module _ {rows : List ℤ} {bounds : List ℕ} {words row : ℕ} where
       let t : statementAt rows row ≡ doWhile (statementAt rows a) (expressionAt rows b) =
       at-doWhile rows (whole here) row (here .kind-is) (do-links here .0 .later) (do-links here .1 .later) ∙ rw (← p, ← q) in
       known rows bounds row _ n s t
-      ∙ ap (λ (test : Part). spend (loop (roundOf (layoutFrom bounds) absent (performAt rows bounds a) test true)) n s) (sym (part-some rows b (omega (arith, q, do-links here .1 .later))))
+      ∙ ap (λ (test : Part). spend (loop (roundOf (contextAt rows bounds) absent (performAt rows bounds a) test true)) n s) (sym (part-some rows b (omega (arith, q, do-links here .1 .later))))
 
   pub for-links : Entered rows bounds words row (OfStatement For) → OptionalLink rows (layoutFrom bounds) words row 1 × OptionalLink rows (layoutFrom bounds) words row 2 × OptionalLink rows (layoutFrom bounds) words row 3 × Link rows (layoutFrom bounds) words row 4
   unfolding isLink isRequired sortIn kindRow statementFields
@@ -182,7 +198,7 @@ module _ {rows : List ℤ} {bounds : List ℕ} {words row : ℕ} where
   for-row here {a} {b} {c} {d} p q r u n s =
       let t : statementAt rows row ≡ for (partAt rows a) (partAt rows b) (partAt rows c) (statementAt rows d) =
       at-for rows (whole here) row (here .kind-is) (λ h. (for-links here .0 h) .later) (λ h. (for-links here .1 h) .later) (λ h. (for-links here .2 h) .later) (for-links here .3 .later) ∙ rw (← p, ← q, ← r, ← u) in
-      known rows bounds row _ n s t ∙ enter-for (layoutFrom bounds) n s (partAt rows a) (partAt rows b) (partAt rows c) (statementAt rows d)
+      known rows bounds row _ n s t ∙ enter-for (contextAt rows bounds) n s (partAt rows a) (partAt rows b) (partAt rows c) (statementAt rows d)
 
   pub switch-links : Entered rows bounds words row (OfStatement Switch) → Link rows (layoutFrom bounds) words row 1 × OptionalLink rows (layoutFrom bounds) words row 2
   unfolding isLink isRequired sortIn kindRow statementFields
@@ -190,13 +206,13 @@ module _ {rows : List ℤ} {bounds : List ℕ} {words row : ℕ} where
 
   pub switch-row : Entered rows bounds words row (OfStatement Switch) → {a b : ℕ} → a ≡ numberAt rows row 1 → b ≡ numberAt rows row 2 → (n : ℕ) (s : List ℤ)
       → spend (performAt rows bounds row) n s
-      ≡ onward (spend (valueAt rows bounds a) n s) (λ v n s. onward (spend (items (layoutFrom bounds) (startOf v (listAt rows b)) next) n s) (λ signal n s. gives (afterSwitch signal) n s))
+      ≡ onward (spend (valueAt rows bounds a) n s) (λ v n s. onward (spend (items (contextAt rows bounds) (startOf v (listAt rows b)) next) n s) (λ signal n s. gives (afterSwitch signal) n s))
   unfolding spend perform
   switch-row here {a} {b} p q n s =
       let t : statementAt rows row ≡ switch (expressionAt rows a) (listAt rows b) =
       at-switch rows (whole here) row (here .kind-is) (switch-links here .0 .later) (λ h. (switch-links here .1 h) .later) ∙ rw (← p, ← q) in
       known rows bounds row _ n s t
-      ∙ onward-same (spend (valueAt rows bounds a) n s) _ _ (λ v n s. switch-starts (layoutFrom bounds) v (listAt rows b) n s)
+      ∙ onward-same (spend (valueAt rows bounds a) n s) _ _ (λ v n s. switch-starts (contextAt rows bounds) v (listAt rows b) n s)
 
   pub break-row : Entered rows bounds words row (OfStatement Break) → (n : ℕ) (s : List ℤ) → spend (performAt rows bounds row) n s ≡ gives breaking n s
   unfolding spend perform
@@ -229,10 +245,20 @@ module _ {rows : List ℤ} {bounds : List ℕ} {words row : ℕ} where
       let t : statementAt rows row ≡ declare i (expressionAt rows b) = at-declare rows (whole here) row (here .kind-is) (declare-link here .later) ∙ rw (← p, ← q) in
       known rows bounds row _ n s t
 
+  pub return-link : Entered rows bounds words row (OfStatement Return) → OptionalLink rows (layoutFrom bounds) words row 1
+  unfolding isLink isRequired sortIn kindRow statementFields
+  return-link here = optional-link here 1 (omega arith) (omega arith) refl
+
+  pub return-row : Entered rows bounds words row (OfStatement Return) → {a : ℕ} → a ≡ numberAt rows row 1 → (n : ℕ) (s : List ℤ)
+      → spend (performAt rows bounds row) n s ≡ onward (spend (partOr (pos 0) rows bounds a) n s) (λ v n s. gives (returning v) n s)
+  return-row here {a} p n s =
+      known rows bounds row _ n s (at-return rows (whole here) row (here .kind-is) (λ h. (return-link here h) .later) ∙ ap (λ (k : ℕ). giveBack (partAt rows k)) (sym p))
+      ∙ enter-return (contextAt rows bounds) n s (partAt rows a)
+
   -- a row whose number no statement has
   pub other-row : Ready rows bounds words row → {number : ℕ} → number ≡ numberAt rows row 0 → ((40 ≤ number) × (number ≤ 47) → ⊥) → ((50 ≤ number) × (number ≤ 52) → ⊥)
-      → ((54 ≤ number) × (number ≤ 55) → ⊥) → ((57 ≤ number) × (number ≤ 58) → ⊥) → (n : ℕ) (s : List ℤ)
+      → ((54 ≤ number) × (number ≤ 55) → ⊥) → ((57 ≤ number) × (number ≤ 58) → ⊥) → (number ≡ 60 → ⊥) → (n : ℕ) (s : List ℤ)
       → spend (performAt rows bounds row) n s ≡ gives next n s
   unfolding spend perform
-  other-row here {number} p plain jumps guarded others n s =
-      known rows bounds row _ n s (at-no-statement rows (here .setting .sound .whole) row (ap isStatementKind (kind-numbered rows row p number refl) ∙ no-statement number plain jumps guarded others))
+  other-row here {number} p plain jumps guarded others last n s =
+      known rows bounds row _ n s (at-no-statement rows (here .setting .sound .whole) row (ap isStatementKind (kind-numbered rows row p number refl) ∙ no-statement number plain jumps guarded others last))

@@ -13,9 +13,8 @@ use Rattle.computation.specs.Remaining.{Rest, onward, spend}
 use Rattle.language.specs.Decode.{armListAt}
 use Rattle.language.specs.Meaning.{Choice, noneTrue, ran, enter, choose}
 use Rattle.operations.specs.Answers.{operandOf, positionOf, placed}
-use Rattle.operations.specs.Bounds.{layoutFrom}
 use Rattle.operations.specs.Ready.{Ready}
-use Rattle.operations.specs.Rows.{valueAt}
+use Rattle.operations.specs.Rows.{contextAt, valueAt}
 use Rattle.operations.specs.declared.Position.the-variants.{At}
 use Rattle.executor.specs.Rows.{execAt}
 
@@ -26,7 +25,7 @@ module _ (rows : List ℤ) (bounds : List ℕ) where
 
   -- The arms from a row on; at 0 there is none.
   abbrev pub armsFrom : ℕ → Computation Choice
-  armsFrom first = choose (layoutFrom bounds) (armListAt rows first)
+  armsFrom first = choose (contextAt rows bounds) (armListAt rows first)
 
   -- The block at a row runs; at 0 no guard is true.
   abbrev pub blockFrom : ℕ → Computation Choice

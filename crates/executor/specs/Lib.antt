@@ -5,3 +5,5 @@
 pub mod Rows
 -- Arms: what the arms of a guarded statement come to.
 pub mod Arms
+-- Calls: what is done at the arguments of a call.
+pub mod Calls

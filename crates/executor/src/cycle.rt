@@ -11,11 +11,17 @@ use flows::BREAK;
 use flows::CONTINUE;
 use flows::Flow;
 use flows::NEXT;
+use flows::calls::argument_count;
+use flows::calls::argument_row;
+use flows::calls::function_row;
+use flows::calls::store_parameters;
 use flows::flows::after_body;
+use flows::flows::after_call;
 use flows::flows::after_expression;
 use flows::flows::after_initial;
 use flows::flows::after_last;
 use flows::flows::after_switch;
+use flows::flows::after_value;
 use flows::flows::flow;
 use flows::flows::jump;
 use flows::flows::without_guard;
@@ -45,7 +51,7 @@ ghost use mathlib.Core.Path.{_≡_};
 ghost use lib.ListN.{length};
 ghost use Rattle.words.specs.Word.{pick};
 ghost use Rattle.words.specs.declared.Kind.the-variants.{OfExpression, OfStatement};
-ghost use Rattle.words.specs.declared.ExpressionKind.the-variants.{Element, Binary, And, Or, Conditional, Comma, Assign, Compound, Prefix, Postfix};
+ghost use Rattle.words.specs.declared.ExpressionKind.the-variants.{Element, Binary, And, Or, Conditional, Comma, Assign, Compound, Prefix, Postfix, Call};
 ghost use Rattle.words.specs.declared.StatementKind.the-variants.{Express, If, Switch, GuardedIf, GuardedDo};
 ghost use Rattle.computation.specs.Remaining.{spend};
 ghost use Rattle.operations.specs.Answers.{answered, placed};
@@ -53,7 +59,8 @@ ghost use Rattle.operations.specs.Ready.{Ready, ReadyPlace, Entered};
 ghost use Rattle.operations.specs.Rows.{valueAt, evaluateAt, placeAt, locateAt};
 ghost use Rattle.flows.specs.Flows.{ran, turned};
 ghost use Rattle.executor.specs.Arms.{ReadyArms, Chooses};
-ghost use Rattle.executor.specs.Rows.{partOr, performAt, execAt, itemsFrom, roundAt, roundsAt, ReadyRounds};
+ghost use Rattle.executor.specs.Calls.{boundAt, ReadyBind};
+ghost use Rattle.executor.specs.Rows.{partOr, performAt, execAt, itemAt, itemsFrom, roundAt, roundsAt, ReadyRounds};
 
 // The value of the expression at a row. Constants and variables, half of all rows entered, are taken here.
 pub fn eval(rows: &[i32], bounds: &[usize], row: usize, store: &mut [i32], left: &mut u32) -> i64
@@ -104,6 +111,7 @@ fn compute(rows: &[i32], bounds: &[usize], row: usize, store: &mut [i32], left: 
         19 => ternary(&*rows, &*bounds, row, store, left),
         20 => comma(&*rows, &*bounds, row, store, left),
         21 => assign(&*rows, &*bounds, row, store, left),
+        31 => call(&*rows, &*bounds, row, store, left),
         22..=26 => compound(&*rows, &*bounds, row, operator_of(number - 22), store, left),
         27..=28 => increment(
             &*rows,
@@ -303,7 +311,63 @@ fn increment(
     update(operator, at, 1, old, store)
 }
 
-// A part of a for; an absent one has this value.
+// A call's row, entered: the arguments and the parameters, then the function's block. `bind` has returned by then, so that its array is not on
+// the stack while the block runs.
+fn call(rows: &[i32], bounds: &[usize], row: usize, store: &mut [i32], left: &mut u32) -> i64
+    requires { ⌜ Entered (now rows) (now bounds) (length (now store)) row (OfExpression Call) ⌝ }
+    ensures { λ r. ⌜ answered r (now (left .exit)) (now (store .exit)) ≡ spend (evaluateAt (now (rows .entry)) (now (bounds .entry)) row) (now (left .entry)) (now (store .entry)) ⌝ }
+{
+    let definition = function_row(rows, number_at(rows, row, 1));
+    let answer = bind(
+        &*rows,
+        &*bounds,
+        link_at(rows, row, 2),
+        link_at(rows, definition, 2),
+        store,
+        left,
+    );
+    let bound = operand(answer);
+    let Operand::Value(_) = bound else {
+        return answer;
+    };
+    after_call(exec(&*rows, &*bounds, link_at(rows, definition, 3), store, left))
+}
+
+// The arguments of a call, from the last to the first, and then its function's parameters: "all before any parameter is stored".
+fn bind(
+    rows: &[i32],
+    bounds: &[usize],
+    first: usize,
+    parameter: usize,
+    store: &mut [i32],
+    left: &mut u32,
+) -> i64
+    requires { ⌜ ReadyBind (now rows) (now bounds) (length (now store)) first parameter ⌝ }
+    ensures { λ r. ⌜ answered r (now (left .exit)) (now (store .exit)) ≡ spend (boundAt (now (rows .entry)) (now (bounds .entry)) first parameter) (now (left .entry)) (now (store .entry)) ⌝ }
+{
+    let mut values: [i32; 64] = [0; 64];
+    let count = argument_count(rows, first);
+    let mut k = count;
+    while k != 0 {
+        let n = *left;
+        if n == 0 {
+            return SPENT;
+        }
+        *left = n - 1;
+        k -= 1;
+        let at = argument_row(rows, first, k);
+        let answer = eval(&*rows, &*bounds, link_at(rows, at, 1), store, left);
+        let argument = operand(answer);
+        let Operand::Value(value) = argument else {
+            return answer;
+        };
+        values[k] = value;
+    }
+    store_parameters(rows, parameter, &values[..count], store);
+    0
+}
+
+// A part of a for, or the value of a return; an absent one has this value.
 fn part(
     rows: &[i32],
     bounds: &[usize],
@@ -347,18 +411,21 @@ pub fn exec(rows: &[i32], bounds: &[usize], row: usize, store: &mut [i32], left:
     perform(&*rows, &*bounds, row, store, left)
 }
 
-// The statement at a row, where it is most often an expression statement, which needs no call of `perform`: an item of a list. With both callers
-// `perform` stays a function of the compiled code, and `list` is built into it: a block among the items of a list takes one frame.
+// The item of a list at a row: a definition is passed over, "uncounted"; else the statement there, which is most often an expression statement,
+// which needs no call of `perform`. With both callers `perform` stays a function of the compiled code, and `list` is built into it: a block among the items of a list takes one frame.
 fn item(rows: &[i32], bounds: &[usize], row: usize, store: &mut [i32], left: &mut u32) -> i64
     requires { ⌜ Ready (now rows) (now bounds) (length (now store)) row ⌝ }
-    ensures { λ r. ⌜ ran r (now (left .exit)) (now (store .exit)) ≡ spend (execAt (now (rows .entry)) (now (bounds .entry)) row) (now (left .entry)) (now (store .entry)) ⌝ }
+    ensures { λ r. ⌜ ran r (now (left .exit)) (now (store .exit)) ≡ spend (itemAt (now (rows .entry)) (now (bounds .entry)) row) (now (left .entry)) (now (store .entry)) ⌝ }
 {
+    let number = number_at(rows, row, 0);
+    if number == 59 {
+        return NEXT;
+    }
     let n = *left;
     if n == 0 {
         return SPENT;
     }
     *left = n - 1;
-    let number = number_at(rows, row, 0);
     if number == 41 {
         return express(&*rows, &*bounds, row, store, left);
     }
@@ -425,6 +492,7 @@ fn perform(rows: &[i32], bounds: &[usize], row: usize, store: &mut [i32], left: 
             row,
             store,
         ),
+        60 => after_value(part(&*rows, &*bounds, link_at(rows, row, 1), 0, store, left)),
         54..=55 => guarded(&*rows, &*bounds, row, number == 55, store, left),
         _ => NEXT,
     }

@@ -18,7 +18,7 @@ use Rattle.shapes.specs.declared.ExpressionShape.{ExpressionShape}
 use Rattle.shapes.specs.declared.ExpressionShape.the-variants.{Choice}
 use Rattle.translation.specs.Uses.{direct}
 use Rattle.translation.specs.Translate.{Atom, number, top, updated}
-use Rattle.measure_table.specs.Parts.{readAtom, plainAtom, placeHolder, directOperation, Holding}
+use Rattle.measure_table.specs.Parts.{calledIn, readAtom, plainAtom, placeHolder, directOperation, Holding}
 use Rattle.measure_table.specs.MeasureLaws.{choice-top}
 use Rattle.measure_table.specs.declared.Holder.{Holder}
 use Rattle.measure_table.specs.declared.Holder.the-variants.{Number as NumberHolder, Temporary}
@@ -42,8 +42,8 @@ pub updated-holds : {rows : List ℤ} {row : ℕ} {p : PlaceShape} {x : Holder} 
 updated-holds {rows} {row} {p} f e = held-same (place-holds rows row p (f .onward) e) (read-updated (placeTree rows p) ∙ ap updated (sym (f .is)))
 
 -- a temporary, or what an expression of this shape gives
-pub plain-holds : {rows : List ℤ} {row : ℕ} {s : ExpressionShape} {x : Holder} → ExpressionAt rows row s → Holding rows (plainAtom (expressionTree rows s)) x → Holding rows (plainAtom (expressionAt rows row)) x
-plain-holds f a = held-same a (ap plainAtom (sym (f .is)))
+pub plain-holds : {rows : List ℤ} {row : ℕ} {s : ExpressionShape} {x : Holder} → ExpressionAt rows row s → Holding rows (plainAtom (calledIn rows) (expressionTree rows s)) x → Holding rows (plainAtom (calledIn rows) (expressionAt rows row)) x
+plain-holds {rows} f a = held-same a (ap (plainAtom (calledIn rows)) (sym (f .is)))
 
 pub top-holds : {rows : List ℤ} {h : Atom} → h ≡ top → Holding rows h Temporary
 top-holds e = rw e (record { is = refl; fits = tt })
@@ -51,8 +51,8 @@ top-holds e = rw e (record { is = refl; fits = tt })
 pub number-holds : {rows : List ℤ} {z v : ℤ} → z ≡ v → Holding rows (number v) (NumberHolder z)
 number-holds e = record { is = ap number e; fits = tt }
 
-pub choice-holds : {rows : List ℤ} {row : ℕ} {c : ChoiceShape} → ExpressionAt rows row (Choice c) → Holding rows (plainAtom (expressionAt rows row)) Temporary
-choice-holds {rows} {row} {c} f = plain-holds f (top-holds (choice-top rows c))
+pub choice-holds : {rows : List ℤ} {row : ℕ} {c : ChoiceShape} → ExpressionAt rows row (Choice c) → Holding rows (plainAtom (calledIn rows) (expressionAt rows row)) Temporary
+choice-holds {rows} {row} {c} f = plain-holds f (top-holds (choice-top (calledIn rows) rows c))
 
 -- ---- whether a value goes straight into a variable
 

@@ -20,7 +20,7 @@ ghost use Rattle.translation.specs.TranslateSize.{copied};
 ghost use Rattle.shapes.specs.Source.{Source, ExpressionAt};
 ghost use Rattle.shapes.specs.declared.ExpressionShape.the-variants.{Operation};
 ghost use Rattle.write_sets.specs.Sets.{member};
-ghost use Rattle.measure_table.specs.Parts.{indexOf, firstCopied, Operand};
+ghost use Rattle.measure_table.specs.Parts.{calledIn, indexOf, firstCopied, Operand};
 ghost use Rattle.row_writes.specs.WriteSets.{partWrites, setAt, SetHeld, Sets};
 ghost use Rattle.measure_table.specs.Measures.{width, MeasuredFrom, MeasuredRow};
 
@@ -46,7 +46,7 @@ fn copied_over(
 ) -> usize
     requires { ⌜ Sets store (now rows) (now sets) × (row < rowCount (now rows)) × (meanwhile < rowCount (now rows)) ⌝ }
     requires { ⌜ (width * rowCount (now rows) ≤ length (now table)) × MeasuredRow (now rows) (now table) row ⌝ }
-    ensures { λ r. ⌜ r ≡ copied (atomOf (expressionAt (now (rows .entry)) row)) (partWrites (partAt (now (rows .entry)) meanwhile)) ⌝ }
+    ensures { λ r. ⌜ r ≡ copied (atomOf (calledIn (now (rows .entry))) (expressionAt (now (rows .entry)) row)) (partWrites (calledIn (now (rows .entry))) (partAt (now (rows .entry)) meanwhile)) ⌝ }
 {
     let holder = holder_at(rows, table, row);
     match holder {
@@ -77,7 +77,7 @@ fn copied_operation(
     operation: OperationShape,
 ) -> usize
     requires { ⌜ Sets store (now rows) (now sets) × MeasuredFrom (now rows) (now table) (row + 1) × ExpressionAt (now rows) row (Operation operation) ⌝ }
-    ensures { λ r. ⌜ r ≡ firstCopied (expressionAt (now (rows .entry)) row) ⌝ }
+    ensures { λ r. ⌜ r ≡ firstCopied (calledIn (now (rows .entry))) (expressionAt (now (rows .entry)) row) ⌝ }
 {
     match operation {
         OperationShape::Minus(_) => 0,
@@ -98,7 +98,7 @@ fn copied_operation(
 // 1 where the expression at a row copies the value of its first operand, else 0.
 pub fn copied_at(store: usize, rows: &[i32], sets: &[u64], table: &[usize], row: usize) -> usize
     requires { ⌜ Sets store (now rows) (now sets) × MeasuredFrom (now rows) (now table) (row + 1) × (row < rowCount (now rows)) ⌝ }
-    ensures { λ r. ⌜ r ≡ firstCopied (expressionAt (now (rows .entry)) row) ⌝ }
+    ensures { λ r. ⌜ r ≡ firstCopied (calledIn (now (rows .entry))) (expressionAt (now (rows .entry)) row) ⌝ }
 {
     let shape = expression_at(rows, row);
     match shape {
@@ -108,5 +108,6 @@ pub fn copied_at(store: usize, rows: &[i32], sets: &[u64], table: &[usize], row:
             copied_operation(store, rows, sets, table, row, operation)
         }
         ExpressionShape::Choice(_) => 0,
+        ExpressionShape::Call(_, _) => 0,
     }
 }

@@ -20,14 +20,14 @@ ghost use Rattle.words.specs.Table.{rowCount};
 ghost use Rattle.language.specs.Decode.{expressionAt};
 ghost use Rattle.translation.specs.Translate.{expressionLevels};
 ghost use Rattle.translation.specs.TranslateSize.{expressionSize};
-ghost use Rattle.measure_table.specs.Parts.{OwnAt};
+ghost use Rattle.measure_table.specs.Parts.{calledIn, OwnAt};
 ghost use Rattle.row_writes.specs.WriteSets.{Sets};
 ghost use Rattle.measure_table.specs.Measures.{limited as limitedTo, MeasuredFrom, ExpressionMeasured};
 
 // The kernel rows of the expression at a row, where its value has this use, from those of its operands.
 fn expression_rows(rows: &[i32], table: &[usize], row: usize, own: Own, usage: Use) -> usize
     requires { ⌜ MeasuredFrom (now rows) (now table) (row + 1) × (row < rowCount (now rows)) × OwnAt (now rows) row own ⌝ }
-    ensures { λ r. ⌜ r ≡ limitedTo (expressionSize (expressionAt (now (rows .entry)) row) usage) ⌝ }
+    ensures { λ r. ⌜ r ≡ limitedTo (expressionSize (calledIn (now (rows .entry))) (expressionAt (now (rows .entry)) row) usage) ⌝ }
 {
     let first_use = own.first_use;
     let second_use = second_use(own.passes, usage);
@@ -41,7 +41,7 @@ fn expression_rows(rows: &[i32], table: &[usize], row: usize, own: Own, usage: U
 // The levels of the expression at a row, where its value has this use, from those of its operands.
 fn expression_levels(rows: &[i32], table: &[usize], row: usize, own: Own, usage: Use) -> usize
     requires { ⌜ MeasuredFrom (now rows) (now table) (row + 1) × (row < rowCount (now rows)) × OwnAt (now rows) row own ⌝ }
-    ensures { λ r. ⌜ r ≡ limitedTo (expressionLevels (expressionAt (now (rows .entry)) row) usage) ⌝ }
+    ensures { λ r. ⌜ r ≡ limitedTo (expressionLevels (calledIn (now (rows .entry))) (expressionAt (now (rows .entry)) row) usage) ⌝ }
 {
     let first_use = own.first_use;
     let second_use = second_use(own.passes, usage);

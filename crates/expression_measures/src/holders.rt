@@ -17,7 +17,7 @@ ghost use Rattle.translation.specs.Uses.{direct};
 ghost use Rattle.translation.specs.Translate.{updated, atomOf, taken as takenOf};
 ghost use Rattle.shapes.specs.Source.{Source, ExpressionAt};
 ghost use Rattle.shapes.specs.declared.ExpressionShape.the-variants.{Operation};
-ghost use Rattle.measure_table.specs.Parts.{plainAtom, placeHolder, directOperation, Holding};
+ghost use Rattle.measure_table.specs.Parts.{calledIn, plainAtom, placeHolder, directOperation, Holding};
 ghost use Rattle.measure_table.specs.Measures.{width, MeasuredRow};
 
 // A variable holds its own value; an element's goes into the temporary.
@@ -42,7 +42,7 @@ fn updated_holder(rows: &[i32], row: usize) -> Holder
 // An operation whose value comes from its own row.
 fn operation_holder(rows: &[i32], row: usize, operation: OperationShape) -> Holder
     requires { ⌜ Source (now rows) × ExpressionAt (now rows) row (Operation operation) ⌝ }
-    ensures { λ r. ⌜ Holding (now (rows .entry)) (plainAtom (expressionAt (now (rows .entry)) row)) r ⌝ }
+    ensures { λ r. ⌜ Holding (now (rows .entry)) (plainAtom (calledIn (now (rows .entry))) (expressionAt (now (rows .entry)) row)) r ⌝ }
 {
     match operation {
         OperationShape::Minus(_) => Holder::Temporary,
@@ -59,7 +59,7 @@ fn operation_holder(rows: &[i32], row: usize, operation: OperationShape) -> Hold
 // What holds the value that comes from a row.
 fn plain_holder(rows: &[i32], row: usize) -> Holder
     requires { ⌜ Source (now rows) × (row < rowCount (now rows)) ⌝ }
-    ensures { λ r. ⌜ Holding (now (rows .entry)) (plainAtom (expressionAt (now (rows .entry)) row)) r ⌝ }
+    ensures { λ r. ⌜ Holding (now (rows .entry)) (plainAtom (calledIn (now (rows .entry))) (expressionAt (now (rows .entry)) row)) r ⌝ }
 {
     let shape = expression_at(rows, row);
     match shape {
@@ -67,13 +67,14 @@ fn plain_holder(rows: &[i32], row: usize) -> Holder
         ExpressionShape::Read(place) => place_holder(place),
         ExpressionShape::Operation(operation) => operation_holder(rows, row, operation),
         ExpressionShape::Choice(_) => Holder::Temporary,
+        ExpressionShape::Call(_, _) => Holder::Temporary,
     }
 }
 
 // What holds the value of the expression at a row.
 pub fn holder_at(rows: &[i32], table: &[usize], row: usize) -> Holder
     requires { ⌜ Source (now rows) × (row < rowCount (now rows)) × (width * rowCount (now rows) ≤ length (now table)) × MeasuredRow (now rows) (now table) row ⌝ }
-    ensures { λ r. ⌜ Holding (now (rows .entry)) (atomOf (expressionAt (now (rows .entry)) row)) r ⌝ }
+    ensures { λ r. ⌜ Holding (now (rows .entry)) (atomOf (calledIn (now (rows .entry))) (expressionAt (now (rows .entry)) row)) r ⌝ }
 {
     plain_holder(rows, table[WIDTH * row + VALUE])
 }
@@ -81,7 +82,7 @@ pub fn holder_at(rows: &[i32], table: &[usize], row: usize) -> Holder
 // Whether the value of the expression at a row takes a temporary: 1 or 0.
 pub fn taken_at(rows: &[i32], table: &[usize], row: usize) -> usize
     requires { ⌜ Source (now rows) × (row < rowCount (now rows)) × (width * rowCount (now rows) ≤ length (now table)) × MeasuredRow (now rows) (now table) row ⌝ }
-    ensures { λ r. ⌜ r ≡ takenOf (atomOf (expressionAt (now (rows .entry)) row)) ⌝ }
+    ensures { λ r. ⌜ r ≡ takenOf (atomOf (calledIn (now (rows .entry))) (expressionAt (now (rows .entry)) row)) ⌝ }
 {
     let holder = holder_at(rows, table, row);
     match holder {
@@ -121,6 +122,7 @@ pub fn direct_at(rows: &[i32], row: usize) -> bool
         },
         ExpressionShape::Operation(operation) => direct_operation(operation),
         ExpressionShape::Choice(_) => false,
+        ExpressionShape::Call(_, _) => true,
     }
 }
 

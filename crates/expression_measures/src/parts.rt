@@ -21,7 +21,7 @@ ghost use Rattle.language.specs.Decode.{expressionAt};
 ghost use Rattle.shapes.specs.Source.{ExpressionAt};
 ghost use Rattle.shapes.specs.declared.ExpressionShape.the-variants.{Read, Operation, Choice};
 ghost use Rattle.shapes.specs.declared.OperationShape.the-variants.{Assign};
-ghost use Rattle.measure_table.specs.Parts.{firstCopied, plainOwn, resultOwn, storedOwn, commaOwn, stepOwn, OwnAt, PlaceOwnAt};
+ghost use Rattle.measure_table.specs.Parts.{calledIn, firstCopied, plainOwn, resultOwn, storedOwn, commaOwn, stepOwn, OwnAt, PlaceOwnAt};
 ghost use Rattle.measure_table.specs.Measures.{valueSlot, slotAt, LinkMeasured, MeasuredFrom, StoreAsks, PostfixAt};
 
 // An expression whose own code does not depend on the use of its value.
@@ -199,7 +199,7 @@ fn own_assign(
     place: usize,
     e: usize,
 ) -> Own
-    requires { ⌜ MeasuredFrom (now rows) (now table) (row + 1) × (row < rowCount (now rows)) × ExpressionAt (now rows) row (Operation (Assign place e)) × (copied ≡ firstCopied (expressionAt (now rows) row)) ⌝ }
+    requires { ⌜ MeasuredFrom (now rows) (now table) (row + 1) × (row < rowCount (now rows)) × ExpressionAt (now rows) row (Operation (Assign place e)) × (copied ≡ firstCopied (calledIn (now rows)) (expressionAt (now rows) row)) ⌝ }
     ensures { λ r. ⌜ OwnAt (now (rows .entry)) row r ⌝ }
 {
     let shape = place_at(rows, place);
@@ -234,7 +234,7 @@ fn own_operation(
     copied: usize,
     operation: OperationShape,
 ) -> Own
-    requires { ⌜ MeasuredFrom (now rows) (now table) (row + 1) × (row < rowCount (now rows)) × ExpressionAt (now rows) row (Operation operation) × (copied ≡ firstCopied (expressionAt (now rows) row)) ⌝ }
+    requires { ⌜ MeasuredFrom (now rows) (now table) (row + 1) × (row < rowCount (now rows)) × ExpressionAt (now rows) row (Operation operation) × (copied ≡ firstCopied (calledIn (now rows)) (expressionAt (now rows) row)) ⌝ }
     ensures { λ r. ⌜ OwnAt (now (rows .entry)) row r ⌝ }
 {
     match operation {
@@ -275,7 +275,7 @@ fn own_choice(rows: &[i32], table: &[usize], row: usize, choice: ChoiceShape) ->
 
 // The expression at a row; `copied` is 1 where the value of its first operand is copied, else 0.
 pub fn own_at(rows: &[i32], table: &[usize], row: usize, copied: usize) -> Own
-    requires { ⌜ MeasuredFrom (now rows) (now table) (row + 1) × (row < rowCount (now rows)) × (copied ≡ firstCopied (expressionAt (now rows) row)) ⌝ }
+    requires { ⌜ MeasuredFrom (now rows) (now table) (row + 1) × (row < rowCount (now rows)) × (copied ≡ firstCopied (calledIn (now rows)) (expressionAt (now rows) row)) ⌝ }
     ensures { λ r. ⌜ OwnAt (now (rows .entry)) row r ⌝ }
 {
     let shape = expression_at(rows, row);
@@ -286,5 +286,7 @@ pub fn own_at(rows: &[i32], table: &[usize], row: usize, copied: usize) -> Own
             own_operation(rows, table, row, copied, operation)
         }
         ExpressionShape::Choice(choice) => own_choice(rows, table, row, choice),
+        // no form has calls yet
+        ExpressionShape::Call(_, _) => own(0, 0, 0, 0, 0, 0, 0, row),
     }
 }

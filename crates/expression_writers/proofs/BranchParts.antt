@@ -15,6 +15,7 @@ use Rattle.translation.specs.declared.Use.the-variants.{Wanted as wanted}
 use Rattle.translation.specs.Translate.{operandCode}
 use Rattle.translation.specs.TranslateSize.{operandSize}
 use Rattle.emission.specs.Emission.{rowOf, emitStatement, emitItems}
+use Rattle.measure_table.specs.Parts.{calledIn}
 use Rattle.leaves.specs.Room.{Room, moreRows}
 use Rattle.straight_writers.specs.Asks.{Writing}
 use Rattle.leaves.specs.Chain.{part, back-in, Put, put-next, reworded, Reach, put-length, put-reach, put-room, Wrote, wrote-put}
@@ -31,13 +32,13 @@ pub record BranchAsked (S : ℕ) (rows : List ℤ) (table : List ℕ) (branch : 
   pub room : Room (branchSize rows branch) base (length out)
 
 module _ {S : ℕ} {rows : List ℤ} {table : List ℕ} {branch : Branch} {level base : ℕ} {out : List ℤ} (asked : BranchAsked S rows table branch level base out) where
-  pub code-small : operandSize (partAt rows (branch .row)) wanted ≤ 40980
+  pub code-small : operandSize (calledIn rows) (partAt rows (branch .row)) wanted ≤ 40980
   code-small = omega (arith, asked .room .low)
 
   -- ---- the sizes are known
 
   pub record BranchSizes (codeRows endRows : ℕ) : Type 0 where
-    pub code-is : codeRows ≡ operandSize (partAt rows (branch .row)) wanted
+    pub code-is : codeRows ≡ operandSize (calledIn rows) (partAt rows (branch .row)) wanted
     pub end-is : endRows ≡ finishSize (branch .end)
 
 module _ {S : ℕ} {rows : List ℤ} {table : List ℕ} {branch : Branch} {level base : ℕ} {out : List ℤ} {asked : BranchAsked S rows table branch level base out}
@@ -74,15 +75,15 @@ module _ {S : ℕ} {rows : List ℤ} {table : List ℕ} {branch : Branch} {level
 
   pub record BranchCode (more : Bool) (code : List ℤ) : Type 0 where
     pub more-is : more ≡ moreRows false endRows
-    pub table-is : code ≡ over (emitItems more (operandCode S (partAt rows (branch .row)) wanted level) (base + 1)) (part 1 headed)
+    pub table-is : code ≡ over (emitItems more (operandCode (calledIn rows) S (partAt rows (branch .row)) wanted level) (base + 1)) (part 1 headed)
 
 module _ {S : ℕ} {rows : List ℤ} {table : List ℕ} {branch : Branch} {level base : ℕ} {out : List ℤ} {asked : BranchAsked S rows table branch level base out}
     {codeRows endRows : ℕ} {sizes : BranchSizes asked codeRows endRows} {first : ℕ} {headed : List ℤ} {row : BlockRow sizes first headed}
     {more : Bool} {code : List ℤ} (written : BranchCode row more code) where
-  code-wrote : Wrote more (operandCode S (partAt rows (branch .row)) wanted level) (base + 1) codeRows (part 1 headed) code
-  code-wrote = record { table = written .table-is; size = rows-operand S (partAt rows (branch .row)) wanted level ∙ sym (sizes .code-is) }
+  code-wrote : Wrote more (operandCode (calledIn rows) S (partAt rows (branch .row)) wanted level) (base + 1) codeRows (part 1 headed) code
+  code-wrote = record { table = written .table-is; size = rows-operand (calledIn rows) S (partAt rows (branch .row)) wanted level ∙ sym (sizes .code-is) }
 
-  code-put : Put (rowOf 42 (pos first) 0 0 0 0 ++ emitItems more (operandCode S (partAt rows (branch .row)) wanted level) (base + 1))
+  code-put : Put (rowOf 42 (pos first) 0 0 0 0 ++ emitItems more (operandCode (calledIn rows) S (partAt rows (branch .row)) wanted level) (base + 1))
       (1 + codeRows) out (back-in 1 headed code)
   code-put = put-next (row-put row) (wrote-put code-wrote)
 
@@ -105,5 +106,5 @@ module _ {S : ℕ} {rows : List ℤ} {table : List ℕ} {branch : Branch} {level
     pub branch-written : back-in (1 + codeRows) (back-in 1 headed code) end ≡ over (emitStatement (block (branchCode S rows branch level)) base 0) out
     branch-written =
         reworded _ (put-next code-put (wrote-put end-wrote))
-        (branch-words (operandCode S (partAt rows (branch .row)) wanted level) (finishCode S (branch .end) (branch .atom) level) base codeRows endRows first more
+        (branch-words (operandCode (calledIn rows) S (partAt rows (branch .row)) wanted level) (finishCode S (branch .end) (branch .atom) level) base codeRows endRows first more
         (code-wrote .size) (end-wrote .size) (row .first-is) (written .more-is))

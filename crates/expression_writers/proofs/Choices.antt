@@ -14,13 +14,15 @@ use Rattle.translation.specs.declared.Use.the-variants.{Wanted as wanted}
 use Rattle.translation.specs.Translate.{Atom as Held, number, word, top, atomOf, taken, atom, temporary, assigning, choosing, copyCode, expressionCode, operandCode}
 use Rattle.translation.specs.TranslateSize.{copyRows, operandSize, expressionSize}
 use Rattle.shapes.specs.Shapes.{operationTree, expressionTree, Onward}
-use Rattle.shapes.specs.Source.{ExpressionAt}
+use Rattle.shapes.specs.Source.{Source, ExpressionAt}
 use Rattle.shapes.specs.declared.OperationShape.{OperationShape}
 use Rattle.shapes.specs.declared.OperationShape.the-variants.{Minus, Not, Binary, Comma, Assign, Compound, Prefix, Postfix}
 use Rattle.shapes.specs.declared.ChoiceShape.the-variants.{And, Or, Conditional}
 use Rattle.shapes.specs.declared.ExpressionShape.{ExpressionShape}
 use Rattle.shapes.specs.declared.ExpressionShape.the-variants.{Operation}
 use Rattle.shapes.specs.declared.ExpressionShape.the-variants as expression
+use Rattle.measure_table.specs.Parts.{calledIn}
+use Rattle.measure_table.specs.PlainRows.{no-call}
 use Rattle.leaves.specs.Atoms.{atomTree, AtomFits}
 use Rattle.leaves.specs.Straight.{straightCode, lastSize}
 use Rattle.straight_writers.specs.Asks.{Writing, AtomAt}
@@ -46,7 +48,7 @@ pub record BranchesFit (rows : List ℤ) (row level : ℕ) (test : Atom) (onTrue
   pub false-fits : BranchFits rows onFalse level
   pub true-later : 0 < onTrue .row → row < onTrue .row
   pub false-later : 0 < onFalse .row → row < onFalse .row
-  pub rows-are : (u : Use) → lastSize (expressionAt rows row) u ≡ 2 + branchSize rows onTrue + branchSize rows onFalse
+  pub rows-are : (u : Use) → lastSize (calledIn rows) (expressionAt rows row) u ≡ 2 + branchSize rows onTrue + branchSize rows onFalse
 
 pub branches-fit : {S : ℕ} {rows : List ℤ} {row level : ℕ} {test : Atom} {onTrue onFalse : Branch} → ChoiceAt S rows row level (Choose test onTrue onFalse)
     → BranchesFit rows row level test onTrue onFalse
@@ -86,10 +88,10 @@ pub level-small : {S : ℕ} {rows : List ℤ} {table : List ℕ} {row level : �
 level-small asked = omega (arith, asked .level-low, asked .inside, few-rows asked)
 
 module _ (S : ℕ) (rows : List ℤ) (row level : ℕ) where
-  pub straight : {s : ExpressionShape} → ExpressionAt rows row s → ((u : Use) → lastCode S (expressionTree rows s) u level ≡ straightCode S (expressionTree rows s) u level) → ChoiceAt S rows row level Straight
-  straight {s} f h = record { is = λ u. ap (λ (e : Expression). lastCode S e u level) (f .is) ∙ h u ∙ sym (ap (λ (e : Expression). straightCode S e u level) (f .is)); fits = tt }
+  pub straight : {s : ExpressionShape} → ExpressionAt rows row s → ((u : Use) → lastCode (calledIn rows) S (expressionTree rows s) u level ≡ straightCode (calledIn rows) S (expressionTree rows s) u level) → ChoiceAt S rows row level Straight
+  straight {s} f h = record { is = λ u. ap (λ (e : Expression). lastCode (calledIn rows) S e u level) (f .is) ∙ h u ∙ sym (ap (λ (e : Expression). straightCode (calledIn rows) S e u level) (f .is)); fits = tt }
 
-  operation-code : (o : OperationShape) (u : Use) → lastCode S (operationTree rows o) u level ≡ straightCode S (operationTree rows o) u level
+  operation-code : (o : OperationShape) (u : Use) → lastCode (calledIn rows) S (operationTree rows o) u level ≡ straightCode (calledIn rows) S (operationTree rows o) u level
   operation-code (Minus a) u = refl
   operation-code (Not a) u = refl
   operation-code (Binary operator a b) u = refl
@@ -102,20 +104,24 @@ module _ (S : ℕ) (rows : List ℤ) (row level : ℕ) where
   pub straight-operation : {o : OperationShape} → ExpressionAt rows row (Operation o) → ChoiceAt S rows row level Straight
   straight-operation {o} f = straight f (operation-code o)
 
+  -- no form has functions yet
+  pub straight-call : {f link : ℕ} → Source rows → row < rowCount rows → ExpressionAt rows row (expression.Call f link) → ChoiceAt S rows row level Straight
+  straight-call s inside f = absurd (no-call s row inside (f .is))
+
   abbrev branch : ℕ → End → Atom → Branch
   branch link end x = record { row = link; end = end; atom = x }
 
   -- ---- the code of a branch
 
-  some-code : (link : ℕ) → 0 < link → operandCode S (partAt rows link) wanted level ≡ expressionCode S (expressionAt rows link) wanted level
-  some-code link h = ap (λ p. operandCode S p wanted level) (part-some rows link h)
+  some-code : (link : ℕ) → 0 < link → operandCode (calledIn rows) S (partAt rows link) wanted level ≡ expressionCode (calledIn rows) S (expressionAt rows link) wanted level
+  some-code link h = ap (λ p. operandCode (calledIn rows) S p wanted level) (part-some rows link h)
 
   -- whether a value is not 0, into the temporary
   abbrev truth-of : Expression → Items
   truth-of value = assigning S (temporary S level) (binary NotEqual value (constant (pos 0))) none
 
   truth-code : (link : ℕ) (x : Atom) → 0 < link → AtomAt S rows link level x
-      → branchCode S rows (branch link Truth x) level ≡ expressionCode S (expressionAt rows link) wanted level ⧺ truth-of (atom S level (atomOf (expressionAt rows link)))
+      → branchCode S rows (branch link Truth x) level ≡ expressionCode (calledIn rows) S (expressionAt rows link) wanted level ⧺ truth-of (atom S level (atomOf (calledIn rows) (expressionAt rows link)))
   truth-code link x h a = ap₂ (λ (is : Items) (y : Expression). is ⧺ truth-of y) (some-code link h) (a .is)
 
   -- a number or a variable goes into the temporary; a value that is there already stays
@@ -130,8 +136,8 @@ module _ (S : ℕ) (rows : List ℤ) (row level : ℕ) where
   finish-rows top = refl
 
   value-code : (link : ℕ) (x : Atom) → 0 < link → AtomAt S rows link level x
-      → branchCode S rows (branch link (endOf (atomOf (expressionAt rows link))) x) level ≡ expressionCode S (expressionAt rows link) wanted level ⧺ copyCode S level (atomOf (expressionAt rows link))
-  value-code link x h a = ap₂ _⧺_ (some-code link h) (finish-copy x (atomOf (expressionAt rows link)) (a .is))
+      → branchCode S rows (branch link (endOf (atomOf (calledIn rows) (expressionAt rows link))) x) level ≡ expressionCode (calledIn rows) S (expressionAt rows link) wanted level ⧺ copyCode S level (atomOf (calledIn rows) (expressionAt rows link))
+  value-code link x h a = ap₂ _⧺_ (some-code link h) (finish-copy x (atomOf (calledIn rows) (expressionAt rows link)) (a .is))
 
   number-code : (v : ℤ) → branchCode S rows (numberBranch v) level ≡ assigning S (temporary S level) (constant v) none
   unfolding _⧺_
@@ -156,14 +162,14 @@ module _ (S : ℕ) (rows : List ℤ) (row level : ℕ) where
       atom-fits = tt;
     }
 
-    some-size : {link : ℕ} → Onward rows row link → operandSize (partAt rows link) wanted ≡ expressionSize (expressionAt rows link) wanted
-    some-size {link} o = ap (λ p. operandSize p wanted) (part-some rows link (omega (arith, o .later)))
+    some-size : {link : ℕ} → Onward rows row link → operandSize (calledIn rows) (partAt rows link) wanted ≡ expressionSize (calledIn rows) (expressionAt rows link) wanted
+    some-size {link} o = ap (λ p. operandSize (calledIn rows) p wanted) (part-some rows link (omega (arith, o .later)))
 
-    last-size : {s : ExpressionShape} → ExpressionAt rows row s → (u : Use) → lastSize (expressionAt rows row) u ≡ lastSize (expressionTree rows s) u
-    last-size f u = ap (λ (e : Expression). lastSize e u) (f .is)
+    last-size : {s : ExpressionShape} → ExpressionAt rows row s → (u : Use) → lastSize (calledIn rows) (expressionAt rows row) u ≡ lastSize (calledIn rows) (expressionTree rows s) u
+    last-size f u = ap (λ (e : Expression). lastSize (calledIn rows) e u) (f .is)
 
-    as-last : {s : ExpressionShape} (is : Items) → ExpressionAt rows row s → (u : Use) → lastCode S (expressionTree rows s) u level ≡ is → lastCode S (expressionAt rows row) u level ≡ is
-    as-last is f u h = ap (λ (e : Expression). lastCode S e u level) (f .is) ∙ h
+    as-last : {s : ExpressionShape} (is : Items) → ExpressionAt rows row s → (u : Use) → lastCode (calledIn rows) S (expressionTree rows s) u level ≡ is → lastCode (calledIn rows) S (expressionAt rows row) u level ≡ is
+    as-last is f u h = ap (λ (e : Expression). lastCode (calledIn rows) S e u level) (f .is) ∙ h
 
     ap₃ : {A B C D : Type 0} (f : A → B → C → D) {x x′ : A} {y y′ : B} {z z′ : C} → x ≡ x′ → y ≡ y′ → z ≡ z′ → f x y z ≡ f x′ y′ z′
     ap₃ f p q r = ap₂ (λ g w. g w) (ap₂ f p q) r
@@ -200,7 +206,7 @@ module _ (S : ℕ) (rows : List ℤ) (row level : ℕ) where
     })
 
     pub conditional-choice : {c a b : ℕ} {test x y : Atom} {yesEnd noEnd : End} → ExpressionAt rows row (expression.Choice (Conditional c a b)) → AtomAt S rows c level test
-        → yesEnd ≡ endOf (atomOf (expressionAt rows a)) → AtomAt S rows a level x → noEnd ≡ endOf (atomOf (expressionAt rows b)) → AtomAt S rows b level y
+        → yesEnd ≡ endOf (atomOf (calledIn rows) (expressionAt rows a)) → AtomAt S rows a level x → noEnd ≡ endOf (atomOf (calledIn rows) (expressionAt rows b)) → AtomAt S rows b level y
         → ChoiceAt S rows row level (Choose test (branch a yesEnd x) (branch b noEnd y))
     conditional-choice {c} {a} {b} {test} {x} {y} f t ea p eb q = rw (ea, eb) (record {
       is = λ u. as-last _ f u (sym (ap₃ if-of (t .is) (value-code a x (omega (arith, f .onward .1 .later)) p) (value-code b y (omega (arith, f .onward .2 .later)) q)));
@@ -210,6 +216,6 @@ module _ (S : ℕ) (rows : List ℤ) (row level : ℕ) where
         branch-fits (f .onward .2) (q .fits),
         (λ h. f .onward .1 .later),
         (λ h. f .onward .2 .later),
-        (λ u. last-size f u ∙ omega (arith, some-size (f .onward .1), some-size (f .onward .2), finish-rows (atomOf (expressionAt rows a)), finish-rows (atomOf (expressionAt rows b)))),
+        (λ u. last-size f u ∙ omega (arith, some-size (f .onward .1), some-size (f .onward .2), finish-rows (atomOf (calledIn rows) (expressionAt rows a)), finish-rows (atomOf (calledIn rows) (expressionAt rows b)))),
       );
     })

@@ -20,7 +20,7 @@ use Rattle.shapes.specs.Source.{Source}
 use Rattle.translation.specs.declared.Use.{Use}
 use Rattle.translation.specs.Translate.{atomOf, operandCode}
 use Rattle.translation.specs.HeldCode.{holdBy}
-use Rattle.measure_table.specs.Parts.{firstOperand, aboveFirst, firstCopied, secondUse, usePassed, UseFits, OwnAt}
+use Rattle.measure_table.specs.Parts.{calledIn, firstOperand, aboveFirst, firstCopied, secondUse, usePassed, UseFits, OwnAt}
 use Rattle.measure_table.specs.MeasureLaws.{passed-fits, size-parts, first-copied-most, own-copies}
 use Rattle.measure_table.specs.declared.Own.{Own}
 use Rattle.expression_measures.proofs.ExpressionLaws.{above-most}
@@ -48,7 +48,7 @@ module _ {S : ℕ} {rows : List ℤ} {table : List ℕ} {row : ℕ} {u : Use} {l
   pub source : Source rows
   source = asked .writing .measured .source
 
-  pub all-small : operandSize (partAt rows row) u ≤ 40980
+  pub all-small : operandSize (calledIn rows) (partAt rows row) u ≤ 40980
   all-small = omega (arith, asked .asks .room .low)
 
   pub row-low : row < 2048
@@ -59,7 +59,7 @@ module _ {S : ℕ} {rows : List ℤ} {table : List ℕ} {row : ℕ} {u : Use} {l
   -- `copied` is 1 where the value of the first one is copied; v is the use of the second one's.
   pub record OperandsFound (copied : ℕ) (operands : Own) (v : Use) : Type 0 where
     pub some : 0 < row
-    pub copied-is : copied ≡ firstCopied (expressionAt rows row)
+    pub copied-is : copied ≡ firstCopied (calledIn rows) (expressionAt rows row)
     pub at : OwnAt rows row operands
     pub passed : v ≡ usePassed (operands .passes) u
 
@@ -69,37 +69,37 @@ module _ {S : ℕ} {rows : List ℤ} {table : List ℕ} {row : ℕ} {u : Use} {l
   second-use = found .passed ∙ found .at .second-use u
 
   -- The rows of an expression are those of its operands, of the copy, and those behind them.
-  all-rows : operandSize (partAt rows row) u ≡ operandSize (partAt rows (operands .first)) (operands .«first_use») + 4 * copied + operandSize (partAt rows (operands .second)) v + lastSize (expressionAt rows row) u
+  all-rows : operandSize (calledIn rows) (partAt rows row) u ≡ operandSize (calledIn rows) (partAt rows (operands .first)) (operands .«first_use») + 4 * copied + operandSize (calledIn rows) (partAt rows (operands .second)) v + lastSize (calledIn rows) (expressionAt rows row) u
   all-rows =
-      let first = ap₂ operandSize (found .at .first .is) (found .at .first-use) in
-      let second = ap₂ operandSize (found .at .second .is) second-use in
-      omega (arith, ap (λ p. operandSize p u) (part-some rows row (found .some)), size-parts (expressionAt rows row) u, first, second, found .copied-is, own-copies (expressionAt rows row) u)
+      let first = ap₂ (operandSize (calledIn rows)) (found .at .first .is) (found .at .first-use) in
+      let second = ap₂ (operandSize (calledIn rows)) (found .at .second .is) second-use in
+      omega (arith, ap (λ p. operandSize (calledIn rows) p u) (part-some rows row (found .some)), size-parts (calledIn rows) (expressionAt rows row) u, first, second, found .copied-is, own-copies (calledIn rows) (expressionAt rows row) u)
 
   pub copied-most : copied ≤ 1
-  copied-most = omega (arith, found .copied-is, first-copied-most (expressionAt rows row))
+  copied-most = omega (arith, found .copied-is, first-copied-most (calledIn rows) (expressionAt rows row))
 
   pub first-inside : operands .first < rowCount rows
   first-inside = inside-of (operands .first) (source asked) (found .at .first .onward)
 
-  pub first-small : operandSize (partAt rows (operands .first)) (operands .«first_use») ≤ 40980
+  pub first-small : operandSize (calledIn rows) (partAt rows (operands .first)) (operands .«first_use») ≤ 40980
   first-small = omega (arith, all-rows, all-small asked)
 
   pub second-inside : operands .second < rowCount rows
   second-inside = inside-of (operands .second) (source asked) (found .at .second .onward)
 
-  pub second-small : operandSize (partAt rows (operands .second)) v ≤ 40980
+  pub second-small : operandSize (calledIn rows) (partAt rows (operands .second)) v ≤ 40980
   second-small = omega (arith, all-rows, all-small asked)
 
-  pub held-within : {firstRows : ℕ} → firstRows ≡ operandSize (partAt rows (operands .first)) (operands .«first_use») → firstRows + 4 * copied ≤ operandSize (partAt rows row) u
+  pub held-within : {firstRows : ℕ} → firstRows ≡ operandSize (calledIn rows) (partAt rows (operands .first)) (operands .«first_use») → firstRows + 4 * copied ≤ operandSize (calledIn rows) (partAt rows row) u
   held-within e = omega (arith, all-rows)
 
-  pub operands-within : {firstRows secondRows : ℕ} → firstRows ≡ operandSize (partAt rows (operands .first)) (operands .«first_use») → secondRows ≡ operandSize (partAt rows (operands .second)) v
-      → firstRows + 4 * copied + secondRows ≤ operandSize (partAt rows row) u
+  pub operands-within : {firstRows secondRows : ℕ} → firstRows ≡ operandSize (calledIn rows) (partAt rows (operands .first)) (operands .«first_use») → secondRows ≡ operandSize (calledIn rows) (partAt rows (operands .second)) v
+      → firstRows + 4 * copied + secondRows ≤ operandSize (calledIn rows) (partAt rows row) u
   operands-within e h = omega (arith, all-rows)
 
   -- The second operand is worked out at most one level higher, and no level passes its row.
-  pub above-low : {above : ℕ} → above ≡ aboveFirst (expressionAt rows row) → level + above ≤ row + 1
-  above-low e = omega (arith, above-most (expressionAt rows row), asked .asks .level-low (found .some))
+  pub above-low : {above : ℕ} → above ≡ aboveFirst (calledIn rows) (expressionAt rows row) → level + above ≤ row + 1
+  above-low e = omega (arith, above-most (calledIn rows) (expressionAt rows row), asked .asks .level-low (found .some))
 
   pub level-small : level ≤ 4096
   level-small = omega (arith, asked .asks .level-low (found .some), row-low asked)
@@ -121,10 +121,10 @@ module _ {S : ℕ} {rows : List ℤ} {table : List ℕ} {row : ℕ} {u : Use} {l
   -- ---- the sizes are known
 
   pub record ExpressionSizes (above firstRows secondRows allRows : ℕ) : Type 0 where
-    pub above-is : above ≡ aboveFirst (expressionAt rows row)
-    pub first-is : firstRows ≡ operandSize (partAt rows (operands .first)) (operands .«first_use»)
-    pub second-is : secondRows ≡ operandSize (partAt rows (operands .second)) v
-    pub all-is : allRows ≡ operandSize (partAt rows row) u
+    pub above-is : above ≡ aboveFirst (calledIn rows) (expressionAt rows row)
+    pub first-is : firstRows ≡ operandSize (calledIn rows) (partAt rows (operands .first)) (operands .«first_use»)
+    pub second-is : secondRows ≡ operandSize (calledIn rows) (partAt rows (operands .second)) v
+    pub all-is : allRows ≡ operandSize (calledIn rows) (partAt rows row) u
 
 module _ {S : ℕ} {rows : List ℤ} {table : List ℕ} {row : ℕ} {u : Use} {level base : ℕ} {out : List ℤ} {asked : ExpressionAsked S rows table row u level base out}
     {copied : ℕ} {operands : Own} {v : Use} {found : OperandsFound asked copied operands v} {above firstRows secondRows allRows : ℕ}
@@ -132,33 +132,33 @@ module _ {S : ℕ} {rows : List ℤ} {table : List ℕ} {row : ℕ} {u : Use} {l
   pub sizes-within : firstRows + 4 * copied + secondRows ≤ allRows
   sizes-within = omega (arith, all-rows found, sizes .first-is, sizes .second-is, sizes .all-is)
 
-  last-is : allRows - (firstRows + 4 * copied + secondRows) ≡ lastSize (expressionAt rows row) u
+  last-is : allRows - (firstRows + 4 * copied + secondRows) ≡ lastSize (calledIn rows) (expressionAt rows row) u
   last-is = omega (arith, all-rows found, sizes .first-is, sizes .second-is, sizes .all-is)
 
   -- The code of the four parts is the expression's.
-  code-is : ((operandCode S (partAt rows (operands .first)) (operands .«first_use») level ⧺ holdBy S level copied (atomOf (expressionAt rows (operands .first)))) ⧺ operandCode S (partAt rows (operands .second)) v (level + above)) ⧺ lastCode S (expressionAt rows row) u level
-      ≡ operandCode S (partAt rows row) u level
+  code-is : ((operandCode (calledIn rows) S (partAt rows (operands .first)) (operands .«first_use») level ⧺ holdBy S level copied (atomOf (calledIn rows) (expressionAt rows (operands .first)))) ⧺ operandCode (calledIn rows) S (partAt rows (operands .second)) v (level + above)) ⧺ lastCode (calledIn rows) S (expressionAt rows row) u level
+      ≡ operandCode (calledIn rows) S (partAt rows row) u level
   code-is =
       let e = expressionAt rows row in
-      let copy : holdBy S level copied (atomOf (expressionAt rows (operands .first))) ≡ waitCode S e level =
-      ap (λ (k : ℕ). holdBy S level k (atomOf (expressionAt rows (operands .first)))) (found .copied-is)
-      ∙ hold-part S level rows (operands .first) (firstOperand e) (firstCopied e) (found .at .first .is) (λ h. waits-some e rows (operands .first) h (found .at .first .is))
-      ∙ sym (wait-hold S e level) in
-      let first = ap₂ (λ p w. operandCode S p w level) (found .at .first .is) (found .at .first-use) in
-      let second = ap₂ (λ p w. operandCode S p w (level + above)) (found .at .second .is) (second-use found) in
+      let copy : holdBy S level copied (atomOf (calledIn rows) (expressionAt rows (operands .first))) ≡ waitCode (calledIn rows) S e level =
+      ap (λ (k : ℕ). holdBy S level k (atomOf (calledIn rows) (expressionAt rows (operands .first)))) (found .copied-is)
+      ∙ hold-part (calledIn rows) S level rows (operands .first) (firstOperand (calledIn rows) e) (firstCopied (calledIn rows) e) (found .at .first .is) (λ h. waits-some (calledIn rows) e rows (operands .first) h (found .at .first .is))
+      ∙ sym (wait-hold (calledIn rows) S e level) in
+      let first = ap₂ (λ p w. operandCode (calledIn rows) S p w level) (found .at .first .is) (found .at .first-use) in
+      let second = ap₂ (λ p w. operandCode (calledIn rows) S p w (level + above)) (found .at .second .is) (second-use found) in
       rw (copy, first, second, sizes .above-is)
-      (code-parts S e u level ∙ sym (ap (λ p. operandCode S p u level) (part-some rows row (found .some))))
+      (code-parts (calledIn rows) S e u level ∙ sym (ap (λ p. operandCode (calledIn rows) S p u level) (part-some rows row (found .some))))
 
   -- ---- the first operand is written
 
   pub record FirstOperand (more : Bool) (firstTable : List ℤ) : Type 0 where
-    pub table-is : firstTable ≡ over (emitItems more (operandCode S (partAt rows (operands .first)) (operands .«first_use») level) base) out
+    pub table-is : firstTable ≡ over (emitItems more (operandCode (calledIn rows) S (partAt rows (operands .first)) (operands .«first_use») level) base) out
 
 module _ {S : ℕ} {rows : List ℤ} {table : List ℕ} {row : ℕ} {u : Use} {level base : ℕ} {out : List ℤ} {asked : ExpressionAsked S rows table row u level base out}
     {copied : ℕ} {operands : Own} {v : Use} {found : OperandsFound asked copied operands v} {above firstRows secondRows allRows : ℕ}
     {sizes : ExpressionSizes found above firstRows secondRows allRows} {more : Bool} {firstTable : List ℤ} (written : FirstOperand sizes more firstTable) where
-  first-wrote : Wrote more (operandCode S (partAt rows (operands .first)) (operands .«first_use») level) base firstRows out firstTable
-  first-wrote = record { table = written .table-is; size = rows-operand S (partAt rows (operands .first)) (operands .«first_use») level ∙ sym (sizes .first-is) }
+  first-wrote : Wrote more (operandCode (calledIn rows) S (partAt rows (operands .first)) (operands .«first_use») level) base firstRows out firstTable
+  first-wrote = record { table = written .table-is; size = rows-operand (calledIn rows) S (partAt rows (operands .first)) (operands .«first_use») level ∙ sym (sizes .first-is) }
 
   pub first-reach : Reach firstRows base firstTable
   first-reach = put-reach 0 (wrote-put first-wrote) (asked .asks .room) (omega (arith, all-rows found, sizes .first-is))
@@ -170,16 +170,16 @@ module _ {S : ℕ} {rows : List ℤ} {table : List ℕ} {row : ℕ} {u : Use} {l
 
   pub record HeldFirst (held : Bool) (holdWords : List ℤ) : Type 0 where
     pub more-is : more ≡ moreRows held (4 * copied)
-    pub table-is : holdWords ≡ over (emitItems held (holdBy S level copied (atomOf (expressionAt rows (operands .first)))) (base + firstRows)) (part firstRows firstTable)
+    pub table-is : holdWords ≡ over (emitItems held (holdBy S level copied (atomOf (calledIn rows) (expressionAt rows (operands .first)))) (base + firstRows)) (part firstRows firstTable)
 
 module _ {S : ℕ} {rows : List ℤ} {table : List ℕ} {row : ℕ} {u : Use} {level base : ℕ} {out : List ℤ} {asked : ExpressionAsked S rows table row u level base out}
     {copied : ℕ} {operands : Own} {v : Use} {found : OperandsFound asked copied operands v} {above firstRows secondRows allRows : ℕ}
     {sizes : ExpressionSizes found above firstRows secondRows allRows} {more : Bool} {firstTable : List ℤ} {first : FirstOperand sizes more firstTable}
     {held : Bool} {holdWords : List ℤ} (written : HeldFirst first held holdWords) where
-  hold-wrote : Wrote held (holdBy S level copied (atomOf (expressionAt rows (operands .first)))) (base + firstRows) (4 * copied) (part firstRows firstTable) holdWords
-  hold-wrote = record { table = written .table-is; size = rows-hold S level copied (atomOf (expressionAt rows (operands .first))) (copied-most found) }
+  hold-wrote : Wrote held (holdBy S level copied (atomOf (calledIn rows) (expressionAt rows (operands .first)))) (base + firstRows) (4 * copied) (part firstRows firstTable) holdWords
+  hold-wrote = record { table = written .table-is; size = rows-hold S level copied (atomOf (calledIn rows) (expressionAt rows (operands .first))) (copied-most found) }
 
-  held-wrote : Wrote held (operandCode S (partAt rows (operands .first)) (operands .«first_use») level ⧺ holdBy S level copied (atomOf (expressionAt rows (operands .first))))
+  held-wrote : Wrote held (operandCode (calledIn rows) S (partAt rows (operands .first)) (operands .«first_use») level ⧺ holdBy S level copied (atomOf (calledIn rows) (expressionAt rows (operands .first))))
       base (firstRows + 4 * copied) out (back-in firstRows firstTable holdWords)
   held-wrote = wrote-next (rw (written .more-is) at (first-wrote first)) hold-wrote
 
@@ -199,7 +199,7 @@ module _ {S : ℕ} {rows : List ℤ} {table : List ℕ} {row : ℕ} {u : Use} {l
   pub record SecondOperand (then : Bool) (secondWords : List ℤ) : Type 0 where
     pub more-is : held ≡ moreRows then secondRows
     pub table-is : secondWords
-        ≡ over (emitItems then (operandCode S (partAt rows (operands .second)) v (level + above)) (base + (firstRows + 4 * copied))) (part (firstRows + 4 * copied) (back-in firstRows firstTable holdWords))
+        ≡ over (emitItems then (operandCode (calledIn rows) S (partAt rows (operands .second)) v (level + above)) (base + (firstRows + 4 * copied))) (part (firstRows + 4 * copied) (back-in firstRows firstTable holdWords))
 
 module _ {S : ℕ} {rows : List ℤ} {table : List ℕ} {row : ℕ} {u : Use} {level base : ℕ} {out : List ℤ} {asked : ExpressionAsked S rows table row u level base out}
     {copied : ℕ} {operands : Own} {v : Use} {found : OperandsFound asked copied operands v} {above firstRows secondRows allRows : ℕ}
@@ -211,10 +211,10 @@ module _ {S : ℕ} {rows : List ℤ} {table : List ℕ} {row : ℕ} {u : Use} {l
   abbrev operandsTable : List ℤ
   operandsTable = back-in (firstRows + 4 * copied) (back-in firstRows firstTable holdWords) secondWords
 
-  second-wrote : Wrote then (operandCode S (partAt rows (operands .second)) v (level + above)) (base + (firstRows + 4 * copied)) secondRows (part (firstRows + 4 * copied) (back-in firstRows firstTable holdWords)) secondWords
-  second-wrote = record { table = written .table-is; size = rows-operand S (partAt rows (operands .second)) v (level + above) ∙ sym (sizes .second-is) }
+  second-wrote : Wrote then (operandCode (calledIn rows) S (partAt rows (operands .second)) v (level + above)) (base + (firstRows + 4 * copied)) secondRows (part (firstRows + 4 * copied) (back-in firstRows firstTable holdWords)) secondWords
+  second-wrote = record { table = written .table-is; size = rows-operand (calledIn rows) S (partAt rows (operands .second)) v (level + above) ∙ sym (sizes .second-is) }
 
-  both-wrote : Wrote then ((operandCode S (partAt rows (operands .first)) (operands .«first_use») level ⧺ holdBy S level copied (atomOf (expressionAt rows (operands .first)))) ⧺ operandCode S (partAt rows (operands .second)) v (level + above))
+  both-wrote : Wrote then ((operandCode (calledIn rows) S (partAt rows (operands .first)) (operands .«first_use») level ⧺ holdBy S level copied (atomOf (calledIn rows) (expressionAt rows (operands .first)))) ⧺ operandCode (calledIn rows) S (partAt rows (operands .second)) v (level + above))
       base behind out operandsTable
   both-wrote = wrote-next (rw (written .more-is) at (held-wrote hold)) second-wrote
 
@@ -233,21 +233,21 @@ module _ {S : ℕ} {rows : List ℤ} {table : List ℕ} {row : ℕ} {u : Use} {l
 
   pub record LastPart (follows : Bool) (lastWords : List ℤ) : Type 0 where
     pub more-is : then ≡ moreRows follows (allRows - behind)
-    pub table-is : lastWords ≡ over (emitItems follows (lastCode S (expressionAt rows row) u level) (base + behind)) (part behind operandsTable)
+    pub table-is : lastWords ≡ over (emitItems follows (lastCode (calledIn rows) S (expressionAt rows row) u level) (base + behind)) (part behind operandsTable)
 
 module _ {S : ℕ} {rows : List ℤ} {table : List ℕ} {row : ℕ} {u : Use} {level base : ℕ} {out : List ℤ} {asked : ExpressionAsked S rows table row u level base out}
     {copied : ℕ} {operands : Own} {v : Use} {found : OperandsFound asked copied operands v} {above firstRows secondRows allRows : ℕ}
     {sizes : ExpressionSizes found above firstRows secondRows allRows} {more : Bool} {firstTable : List ℤ} {first : FirstOperand sizes more firstTable}
     {held : Bool} {holdWords : List ℤ} {hold : HeldFirst first held holdWords} {then : Bool} {secondWords : List ℤ} {second : SecondOperand hold then secondWords}
     {follows : Bool} {lastWords : List ℤ} (rest : LastPart second follows lastWords) where
-  last-wrote : Wrote follows (lastCode S (expressionAt rows row) u level) (base + behind second) (allRows - behind second) (part (behind second) (operandsTable second)) lastWords
-  last-wrote = record { table = rest .table-is; size = rows-last S (expressionAt rows row) u level ∙ sym (last-is sizes) }
+  last-wrote : Wrote follows (lastCode (calledIn rows) S (expressionAt rows row) u level) (base + behind second) (allRows - behind second) (part (behind second) (operandsTable second)) lastWords
+  last-wrote = record { table = rest .table-is; size = rows-last (calledIn rows) S (expressionAt rows row) u level ∙ sym (last-is sizes) }
 
-  all-wrote : Wrote follows (operandCode S (partAt rows row) u level) base (behind second + (allRows - behind second)) out (back-in (behind second) (operandsTable second) lastWords)
+  all-wrote : Wrote follows (operandCode (calledIn rows) S (partAt rows row) u level) base (behind second + (allRows - behind second)) out (back-in (behind second) (operandsTable second) lastWords)
   all-wrote = wrote-as _ (wrote-next (rw (rest .more-is) at (both-wrote second)) last-wrote) (code-is sizes)
 
   pub expression-length : length (back-in (behind second) (operandsTable second) lastWords) ≡ length out
   expression-length = put-length (wrote-put all-wrote) (omega (arith, sizes-within sizes, sizes .all-is, asked .asks .room .inside))
 
-  pub expression-written : back-in (behind second) (operandsTable second) lastWords ≡ over (emitItems follows (operandCode S (partAt rows row) u level) base) out
+  pub expression-written : back-in (behind second) (operandsTable second) lastWords ≡ over (emitItems follows (operandCode (calledIn rows) S (partAt rows row) u level) base) out
   expression-written = all-wrote .table

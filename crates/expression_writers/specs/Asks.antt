@@ -9,7 +9,7 @@ use Rattle.translation.specs.declared.Use.{Use}
 use Rattle.translation.specs.declared.Use.the-variants.{Wanted as wanted}
 use Rattle.translation.specs.Translate.{Atom as Held, number, word, top}
 use Rattle.translation.specs.TranslateSize.{operandSize}
-use Rattle.measure_table.specs.Parts.{UseFits}
+use Rattle.measure_table.specs.Parts.{calledIn, UseFits}
 use Rattle.leaves.specs.Room.{Room}
 use Rattle.leaves.specs.Atoms.{AtomFits}
 use Rattle.leaves.specs.Straight.{lastSize}
@@ -26,7 +26,7 @@ pub record OperandAsks (rows : List ℤ) (row : ℕ) (u : Use) (level base words
   pub inside : row < rowCount rows
   pub level-low : 0 < row → level ≤ row
   pub use-fits : UseFits u
-  pub room : Room (operandSize (partAt rows row) u) base words
+  pub room : Room (operandSize (calledIn rows) (partAt rows row) u) base words
 
 -- The rows of a branch: its block, its expression, its end.
 abbrev pub finishSize : End → ℕ
@@ -35,7 +35,7 @@ finishSize Copy = 4
 finishSize Stays = 0
 
 abbrev pub branchSize : List ℤ → Branch → ℕ
-branchSize rows branch = 1 + operandSize (partAt rows (branch .row)) wanted + finishSize (branch .end)
+branchSize rows branch = 1 + operandSize (calledIn rows) (partAt rows (branch .row)) wanted + finishSize (branch .end)
 
 -- How a branch of a conditional ends: a value that stands in the temporary stays.
 abbrev pub endOf : Held → End
@@ -54,11 +54,11 @@ abbrev pub ChoiceFits : List ℤ → ℕ → ℕ → Choice → Type 0
 ChoiceFits rows row level (Choose test onTrue onFalse) =
     AtomFits test × BranchFits rows onTrue level × BranchFits rows onFalse level
     × (0 < onTrue .row → row < onTrue .row) × (0 < onFalse .row → row < onFalse .row)
-    × ((u : Use) → lastSize (expressionAt rows row) u ≡ 2 + branchSize rows onTrue + branchSize rows onFalse)
+    × ((u : Use) → lastSize (calledIn rows) (expressionAt rows row) u ≡ 2 + branchSize rows onTrue + branchSize rows onFalse)
 ChoiceFits rows row level Straight = Unit {0}
 
 pub record ChoiceAt (S : ℕ) (rows : List ℤ) (row level : ℕ) (choice : Choice) : Type 0 where
-  pub is : (u : Use) → lastCode S (expressionAt rows row) u level ≡ chosenCode S rows choice (expressionAt rows row) u level
+  pub is : (u : Use) → lastCode (calledIn rows) S (expressionAt rows row) u level ≡ chosenCode S rows choice (expressionAt rows row) u level
   pub fits : ChoiceFits rows row level choice
 
 -- A branch that puts a number into the result's temporary.

@@ -22,6 +22,7 @@ ghost use Rattle.language.specs.Decode.{expressionAt};
 ghost use Rattle.translation.specs.Translate.{atomOf};
 ghost use Rattle.emission.specs.Emission.{emitItems};
 ghost use Rattle.measure_table.specs.Measures.{Measured};
+ghost use Rattle.measure_table.specs.Parts.{calledIn};
 ghost use Rattle.words.specs.Over.{over};
 ghost use Rattle.leaves.specs.Room.{Room};
 ghost use Rattle.leaves.specs.Atoms.{AtomFits};
@@ -43,7 +44,7 @@ fn number_branch(v: i32) -> Branch
 // How a branch of a conditional ends, by the value of the expression at a row: one in a temporary stays.
 fn end_at(rows: &[i32], table: &[usize], row: usize) -> End
     requires { ⌜ Measured (now rows) (now table) × (row < rowCount (now rows)) ⌝ }
-    ensures { λ r. ⌜ r ≡ endOf (atomOf (expressionAt (now (rows .entry)) row)) ⌝ }
+    ensures { λ r. ⌜ r ≡ endOf (atomOf (calledIn (now (rows .entry))) (expressionAt (now (rows .entry)) row)) ⌝ }
 {
     if taken_at(rows, table, row) == 1 {
         return End::Stays;
@@ -95,6 +96,8 @@ pub fn choice_at(rows: &[i32], table: &[usize], store: usize, row: usize, level:
                 Choice::Choose(test, yes, no)
             }
         },
+        // no form has functions yet
+        ExpressionShape::Call(_, _) => Choice::Straight,
     }
 }
 

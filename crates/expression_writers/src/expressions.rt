@@ -25,6 +25,7 @@ ghost use Rattle.language.specs.Trees.{block};
 ghost use Rattle.language.specs.Decode.{expressionAt, partAt};
 ghost use Rattle.translation.specs.Translate.{operandCode};
 ghost use Rattle.emission.specs.Emission.{emitStatement, emitItems};
+ghost use Rattle.measure_table.specs.Parts.{calledIn};
 ghost use Rattle.words.specs.Over.{over};
 ghost use Rattle.leaves.specs.Room.{Room};
 ghost use Rattle.leaves.specs.Atoms.{AtomFits};
@@ -45,7 +46,7 @@ pub fn write_expression(
     out: &mut [i32],
 )
     requires { ⌜ Writing (now rows) (now table) store × OperandAsks (now rows) row usage level base (length (now out)) ⌝ }
-    ensures { λ _. ⌜ now (out .exit) ≡ over (emitItems follows (operandCode store (partAt (now (rows .entry)) row) usage level) base) (now (out .entry)) ⌝ }
+    ensures { λ _. ⌜ now (out .exit) ≡ over (emitItems follows (operandCode (calledIn (now (rows .entry))) store (partAt (now (rows .entry)) row) usage level) base) (now (out .entry)) ⌝ }
 {
     if row == 0 {
         return;
@@ -124,7 +125,7 @@ fn write_last(
     out: &mut [i32],
 )
     requires { ⌜ Writing (now rows) (now table) store × LastAsks (now rows) row usage level base (length (now out)) ⌝ }
-    ensures { λ _. ⌜ now (out .exit) ≡ over (emitItems follows (lastCode store (expressionAt (now (rows .entry)) row) usage level) base) (now (out .entry)) ⌝ }
+    ensures { λ _. ⌜ now (out .exit) ≡ over (emitItems follows (lastCode (calledIn (now (rows .entry))) store (expressionAt (now (rows .entry)) row) usage level) base) (now (out .entry)) ⌝ }
 {
     let choice = choice_at(rows, table, store, row, level);
     match choice {

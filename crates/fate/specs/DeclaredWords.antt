@@ -15,11 +15,12 @@ use Rattle.computation.specs.RunLaws.{store-keeps-length}
 use Rattle.computation.specs.WritesMade.{stored, visible, made}
 use Rattle.language.specs.Decode.{decode}
 use Rattle.language.specs.Meaning.{Signal, exec}
-use Rattle.language.specs.Program.{tableProgram, runTableUnder}
+use Rattle.language.specs.Functions.{contextOf}
+use Rattle.language.specs.Program.{contents, tableProgram, runTableUnder}
 use Rattle.program_meaning.specs.Program.{resolvedRows, runUnder}
 use Rattle.renaming.specs.RenamingLaws.{itself}
 use Rattle.renaming.specs.Twin.{moved}
-use Rattle.translation_form.specs.TranslateBlind.{Shown, take-same}
+use Rattle.translation_form.specs.TemporariesHidden.{Shown, take-same}
 use Rattle.source_check.specs.Legal.{Legal}
 use Rattle.scoped_programs.specs.Accepted.{legal-independent}
 
@@ -36,7 +37,7 @@ module _ (header rows : List ℤ) (legal : Legal header rows) (store declared ot
   same-length : (limit : Limit) → length ((final (from limit others)) .store) ≡ length ((final (from limit declared)) .store)
   unfolding runUnder runTableUnder tableProgram
   same-length limit =
-      let program = exec (layoutOf Source header) (decode (resolvedRows Source header rows)) in
+      let program = exec (contextOf (layoutOf Source header) (contents (resolvedRows Source header rows))) (decode (resolvedRows Source header rows)) in
       store-keeps-length limit program (start (store ++ others)) ∙ length-append store others ∙ omega (arith, length-append store declared) ∙ sym (store-keeps-length limit program (start (store ++ declared)))
 
   -- "Whatever the D words held at the start": the same ending, the same first S words, the same count, under every limit.

@@ -23,25 +23,28 @@ use Rattle.computation.specs.WritesMade.{made}
 use Rattle.language.specs.Trees.{block, Items}
 use Rattle.language.specs.Decode.{decode}
 use Rattle.language.specs.Meaning.{Signal, exec}
+use Rattle.language.specs.Functions.{functionCount}
+use Rattle.language.specs.FunctionWrites.{functionsWrite}
+use Rattle.language.specs.PlainTables.{no-functions}
 use Rattle.language.specs.Program.{Finished, contents, finished, tableProgram, runTableUnder, runTable}
 use Rattle.program_meaning.specs.Program.{resolvedRows, runUnder, runProgram}
 use Rattle.language.specs.Sizes.{statementRows, statementDepth}
 use Rattle.language.specs.WellFormed.{SourceTree}
 use Rattle.translation.specs.Translate.{translate, temporaries}
-use Rattle.translation.specs.TranslatePreserves.{SameWords, SharedFate as TreesShareFate, translation-preserves}
+use Rattle.translation.specs.TranslatePreserves.{sourceProgram, kernelProgram, SameWords, SharedFate as TreesShareFate, translation-preserves}
 use Rattle.translation.specs.SameWrites.{SameWrites as TreesWriteAlike, translation-writes}
-use Rattle.translation_form.specs.TranslateBlind.{Shown, temporaries-hidden}
+use Rattle.translation_form.specs.TemporariesHidden.{Shown, temporaries-hidden}
 use Rattle.translation.specs.TranslateBounds.{rows-bound, temporaries-bound}
-use Rattle.translation.specs.Copies.{statementCopies, ownCopies, ownResults, total}
+use Rattle.translation.specs.Copies.{statementCopies, ownCopies, ownResults, programTotal}
 use Rattle.translation.specs.CopyLaws.{copies-exactly}
 use Rattle.translation_form.specs.TranslateKernel.{header-layout, header-declared, header-temporaries}
 use Rattle.emission.specs.EmissionLaws.{length-emit}
-use Rattle.emission_legal.specs.EmittedLegal.{translated-legal, translated-decodes}
+use Rattle.emission_legal.specs.EmittedLegal.{translated-legal, translated-decodes, translated-contents}
 use Rattle.source_check.specs.Legal.{Legal}
 use Rattle.source_check.specs.AcceptsLegal.{accepts-legal as source-accepts}
 use Rattle.source_check.specs.DeclarationLaws.{legal-declarations}
 use Rattle.kernel_check.specs.Accepts.{accepts-legal as kernel-accepts}
-use Rattle.accepted.specs.Resolved.{table-block, table-tree, table-rows, table-depth}
+use Rattle.accepted.specs.Resolved.{table-sound, table-block, table-tree, table-rows, table-depth}
 use Rattle.fate.specs.Fate.{SourceEnds, KernelEnds, SharedFate}
 use Rattle.fate.specs.SameWrites.{SameWrites}
 use Rattle.fate.specs.Views.{DispatcherView, dispatcherView, HidesTemporaries}
@@ -98,6 +101,10 @@ module _ (header rows : List ℤ) (legal : Legal header rows) where
   shallow : statementDepth (block program) ≤ 64
   shallow = table-depth header rows legal
 
+  -- no form has functions yet
+  none-defined : functionCount program ≡ 0
+  none-defined = no-functions (resolvedRows Source header rows) (table-sound header rows legal .whole) (table-sound header rows legal .no-function)
+
   -- ---- the kernel's tables say the translation
 
   kernel-layout : layoutOf Kernel (kernelHeaderOf header rows) ≡ L
@@ -118,7 +125,11 @@ module _ (header rows : List ℤ) (legal : Legal header rows) where
 
   kernel-tree : decode (kernelRowsOf header rows) ≡ block (translate first program)
   unfolding kernelRowsOf
-  kernel-tree = rw (source-store header rows) (translated-decodes header program (legal .header-fits) few shallow (declarationCount rows) declared (table-tree header rows legal))
+  kernel-tree = rw (source-store header rows) (translated-decodes header program (legal .header-fits) few shallow (declarationCount rows) declared (table-tree header rows legal) none-defined)
+
+  kernel-contents : contents (kernelRowsOf header rows) ≡ translate first program
+  unfolding kernelRowsOf
+  kernel-contents = rw (source-store header rows) (translated-contents header program (legal .header-fits) few shallow (declarationCount rows) declared (table-tree header rows legal) none-defined)
 
   kernel-rows : rowCount (kernelRowsOf header rows) ≡ statementRows (block (translate first program))
   unfolding kernelRowsOf
@@ -134,10 +145,10 @@ module _ (header rows : List ℤ) (legal : Legal header rows) where
     tree-writes = translation-writes L first inside program store temporaryWords tree all-words (omega (arith, kernel-temporaries))
 
     abbrev source : ℕ → Result Signal
-    source b = run (steps b) (exec L (block program)) (start store)
+    source b = run (steps b) (sourceProgram L program) (start store)
 
     abbrev kernel : ℕ → Result Signal
-    kernel d = run (steps d) (exec L (block (translate first program))) (start (store ++ temporaryWords))
+    kernel d = run (steps d) (kernelProgram L first program) (start (store ++ temporaryWords))
 
     source-under : (b : ℕ) → runUnder (steps b) Source header rows store ≡ source b
     unfolding runUnder runTableUnder tableProgram
@@ -145,7 +156,7 @@ module _ (header rows : List ℤ) (legal : Legal header rows) where
 
     kernel-under : (d : ℕ) → runUnder (steps d) Kernel (kernelHeaderOf header rows) (kernelRowsOf header rows) (store ++ temporaryWords) ≡ kernel d
     unfolding runUnder runTableUnder tableProgram
-    kernel-under d = rw (kernel-layout, kernel-tree)
+    kernel-under d = rw (kernel-layout, kernel-tree, kernel-contents)
 
     kernel-run : (d : ℕ) → runProgram Kernel (kernelHeaderOf header rows) (kernelRowsOf header rows) d (store ++ temporaryWords) ≡ finished (kernel d)
     unfolding runTable runUnder runProgram
@@ -155,7 +166,7 @@ module _ (header rows : List ℤ) (legal : Legal header rows) where
     cells : (b d : ℕ) → SameWords (statementRows (block (translate first program))) (length temporaryWords) (final (source b)) (final (kernel d))
         → take (storeSize L) ((final (kernel d)) .store) ≡ take (storeSize L) ((final (source b)) .store)
     cells b d w =
-        let keeps : length ((final (source b)) .store) ≡ first = store-keeps-length (steps b) (exec L (block program)) (start store) ∙ all-words in
+        let keeps : length ((final (source b)) .store) ≡ first = store-keeps-length (steps b) (sourceProgram L program) (start store) ∙ all-words in
         sym (take-take (storeSize L) first ((final (kernel d)) .store) inside) ∙ ap (λ (words : List ℤ). take (storeSize L) (take first words)) (w .same-words)
         ∙ ap (take (storeSize L)) (take-at ((final (source b)) .store) (w .left) first keeps)
 
@@ -213,16 +224,16 @@ module _ (header rows : List ℤ) (legal : Legal header rows) where
     kernel-settled : (d : ℕ) → ((runProgram Kernel K R d (store ++ (kernelDeclared ++ temporaryWords))) .ending ≡ Spent → ⊥) → Settled (kernelOn d)
     kernel-settled d e = ends-settled (kernelOn d) (rw (kernel-on d) at e)
 
-    source-ends : SourceEnds header rows K R store declaredWords kernelDeclared temporaryWords → Ends (exec L (block program)) (start common)
+    source-ends : SourceEnds header rows K R store declaredWords kernelDeclared temporaryWords → Ends (sourceProgram L program) (start common)
     source-ends e = record { budget = e .budget; settled = source-settled (e .budget) (e .ends) }
 
-    ends-source : Ends (exec L (block program)) (start common) → SourceEnds header rows K R store declaredWords kernelDeclared temporaryWords
+    ends-source : Ends (sourceProgram L program) (start common) → SourceEnds header rows K R store declaredWords kernelDeclared temporaryWords
     ends-source e = record { budget = e .budget; ends = rw (source-ending (e .budget)) (settled-ends (sourceOn (e .budget)) (e .settled)) }
 
-    kernel-ends : KernelEnds header rows K R store declaredWords kernelDeclared temporaryWords → Ends (exec L (block (translate first program))) (start (common ++ temporaryWords))
+    kernel-ends : KernelEnds header rows K R store declaredWords kernelDeclared temporaryWords → Ends (kernelProgram L first program) (start (common ++ temporaryWords))
     kernel-ends e = record { budget = e .budget; settled = kernel-settled (e .budget) (e .ends) }
 
-    ends-kernel : Ends (exec L (block (translate first program))) (start (common ++ temporaryWords)) → KernelEnds header rows K R store declaredWords kernelDeclared temporaryWords
+    ends-kernel : Ends (kernelProgram L first program) (start (common ++ temporaryWords)) → KernelEnds header rows K R store declaredWords kernelDeclared temporaryWords
     ends-kernel e = record { budget = e .budget; ends = rw (kernel-on (e .budget)) (settled-ends (kernelOn (e .budget)) (e .settled)) }
 
     shared-fate : SharedFate header rows K R store declaredWords kernelDeclared temporaryWords
@@ -253,14 +264,14 @@ module _ (header rows : List ℤ) (legal : Legal header rows) where
       let h = temporaries-hidden L first inside program tree store all-words (steps budget) temporaryWords others (omega (arith, are, others-are)) in
       rw (kernel-run store temporaryWords all-words are budget, kernel-run store others all-words others-are budget, kernel-layout) (same-view (storeSize L) first inside _ _ h)
 
-  copies-allowed : statementCopies first (decode (kernelRowsOf header rows)) ≡ total ownCopies program + total ownResults program
+  copies-allowed : statementCopies first (decode (kernelRowsOf header rows)) ≡ programTotal (ownCopies (functionsWrite program)) program + programTotal (ownResults (functionsWrite program)) program
   unfolding statementCopies storeSize
   copies-allowed = ap (statementCopies first) kernel-tree ∙ copies-exactly L first program tree
 
   kernel-form-of : KernelFormOf header rows (kernelHeaderOf header rows) (kernelRowsOf header rows)
   unfolding kernelHeaderOf kernelRowsOf
   kernel-form-of = record {
-    accepted = kernel-accepts (kernelHeaderOf header rows) (kernelRowsOf header rows) .1 (rw (source-store header rows) (translated-legal header program (legal .header-fits) few shallow (declarationCount rows) declared (table-tree header rows legal)));
+    accepted = kernel-accepts (kernelHeaderOf header rows) (kernelRowsOf header rows) .1 (rw (source-store header rows) (translated-legal header program (legal .header-fits) few shallow (declarationCount rows) declared (table-tree header rows legal) none-defined));
     share-fate = λ store own others temporaryWords s d k t. shared-fate store own others temporaryWords s d k t;
     write-alike = λ store own others temporaryWords s d k t. same-writes store own others temporaryWords s d k t;
     hides-temporaries = hides-temporaries;

@@ -13,10 +13,11 @@ use Rattle.language.specs.Decode.{decode}
 use Rattle.language.specs.Program.{contents}
 use Rattle.program_meaning.specs.Program.{resolvedRows}
 use Rattle.translation.specs.Translate.{translate, temporaries, kernelHeader}
-use Rattle.translation.specs.Copies.{statementCopies, ownCopies, ownResults, total}
+use Rattle.translation.specs.Copies.{statementCopies, ownCopies, ownResults, programTotal}
 use Rattle.emission.specs.Emission.{emit}
 use Rattle.source_check.specs.Refusal.{refusal as sourceRefusal}
 use Rattle.kernel_check.specs.Refusal.{refusal as kernelRefusal}
+use Rattle.language.specs.FunctionWrites.{functionsWrite}
 use Rattle.fate.specs.Fate.{ShareFate}
 use Rattle.fate.specs.SameWrites.{WriteAlike}
 use Rattle.fate.specs.Views.{HidesTemporaries}
@@ -45,7 +46,8 @@ pub record KernelFormOf (header rows kernelHeader kernelRows : List ℤ) : Type 
   -- Change 1: "A variable used as an operand, index, test or selector is copied only if something evaluated after it, and before its use,
   -- can write that variable": the kernel's statements that move a variable into a temporary are those copies and the results.
   pub copies-allowed : statementCopies (storeWords Source header rows) (decode kernelRows)
-      ≡ total ownCopies (contents (resolvedRows Source header rows)) + total ownResults (contents (resolvedRows Source header rows))
+      ≡ programTotal (ownCopies (functionsWrite (contents (resolvedRows Source header rows)))) (contents (resolvedRows Source header rows))
+      + programTotal (ownResults (functionsWrite (contents (resolvedRows Source header rows)))) (contents (resolvedRows Source header rows))
 
 -- What holds of every source program that the check accepts.
 abbrev pub HasKernelForm : List ℤ → List ℤ → Type 0

@@ -11,8 +11,9 @@ use lib.ListN.{length}
 use borrow.Author.Tests.{eq-eqb}
 use Rattle.words.specs.Word.{pick}
 use Rattle.words.specs.Layout.{Layout}
-use Rattle.language.specs.Trees.{label, case, default, Statement, empty, express, block, ifThen, ifElse, while, doWhile, for, switch, break, continue, goto, guardedIf, guardedDo, abort, declare, Items, none, _then_, _here_}
-use Rattle.translation.specs.KernelForm.{markTimes, statementTimes, itemsTimes, KernelStatement, kernel-empty, kernel-assign, kernel-block, kernel-if, kernel-while, kernel-goto, kernel-abort, KernelItems, kernel-none, kernel-then, kernel-label}
+use Rattle.language.specs.Trees.{label, case, default, Statement, empty, express, block, ifThen, ifElse, while, doWhile, for, switch, break, continue, goto, guardedIf, guardedDo, abort, declare, Items, none, _then_, _here_, giveBack, define}
+use Rattle.language.specs.Calls.{ItemsCallBelow}
+use Rattle.translation.specs.KernelForm.{markTimes, statementTimes, itemsTimes, KernelStatement, kernel-empty, kernel-assign, kernel-block, kernel-if, kernel-while, kernel-goto, kernel-abort, kernel-return, KernelItems, kernel-none, kernel-then, kernel-label}
 use Rattle.flat.specs.Lines.{Line, nextAt}
 use Rattle.flat_fate.specs.Stands.{StandsItems}
 use Rattle.flat_fate.specs.Code.{operandOf, always, statementLines, itemsLines, itemsCode}
@@ -40,6 +41,7 @@ unfoldable mutual
   statementAddress l (guardedDo arms) i other = other
   statementAddress l abort i other = other
   statementAddress l (declare word e) i other = other
+  statementAddress l (giveBack value) i other = other
 
   pub itemsAddress : ℕ → Items → ℕ → ℕ → ℕ
   itemsAddress l none i other = other
@@ -47,6 +49,7 @@ unfoldable mutual
   itemsAddress l (case v here is) i other = itemsAddress l is i other
   itemsAddress l (default here is) i other = itemsAddress l is i other
   itemsAddress l (label k here is) i other = itemsAddress l is i (pick (eqb l k) i other)
+  itemsAddress l (define f words body is) i other = itemsAddress l is i other
 
 label-absent : (l k i other : ℕ) → markTimes l (label k) ≡ 0 → pick (eqb l k) i other ≡ other
 label-absent l k i other h = go (eqb l k) h
@@ -58,7 +61,7 @@ label-absent l k i other h = go (eqb l k) h
 mutual
   unfolding statementAddress statementTimes statementLines
 
-  statement-absent : {ahead : Items} {s : Statement} → KernelStatement ahead s → (l i other : ℕ) → statementTimes l s ≡ 0 → statementAddress l s i other ≡ other
+  statement-absent : {mayReturn : Bool} {ahead : Items} {s : Statement} → KernelStatement mayReturn ahead s → (l i other : ℕ) → statementTimes l s ≡ 0 → statementAddress l s i other ≡ other
   statement-absent kernel-empty l i other h = refl
   statement-absent (kernel-assign a) l i other h = refl
   statement-absent (kernel-block k) l i other h = items-absent k l i other h
@@ -67,8 +70,9 @@ mutual
   statement-absent (kernel-while {e = e} a k) l i other h = items-absent k l (bodyAt (always (operandOf e)) i) other h
   statement-absent (kernel-goto b c) l i other h = refl
   statement-absent kernel-abort l i other h = refl
+  statement-absent (kernel-return a) l i other h = refl
 
-  items-absent : {ahead is : Items} → KernelItems ahead is → (l i other : ℕ) → itemsTimes l is ≡ 0 → itemsAddress l is i other ≡ other
+  items-absent : {mayReturn : Bool} {ahead is : Items} → KernelItems mayReturn ahead is → (l i other : ℕ) → itemsTimes l is ≡ 0 → itemsAddress l is i other ≡ other
   items-absent kernel-none l i other h = refl
   items-absent (kernel-then {is = is} {s = s} k ks) l i other h = items-absent ks l (i + statementLines s) _ (omega arith) ∙ statement-absent k l i other (omega arith)
   items-absent (kernel-label {is = is} {l = k} b ks) l i other h =
@@ -87,7 +91,7 @@ module _ (L : Layout) (lines : List Line) (address : ℕ → ℕ) where
   mutual
     unfolding statementAddress statementTimes Addressed statementLines
 
-    statement-addressed : {ahead : Items} {s : Statement} → KernelStatement ahead s → (i : ℕ) (other : ℕ → ℕ) → ((l : ℕ) → statementTimes l s ≤ 1) → ((l : ℕ) → 1 ≤ statementTimes l s → address l ≡ statementAddress l s i (other l))
+    statement-addressed : {mayReturn : Bool} {ahead : Items} {s : Statement} → KernelStatement mayReturn ahead s → (i : ℕ) (other : ℕ → ℕ) → ((l : ℕ) → statementTimes l s ≤ 1) → ((l : ℕ) → 1 ≤ statementTimes l s → address l ≡ statementAddress l s i (other l))
         → Addressed L lines address s i
     statement-addressed kernel-empty i other once f = tt
     statement-addressed (kernel-assign a) i other once f = tt
@@ -101,8 +105,9 @@ module _ (L : Layout) (lines : List Line) (address : ℕ → ℕ) where
     statement-addressed (kernel-while {e = e} a k) i other once f = items-addressed k (bodyAt (always (operandOf e)) i) other once f
     statement-addressed (kernel-goto b c) i other once f = tt
     statement-addressed kernel-abort i other once f = tt
+    statement-addressed (kernel-return a) i other once f = tt
 
-    pub items-addressed : {ahead is : Items} → KernelItems ahead is → (i : ℕ) (other : ℕ → ℕ) → ((l : ℕ) → itemsTimes l is ≤ 1) → ((l : ℕ) → 1 ≤ itemsTimes l is → address l ≡ itemsAddress l is i (other l))
+    pub items-addressed : {mayReturn : Bool} {ahead is : Items} → KernelItems mayReturn ahead is → (i : ℕ) (other : ℕ → ℕ) → ((l : ℕ) → itemsTimes l is ≤ 1) → ((l : ℕ) → 1 ≤ itemsTimes l is → address l ≡ itemsAddress l is i (other l))
         → AddressedItems L lines address is i
     items-addressed kernel-none i other once f = tt
     items-addressed (kernel-then {is = is} {s = s} k ks) i other once f = (
@@ -131,7 +136,7 @@ addressIn contents l = itemsAddress l contents 0 0
 unfoldable pub flatOf : Items → List Line
 flatOf contents = itemsCode (addressIn contents) contents 0
 
-module _ (L : Layout) (contents : Items) (form : KernelItems none contents) (once : (l : ℕ) → itemsTimes l contents ≤ 1) where
+module _ (L : Layout) (contents : Items) (form : KernelItems false none contents) (arity : ℕ → ℕ) (calls : ItemsCallBelow arity 0 contents) (once : (l : ℕ) → itemsTimes l contents ≤ 1) where
   own-lines : Has L (flatOf contents) (addressIn contents) 0 (flatOf contents)
   own-lines = has-lines L (flatOf contents) (addressIn contents) 0 (flatOf contents) (λ j k s. let e : 0 + j ≡ j = omega arith in ap (λ (n : ℕ). nextAt L (flatOf contents) n k s) e)
 
@@ -145,7 +150,7 @@ module _ (L : Layout) (contents : Items) (form : KernelItems none contents) (onc
   flat-stands =
       let e : 0 + itemsLines contents ≡ length (flatOf contents) = omega (arith, flat-size) in
       subst (λ (j : ℕ). StandsItems L (flatOf contents) (addressIn contents) 0 contents j) e
-      (items-stands L (flatOf contents) (addressIn contents) form 0 (items-addressed L (flatOf contents) (addressIn contents) form 0 (λ l. 0) once (λ l h. refl)) own-lines)
+      (items-stands L (flatOf contents) (addressIn contents) arity form refl calls 0 (items-addressed L (flatOf contents) (addressIn contents) form 0 (λ l. 0) once (λ l h. refl)) own-lines)
 
   -- Every kernel program shares its fate with its flat list, whatever the store holds.
   pub flat-shares-fate : (store : List ℤ) → FlatFate L (flatOf contents) (addressIn contents) contents flat-stands form store

@@ -1,11 +1,11 @@
 -- Code: the flat list of a kernel tree, and its exact size. An operation, a goto, an abort and a loop's way back have one line each; a test has one
--- where it is needed; empty statements, blocks and labels have none.
+-- where it is needed; empty statements, blocks and labels have none. "The flat list refuses functions": of a program with functions nothing is said.
 use mathlib.Core.Bool.{Bool, true, false}
 use mathlib.Core.List.{List, [], _∷_, _++_}
 use Prim.Native.Nat.{ℕ, zero, suc, _+_}
 use lib.IntN.{pos}
 use Rattle.arithmetic.specs.Arithmetic.{isTrue}
-use Rattle.language.specs.Trees.{Expression, constant, read, minus, not, binary, and, or, comma, conditional, assign, compound, prefix, postfix, Place, variable, element, Statement, empty, express, block, ifThen, ifElse, while, doWhile, for, switch, break, continue, goto, guardedIf, guardedDo, abort, declare, Items, none, _then_, _here_}
+use Rattle.language.specs.Trees.{Expression, constant, read, minus, not, binary, and, or, comma, conditional, assign, compound, prefix, postfix, Place, variable, element, Statement, empty, express, block, ifThen, ifElse, while, doWhile, for, switch, break, continue, goto, guardedIf, guardedDo, abort, declare, Items, none, _then_, _here_, call, giveBack, define}
 use Rattle.flat.specs.Lines.{Operand, number, word, Operation, copy, minus as negate, operate, fetch, put, Line, does, jump, jumpZero, jumpOther, abort as abortLine}
 
 -- An atom; every other expression is none.
@@ -27,6 +27,7 @@ operandOf (assign p e) = number (pos 0)
 operandOf (compound o p e) = number (pos 0)
 operandOf (prefix o p) = number (pos 0)
 operandOf (postfix o p) = number (pos 0)
+operandOf (call f arguments) = number (pos 0)
 
 -- What is read into the variable i.
 abbrev pub reading : ℕ → Place → Operation
@@ -48,6 +49,7 @@ assigned i (assign p e) = copy i (number (pos 0))
 assigned i (compound o p e) = copy i (number (pos 0))
 assigned i (prefix o p) = copy i (number (pos 0))
 assigned i (postfix o p) = copy i (number (pos 0))
+assigned i (call f arguments) = copy i (number (pos 0))
 
 abbrev pub assigning : Place → Expression → Operation
 assigning (variable i) e = assigned i e
@@ -67,6 +69,7 @@ operationOf (conditional c a b) = copy 0 (number (pos 0))
 operationOf (compound o p e) = copy 0 (number (pos 0))
 operationOf (prefix o p) = copy 0 (number (pos 0))
 operationOf (postfix o p) = copy 0 (number (pos 0))
+operationOf (call f arguments) = copy 0 (number (pos 0))
 
 -- A test that always holds has no line.
 abbrev pub always : Operand → Bool
@@ -105,11 +108,13 @@ unfoldable mutual
   statementLines (guardedDo arms) = 0
   statementLines abort = 1
   statementLines (declare i e) = 0
+  statementLines (giveBack value) = 0
 
   pub itemsLines : Items → ℕ
   itemsLines none = 0
   itemsLines (s then is) = statementLines s + itemsLines is
   itemsLines (m here is) = itemsLines is
+  itemsLines (define f words body is) = itemsLines is
 
 -- ---- code
 
@@ -143,8 +148,10 @@ module _ (address : ℕ → ℕ) where
     statementCode (guardedDo arms) i = []
     statementCode abort i = abortLine ∷ []
     statementCode (declare j e) i = []
+    statementCode (giveBack value) i = []
 
     pub itemsCode : Items → ℕ → List Line
     itemsCode none i = []
     itemsCode (s then is) i = statementCode s i ++ itemsCode is (i + statementLines s)
     itemsCode (m here is) i = itemsCode is i
+    itemsCode (define f words body is) i = itemsCode is i

@@ -16,9 +16,12 @@ use Rattle.words.specs.Laws.{or-right}
 use Rattle.words.specs.declared.Form.the-variants.{Kernel}
 use Rattle.row_fields.specs.Fields.{boundsOf, boundsIn, numberFits}
 use Rattle.row_fields.specs.declared.Bounds.{Bounds}
-use Rattle.language.specs.Trees.{Expression, Statement, Items, _then_, _here_}
+use Rattle.language.specs.Trees.{Expression, Statement, Items, _then_, _here_, none}
 use Rattle.language.specs.WellFormed.{NamedExpression, NamedStatement, NamedItems}
-use Rattle.translation.specs.KernelForm.{IsAtom, constant-atom, variable-atom, Assigns, assigns-atom, assigns-minus, assigns-operation, assigns-element, assigns-to-element, KernelStatement, kernel-empty, kernel-assign, kernel-block, kernel-if, kernel-while, kernel-goto, kernel-abort, KernelItems, kernel-none, kernel-then, kernel-label, KernelName, name-variable, name-temporary, KernelTree}
+use Rattle.language.specs.Functions.{functionCount}
+use Rattle.language.specs.Calls.{arityIn}
+use Rattle.translation.specs.PlainKernel.{plain-kernel}
+use Rattle.translation.specs.KernelForm.{IsAtom, constant-atom, variable-atom, Assigns, assigns-atom, assigns-minus, assigns-operation, assigns-element, assigns-call, assigns-to-element, KernelStatement, kernel-empty, kernel-assign, kernel-block, kernel-if, kernel-while, kernel-goto, kernel-abort, kernel-return, KernelItems, kernel-none, kernel-then, kernel-label, KernelName, name-variable, name-temporary, KernelTree}
 use Rattle.flat.specs.Lines.{Operand, Line, jump}
 use Rattle.flat.specs.Words.{lineParts, fiveWords, lineCount}
 use Rattle.flat.specs.Legal.{NamesVariable, NamesArray, WithinOperand, WithinOperation, Within, LegalLine, LegalFlat}
@@ -54,7 +57,7 @@ module _ (l most : ℕ) where
   mutual
     unfolding statementAddress statementLines
 
-    statement-address : {ahead : Items} {s : Statement} → KernelStatement ahead s → (i other : ℕ) → i + statementLines s ≤ most → other ≤ most → statementAddress l s i other ≤ most
+    statement-address : {mayReturn : Bool} {ahead : Items} {s : Statement} → KernelStatement mayReturn ahead s → (i other : ℕ) → i + statementLines s ≤ most → other ≤ most → statementAddress l s i other ≤ most
     statement-address kernel-empty i other h k = k
     statement-address (kernel-assign a) i other h k = k
     statement-address (kernel-block is) i other h k = items-address is i other h k
@@ -65,8 +68,9 @@ module _ (l most : ℕ) where
     statement-address (kernel-while {body = body} {e} a is) i other h k = items-address is (bodyAt (always (operandOf e)) i) other (omega (arith, while-body (always (operandOf e)) (itemsLines body) i)) k
     statement-address (kernel-goto b c) i other h k = k
     statement-address kernel-abort i other h k = k
+    statement-address (kernel-return a) i other h k = k
 
-    items-address : {ahead is : Items} → KernelItems ahead is → (i other : ℕ) → i + itemsLines is ≤ most → other ≤ most → itemsAddress l is i other ≤ most
+    items-address : {mayReturn : Bool} {ahead is : Items} → KernelItems mayReturn ahead is → (i other : ℕ) → i + itemsLines is ≤ most → other ≤ most → itemsAddress l is i other ≤ most
     items-address kernel-none i other h k = k
     items-address (kernel-then {is = is} {s = s} a rest) i other h k = items-address rest (i + statementLines s) _ (omega arith) (statement-address a i other (omega arith) k)
     items-address (kernel-label {l = m} b rest) i other h k = items-address rest i _ h (label-most (eqb l m) i other most (omega arith) k)
@@ -96,6 +100,7 @@ module _ (bounds : Bounds) (Names : ℕ → Type 0) (arrays : ℕ) (names : (i :
   operation-within (assigns-minus a) n = (names _ (n .0), operand-within a (n .1))
   operation-within (assigns-operation a b) n = (names _ (n .0), operand-within a (n .1 .0), operand-within b (n .1 .1))
   operation-within (assigns-element a) n = (names _ (n .0), fits _ (n .1 .0), operand-within a (n .1 .1))
+  operation-within (assigns-call a) n = (names _ (n .0), tt)
   operation-within (assigns-to-element a b) n = (fits _ (n .0 .0), operand-within a (n .0 .1), operand-within b (n .1))
 
   module _ (lines : ℕ) where
@@ -118,7 +123,7 @@ module _ (bounds : Bounds) (Names : ℕ → Type 0) (arrays : ℕ) (names : (i :
       mutual
         unfolding statementCode statementLines NamedStatement
 
-        statement-within : {ahead : Items} {s : Statement} → KernelStatement ahead s → NamedStatement Names arrays s → (i : ℕ) → i + statementLines s ≤ lines → All W (statementCode address s i)
+        statement-within : {mayReturn : Bool} {ahead : Items} {s : Statement} → KernelStatement mayReturn ahead s → NamedStatement Names arrays s → (i : ℕ) → i + statementLines s ≤ lines → All W (statementCode address s i)
         statement-within kernel-empty n i h = tt
         statement-within (kernel-assign a) n i h = (operation-within a n, tt)
         statement-within (kernel-block k) n i h = items-within k n i h
@@ -128,8 +133,9 @@ module _ (bounds : Bounds) (Names : ℕ → Type 0) (arrays : ℕ) (names : (i :
             while-within (always (operandOf e)) (operandOf e) (itemsLines body) i _ (operand-within a (n .0)) h (λ j k. items-within is (n .1) j k)
         statement-within (kernel-goto {l = l} b c) n i h = (inside l, tt)
         statement-within kernel-abort n i h = (tt, tt)
+        statement-within (kernel-return a) n i h = tt
 
-        items-within : {ahead is : Items} → KernelItems ahead is → NamedItems Names arrays is → (i : ℕ) → i + itemsLines is ≤ lines → All W (itemsCode address is i)
+        items-within : {mayReturn : Bool} {ahead is : Items} → KernelItems mayReturn ahead is → NamedItems Names arrays is → (i : ℕ) → i + itemsLines is ≤ lines → All W (itemsCode address is i)
         items-within kernel-none n i h = tt
         items-within (kernel-then {is = is} {s = s} k ks) n i h =
             all-append W (statementCode address s i) (itemsCode address is (i + statementLines s)) (statement-within k (n .0) i (omega arith)) (items-within ks (n .1) (i + statementLines s) (omega arith))
@@ -166,23 +172,24 @@ module _ (L : Layout) (T : ℕ) where
   unfolding numberFits
   array-fits i h = lt-ltb _ _ h
 
-  pub lines-within : (program : Items) → KernelTree L T program → All (λ x. Within (boundsIn L (storeSize L + T)) (itemsLines program) x) (flatOf program)
+  pub lines-within : (program : Items) → KernelTree L T program → (form : KernelItems false none program) → All (λ x. Within (boundsIn L (storeSize L + T)) (itemsLines program) x) (flatOf program)
   unfolding flatOf
-  lines-within program k =
+  lines-within program k form =
       items-within (boundsIn L (storeSize L + T)) (KernelName L T) (length (L .lengths)) name-fits array-fits (itemsLines program) (addressIn program)
-      (λ l. items-address l (itemsLines program) (k .form) 0 0 (omega arith) (omega arith)) (k .form) (k .named) 0 (omega arith)
+      (λ l. items-address l (itemsLines program) form 0 0 (omega arith) (omega arith)) form (k .named) 0 (omega arith)
 
 -- "Every flattened list passes the flat check": of a header within its limits, with a kernel tree of its layout and temporaries.
-pub flattened-legal : (header : List ℤ) (program : Items) → headerFits Kernel header ≡ true → KernelTree (layoutOf Kernel header) (behindOf Kernel header) program → LegalFlat header (wordsFrom 0 (flatOf program))
+pub flattened-legal : (header : List ℤ) (program : Items) → headerFits Kernel header ≡ true → KernelTree (layoutOf Kernel header) (behindOf Kernel header) program → functionCount program ≡ 0 → LegalFlat header (wordsFrom 0 (flatOf program))
 unfolding boundsOf headerStore
-flattened-legal header program e k =
+flattened-legal header program e k none-defined =
+    let own = plain-kernel none-defined (k .form) (k .calls) in
     let L = layoutOf Kernel header in
-    let size = flat-size L program (k .form) (k .labels-once) in
+    let size = flat-size L program (own .items) (arityIn program) (own .calls) (k .labels-once) in
     let words = words-length 0 (flatOf program) in
     let count : itemsLines program ≡ length (wordsFrom 0 (flatOf program)) / 5 = omega arith in
     record {
       header-fits = e;
       whole = omega arith;
       lines = λ i h. subst (λ (n : ℕ). LegalLine (boundsIn L (storeSize L + behindOf Kernel header)) (wordsFrom 0 (flatOf program)) n) (let z : 0 + i ≡ i = omega arith in z)
-          (legal-from (boundsIn L (storeSize L + behindOf Kernel header)) (itemsLines program) [] 0 (flatOf program) refl count (lines-within L (behindOf Kernel header) program k) i (omega arith));
+          (legal-from (boundsIn L (storeSize L + behindOf Kernel header)) (itemsLines program) [] 0 (flatOf program) refl count (lines-within L (behindOf Kernel header) program k (own .items)) i (omega arith));
     }

@@ -8,8 +8,9 @@ use native.Mathlib.Omega.{arith}
 use native.Mathlib.Nat.{add-zero}
 use lib.ListN.{length, length-append}
 use Rattle.words.specs.Layout.{Layout}
-use Rattle.language.specs.Trees.{Expression, label, case, default, Statement, empty, express, block, ifThen, ifElse, while, doWhile, for, switch, break, continue, goto, guardedIf, guardedDo, abort, declare, Items, none, _then_, _here_}
-use Rattle.translation.specs.KernelForm.{IsAtom, constant-atom, variable-atom, Assigns, assigns-atom, assigns-minus, assigns-operation, assigns-element, assigns-to-element, KernelStatement, kernel-empty, kernel-assign, kernel-block, kernel-if, kernel-while, kernel-goto, kernel-abort, KernelItems, kernel-none, kernel-then, kernel-label}
+use Rattle.language.specs.Trees.{Expression, label, case, default, Statement, empty, express, block, ifThen, ifElse, while, doWhile, for, switch, break, continue, goto, guardedIf, guardedDo, abort, declare, Items, none, _then_, _here_, giveBack, define}
+use Rattle.language.specs.Calls.{CallsBelow, StatementCallsBelow, ItemsCallBelow}
+use Rattle.translation.specs.KernelForm.{IsAtom, constant-atom, variable-atom, Assigns, assigns-atom, assigns-minus, assigns-operation, assigns-element, assigns-call, assigns-to-element, KernelStatement, kernel-empty, kernel-assign, kernel-block, kernel-if, kernel-while, kernel-goto, kernel-abort, kernel-return, KernelItems, kernel-none, kernel-then, kernel-label}
 use Rattle.flat.specs.Lines.{Operand, Line, jump, jumpZero}
 use Rattle.flat_fate.specs.Stands.{Means, means-number, means-word, Acts, acts-copy, acts-minus, acts-operate, acts-fetch, acts-put, At, Stands, stands-empty, stands-assign, stands-block, stands-neither, stands-yes, stands-no, stands-both, stands-while, stands-endless, stands-goto, stands-abort, StandsItems, stands-none, stands-then, stands-label}
 use Rattle.flat_fate.specs.Code.{operandOf, operationOf, always, ifLines, whileLines, statementLines, itemsLines, ifCode, whileCode, statementCode, itemsCode}
@@ -18,13 +19,16 @@ means-atom : {e : Expression} → IsAtom e → Means e (operandOf e)
 means-atom constant-atom = means-number
 means-atom variable-atom = means-word
 
-acts-form : {e : Expression} → Assigns e → Acts e (operationOf e)
-acts-form (assigns-atom constant-atom) = acts-copy means-number
-acts-form (assigns-atom variable-atom) = acts-copy means-word
-acts-form (assigns-minus a) = acts-minus (means-atom a)
-acts-form (assigns-operation a b) = acts-operate (means-atom a) (means-atom b)
-acts-form (assigns-element a) = acts-fetch (means-atom a)
-acts-form (assigns-to-element a b) = acts-put (means-atom a) (means-atom b)
+-- No call: the flat list refuses functions.
+acts-form : (arity : ℕ → ℕ) {e : Expression} → Assigns e → CallsBelow arity 0 e → Acts e (operationOf e)
+unfolding CallsBelow
+acts-form arity (assigns-atom constant-atom) c = acts-copy means-number
+acts-form arity (assigns-atom variable-atom) c = acts-copy means-word
+acts-form arity (assigns-minus a) c = acts-minus (means-atom a)
+acts-form arity (assigns-operation a b) c = acts-operate (means-atom a) (means-atom b)
+acts-form arity (assigns-element a) c = acts-fetch (means-atom a)
+acts-form arity (assigns-call a) c = absurd (omega (arith, c .1 .0))
+acts-form arity (assigns-to-element a b) c = acts-put (means-atom a) (means-atom b)
 
 -- Where the branches of an if from line i on stand: one without a line stands behind the other.
 abbrev pub firstAt : ℕ → ℕ → ℕ → ℕ
@@ -91,11 +95,13 @@ module _ (L : Layout) (lines : List Line) (address : ℕ → ℕ) where
     statement-length (guardedDo arms) i = refl
     statement-length abort i = refl
     statement-length (declare word e) i = refl
+    statement-length (giveBack value) i = refl
 
     pub items-length : (is : Items) (i : ℕ) → length (itemsCode address is i) ≡ itemsLines is
     items-length none i = refl
     items-length (s then is) i = omega (arith, length-append (statementCode address s i) (itemsCode address is (i + statementLines s)), statement-length s i, items-length is (i + statementLines s))
     items-length (m here is) i = items-length is i
+    items-length (define f words body is) i = items-length is i
 
   -- ---- each label's address is the line it stands before
 
@@ -117,6 +123,7 @@ module _ (L : Layout) (lines : List Line) (address : ℕ → ℕ) where
     Addressed (guardedDo arms) i = Unit {0}
     Addressed abort i = Unit {0}
     Addressed (declare word e) i = Unit {0}
+    Addressed (giveBack value) i = Unit {0}
 
     pub AddressedItems : Items → ℕ → Type 0
     AddressedItems none i = Unit {0}
@@ -124,6 +131,7 @@ module _ (L : Layout) (lines : List Line) (address : ℕ → ℕ) where
     AddressedItems (case v here is) i = AddressedItems is i
     AddressedItems (default here is) i = AddressedItems is i
     AddressedItems (label l here is) i = (address l ≡ i) × AddressedItems is i
+    AddressedItems (define f words body is) i = AddressedItems is i
 
   -- Lines told by numbers that are equal.
   items-cast : (i j k l : ℕ) {is : Items} → i ≡ k → j ≡ l → StandsItems L lines address i is j → StandsItems L lines address k is l
@@ -174,25 +182,27 @@ module _ (L : Layout) (lines : List Line) (address : ℕ → ℕ) where
       end-cast end (stands-while (means-atom a) (subst (λ j. At L lines address i (jumpZero (operandOf e) j)) (sym end) (h .0))
       (items-cast (i + 1) (i + 1 + p) (suc i) (i + 1 + p) (let e : i + 1 ≡ suc i = omega arith in e) refl (k (has-first (i + 1) (body (i + 1)) _ (h .1)))) (back .0))
 
-  mutual
-    unfolding statementLines statementCode Addressed
+  module _ (arity : ℕ → ℕ) where
+    mutual
+      unfolding statementLines statementCode Addressed StatementCallsBelow
 
-    statement-stands : {ahead : Items} {s : Statement} → KernelStatement ahead s → (i : ℕ) → Addressed s i → Has i (statementCode address s i) → Stands L lines address i s (i + statementLines s)
-    statement-stands kernel-empty i d h = end-cast (sym (add-zero i)) stands-empty
-    statement-stands (kernel-assign a) i d h = end-cast (let e : suc i ≡ i + 1 = omega arith in e) (stands-assign (acts-form a) (h .0))
-    statement-stands (kernel-block k) i d h = stands-block (items-stands k i d h)
-    statement-stands (kernel-if {onTrue = onTrue} {onFalse} {e} a y n) i d h =
-        if-stands (operandOf e) (itemsLines onTrue) (itemsLines onFalse) i (λ j. itemsCode address onTrue j) (λ j. itemsCode address onFalse j) (means-atom a) (λ j. items-length onTrue j) (λ j. items-length onFalse j)
-        (λ k. items-stands y (firstAt (itemsLines onTrue) (itemsLines onFalse) i) (d .0) k) (λ k. items-stands n (secondAt (itemsLines onTrue) (itemsLines onFalse) i) (d .1) k) h
-    statement-stands (kernel-while {body = body} {e} a k) i d h =
-        while-stands (always (operandOf e)) (itemsLines body) i (λ j. itemsCode address body j) a refl (λ j. items-length body j) (λ q. items-stands k (bodyAt (always (operandOf e)) i) d q) h
-    statement-stands (kernel-goto b c) i d h = end-cast (let e : suc i ≡ i + 1 = omega arith in e) (stands-goto (h .0))
-    statement-stands kernel-abort i d h = end-cast (let e : suc i ≡ i + 1 = omega arith in e) (stands-abort (h .0))
+      statement-stands : {mayReturn : Bool} {ahead : Items} {s : Statement} → KernelStatement mayReturn ahead s → mayReturn ≡ false → StatementCallsBelow arity 0 s → (i : ℕ) → Addressed s i → Has i (statementCode address s i) → Stands L lines address i s (i + statementLines s)
+      statement-stands kernel-empty z c i d h = end-cast (sym (add-zero i)) stands-empty
+      statement-stands (kernel-assign a) z c i d h = end-cast (let e : suc i ≡ i + 1 = omega arith in e) (stands-assign (acts-form arity a c) (h .0))
+      statement-stands (kernel-block k) z c i d h = stands-block (items-stands k z c i d h)
+      statement-stands (kernel-if {onTrue = onTrue} {onFalse} {e} a y n) z c i d h =
+          if-stands (operandOf e) (itemsLines onTrue) (itemsLines onFalse) i (λ j. itemsCode address onTrue j) (λ j. itemsCode address onFalse j) (means-atom a) (λ j. items-length onTrue j) (λ j. items-length onFalse j)
+          (λ k. items-stands y z (c .1) (firstAt (itemsLines onTrue) (itemsLines onFalse) i) (d .0) k) (λ k. items-stands n z (c .2) (secondAt (itemsLines onTrue) (itemsLines onFalse) i) (d .1) k) h
+      statement-stands (kernel-while {body = body} {e} a k) z c i d h =
+          while-stands (always (operandOf e)) (itemsLines body) i (λ j. itemsCode address body j) a refl (λ j. items-length body j) (λ q. items-stands k z (c .1) (bodyAt (always (operandOf e)) i) d q) h
+      statement-stands (kernel-goto b g) z c i d h = end-cast (let e : suc i ≡ i + 1 = omega arith in e) (stands-goto (h .0))
+      statement-stands (kernel-return a) z c i d h = absurd (false≢true (sym z))
+      statement-stands kernel-abort z c i d h = end-cast (let e : suc i ≡ i + 1 = omega arith in e) (stands-abort (h .0))
 
-    pub items-stands : {ahead is : Items} → KernelItems ahead is → (i : ℕ) → AddressedItems is i → Has i (itemsCode address is i) → StandsItems L lines address i is (i + itemsLines is)
-    items-stands kernel-none i d h = items-cast i i i (i + 0) refl (sym (add-zero i)) stands-none
-    items-stands (kernel-then {is = is} {s = s} k ks) i d h =
-        items-cast i (i + statementLines s + itemsLines is) i (i + (statementLines s + itemsLines is)) refl (let e : (i + statementLines s) + itemsLines is ≡ i + (statementLines s + itemsLines is) = omega arith in e)
-        (stands-then (statement-stands k i (d .0) (has-first i (statementCode address s i) (itemsCode address is (i + statementLines s)) h))
-        (items-stands ks (i + statementLines s) (d .1) (has-second i (statementLines s) (statementCode address s i) (itemsCode address is (i + statementLines s)) (statement-length s i) h)))
-    items-stands (kernel-label b ks) i d h = stands-label (d .0) (items-stands ks i (d .1) h)
+      pub items-stands : {mayReturn : Bool} {ahead is : Items} → KernelItems mayReturn ahead is → mayReturn ≡ false → ItemsCallBelow arity 0 is → (i : ℕ) → AddressedItems is i → Has i (itemsCode address is i) → StandsItems L lines address i is (i + itemsLines is)
+      items-stands kernel-none z c i d h = items-cast i i i (i + 0) refl (sym (add-zero i)) stands-none
+      items-stands (kernel-then {is = is} {s = s} k ks) z c i d h =
+          items-cast i (i + statementLines s + itemsLines is) i (i + (statementLines s + itemsLines is)) refl (let e : (i + statementLines s) + itemsLines is ≡ i + (statementLines s + itemsLines is) = omega arith in e)
+          (stands-then (statement-stands k z (c .0) i (d .0) (has-first i (statementCode address s i) (itemsCode address is (i + statementLines s)) h))
+          (items-stands ks z (c .1) (i + statementLines s) (d .1) (has-second i (statementLines s) (statementCode address s i) (itemsCode address is (i + statementLines s)) (statement-length s i) h)))
+      items-stands (kernel-label b ks) z c i d h = stands-label (d .0) (items-stands ks z c i (d .1) h)

@@ -1,6 +1,7 @@
 -- Equal fate: with no limit on steps the flat run and the kernel run both end or neither does; if they end, ending and every store word
 -- agree. From Follows, under every number of rounds, and since the flat run is determined.
 use mathlib.Core.Path.{_≡_, refl, sym, _∙_, ap}
+use mathlib.Core.Bool.{false}
 use mathlib.Core.Logic.{_↔_}
 use mathlib.Core.List.{List, [], _∷_}
 use Prim.Native.Nat.{ℕ, zero, suc, _+_, _<_}
@@ -14,9 +15,10 @@ use Rattle.computation.specs.Run.{State, start, stepped, spent, fault, Result, 
 use Rattle.computation.specs.RunLaws.{budget-rounds, rounds-budget}
 use Rattle.computation.specs.Unlimited.{Ends}
 use Rattle.language.specs.Trees.{block, Items}
+use Rattle.language.specs.Functions.{plain}
 use Rattle.language.specs.Meaning.{Signal, next, perform, exec}
 use Rattle.language.specs.Program.{Finished}
-use Rattle.translation.specs.KernelForm.{KernelItems}
+use Rattle.translation.specs.KernelForm.{KernelItems, kernel-main}
 use Rattle.accepted.specs.Gives.{Gives}
 use Rattle.accepted_kernel.specs.Jumps.{program-lands}
 use Rattle.flat.specs.Lines.{Line, Next, goes, faults, ends, nextAt, stop, follow, runFrom}
@@ -81,9 +83,9 @@ module _ (L : Layout) (lines : List Line) (address : ℕ → ℕ) where
 
   -- ---- equal fate
 
-  module _ (contents : Items) (stands : StandsItems L lines address 0 contents (length lines)) (form : KernelItems none contents) (store : List ℤ) where
+  module _ (contents : Items) (stands : StandsItems L lines address 0 contents (length lines)) (form : KernelItems false none contents) (store : List ℤ) where
     abbrev kernel : Limit → Result Signal
-    kernel limit = run limit (exec L (block contents)) (start store)
+    kernel limit = run limit (exec (plain L) (block contents)) (start store)
 
     abbrev flat : ℕ → Finished
     flat budget = runFrom L lines budget 0 0 store
@@ -91,7 +93,7 @@ module _ (L : Layout) (lines : List Line) (address : ℕ → ℕ) where
     -- under every number of rounds
     pub flat-follows : (c : ℕ) → FlatGives c store (kernel (rounds c))
     unfolding run perform
-    flat-follows c = flat-gives (kernel (rounds c)) (program-lands L (rounds c) contents form (start store)) (items-follows L lines address c stands moves-on (stepped (start store)))
+    flat-follows c = flat-gives (kernel (rounds c)) (program-lands (plain L) (rounds c) contents (kernel-main form) (start store)) (items-follows L lines address c stands moves-on (stepped (start store)))
 
     pub record FlatEnds : Type 0 where
       pub budget : ℕ
@@ -99,7 +101,7 @@ module _ (L : Layout) (lines : List Line) (address : ℕ → ℕ) where
 
     pub record FlatFate : Type 0 where
       -- "both end or neither does"
-      pub end-together : Ends (exec L (block contents)) (start store) ↔ FlatEnds
+      pub end-together : Ends (exec (plain L) (block contents)) (start store) ↔ FlatEnds
       -- "if they end, ending and every store word agree", for any two budgets that are enough
       pub same-ending : (b d : ℕ) → Settled (kernel (steps b)) → ((flat d) .ending ≡ Spent → ⊥) → (flat d) .ending ≡ endingOf (kernel (steps b))
       pub same-store : (b d : ℕ) → Settled (kernel (steps b)) → ((flat d) .ending ≡ Spent → ⊥) → (flat d) .store ≡ (final (kernel (steps b))) .store
@@ -125,23 +127,23 @@ module _ (L : Layout) (lines : List Line) (address : ℕ → ℕ) where
         (ap (λ q. q .ending) same, ap (λ q. q .store) same)
     agrees (flat-spent k) d h f = absurd (f (k d h))
 
-    kernel-ends : FlatEnds → Ends (exec L (block contents)) (start store)
+    kernel-ends : FlatEnds → Ends (exec (plain L) (block contents)) (start store)
     kernel-ends e =
         let c = suc (e .budget) in
         let s : Settled (kernel (rounds c)) = settles (flat-follows c) (e .budget) (omega arith) (e .ends) in
         let b = (final (kernel (rounds c))) .count in
-        record { budget = b; settled = rw (rounds-budget (exec L (block contents)) (start store) c b s (omega arith)) s }
+        record { budget = b; settled = rw (rounds-budget (exec (plain L) (block contents)) (start store) c b s (omega arith)) s }
 
-    flat-ends : Ends (exec L (block contents)) (start store) → FlatEnds
+    flat-ends : Ends (exec (plain L) (block contents)) (start store) → FlatEnds
     flat-ends e =
         let c = suc (e .budget) in
-        let same = budget-rounds (exec L (block contents)) (start store) (e .budget) c (omega arith) (e .settled) in
+        let same = budget-rounds (exec (plain L) (block contents)) (start store) (e .budget) c (omega arith) (e .settled) in
         enough (flat-follows c) (rw same (e .settled))
 
     both : (b d : ℕ) → Settled (kernel (steps b)) → ((flat d) .ending ≡ Spent → ⊥) → ((flat d) .ending ≡ endingOf (kernel (steps b))) × ((flat d) .store ≡ (final (kernel (steps b))) .store)
     both b d s f =
         let c = suc (b + d) in
-        rw (budget-rounds (exec L (block contents)) (start store) b c (omega arith) s) at (agrees (flat-follows c) d (omega arith) f)
+        rw (budget-rounds (exec (plain L) (block contents)) (start store) b c (omega arith) s) at (agrees (flat-follows c) d (omega arith) f)
 
     -- For every legal kernel program whose lines stand in the list, and every store.
     pub flat-fate : FlatFate

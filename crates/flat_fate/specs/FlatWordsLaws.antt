@@ -1,5 +1,6 @@
 -- Laws of flat words: the list's exact size, its lines read back, and equal fate about rows and words.
 use mathlib.Core.Path.{_≡_, refl, sym, ap, _∙_}
+use mathlib.Core.Bool.{false}
 use mathlib.Core.List.{List, [], _∷_, _++_, append-assoc}
 use Prim.Native.Nat.{ℕ, suc, _+_, _*_, _/_, _≤_}
 use native.Mathlib.Omega.{arith}
@@ -11,11 +12,15 @@ use Rattle.words.specs.declared.Form.the-variants.{Kernel}
 use Rattle.words.specs.declared.Ending.the-variants.{Spent}
 use Rattle.computation.specs.Run.{Result, ok, stopped, spent, fault, steps, run, start, endingOf, Settled}
 use Rattle.language.specs.Trees.{block, Items, none}
+use Rattle.language.specs.Functions.{plain}
+use Rattle.language.specs.FunctionLaws.{context-plain}
+use Rattle.language.specs.Calls.{arityIn}
 use Rattle.language.specs.Meaning.{Signal, exec}
 use Rattle.language.specs.Program.{contents, finished, tableProgram, runTableUnder, runTable}
+use Rattle.translation.specs.PlainKernel.{PlainKernel}
 use Rattle.translation.specs.KernelForm.{itemsTimes, KernelItems}
 use Rattle.kernel_check.specs.Legal.{Legal}
-use Rattle.accepted_kernel.specs.Kernel.{legal-block, legal-form}
+use Rattle.accepted_kernel.specs.Kernel.{legal-functionless, legal-plain, legal-block}
 use Rattle.flat.specs.Lines.{Line, runFrom}
 use Rattle.flat.specs.Words.{Parts, lineParts, fiveWords, fieldAt, linesFrom, linesOf, Written}
 use Rattle.flat.specs.WordsLaws.{written-line}
@@ -78,24 +83,27 @@ module _ (header rows : List ℤ) (legal : Legal header rows) (once : (l : ℕ) 
   abbrev program : Items
   program = contents rows
 
-  form : KernelItems none program
-  form = legal-form header rows legal
+  own : PlainKernel program
+  own = legal-plain header rows legal
+
+  form : KernelItems false none program
+  form = own .items
 
   -- "the list's exact size": five words for each line
   pub flattened-size : length (flattened rows) ≡ 5 * itemsLines program
   unfolding flattened
-  flattened-size = words-length 0 (flatOf program) ∙ ap (λ (n : ℕ). 5 * n) (flat-size L program form once)
+  flattened-size = words-length 0 (flatOf program) ∙ ap (λ (n : ℕ). 5 * n) (flat-size L program form (arityIn program) (own .calls) once)
 
   module _ (store : List ℤ) where
-    abbrev trees : FlatFate L (flatOf program) (addressIn program) program (flat-stands L program form once) form store
-    trees = flat-shares-fate L program form once store
+    abbrev trees : FlatFate L (flatOf program) (addressIn program) program (flat-stands L program form (arityIn program) (own .calls) once) form store
+    trees = flat-shares-fate L program form (arityIn program) (own .calls) once store
 
     abbrev kernel : ℕ → Result Signal
-    kernel b = run (steps b) (exec L (block program)) (start store)
+    kernel b = run (steps b) (exec (plain L) (block program)) (start store)
 
     kernel-run : (b : ℕ) → kernelRun header rows (flattened rows) store b ≡ finished (kernel b)
     unfolding runTable runTableUnder tableProgram
-    kernel-run b = rw (legal-block header rows legal)
+    kernel-run b = rw (legal-block header rows legal, context-plain (layoutOf Kernel header) (contents rows) (legal-functionless header rows legal))
 
     flat-run : (d : ℕ) → flatRun header rows (flattened rows) store d ≡ runFrom L (flatOf program) d 0 0 store
     unfolding runList flattened

@@ -17,6 +17,7 @@ use Rattle.words.specs.declared.FaultSort.{FaultSort}
 use Rattle.computation.specs.Computation.{Turn, again, leave, Computation, ret, _>>=_, _>>_}
 use Rattle.computation.specs.Run.{State, stepped, spent, fault, Result, ok, stopped, rounds, andThen, afterTurn, iterate, run}
 use Rattle.language.specs.Trees.{Expression, label, sameMark, Statement, express, block, ifElse, while, Items, _then_, _here_}
+use Rattle.language.specs.Functions.{plain}
 use Rattle.language.specs.Meaning.{Signal, next, seeking, entersStatement, entersMark, enter, evaluate, afterBody, afterTest, perform, items}
 use Rattle.flat.specs.Lines.{Operand, number, Operation, stored, fetched, putAt, valueOf, Line, does, jump, jumpZero, jumpOther, goes, faults, onward, nextAt}
 use Rattle.flat_fate.specs.Stands.{Means, means-number, means-word, Acts, acts-copy, acts-minus, acts-operate, acts-fetch, acts-put, At, Stands, stands-empty, stands-assign, stands-block, stands-neither, stands-yes, stands-no, stands-both, stands-while, stands-endless, stands-goto, stands-abort, StandsItems, stands-none, stands-then, stands-label}
@@ -67,12 +68,12 @@ module _ (L : Layout) (lines : List Line) (address : ℕ → ℕ) where
   -- ---- operations
 
   module _ (c : ℕ) where
-    means-run : {e : Expression} {a : Operand} → Means e a → (σ : State) → run (rounds c) (evaluate L e) σ ≡ ok (valueOf a (σ .store)) σ
+    means-run : {e : Expression} {a : Operand} → Means e a → (σ : State) → run (rounds c) (evaluate (plain L) e) σ ≡ ok (valueOf a (σ .store)) σ
     unfolding run evaluate
     means-run means-number σ = refl
     means-run means-word σ = refl
 
-    assign-follows : {i : ℕ} {e : Expression} {o : Operation} → Acts e o → At L lines address i (does o) → (σ : State) → Follows c i (σ .store) (suc i) (run (rounds c) (perform L (express e)) σ)
+    assign-follows : {i : ℕ} {e : Expression} {o : Operation} → Acts e o → At L lines address i (does o) → (σ : State) → Follows c i (σ .store) (suc i) (run (rounds c) (perform (plain L) (express e)) σ)
     unfolding run perform evaluate
     assign-follows {i} (acts-copy m) at σ = rw (means-run m) (follows-ok (on (at (σ .store)) stay) moves-on)
     assign-follows {i} (acts-minus {i = x} {a = a} m) at σ = rw (means-run m) (by-outcome (minusWord (valueOf a (σ .store)))
@@ -90,8 +91,8 @@ module _ (L : Layout) (lines : List Line) (address : ℕ → ℕ) where
 
     -- ---- a list passed over, or met at one of its labels
 
-    at-statement : {i j at : ℕ} (s : Statement) {signal : Signal} → ((σ : State) → Follows c i (σ .store) j (run (rounds c) (perform L s) σ)) → Moves i signal at
-        → (σ : State) → Follows c at (σ .store) j (run (rounds c) (pick (entersStatement signal) (enter (perform L s)) (ret signal)) σ)
+    at-statement : {i j at : ℕ} (s : Statement) {signal : Signal} → ((σ : State) → Follows c i (σ .store) j (run (rounds c) (perform (plain L) s) σ)) → Moves i signal at
+        → (σ : State) → Follows c at (σ .store) j (run (rounds c) (pick (entersStatement signal) (enter (perform (plain L) s)) (ret signal)) σ)
     unfolding run
     at-statement s h moves-on σ = h (stepped σ)
     at-statement s h moves-to σ = follows-ok stay moves-to
@@ -161,25 +162,25 @@ module _ (L : Layout) (lines : List Line) (address : ℕ → ℕ) where
 
     -- an if: whichever branch is taken, its code is reached, and ends where the if does
     branches : {i j : ℕ} {e : Expression} (a : Operand) (onTrue onFalse : Items) → Means e a
-        → ((σ : State) → isTrue (valueOf a (σ .store)) ≡ true → Follows c i (σ .store) j (run (rounds c) (items L onTrue next) σ))
-        → ((σ : State) → isTrue (valueOf a (σ .store)) ≡ false → Follows c i (σ .store) j (run (rounds c) (items L onFalse next) σ))
-        → (σ : State) → Follows c i (σ .store) j (run (rounds c) (perform L (ifElse e (block onTrue) (block onFalse))) σ)
+        → ((σ : State) → isTrue (valueOf a (σ .store)) ≡ true → Follows c i (σ .store) j (run (rounds c) (items (plain L) onTrue next) σ))
+        → ((σ : State) → isTrue (valueOf a (σ .store)) ≡ false → Follows c i (σ .store) j (run (rounds c) (items (plain L) onFalse next) σ))
+        → (σ : State) → Follows c i (σ .store) j (run (rounds c) (perform (plain L) (ifElse e (block onTrue) (block onFalse))) σ)
     unfolding run perform
-    branches a onTrue onFalse m y n σ = rw (means-run m) (chosen (isTrue (valueOf a (σ .store))) (enter (items L onTrue next)) (enter (items L onFalse next)) (stepped σ) (y (stepped (stepped σ))) (n (stepped (stepped σ))))
+    branches a onTrue onFalse m y n σ = rw (means-run m) (chosen (isTrue (valueOf a (σ .store))) (enter (items (plain L) onTrue next)) (enter (items (plain L) onFalse next)) (stepped σ) (y (stepped (stepped σ))) (n (stepped (stepped σ))))
 
     -- a loop: from its first line each round comes back there or leaves
     loops : {i j : ℕ} {e : Expression} (a : Operand) (body : Items) → Means e a
-        → ((σ : State) → isTrue (valueOf a (σ .store)) ≡ true → Round i (σ .store) j (andThen (run (rounds c) (items L body next) (stepped σ)) (λ signal. run (rounds c) (afterBody (ret (pos 0) >> ret again) signal))))
+        → ((σ : State) → isTrue (valueOf a (σ .store)) ≡ true → Round i (σ .store) j (andThen (run (rounds c) (items (plain L) body next) (stepped σ)) (λ signal. run (rounds c) (afterBody (ret (pos 0) >> ret again) signal))))
         → ((σ : State) → isTrue (valueOf a (σ .store)) ≡ false → Round i (σ .store) j (ok (leave next) σ))
-        → (σ : State) → Follows c i (σ .store) j (run (rounds c) (perform L (while e (block body))) σ)
+        → (σ : State) → Follows c i (σ .store) j (run (rounds c) (perform (plain L) (while e (block body))) σ)
     unfolding run perform
-    loops {i} {j} {e} a body m y n σ = loop-follows (λ τ. run (rounds c) (evaluate L e >>= λ v. afterTest (enter (items L body next) >>= λ signal. afterBody (ret (pos 0) >> ret again) signal) v) τ)
-        (λ τ. rw (means-run m) (chosen-round (isTrue (valueOf a (τ .store))) (enter (items L body next) >>= λ signal. afterBody (ret (pos 0) >> ret again) signal) (ret (leave next)) τ (y τ) (n τ))) c (le-refl c) σ
+    loops {i} {j} {e} a body m y n σ = loop-follows (λ τ. run (rounds c) (evaluate (plain L) e >>= λ v. afterTest (enter (items (plain L) body next) >>= λ signal. afterBody (ret (pos 0) >> ret again) signal) v) τ)
+        (λ τ. rw (means-run m) (chosen-round (isTrue (valueOf a (τ .store))) (enter (items (plain L) body next) >>= λ signal. afterBody (ret (pos 0) >> ret again) signal) (ret (leave next)) τ (y τ) (n τ))) c (le-refl c) σ
 
     mutual
       unfolding run perform items evaluate
 
-      pub statement-follows : {i j : ℕ} {s : Statement} → Stands L lines address i s j → (σ : State) → Follows c i (σ .store) j (run (rounds c) (perform L s) σ)
+      pub statement-follows : {i j : ℕ} {s : Statement} → Stands L lines address i s j → (σ : State) → Follows c i (σ .store) j (run (rounds c) (perform (plain L) s) σ)
       statement-follows stands-empty σ = follows-ok stay moves-on
       statement-follows (stands-assign a at) σ = assign-follows a at σ
       statement-follows (stands-block is) σ = items-follows is moves-on σ
@@ -197,7 +198,7 @@ module _ (L : Layout) (lines : List Line) (address : ℕ → ℕ) where
       statement-follows (stands-goto at) σ = follows-ok (on (at (σ .store)) stay) moves-to
       statement-follows (stands-abort at) σ = follows-fault stay (at (σ .store))
 
-      pub items-follows : {i j at : ℕ} {is : Items} {signal : Signal} → StandsItems L lines address i is j → Moves i signal at → (σ : State) → Follows c at (σ .store) j (run (rounds c) (items L is signal) σ)
+      pub items-follows : {i j at : ℕ} {is : Items} {signal : Signal} → StandsItems L lines address i is j → Moves i signal at → (σ : State) → Follows c at (σ .store) j (run (rounds c) (items (plain L) is signal) σ)
       items-follows stands-none m σ = follows-ok stay m
-      items-follows (stands-then {j = j} {k = k} {s = s} {is = is} h rest) m σ = follows-then j k (λ u. run (rounds c) (items L is u)) (at-statement s (λ τ. statement-follows h τ) m σ) (λ u at τ moves. items-follows rest moves τ)
-      items-follows (stands-label {i} {j} {l} {is} e rest) m σ = follows-then i j (λ u. run (rounds c) (items L is u)) (at-label l e m σ) (λ u at τ moves. items-follows rest moves τ)
+      items-follows (stands-then {j = j} {k = k} {s = s} {is = is} h rest) m σ = follows-then j k (λ u. run (rounds c) (items (plain L) is u)) (at-statement s (λ τ. statement-follows h τ) m σ) (λ u at τ moves. items-follows rest moves τ)
+      items-follows (stands-label {i} {j} {l} {is} e rest) m σ = follows-then i j (λ u. run (rounds c) (items (plain L) is u)) (at-label l e m σ) (λ u at τ moves. items-follows rest moves τ)

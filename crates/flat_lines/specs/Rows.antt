@@ -40,7 +40,7 @@ pub record LabelRow (rows : List ℤ) (number : ℕ) : Type 0 where
 
 pub label-row : {rows : List ℤ} {number row : ℕ} → Ahead rows number row → LabelRow rows number
 label-row (behind {item = item} b l) = record { row = item; inside = before-inside b; label = l .label; number-is = l .number-is }
-label-row (outward o a) = label-row a
+label-row (outward o d a) = label-row a
 
 -- ---- where a row stands
 

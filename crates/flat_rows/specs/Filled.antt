@@ -16,12 +16,13 @@ use Rattle.words.specs.Layout.{Layout, layoutOf}
 use Rattle.words.specs.Links.{isStatement, link}
 use Rattle.words.specs.declared.Form.the-variants.{Kernel}
 use Rattle.language.specs.Decode.{statementAt, itemsAt, listAt}
+use Rattle.language.specs.Calls.{arityIn}
 use Rattle.language.specs.Program.{contents}
 use Rattle.row_fields.specs.Fields.{boundsOf}
 use Rattle.structure.specs.NoteLaws.{above-zero}
 use Rattle.kernel_check.specs.Legal.{Legal}
 use Rattle.accepted.specs.Statements.{list-some, root-inside, root-statement}
-use Rattle.accepted_kernel.specs.Kernel.{legal-form}
+use Rattle.accepted_kernel.specs.Kernel.{legal-plain}
 use Rattle.kernel_rows.specs.Rows.{Lone, Listed, BlockRow, KernelRow, empty-row, assign-row, block-row, if-row, while-row, goto-row, label-row, abort-row, next-at, kernel-row, label-list, statement-list}
 use Rattle.kernel_rows.specs.Labels.{legal-once}
 use Rattle.kernel_rows.specs.Tree.{root-items}
@@ -179,4 +180,4 @@ module _ (header rows : List ℤ) (legal : Legal header rows) (out : List ℤ) (
       let t = root-statement Kernel bounds rows s in
       let size : itemsLines (itemsAt rows 0) ≡ itemsLines (contents rows) + 0 = ap itemsLines (root-items header rows legal) in
       let all = filled-from (rowCount rows) 0 (omega arith) some t in
-      written-whole out lines e (λ k h. all k (omega (arith, line-root header rows legal)) (omega (arith, line-root header rows legal, flat-size (layoutOf Kernel header) (contents rows) (legal-form header rows legal) (λ l. legal-once header rows legal l))))
+      written-whole out lines e (λ k h. all k (omega (arith, line-root header rows legal)) (omega (arith, line-root header rows legal, flat-size (layoutOf Kernel header) (contents rows) (legal-plain header rows legal .items) (arityIn (contents rows)) (legal-plain header rows legal .calls) (λ l. legal-once header rows legal l))))

@@ -19,6 +19,7 @@ use Rattle.words.specs.Links.{isExpression, isStatement, link, note}
 use Rattle.words.specs.declared.Form.the-variants.{Kernel}
 use Rattle.language.specs.Trees.{Statement, block, ifElse, while, Items, none, _then_}
 use Rattle.language.specs.Decode.{expressionAt, statementAt, itemsAt, listAt}
+use Rattle.language.specs.Calls.{arityIn}
 use Rattle.language.specs.Program.{contents}
 use Rattle.row_fields.specs.Fields.{boundsOf}
 use Rattle.structure.specs.Structured.{Leads, Tree}
@@ -28,7 +29,7 @@ use Rattle.structure.specs.LinkLaws.{by-owner}
 use Rattle.structure.specs.NoteLaws.{above-zero, note-root, note-link}
 use Rattle.kernel_check.specs.Legal.{Legal}
 use Rattle.accepted.specs.Statements.{list-some}
-use Rattle.accepted_kernel.specs.Kernel.{legal-form, legal-rows}
+use Rattle.accepted_kernel.specs.Kernel.{legal-plain, legal-rows}
 use Rattle.kernel_rows.specs.Rows.{Lone, Listed, BlockRow, IfRow, WhileRow, KernelRow, empty-row, assign-row, block-row, if-row, while-row, goto-row, label-row, abort-row, StatementLink, next-item, first-item, true-branch, false-branch, loop-body, expression-or-statement, statement-link, next-at, kernel-row, label-list, statement-list, lone-list, linking-statement, label-statement, as-expression, block-at, if-of, while-of}
 use Rattle.kernel_rows.specs.Labels.{legal-once}
 use Rattle.kernel_rows.specs.Tree.{root-items}
@@ -270,7 +271,7 @@ module _ (header rows : List ℤ) (legal : Legal header rows) where
       whole-stands =
           record {
             lies = lies-whole list;
-            labelled = items-addressed L list address (legal-form header rows legal) 0 (λ l. 0) (λ l. legal-once header rows legal l) (λ l h. refl);
+            labelled = items-addressed L list address (legal-plain header rows legal .items) 0 (λ l. 0) (λ l. legal-once header rows legal l) (λ l h. refl);
           }
 
   pub row-stands : (row : ℕ) → row < rowCount rows → isStatement rows row ≡ true → At row
@@ -336,7 +337,7 @@ module _ (header rows : List ℤ) (legal : Legal header rows) where
   pub list-few : length list < 40980
   list-few =
       let rows-few = tree .few in
-      omega (arith, flat-size L (contents rows) (legal-form header rows legal) (λ l. legal-once header rows legal l), lines-below-rows (contents rows) (legal-form header rows legal), legal-rows header rows legal)
+      omega (arith, flat-size L (contents rows) (legal-plain header rows legal .items) (arityIn (contents rows)) (legal-plain header rows legal .calls) (λ l. legal-once header rows legal l), lines-below-rows (contents rows) (legal-plain header rows legal .items), legal-rows header rows legal)
 
   -- The lines from a row on lie in the list.
   pub row-within : (row : ℕ) → row < rowCount rows → isStatement rows row ≡ true → lineOf rows row + itemsLines (itemsAt rows row) ≤ length list

@@ -1,6 +1,6 @@
 -- The theorem: every accepted program shares its fate with the flat list of its translation. From demand 3 and the equal fate of a kernel
 -- program and its list, one behind the other.
-use mathlib.Core.Path.{_≡_, sym, ap, _∙_}
+use mathlib.Core.Path.{_≡_, ap, _∙_}
 use mathlib.Core.List.{List, _++_}
 use Prim.Native.Nat.{ℕ, _+_, _≤_}
 use native.Mathlib.Omega.{arith}
@@ -13,6 +13,8 @@ use Rattle.words.specs.Laws.{countFits-facts}
 use Rattle.words.specs.declared.Form.the-variants.{Source, Kernel}
 use Rattle.words.specs.declared.Verdict.the-variants.{Accepted}
 use Rattle.language.specs.Trees.{block, Items}
+use Rattle.language.specs.Functions.{functionCount}
+use Rattle.language.specs.PlainTables.{no-functions}
 use Rattle.language.specs.Program.{contents}
 use Rattle.language.specs.Sizes.{statementRows}
 use Rattle.program_meaning.specs.Program.{resolvedRows, runProgram}
@@ -25,9 +27,9 @@ use Rattle.source_check.specs.AcceptsLegal.{accepts-legal as source-accepts}
 use Rattle.source_check.specs.DeclarationLaws.{legal-declarations}
 use Rattle.kernel_check.specs.Legal.{Legal as KernelLegal}
 use Rattle.kernel_check.specs.Accepts.{accepts-legal as kernel-accepts}
-use Rattle.accepted.specs.Resolved.{table-tree, table-rows, table-depth}
-use Rattle.accepted_kernel.specs.Kernel.{legal-block}
-use Rattle.emission_legal.specs.EmittedLegal.{translated-decodes}
+use Rattle.accepted.specs.Resolved.{table-sound, table-tree, table-rows, table-depth}
+use Rattle.accepted_kernel.specs.Kernel.{legal-functionless}
+use Rattle.emission_legal.specs.EmittedLegal.{translated-contents}
 use Rattle.fate.specs.Fate.{SharedFate as SourceKernelFate}
 use Rattle.fate.specs.KernelForms.{kernelHeaderOf, kernelRowsOf, KernelFormOf}
 use Rattle.fate.specs.KernelFormLaws.{has-kernel-form}
@@ -67,14 +69,16 @@ module _ (header rows : List ℤ) (accepted : sourceRefusal header rows ≡ Acce
   kernel-tree : KernelTree (layoutOf Source header) (declarationCount rows + temporaries program) translation
   kernel-tree = rw (source-store header rows) (translation-is-kernel (layoutOf Source header) (declarationCount rows) (legal-declarations header rows legal) program (table-tree header rows legal) few (table-depth header rows legal))
 
+  -- no form has functions yet
+  none-defined : functionCount program ≡ 0
+  none-defined = no-functions (resolvedRows Source header rows) (table-sound header rows legal .whole) (table-sound header rows legal .no-function)
+
   -- the kernel's items are the translation's, in which a label stands once
   kernel-items : contents R ≡ translation
   unfolding kernelRowsOf
   kernel-items =
-      let read = legal-block K R kernel-legal in
-      let tree = rw (← source-store header rows) at (translated-decodes header program (legal .header-fits) few (table-depth header rows legal) (declarationCount rows) (legal-declarations header rows legal) (table-tree header rows legal)) in
-      let same : block (contents R) ≡ block translation = sym read ∙ tree in
-      cc
+      rw (source-store header rows)
+      (translated-contents header program (legal .header-fits) few (table-depth header rows legal) (declarationCount rows) (legal-declarations header rows legal) (table-tree header rows legal) none-defined)
 
   once : (l : ℕ) → itemsTimes l (contents R) ≤ 1
   once l = rw kernel-items (kernel-tree .labels-once l)
@@ -114,7 +118,7 @@ module _ (header rows : List ℤ) (accepted : sourceRefusal header rows ≡ Acce
 
   takes : flatRefusal K (flattened R) ≡ Accepted
   unfolding flattened
-  takes = flat-accepts K (wordsFrom 0 (flatOf (contents R))) (flattened-legal K (contents R) (kernel-legal .header-fits) own-tree)
+  takes = flat-accepts K (wordsFrom 0 (flatOf (contents R))) (flattened-legal K (contents R) (kernel-legal .header-fits) own-tree (legal-functionless K R kernel-legal))
 
 -- The flat list of every translation is legal and shares the source program's fate.
 pub has-flat-form : (header rows : List ℤ) → HasFlatForm header rows

@@ -20,13 +20,14 @@ use Rattle.words.specs.declared.Refusal.{Refusal}
 use Rattle.words.specs.declared.Verdict.the-variants.{Accepted, Refused}
 use Rattle.language.specs.Decode.{itemsAt}
 use Rattle.language.specs.Program.{contents}
+use Rattle.language.specs.Calls.{arityIn}
 use Rattle.row_fields.specs.Fields.{boundsOf}
 use Rattle.structure.specs.StructuredLaws.{structured-tree}
 use Rattle.kernel_check.specs.Legal.{Legal}
 use Rattle.kernel_check.specs.Refusal.{refusal as kernelRefusal}
 use Rattle.kernel_check.specs.Accepts.{accepted-legal}
 use Rattle.accepted.specs.Statements.{root-inside, root-statement}
-use Rattle.accepted_kernel.specs.Kernel.{legal-form}
+use Rattle.accepted_kernel.specs.Kernel.{legal-functionless, legal-plain}
 use Rattle.kernel_rows.specs.Rows.{KernelTable}
 use Rattle.kernel_rows.specs.Labels.{legal-once}
 use Rattle.kernel_rows.specs.Tree.{legal-tree, root-items}
@@ -50,7 +51,7 @@ has-flat-form header rows e =
     let legal = accepted-legal header rows e in
     record {
       size = flattened-size header rows legal (λ l. legal-once header rows legal l);
-      accepted = flat-accepts header (wordsFrom 0 (flatOf (contents rows))) (flattened-legal header (contents rows) (legal .header-fits) (legal-tree header rows legal));
+      accepted = flat-accepts header (wordsFrom 0 (flatOf (contents rows))) (flattened-legal header (contents rows) (legal .header-fits) (legal-tree header rows legal) (legal-functionless header rows legal));
       shares-fate = λ store. shares-fate header rows legal (λ l. legal-once header rows legal l) store;
     }
 
@@ -70,7 +71,8 @@ module _ {rows : List ℤ} (table : KernelTable rows) where
 
   pub list-size : length (flattened rows) ≡ 5 * length (flatOf (contents rows))
   list-size =
-      omega (arith, flattened-size (table .header) rows legal (λ l. legal-once (table .header) rows legal l), flat-size (layoutOf Kernel (table .header)) (contents rows) (legal-form (table .header) rows legal) (λ l. legal-once (table .header) rows legal l))
+      let own = legal-plain (table .header) rows legal in
+      omega (arith, flattened-size (table .header) rows legal (λ l. legal-once (table .header) rows legal l), flat-size (layoutOf Kernel (table .header)) (contents rows) (own .items) (arityIn (contents rows)) (own .calls) (λ l. legal-once (table .header) rows legal l))
 
   -- the tables have a place for each row
   pub rows-few : rowCount rows ≤ 40980

@@ -3,17 +3,17 @@ use mathlib.Core.Path.{_≡_, refl, sym, ap, _∙_}
 use mathlib.Core.Bool.{Bool, true, false, _||_, true≢false, false≢true}
 use mathlib.Core.List.{List, [], _∷_}
 use mathlib.Core.Logic.{⊎-elim}
-use Prim.Native.Nat.{ℕ, zero, suc, _-_, _^_, _≤_, _<_}
+use Prim.Native.Nat.{ℕ, zero, suc, _+_, _-_, _^_, _≤_, _<_}
 use native.Mathlib.Omega.{arith}
 use types.Run.{OneOf}
 use denote.Enum.Declared.{tagOf}
-use lib.Dec.{eqb}
-use lib.IntN.{ℤ, pos, negsuc}
+use lib.Dec.{ltb, eqb}
+use lib.IntN.{ℤ, pos, negsuc, _+ℤ_, _-ℤ_, +ℤ-comm, +ℤ-negℤ-cancel}
 use lib.ListN.{set}
 use lib.Signed.{mag, ltZ}
-use mir.Syntax.{w32}
-use mir.Val.{toZ, ofZ}
-use borrow.Author.Tests.{ltb-true, eq-eqb}
+use mir.Syntax.{w32, w64}
+use mir.Val.{SFits, toZ, ofZ}
+use borrow.Author.Tests.{ltb-true, ltb-false, lt-ltb, le-ltb, eq-eqb}
 use Rattle.words.specs.Word.{isWord, sameWord, natural, pick}
 use Rattle.arithmetic.specs.Arithmetic.{isTrue}
 use Rattle.words.specs.Laws.{or-right, back, sameWord-refl, sameWord-differ}
@@ -23,51 +23,52 @@ use Rattle.computation.specs.Computation.{Turn, again, leave, Computation, ret}
 use Rattle.computation.specs.Run.{spent, fault}
 use Rattle.computation.specs.Remaining.{Rest, gives, halts, onward, onTurn, spend, leftOf, left-never-rises}
 use Rattle.language.specs.Trees.{label}
-use Rattle.language.specs.Meaning.{Signal, next, breaking, continuing, seeking, enter, afterSwitch, afterBody, Choice, ran as ranWith, afterArms}
-use Rattle.operations.specs.Answers.{beyond, stopOf, operandOf, answered}
+use Rattle.language.specs.Meaning.{Signal, next, breaking, continuing, seeking, returning, enter, afterSwitch, afterBody, Choice, ran as ranWith, afterArms}
+use Rattle.language.specs.Functions.{returned}
+use Rattle.operations.specs.Answers.{beyond, stopOf, isReturn, operandOf, answered}
 use Rattle.operations.specs.declared.Operand.{Operand}
 use Rattle.operations.specs.declared.Operand.the-variants.{Value, Halted as Stopped}
-use Rattle.operations.proofs.Decoding.{handed, handed-is, wide, wide-is, operand-word}
+use Rattle.operations.proofs.Decoding.{handed, handed-is, wide, wide-is, operand-word, word-no-return, answered-word}
 use Rattle.operations.proofs.Enter.{entered, not-entered}
 use Rattle.operations.proofs.Operands.{stops, handed-on}
-use Rattle.flows.specs.Flows.{passingOf, flowOf, flowRest, ran, turnBy, turned, EndsExpression, EndsDeclaration, EndsSwitch, EndsBody, EndsRound}
+use Rattle.flows.specs.Flows.{passingOf, flowOf, returnValue, flowRest, ran, turnBy, turned, EndsCall, EndsReturn, EndsExpression, EndsDeclaration, EndsSwitch, EndsBody, EndsRound}
 use Rattle.flows.specs.declared.Flow.{Flow}
-use Rattle.flows.specs.declared.Flow.the-variants.{Next, Break, Continue, Goto, Halted}
+use Rattle.flows.specs.declared.Flow.the-variants.{Next, Break, Continue, Goto, Return, Halted}
 use Rattle.flows.proofs.Flow as declared
 
 -- ---- what the numbers say
 
 module _ (n : ℕ) (s : List ℤ) where
   pub ran-next : ran (negsuc 0) n s ≡ gives next n s
-  unfolding flowOf operandOf isWord passingOf sameWord
+  unfolding flowOf operandOf isWord isReturn passingOf sameWord
   ran-next = refl
 
   pub ran-break : ran (negsuc 1) n s ≡ gives breaking n s
-  unfolding flowOf operandOf isWord passingOf sameWord
+  unfolding flowOf operandOf isWord isReturn passingOf sameWord
   ran-break = refl
 
   pub ran-continue : ran (negsuc 2) n s ≡ gives continuing n s
-  unfolding flowOf operandOf isWord passingOf sameWord
+  unfolding flowOf operandOf isWord isReturn passingOf sameWord
   ran-continue = refl
 
   pub ran-spent : ran (pos 2147483648) n s ≡ halts spent n s
-  unfolding flowOf operandOf isWord beyond stopOf
+  unfolding flowOf operandOf isWord isReturn beyond stopOf
   ran-spent = refl
 
   pub ran-guard : ran (pos 2147483652) n s ≡ halts (fault Guard) n s
-  unfolding flowOf operandOf isWord beyond stopOf faultNumbered
+  unfolding flowOf operandOf isWord isReturn beyond stopOf faultNumbered
   ran-guard = refl
 
   pub turned-last : turned (negsuc 0) n s ≡ gives (leave next) n s
-  unfolding flowOf operandOf isWord passingOf sameWord
+  unfolding flowOf operandOf isWord isReturn passingOf sameWord
   turned-last = refl
 
   pub turned-again : turned (negsuc 2) n s ≡ gives again n s
-  unfolding flowOf operandOf isWord passingOf sameWord
+  unfolding flowOf operandOf isWord isReturn passingOf sameWord
   turned-again = refl
 
 pub flow-next : flowOf (negsuc 0) ≡ Next
-unfolding flowOf operandOf isWord passingOf sameWord
+unfolding flowOf operandOf isWord isReturn passingOf sameWord
 flow-next = refl
 
 -- ---- a word tested by its bits
@@ -110,22 +111,113 @@ label-goto (negsuc n) e = absurd (true≢false e)
 
 module _ (z : ℤ) (h : mag z < 2 ^ 31) where
   pub jump-negative : ltZ (toZ w32 (ofZ w32 z)) (pos 0) ≡ true → (n : ℕ) (s : List ℤ) → ran (negsuc 3) n s ≡ gives (seeking (label (natural z))) n s
-  unfolding flowOf operandOf isWord passingOf sameWord
+  unfolding flowOf operandOf isWord isReturn passingOf sameWord
   jump-negative e n s = ap (λ (l : ℕ). gives (seeking (label l)) n s) (negative-label z (rw (back z h) at e))
 
   pub jump-label : ltZ (toZ w32 (ofZ w32 z)) (pos 0) ≡ false → (n : ℕ) (s : List ℤ) → ran (wide z) n s ≡ gives (seeking (label (natural z))) n s
   unfolding flowOf
-  jump-label e n s = rw (wide-is z h, operand-word z h, label-goto z (rw (back z h) at e))
+  jump-label e n s = rw (wide-is z h, word-no-return z h, operand-word z h, label-goto z (rw (back z h) at e))
 
 -- ---- the flow of an answer
 
+-- a stop is no return
+stop-is-none : (z : ℤ) → operandOf z ≡ Stopped → isReturn z ≡ false
+unfolding operandOf
+stop-is-none z e = by (isWord z) (isReturn z) e
+  where
+    by : (w r : Bool) → pick w (Value z) (pick r (Value (pos 0)) Stopped) ≡ Stopped → r ≡ false
+    by true r e = absurd (let w : _≡_ {A = ℕ} 0 1 = cc in omega arith)
+    by false true e = absurd (let w : _≡_ {A = ℕ} 0 1 = cc in omega arith)
+    by false false e = refl
+
 pub flow-stops : (z : ℤ) → operandOf z ≡ Stopped → flowOf z ≡ Halted
 unfolding flowOf
-flow-stops z e = rw e
+flow-stops z e = rw (stop-is-none z e, e)
 
-pub flow-passes : (z v : ℤ) → operandOf z ≡ Value v → flowOf z ≡ passingOf v
+pub flow-passes : (z v : ℤ) → isReturn z ≡ false → operandOf z ≡ Value v → flowOf z ≡ passingOf v
 unfolding flowOf
-flow-passes z v e = rw e
+flow-passes z v r e = rw (r, e)
+
+pub flow-returns : (z : ℤ) → isReturn z ≡ true → flowOf z ≡ Return
+unfolding flowOf
+flow-returns z r = rw r
+
+-- ---- returns
+
+-- a return's answer, by its value
+return-is : (v : ℤ) → mag v < 2 ^ 31 → isReturn (pos 8589934592 +ℤ v) ≡ true
+unfolding isReturn
+return-is (pos a) h = rw (le-ltb (8589934592 + a) 6442450944 (omega arith), lt-ltb (8589934592 + a) 10737418240 (omega arith))
+return-is (negsuc a) h =
+    rw (le-ltb 8589934592 (suc a) (omega arith), le-ltb (8589934592 - suc a) 6442450944 (omega arith), lt-ltb (8589934592 - suc a) 10737418240 (omega arith))
+
+return-again : (v : ℤ) → returnValue (pos 8589934592 +ℤ v) ≡ v
+unfolding returnValue
+return-again v = ap (λ (z : ℤ). z -ℤ pos 8589934592) (+ℤ-comm (pos 8589934592) v) ∙ +ℤ-negℤ-cancel v (pos 8589934592)
+
+return-fits : (v : ℤ) → mag v < 2 ^ 31 → mag (pos 8589934592 +ℤ v) < 2 ^ 63
+return-fits (pos a) h = omega arith
+return-fits (negsuc a) h = rw (le-ltb 8589934592 (suc a) (omega arith)) (omega arith)
+
+ran-return : (v : ℤ) → mag v < 2 ^ 31 → (n : ℕ) (s : List ℤ) → ran (pos 8589934592 +ℤ v) n s ≡ gives (returning v) n s
+ran-return v h n s = rw (flow-returns (pos 8589934592 +ℤ v) (return-is v h), return-again v)
+
+-- as the code adds
+module _ (v : ℤ) (h : mag v < 2 ^ 31) where
+  pub return-adds : SFits w64 (pos 8589934592 +ℤ wide v)
+  return-adds = rw (wide-is v h) (record { sfits = return-fits v h })
+
+  pub ran-returned : (n : ℕ) (s : List ℤ) → ran (handed (pos 8589934592 +ℤ wide v)) n s ≡ gives (returning v) n s
+  ran-returned n s = rw (wide-is v h, handed-is (pos 8589934592 +ℤ v) (return-fits v h)) (ran-return v h n s)
+
+-- the value of a return is a word
+returned-word : (z : ℤ) → isReturn z ≡ true → mag (returnValue z) < 2 ^ 31
+unfolding isReturn returnValue
+returned-word (negsuc m) e = absurd (true≢false (sym e))
+returned-word (pos m) e = least (ltb m 6442450944) refl e
+  where
+    value : (t : Bool) → ltb m 8589934592 ≡ t → 6442450944 ≤ m → m < 10737418240 → mag (pos m -ℤ pos 8589934592) < 2 ^ 31
+    value true t p q = rw t (omega (arith, ltb-true m 8589934592 t))
+    value false t p q = rw t (omega (arith, ltb-false m 8589934592 t))
+
+    least : (t : Bool) → ltb m 6442450944 ≡ t → pick t false (ltb m 10737418240) ≡ true → mag (pos m -ℤ pos 8589934592) < 2 ^ 31
+    least true t e = absurd (true≢false (sym e))
+    least false t e = value (ltb m 8589934592) refl (ltb-false m 6442450944 t) (ltb-true m 10737418240 e)
+
+-- the answer of a call, by its block's
+module _ (z : ℤ) (fits : mag z < 2 ^ 63) {b : Bool} (r : b ≡ isReturn (handed z)) where
+  no-other : isReturn z ≡ b
+  no-other = ap isReturn (sym (handed-is z fits)) ∙ sym r
+
+  pub call-fits : b ≡ true → mag (handed z -ℤ pos 8589934592) < 2 ^ 63
+  unfolding returnValue
+  call-fits t = rw (handed-is z fits) (omega (arith, returned-word z (no-other ∙ t)))
+
+  pub call-returns : b ≡ true → EndsCall z (handed (handed z -ℤ pos 8589934592))
+  unfolding returnValue
+  call-returns t n s =
+      ap (λ (x : ℤ). answered x n s) (handed-is (handed z -ℤ pos 8589934592) (call-fits t) ∙ ap (λ (x : ℤ). x -ℤ pos 8589934592) (handed-is z fits))
+      ∙ answered-word (returnValue z) (returned-word z (no-other ∙ t)) n s ∙ rw (flow-returns z (no-other ∙ t))
+
+  module _ (t : b ≡ false) (o : Operand) (e : o ≡ operandOf (handed z)) where
+    says-operand : operandOf z ≡ o
+    says-operand = ap operandOf (sym (handed-is z fits)) ∙ sym e
+
+    pub call-stops : o ≡ Stopped → EndsCall z (handed z)
+    call-stops q n s = rw (handed-is z fits, flow-stops z (says-operand ∙ q), says-operand, q)
+
+    pub call-ends : (v : ℤ) → o ≡ Value v → EndsCall z (pos 0)
+    unfolding passingOf
+    call-ends v q n s = answered-word (pos 0) (omega arith) n s ∙ sym (rw (flow-passes z v (no-other ∙ t) (says-operand ∙ q)) (by v))
+      where
+        by : (v : ℤ) → onward (flowRest (passingOf v) z n s) (λ signal n s. gives (returned signal) n s) ≡ gives (pos 0) n s
+        by v = go (sameWord v (negsuc 0)) (sameWord v (negsuc 1)) (sameWord v (negsuc 2))
+          where
+            go : (a b c : Bool) → onward (flowRest (pick a Next (pick b Break (pick c Continue (Goto (natural v))))) z n s) (λ signal n s. gives (returned signal) n s) ≡ gives (pos 0) n s
+            go true b c = refl
+            go false true c = refl
+            go false false true = refl
+            go false false false = refl
 
 -- an arm that several variants share: the tag is one of theirs
 abbrev member : ℕ → List ℕ → Bool
@@ -143,14 +235,14 @@ excluded (k ∷ ks) x h m = false≢true (sym m ∙ one-of k ks x h)
 abbrev tag : Flow → ℕ
 tag f = tagOf declared.the-type f
 
-pub not-next : (f : Flow) → OneOf (1 ∷ 2 ∷ 3 ∷ 4 ∷ []) (tag f) → f ≡ Next → ⊥
-not-next f h e = excluded (1 ∷ 2 ∷ 3 ∷ 4 ∷ []) 0 (rw e at h) refl
+pub not-next : (f : Flow) → OneOf (1 ∷ 2 ∷ 3 ∷ 4 ∷ 5 ∷ []) (tag f) → f ≡ Next → ⊥
+not-next f h e = excluded (1 ∷ 2 ∷ 3 ∷ 4 ∷ 5 ∷ []) 0 (rw e at h) refl
 
-pub not-break : (f : Flow) → OneOf (0 ∷ 2 ∷ 3 ∷ 4 ∷ []) (tag f) → f ≡ Break → ⊥
-not-break f h e = excluded (0 ∷ 2 ∷ 3 ∷ 4 ∷ []) 1 (rw e at h) refl
+pub not-break : (f : Flow) → OneOf (0 ∷ 2 ∷ 3 ∷ 4 ∷ 5 ∷ []) (tag f) → f ≡ Break → ⊥
+not-break f h e = excluded (0 ∷ 2 ∷ 3 ∷ 4 ∷ 5 ∷ []) 1 (rw e at h) refl
 
-pub not-continue : (f : Flow) → OneOf (0 ∷ 1 ∷ 3 ∷ 4 ∷ []) (tag f) → f ≡ Continue → ⊥
-not-continue f h e = excluded (0 ∷ 1 ∷ 3 ∷ 4 ∷ []) 2 (rw e at h) refl
+pub not-continue : (f : Flow) → OneOf (0 ∷ 1 ∷ 3 ∷ 4 ∷ 5 ∷ []) (tag f) → f ≡ Continue → ⊥
+not-continue f h e = excluded (0 ∷ 1 ∷ 3 ∷ 4 ∷ 5 ∷ []) 2 (rw e at h) refl
 
 -- ---- answers handed on
 
@@ -179,6 +271,10 @@ module _ {m : Rest ℤ} (r : ℤ) (n : ℕ) (s : List ℤ) (fits : mag r < 2 ^ 6
   pub expressed : EndsExpression (handed r) z → ran (handed z) n s ≡ onward m (λ _ n s. gives next n s)
   expressed e = ran-handed z n s ok ∙ e n s ∙ ap (λ (x : Rest ℤ). onward x (λ _ n s. gives next n s)) (handed-on r n s fits ∙ h)
 
+  -- the value of a return
+  pub valued : EndsReturn (handed r) z → ran (handed z) n s ≡ onward m (λ v n s. gives (returning v) n s)
+  valued e = ran-handed z n s ok ∙ e n s ∙ ap (λ (x : Rest ℤ). onward x (λ v n s. gives (returning v) n s)) (handed-on r n s fits ∙ h)
+
   -- a declaration's initial one
   pub initial : (word : ℕ) (t : List ℤ) → EndsDeclaration word (handed r) s z t → ran (handed z) n t ≡ onward m (λ v n s. gives next n (set s word v))
   initial word t e = ran-handed z n t ok ∙ e n ∙ ap (λ (x : Rest ℤ). onward x (λ v n s. gives next n (set s word v))) (handed-on r n s fits ∙ h)
@@ -200,6 +296,7 @@ module _ (z : ℤ) (fits : mag z < 2 ^ 63) (f : Flow) (e : f ≡ flowOf (handed 
       by Break q = absurd (q refl)
       by Continue q = refl
       by (Goto l) q = refl
+      by Return q = refl
       by Halted q = refl
 
   pub body-next : f ≡ Next → EndsBody z (negsuc 2)
@@ -217,6 +314,10 @@ module _ (z : ℤ) (fits : mag z < 2 ^ 63) (f : Flow) (e : f ≡ flowOf (handed 
   pub body-goto : (l : ℕ) → f ≡ Goto l → EndsBody z (handed z)
   unfolding spend
   body-goto l q n s = turned-handed z n s fits ∙ rw (flow-is, q)
+
+  pub body-return : f ≡ Return → EndsBody z (handed z)
+  unfolding spend
+  body-return q n s = turned-handed z n s fits ∙ rw (flow-is, q)
 
   pub body-halted : f ≡ Halted → EndsBody z (handed z)
   unfolding spend
@@ -236,6 +337,7 @@ body-then (gives next n s) rest = refl
 body-then (gives breaking n s) rest = refl
 body-then (gives continuing n s) rest = refl
 body-then (gives (seeking m) n s) rest = refl
+body-then (gives (returning v) n s) rest = refl
 body-then (halts why n s) rest = refl
 
 -- the body's answer, and what follows it
@@ -287,6 +389,7 @@ module _ (z : ℤ) (n : ℕ) (s : List ℤ) (fits : mag z < 2 ^ 63) (f : Flow) (
         by Break q = refl
         by Continue q = absurd (q refl)
         by (Goto l) q = refl
+        by Return q = refl
         by Halted q = refl
 
     pub ends-round : (more : ℕ → List ℤ → Rest (Turn Signal)) → onward (turned z n s) (resumed more) ≡ turned (handed z) n s
@@ -297,6 +400,7 @@ module _ (z : ℤ) (n : ℕ) (s : List ℤ) (fits : mag z < 2 ^ 63) (f : Flow) (
         by Break q = refl
         by Continue q = absurd (q refl)
         by (Goto l) q = refl
+        by Return q = refl
         by Halted q = refl
 
 -- ---- the rounds of a guarded do
@@ -322,6 +426,7 @@ module _ (z : ℤ) (n : ℕ) (s : List ℤ) (fits : mag z < 2 ^ 63) {m : Rest Si
         by Break q = refl
         by Continue q = refl
         by (Goto l) q = refl
+        by Return q = refl
         by Halted q = refl
 
 -- and a block that ended plainly has made a step
@@ -338,6 +443,7 @@ ran-left r n s = by (flowOf r)
     by Break = refl
     by Continue = refl
     by (Goto l) = refl
+    by Return = refl
     by Halted = refl
 
 module _ (r : ℤ) (n : ℕ) (s : List ℤ) (k : ℕ) (t : List ℤ) where
@@ -349,3 +455,7 @@ pub round-ends : (decides : Bool) (v r : ℤ) → mag v < 2 ^ 31 → mag r < 2 ^
     → turned (handed r) n s ≡ pick decides (pick (isTrue v) (gives again n s) (gives (leave next) n s)) (gives again n s)
 round-ends decides v r h fits ends n s =
     turned-handed r n s fits ∙ ends n s ∙ ap (λ (z : ℤ). pick decides (pick (isTrue z) (gives again n s) (gives (leave next) n s)) (gives again n s)) (back v h)
+
+-- the answer of a call's block, and the call's own
+pub call-turns : {m : Rest Signal} (r : ℤ) (n : ℕ) (s : List ℤ) → mag r < 2 ^ 63 → ran r n s ≡ m → (z : ℤ) → EndsCall (handed r) z → answered z n s ≡ onward m (λ signal n s. gives (returned signal) n s)
+call-turns r n s fits h z e = e n s ∙ ap (λ (x : Rest Signal). onward x (λ signal n s. gives (returned signal) n s)) (ran-handed r n s fits ∙ h)

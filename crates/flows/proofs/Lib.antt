@@ -5,3 +5,5 @@ pub mod Answers
 pub mod Enter
 -- Items: the items of a list by the rows that hold them.
 pub mod Items
+-- Walks: functions, arguments and parameters by the rows that hold them.
+pub mod Walks

@@ -5,3 +5,5 @@
 pub mod Flows
 -- Lists: where a list goes on.
 pub mod Lists
+-- Calls: the rows of functions, arguments and parameters.
+pub mod Calls

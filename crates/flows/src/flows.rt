@@ -1,12 +1,14 @@
 // What a statement's answer says: -1 next, -2 break, -3 continue, a label that is sought (-4 for one that no label has), or, beyond
-// the words, why the run stops, as an evaluation says it. A round's answer says the same, where a continue goes round again.
+// the words, why the run stops, as an evaluation says it, or the value that a return gives, counted from 2^33. A round's answer says the same, where a continue goes round again.
 use super::CONTINUE;
 use super::Flow;
 use super::NEXT;
 use super::NO_LABEL;
+use super::RETURN;
 use arithmetic::is_true;
 use operations::GUARD;
 use operations::Operand;
+use operations::answers::is_return;
 use operations::answers::operand;
 use operations::operations::link_at;
 use words::table::natural;
@@ -20,12 +22,15 @@ ghost use Rattle.words.specs.Table.{numberAt};
 ghost use Rattle.language.specs.Trees.{label as labelOf};
 ghost use Rattle.language.specs.Meaning.{seeking};
 ghost use Rattle.computation.specs.Remaining.{gives};
-ghost use Rattle.flows.specs.Flows.{flowOf, passingOf, ran, EndsExpression, EndsDeclaration, EndsUnguarded, EndsSwitch, EndsBody, EndsRound};
+ghost use Rattle.flows.specs.Flows.{flowOf, passingOf, ran, EndsExpression, EndsDeclaration, EndsReturn, EndsCall, EndsUnguarded, EndsSwitch, EndsBody, EndsRound};
 
 // How the statement with this answer ended.
 pub fn flow(answer: i64) -> Flow
     ensures { λ r. ⌜ r ≡ flowOf answer ⌝ }
 {
+    if is_return(answer) {
+        return Flow::Return;
+    }
     let word = operand(answer);
     let Operand::Value(number) = word else {
         return Flow::Halted;
@@ -84,6 +89,31 @@ pub fn after_initial(answer: i64, rows: &[i32], row: usize, store: &mut [i32]) -
     NEXT
 }
 
+// The answer of a return whose value has this one.
+pub fn after_value(answer: i64) -> i64
+    ensures { λ r. ⌜ EndsReturn answer r ⌝ }
+{
+    let first = operand(answer);
+    let Operand::Value(value) = first else {
+        return answer;
+    };
+    RETURN + value as i64
+}
+
+// The answer of a call whose block ended with this one: the value of its return, or 0, "reaching the end returns 0".
+pub fn after_call(answer: i64) -> i64
+    ensures { λ r. ⌜ EndsCall answer r ⌝ }
+{
+    if is_return(answer) {
+        return answer - RETURN;
+    }
+    let ended = operand(answer);
+    let Operand::Value(_) = ended else {
+        return answer;
+    };
+    0
+}
+
 // The answer of a guarded statement none of whose guards is true: a guarded do is at its end, a guarded if fails.
 pub fn without_guard(repeats: bool) -> i64
     ensures { λ r. ⌜ EndsUnguarded repeats r ⌝ }
@@ -115,6 +145,7 @@ pub fn after_body(answer: i64) -> i64
         Flow::Break => NEXT,
         Flow::Continue => answer,
         Flow::Goto(_) => answer,
+        Flow::Return => answer,
         Flow::Halted => answer,
     }
 }

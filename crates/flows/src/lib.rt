@@ -1,5 +1,6 @@
 // What a statement's answer says, and where a list goes on. An answer is one number, so that it comes back in a register: flows.rt says
 // what it means.
+pub mod calls; // calls.rt: the rows of functions, arguments and parameters
 pub mod flows; // flows.rt: what a statement's answer says
 pub mod lists; // lists.rt: where a list goes on: the search for a mark
 
@@ -13,12 +14,17 @@ pub const CONTINUE: i64 = -3;
 // The answer of a goto whose label no row can have.
 pub const NO_LABEL: i64 = -4;
 
-// How a statement ended: the next item follows; a break, a continue or the search for a label is under way; or the run stops there.
+// The answer of a return of 0; that of another value lies as far from it.
+pub const RETURN: i64 = 8589934592;
+
+// How a statement ended: the next item follows; a break, a continue, the search for a label or a return is under way; or the run stops
+// there.
 pub enum Flow {
     Next,
     Break,
     Continue,
     Goto(usize),
+    Return,
     Halted,
 }
 

@@ -93,6 +93,7 @@ pub fn resume(rows: &[i32], row: usize, answer: i64) -> usize
         Flow::Goto(label) => find_mark(rows, link_at(rows, row, 5), Mark::Label(label)),
         Flow::Break => 0,
         Flow::Continue => 0,
+        Flow::Return => 0,
         Flow::Halted => 0,
     }
 }

@@ -5,7 +5,7 @@ use Rattle.words.specs.Kinds.{Forms, inBoth, inSource, inKernel, inNeither, Kin
 
 -- No kind has this number or a higher one.
 abbrev pub kindLimit : ℕ
-kindLimit = 59
+kindLimit = 61
 
 abbrev pub formsNumber : Forms → ℕ
 formsNumber inNeither = 0

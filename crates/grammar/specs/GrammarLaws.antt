@@ -11,7 +11,7 @@ use borrow.Author.Tests.{ltb-true, ne-eqb, not-true}
 use Rattle.words.specs.Word.{pick}
 use Rattle.words.specs.Table.{numberAt}
 use Rattle.words.specs.Laws.{both}
-use Rattle.words.specs.Kinds.{kinds, kindIn, kindOf, unused, variable, declaredNumber, Forms, inBoth, inSource, inKernel, inNeither, standsIn, kindRow, expressionFields, statementFields, markFields, memberFields, sortIn, sortOf, sortAt, between, inLanguage, isLink}
+use Rattle.words.specs.Kinds.{kinds, kindIn, kindOf, unused, variable, declaredNumber, Forms, inBoth, inSource, inKernel, inNeither, standsIn, kindRow, expressionFields, statementFields, markFields, definitionFields, memberFields, sortIn, sortOf, sortAt, between, inLanguage, isLink}
 use Rattle.words.specs.KindLaws.{everyLine, every-number}
 use Rattle.words.specs.declared.Form.the-variants.{Source, Kernel}
 use Rattle.words.specs.declared.Kind.{Kind}
@@ -28,11 +28,11 @@ no-kind-has property field table none number =
 
 -- what a row is, is no link and no number
 pub kind-no-link : (number : ℕ) → isLink (sortOf number 0) ≡ false
-unfolding everyLine kinds sortIn kindRow expressionFields statementFields markFields memberFields isLink
+unfolding everyLine kinds sortIn kindRow expressionFields statementFields markFields definitionFields memberFields isLink
 kind-no-link number = no-kind-has isLink 0 refl refl number
 
 pub kind-no-number : (number : ℕ) → between variable declaredNumber (sortOf number 0) ≡ false
-unfolding everyLine kinds sortIn kindRow expressionFields statementFields markFields memberFields
+unfolding everyLine kinds sortIn kindRow expressionFields statementFields markFields definitionFields memberFields
 kind-no-number number = no-kind-has (between variable declaredNumber) 0 refl refl number
 
 pub kind-links-none : (rows : List ℤ) (row : ℕ) → link rows row 0 ≡ 0

@@ -9,7 +9,7 @@ use lib.Dec.{ltb, leb}
 use lib.ListN.{getD}
 use borrow.Author.Tests.{ltb-true, lt-leb}
 use Rattle.words.specs.Laws.{both}
-use Rattle.words.specs.Kinds.{between, KindRow, kinds, kindIn, kindOf, kindRow, expressionFields, statementFields, markFields, memberFields}
+use Rattle.words.specs.Kinds.{between, KindRow, kinds, kindIn, kindOf, kindRow, expressionFields, statementFields, markFields, definitionFields, memberFields}
 use Rattle.words.specs.declared.Kind.the-variants.{Other}
 use Rattle.grammar.specs.Grammar.{kindLimit, tabulate, columns, grammar}
 use Rattle.grammar.specs.GrammarLaws.{kind-beyond, tabulated, grammar-row}
@@ -17,7 +17,7 @@ use Rattle.grammar.specs.Papers.{Line, lines, saidBy, said}
 
 -- the one proof over the whole table
 whole-table : tabulate (λ number. kindRow (kindOf number)) 0 kindLimit ≡ tabulate said 0 kindLimit
-unfolding said saidBy lines kindOf kindIn kinds kindRow expressionFields statementFields markFields memberFields
+unfolding said saidBy lines kindOf kindIn kinds kindRow expressionFields statementFields markFields definitionFields memberFields
 whole-table = refl
 
 below : List Line → Bool

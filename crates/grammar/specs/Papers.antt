@@ -3,7 +3,7 @@ use mathlib.Core.Bool.{Bool, _||_}
 use mathlib.Core.List.{List, [], _∷_}
 use Prim.Native.Nat.{ℕ}
 use Rattle.words.specs.Word.{pick}
-use Rattle.words.specs.Kinds.{unused, value, variable, array, label, declaredNumber, expression, optionalExpression, place, branch, optionalBranch, optionalItem, bodyBlock, optionalArm, expressionRow, placeRow, statementRow, armRow, between, Forms, inBoth, inSource, inKernel, KindRow, kindRow}
+use Rattle.words.specs.Kinds.{unused, value, variable, array, label, declaredNumber, functionNumber, expression, optionalExpression, place, branch, optionalBranch, optionalItem, bodyBlock, optionalArm, optionalArgument, optionalParameter, expressionRow, placeRow, statementRow, armRow, argumentRow, between, Forms, inBoth, inSource, inKernel, inNeither, KindRow, kindRow}
 use Rattle.words.specs.declared.Kind.the-variants.{Other}
 
 -- A line is about the kinds from one number to another, and says what a, b, c and d hold.
@@ -46,26 +46,38 @@ lines =
     line 56 56 expression bodyBlock unused unused ∷  -- "kind 56 (arm): a guard, b block, next the next arm"
     line 57 57 unused unused unused unused ∷  -- "the kernel's new kind 57 (abort, no fields)"
     line 58 58 declaredNumber expression unused unused ∷  -- "Kind 58: a variable number below V, b initial expression"
+    line 59 59 functionNumber optionalParameter bodyBlock unused ∷  -- "Kind 59 defines a function: a its number, b first parameter or 0 .., c a block"
+    line 31 31 functionNumber optionalArgument unused unused ∷  -- "Kind 31, an expression, calls: a number, b first argument or 0"
+    line 32 32 expression unused unused unused ∷  -- "kind 32 is an argument with a an expression and next"
+    line 60 60 optionalExpression unused unused unused ∷  -- "Kind 60 returns a, or 0 where a is 0"
     []
 
 -- "'Place' means a row of kind 2 or 3." "Kinds 1 to 30 are expressions, the rest statements." "An arm elsewhere, or another kind among
--- arms, gets 4": an arm is no statement.
+-- arms, gets 4": an arm is no statement. "Kind 31, an expression, calls"; of an argument: "elsewhere, or another kind among arguments, 4".
 abbrev pub whatSaid : ℕ → ℕ
-whatSaid number = pick (between 2 3 number) placeRow (pick (between 1 30 number) expressionRow (pick (between 56 56 number) armRow statementRow))
+whatSaid number =
+    pick (between 2 3 number) placeRow
+    (pick (between 1 31 number) expressionRow
+    (pick (between 32 32 number) argumentRow (pick (between 56 56 number) armRow statementRow)))
 
--- "Items of a block or switch are linked by next. Expressions have next 0 (it counts as an unused field)". Of an arm: "next the next arm".
+-- "Items of a block or switch are linked by next. Expressions have next 0 (it counts as an unused field)". Of an arm: "next the next arm"; of
+-- an argument: "and next".
 abbrev pub nextSaid : ℕ → ℕ
-nextSaid number = pick (between 1 30 number) unused (pick (between 56 56 number) optionalArm optionalItem)
+nextSaid number =
+    pick (between 1 31 number) unused
+    (pick (between 32 32 number) optionalArgument (pick (between 56 56 number) optionalArm optionalItem))
 
 -- The kinds that the paragraph on the kernel form names: constant, variable, element, minus; "kinds 6 to 16"; "assigns"; empty,
 -- expression statement, block, if, while; goto, label.
 abbrev pub inParagraph : ℕ → Bool
 inParagraph number = between 1 4 number || (between 6 16 number || (between 21 21 number || (between 40 44 number || between 52 53 number)))
 
--- "(kernel only)". "The kernel's new kind 57". "Kinds not named in this paragraph are not in the kernel language."
+-- "(kernel only)". "The kernel's new kind 57". "Kinds not named in this paragraph are not in the kernel language." The kinds of functions stand in
+-- no form until both checks know their causes.
 abbrev pub formsSaid : ℕ → Forms
 formsSaid number =
-    pick (between 52 53 number || between 57 57 number) inKernel (pick (inParagraph number) inBoth inSource)
+    pick (between 52 53 number || between 57 57 number) inKernel
+    (pick (inParagraph number) inBoth (pick (between 59 60 number || between 31 32 number) inNeither inSource))
 
 abbrev pub rowSaid : ℕ → Line → KindRow
 rowSaid number l =

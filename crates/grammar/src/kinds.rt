@@ -1,4 +1,6 @@
 // The table of kinds as a constant array: the one place in the code that says what the fields of each kind hold.
+use super::ARGUMENT;
+use super::ARGUMENT_ROW;
 use super::ARM;
 use super::ARM_ROW;
 use super::ARRAY;
@@ -7,6 +9,7 @@ use super::BODY_BLOCK;
 use super::BOTH;
 use super::DECLARED;
 use super::EXPRESSION;
+use super::FUNCTION;
 use super::ITEM;
 use super::KERNEL;
 use super::KindTable;
@@ -17,6 +20,7 @@ use super::NONE;
 use super::OPERAND;
 use super::OPTIONAL;
 use super::OPTIONAL_BODY;
+use super::PARAMETER;
 use super::PLACE;
 use super::PLACE_ROW;
 use super::SOURCE;
@@ -59,8 +63,8 @@ const KINDS: KindTable = [
     [EXPRESSION, PLACE, NONE, NONE, NONE, NONE, SOURCE], // 28 −−e
     [EXPRESSION, PLACE, NONE, NONE, NONE, NONE, SOURCE], // 29 e++
     [EXPRESSION, PLACE, NONE, NONE, NONE, NONE, SOURCE], // 30 e−−
-    [NO_ROW, NONE, NONE, NONE, NONE, NONE, NEITHER], // 31
-    [NO_ROW, NONE, NONE, NONE, NONE, NONE, NEITHER], // 32
+    [EXPRESSION, FUNCTION, ARGUMENT, NONE, NONE, NONE, NEITHER], // 31 call
+    [ARGUMENT_ROW, OPERAND, NONE, NONE, NONE, ARGUMENT, NEITHER], // 32 argument
     [NO_ROW, NONE, NONE, NONE, NONE, NONE, NEITHER], // 33
     [NO_ROW, NONE, NONE, NONE, NONE, NONE, NEITHER], // 34
     [NO_ROW, NONE, NONE, NONE, NONE, NONE, NEITHER], // 35
@@ -87,6 +91,16 @@ const KINDS: KindTable = [
     [ARM_ROW, OPERAND, BODY_BLOCK, NONE, NONE, ARM, SOURCE], // 56 arm
     [STATEMENT, NONE, NONE, NONE, NONE, ITEM, KERNEL], // 57 abort
     [STATEMENT, DECLARED, OPERAND, NONE, NONE, ITEM, SOURCE], // 58 declaration
+    [
+        STATEMENT,
+        FUNCTION,
+        PARAMETER,
+        BODY_BLOCK,
+        NONE,
+        ITEM,
+        NEITHER,
+    ], // 59 definition of a function
+    [STATEMENT, OPTIONAL, NONE, NONE, NONE, ITEM, NEITHER], // 60 return
 ];
 
 // The table, for a pass to build once and lend on. Only here is the array held to the definition.

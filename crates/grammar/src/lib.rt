@@ -7,7 +7,7 @@ ghost use mathlib.Core.Path.{_≡_};
 ghost use Prim.Native.Nat.{_+_, _*_, _<_};
 ghost use lib.ListN.{length};
 ghost use Rattle.words.specs.Kinds.{sortOf, sortAt, between as betweenOf, inLanguage, isLink, isRequired};
-ghost use Rattle.words.specs.Links.{isExpression, isPlace, isStatement, isBlock, isArm, link as linkOf};
+ghost use Rattle.words.specs.Links.{isExpression, isPlace, isStatement, isBlock, isArm, isArgument, link as linkOf};
 ghost use Rattle.grammar.specs.Grammar.{grammar, formsOf};
 
 // Fields without a link. "Values, variable, array and label numbers may be 0."
@@ -22,33 +22,44 @@ pub const ARRAY: u8 = 3;
 pub const LABEL: u8 = 4;
 
 pub const DECLARED: u8 = 5;
-// Links. Optional ones "may be 0": an operand is an expression; a body is "a branch or body", whose next is 0, and the body of an arm is a
-// block; an item is the first of a list, or the next, and may be 0; so is an arm, in a list of arms.
-pub const OPERAND: u8 = 6;
 
-pub const OPTIONAL: u8 = 7;
+pub const FUNCTION: u8 = 6;
+// Links. Optional ones "may be 0": an operand is an expression; a body is "a branch or body", whose next is 0, and the body of an arm or of a
+// function is a block; an item is the first of a list, or the next, and may be 0; so are arms, arguments and parameters, in lists of theirs;
+// an absent link must be 0.
+pub const OPERAND: u8 = 7;
 
-pub const PLACE: u8 = 8;
+pub const OPTIONAL: u8 = 8;
 
-pub const BODY: u8 = 9;
+pub const PLACE: u8 = 9;
 
-pub const OPTIONAL_BODY: u8 = 10;
+pub const BODY: u8 = 10;
 
-pub const ITEM: u8 = 11;
+pub const OPTIONAL_BODY: u8 = 11;
 
-pub const BODY_BLOCK: u8 = 12;
+pub const ITEM: u8 = 12;
 
-pub const ARM: u8 = 13;
+pub const BODY_BLOCK: u8 = 13;
+
+pub const ARM: u8 = 14;
+
+pub const ARGUMENT: u8 = 15;
+
+pub const PARAMETER: u8 = 16;
+
+pub const ABSENT: u8 = 17;
 // What a row is.
 pub const NO_ROW: u8 = 0;
 
-pub const EXPRESSION: u8 = 14;
+pub const EXPRESSION: u8 = 18;
 
-pub const PLACE_ROW: u8 = 15;
+pub const PLACE_ROW: u8 = 19;
 
-pub const STATEMENT: u8 = 16;
+pub const STATEMENT: u8 = 20;
 
-pub const ARM_ROW: u8 = 17;
+pub const ARM_ROW: u8 = 21;
+
+pub const ARGUMENT_ROW: u8 = 22;
 // The forms that have a kind.
 pub const NEITHER: u8 = 0;
 
@@ -59,7 +70,7 @@ pub const BOTH: u8 = 2;
 pub const KERNEL: u8 = 3;
 
 // No kind has this number or a higher one.
-pub const KIND_LIMIT: usize = 59;
+pub const KIND_LIMIT: usize = 61;
 
 pub type KindTable = [[u8; 7]; KIND_LIMIT];
 
@@ -163,11 +174,18 @@ pub fn is_arm(kinds: &KindTable, rows: &[i32], row: usize) -> bool
     sort_at(kinds, rows, row, 0) == ARM_ROW
 }
 
+pub fn is_argument(kinds: &KindTable, rows: &[i32], row: usize) -> bool
+    requires { ⌜ (6 * row < length (now rows)) × (now kinds ≡ grammar) ⌝ }
+    ensures { λ r. ⌜ r ≡ isArgument (now (rows .entry)) row ⌝ }
+{
+    sort_at(kinds, rows, row, 0) == ARGUMENT_ROW
+}
+
 pub fn is_link(sort: u8) -> bool
     ensures { λ r. ⌜ r ≡ isLink sort ⌝ }
 {
     if OPERAND <= sort {
-        return sort <= ARM;
+        return sort <= ABSENT;
     }
     false
 }

@@ -10,7 +10,7 @@ use Rattle.words.specs.Word.{natural, sameWord}
 use Rattle.words.specs.Laws.{both, sameWord-equal}
 use Rattle.words.specs.Table.{rowCount, wordAt, numberAt}
 use Rattle.words.specs.Layout.{rowLimit}
-use Rattle.words.specs.Kinds.{kinds, kindIn, kindOf, isLink, kindRow, expressionFields, statementFields, markFields, memberFields, sortIn, sortOf, sortAt}
+use Rattle.words.specs.Kinds.{kinds, kindIn, kindOf, isLink, kindRow, expressionFields, statementFields, markFields, definitionFields, memberFields, sortIn, sortOf, sortAt}
 use Rattle.words.specs.Links.{link}
 use Rattle.words.specs.Search.{lowestRow}
 use Rattle.words.specs.declared.Form.the-variants.{Source}
@@ -58,7 +58,7 @@ by-hand : joinedRows assigns switches
     pos 2 ∷ pos 0 ∷ pos 0 ∷ pos 0 ∷ pos 0 ∷ pos 0 ∷
     pos 48 ∷ pos 7 ∷ pos 0 ∷ pos 0 ∷ pos 0 ∷ pos 10 ∷  -- 9 case 7, next 10
     pos 50 ∷ pos 0 ∷ pos 0 ∷ pos 0 ∷ pos 0 ∷ pos 0 ∷ [])
-unfolding assigns switches joinedRows firstRows movedRows movedWord outerBlock link sortAt sortOf sortIn kindOf kindIn kinds kindRow expressionFields statementFields markFields memberFields isLink numberAt wordAt natural
+unfolding assigns switches joinedRows firstRows movedRows movedWord outerBlock link sortAt sortOf sortIn kindOf kindIn kinds kindRow expressionFields statementFields markFields definitionFields memberFields isLink numberAt wordAt natural
 by-hand = refl
 
 -- ---- refusals

@@ -12,7 +12,7 @@ use Rattle.words.specs.Word.{natural}
 use Rattle.words.specs.Table.{rowCount, numberAt}
 use Rattle.words.specs.Layout.{rowLimit}
 use Rattle.words.specs.Laws.{facts-countFits}
-use Rattle.words.specs.Kinds.{kinds, kindIn, kindOf, unused, optionalItem, isLink, isRequired, inLanguage, standsIn, kindRow, expressionFields, statementFields, markFields, memberFields, sortIn, sortOf, sortAt}
+use Rattle.words.specs.Kinds.{kinds, kindIn, kindOf, unused, optionalItem, isLink, isRequired, inLanguage, standsIn, kindRow, expressionFields, statementFields, markFields, definitionFields, memberFields, sortIn, sortOf, sortAt}
 use Rattle.words.specs.Links.{link, fits, isStatement}
 use Rattle.words.specs.Search.{lowestRow}
 use Rattle.words.specs.declared.Form.{Form}
@@ -30,6 +30,8 @@ use Rattle.statement_places.specs.Places.{isMark}
 use Rattle.declaration_causes.specs.Causes.{oneTooMany}
 use Rattle.declaration_causes.specs.DeclarationLaws.{block-undeclared, none-too-many}
 use Rattle.declaration_causes.specs.Demands.{NotOwn, NotTwice}
+use Rattle.function_causes.specs.FrontLaws.{block-no-return}
+use Rattle.function_causes.specs.Functionless.{functionless-called}
 use Rattle.source_check.specs.Legal.{Placed, Distinct, Legal}
 use Rattle.join.specs.Join.{secondBegins, joinedRows}
 use Rattle.join.specs.JoinedRows.{length-joined}
@@ -46,11 +48,11 @@ module _ (rows : List ℤ) (row : ℕ) (block : numberAt rows row 0 ≡ 42) wher
 
   -- a block is an item
   block-fits : fits rows optionalItem row ≡ true
-  unfolding fits isStatement sortAt sortOf sortIn kindOf kindIn kinds kindRow expressionFields statementFields markFields memberFields
+  unfolding fits isStatement sortAt sortOf sortIn kindOf kindIn kinds kindRow expressionFields statementFields markFields definitionFields memberFields
   block-fits = rw block
 
   no-field : (field : ℕ) → 2 ≤ field → field < 5 → sortAt rows row field ≡ unused
-  unfolding sortAt sortOf sortIn kindOf kindIn kinds kindRow expressionFields statementFields markFields memberFields
+  unfolding sortAt sortOf sortIn kindOf kindIn kinds kindRow expressionFields statementFields markFields definitionFields memberFields
   no-field zero least most = absurd (omega arith)
   no-field (suc zero) least most = absurd (omega arith)
   no-field (suc (suc zero)) least most = rw block
@@ -64,6 +66,7 @@ module _ (rows : List ℤ) (row : ℕ) (block : numberAt rows row 0 ≡ 42) wher
     continue-inside = λ k. absurd (omega arith);
     mark-inside = λ k. absurd (false≢true (sym (ap isMark block) ∙ k));
     declaration-inside = λ d. absurd (true≢false (sym d ∙ block-undeclared rows row block));
+    return-inside = λ r. absurd (true≢false (sym r ∙ block-no-return rows row block));
   }
 
   block-distinct : Distinct rows row
@@ -252,4 +255,5 @@ joined-legal header first second l m few flat declarations =
             (λ r n. not-twice-held z (holds-second first second s z) (back-second first second s z) r n (m .well-declared .not-twice r n));
         few-declarations = none-too-many (joinedRows first second) declarations;
       };
+      well-called = functionless-called Source _ (joinedRows first second) structured;
     }

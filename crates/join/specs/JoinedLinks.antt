@@ -13,7 +13,7 @@ use lib.ListN.{getD}
 use borrow.Author.Tests.{ltb-true, ltb-false}
 use Rattle.words.specs.Word.{natural}
 use Rattle.words.specs.Table.{rowCount, Whole, numberAt}
-use Rattle.words.specs.Kinds.{kinds, kindIn, kindOf, optionalItem, isLink, kindRow, expressionFields, statementFields, markFields, memberFields, sortIn, sortOf, sortAt}
+use Rattle.words.specs.Kinds.{kinds, kindIn, kindOf, optionalItem, isLink, kindRow, expressionFields, statementFields, markFields, definitionFields, memberFields, sortIn, sortOf, sortAt}
 use Rattle.words.specs.Links.{link, target, linker}
 use Rattle.words.specs.declared.Found.the-variants.{At}
 use Rattle.words.specs.declared.Form.{Form}
@@ -57,11 +57,11 @@ one-word rows t row field other place f g a b e =
     found q = cc
 
 pub block-next : (rows : List ℤ) (row : ℕ) → numberAt rows row 0 ≡ 42 → sortAt rows row 5 ≡ optionalItem
-unfolding sortAt sortOf sortIn kindOf kindIn kinds kindRow expressionFields statementFields markFields memberFields
+unfolding sortAt sortOf sortIn kindOf kindIn kinds kindRow expressionFields statementFields markFields definitionFields memberFields
 block-next rows row e = rw e
 
 pub block-first : (rows : List ℤ) (row : ℕ) → numberAt rows row 0 ≡ 42 → sortAt rows row 1 ≡ optionalItem
-unfolding sortAt sortOf sortIn kindOf kindIn kinds kindRow expressionFields statementFields markFields memberFields
+unfolding sortAt sortOf sortIn kindOf kindIn kinds kindRow expressionFields statementFields markFields definitionFields memberFields
 block-first rows row e = rw e
 
 module _ {form : Form} {bounds : Bounds} (first second : List ℤ) (s : Structured form bounds first) (z : Structured form bounds second) where

@@ -5,14 +5,13 @@ use mathlib.Core.List.{List}
 use Prim.Native.Nat.{ℕ, zero, suc, _+_, _-_, _≤_}
 use native.Mathlib.Omega.{arith}
 use lib.IntN.{ℤ}
-use Rattle.words.specs.Layout.{Layout}
 use Rattle.words.specs.Word.{pick}
 use Rattle.computation.specs.Run.{State, start, Stop, spent, fault, Result, ok, stopped, steps, run, final}
 use Rattle.computation.specs.RunLaws.{count-never-passes}
 use Rattle.computation.specs.Remaining.{Rest, gives, halts, onward, spend, told, spend-is-run}
 use Rattle.words.specs.declared.Ending.the-variants.{Plain, Spent, Fault}
 use Rattle.language.specs.Trees.{Statement, block, Items, none, _then_}
-use Rattle.language.specs.Meaning.{Signal, next, perform, items, exec}
+use Rattle.language.specs.Meaning.{Context, Signal, next, perform, items, exec}
 use Rattle.language.specs.Program.{Finished, finished}
 use Rattle.accepted.specs.Gives.{Gives}
 use Rattle.join.specs.Followed.{raised, followed}
@@ -41,15 +40,15 @@ told-after b before left (ok a σ) h e = let q : b - (left - σ .count) ≡ befo
 told-after b before left (stopped spent σ) h e = let q : b - (left - σ .count) ≡ before + σ .count = omega arith in ap (λ (n : ℕ). record { ending = Spent; count = n; store = σ .store }) q
 told-after b before left (stopped (fault sort) σ) h e = let q : b - (left - σ .count) ≡ before + σ .count = omega arith in ap (λ (n : ℕ). record { ending = Fault sort; count = n; store = σ .store }) q
 
-module _ (L : Layout) (first second : Statement) where
+module _ (C : Context) (first second : Statement) where
   abbrev runOf : Statement → ℕ → List ℤ → Result Signal
-  runOf program b store = run (steps b) (exec L program) (start store)
+  runOf program b store = run (steps b) (exec C program) (start store)
 
   -- by the steps left
-  joined-spend : (b : ℕ) (s : List ℤ) → ((signal : Signal) (n : ℕ) (t : List ℤ) → spend (exec L first) b s ≡ gives signal n t → signal ≡ next)
-      → spend (exec L (joinedTree first second)) (suc b) s ≡ onward (spend (exec L first) b s) (λ _ n t. spend (exec L second) n t)
+  joined-spend : (b : ℕ) (s : List ℤ) → ((signal : Signal) (n : ℕ) (t : List ℤ) → spend (exec C first) b s ≡ gives signal n t → signal ≡ next)
+      → spend (exec C (joinedTree first second)) (suc b) s ≡ onward (spend (exec C first) b s) (λ _ n t. spend (exec C second) n t)
   unfolding spend perform items
-  joined-spend b s plain = onward-same (spend (exec L first) b s) _ _ (λ signal n t e. rw (plain signal n t e) (onward-gives (spend (exec L second) n t)))
+  joined-spend b s plain = onward-same (spend (exec C first) b s) _ _ (λ signal n t e. rw (plain signal n t e) (onward-gives (spend (exec C second) n t)))
 
   -- A legal first leaves no break, continue or search under way: `Gives` of it comes with acceptance.
   module _ (b : ℕ) (s : List ℤ) (plain : Gives (λ signal. signal ≡ next) (runOf first b s)) where
@@ -58,11 +57,11 @@ module _ (L : Layout) (first second : Statement) where
     ends-next (stopped why σ) g signal n t e = absurd (let z : _≡_ {A = ℕ} 0 1 = cc in omega arith)
 
     after : (r : Result Signal) → (final r) .count ≤ b
-        → restFinished (suc b) (onward (told b r) (λ _ n t. spend (exec L second) n t)) ≡ followed (λ n t. finished (runOf second n t)) b (finished r)
+        → restFinished (suc b) (onward (told b r) (λ _ n t. spend (exec C second) n t)) ≡ followed (λ n t. finished (runOf second n t)) b (finished r)
     unfolding followed
     after (ok a σ) most =
-        let few = count-never-passes (b - σ .count) (exec L second) (start (σ .store)) (omega arith) in
-        ap (restFinished (suc b)) (spend-is-run (b - σ .count) (exec L second) (σ .store))
+        let few = count-never-passes (b - σ .count) (exec C second) (start (σ .store)) (omega arith) in
+        ap (restFinished (suc b)) (spend-is-run (b - σ .count) (exec C second) (σ .store))
         ∙ told-after (suc b) (suc (σ .count)) (b - σ .count) (runOf second (b - σ .count) (σ .store)) few (omega arith)
     after (stopped spent σ) most = told-after {A = Signal} (suc b) 1 b (stopped spent σ) most (omega arith)
     after (stopped (fault sort) σ) most = told-after {A = Signal} (suc b) 1 b (stopped (fault sort) σ) most (omega arith)
@@ -70,12 +69,12 @@ module _ (L : Layout) (first second : Statement) where
     -- The join with budget b + 1, from the first with budget b.
     pub tree-run : finished (runOf (joinedTree first second) (suc b) s) ≡ followed (λ n t. finished (runOf second n t)) b (finished (runOf first b s))
     tree-run =
-        let few = count-never-passes (suc b) (exec L (joinedTree first second)) (start s) (omega arith) in
-        let most = count-never-passes b (exec L first) (start s) (omega arith) in
+        let few = count-never-passes (suc b) (exec C (joinedTree first second)) (start s) (omega arith) in
+        let most = count-never-passes b (exec C first) (start s) (omega arith) in
         sym (told-after (suc b) 0 (suc b) (runOf (joinedTree first second) (suc b) s) few (omega arith) ∙ unraised (runOf (joinedTree first second) (suc b) s))
-        ∙ ap (restFinished (suc b)) (sym (spend-is-run (suc b) (exec L (joinedTree first second)) s)
-        ∙ joined-spend b s (rw (spend-is-run b (exec L first) s) (ends-next (runOf first b s) plain))
-        ∙ ap (λ r. onward r (λ _ n t. spend (exec L second) n t)) (spend-is-run b (exec L first) s))
+        ∙ ap (restFinished (suc b)) (sym (spend-is-run (suc b) (exec C (joinedTree first second)) s)
+        ∙ joined-spend b s (rw (spend-is-run b (exec C first) s) (ends-next (runOf first b s) plain))
+        ∙ ap (λ r. onward r (λ _ n t. spend (exec C second) n t)) (spend-is-run b (exec C first) s))
         ∙ after (runOf first b s) most
       where
         unraised : (r : Result Signal) → raised 0 (finished r) ≡ finished r

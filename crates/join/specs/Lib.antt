@@ -10,7 +10,8 @@ pub mod JoinFate
 -- ---- laws
 -- Moved: a table that holds another one's rows at other places.
 pub mod Moved
--- MovedTrees: the trees at the new place of a row are those at its old one, with each word renamed.
+-- MovedKinds, MovedTrees: the trees at the new place of a row are those at its old one, with each word renamed; by the row's kind, and of a table.
+pub mod MovedKinds
 pub mod MovedTrees
 -- JoinedRows: the joined rows hold the first's and the second's.
 pub mod JoinedRows

@@ -9,7 +9,7 @@ use lib.IntN.{ℤ}
 use borrow.Author.Tests.{eqb-true}
 use Rattle.words.specs.Word.{natural}
 use Rattle.words.specs.Table.{rowCount, numberAt}
-use Rattle.words.specs.Kinds.{kinds, kindIn, kindOf, isLink, kindRow, expressionFields, statementFields, markFields, memberFields, sortIn, sortOf, sortAt}
+use Rattle.words.specs.Kinds.{kinds, kindIn, kindOf, isLink, kindRow, expressionFields, statementFields, markFields, definitionFields, memberFields, sortIn, sortOf, sortAt}
 use Rattle.words.specs.Links.{link}
 use Rattle.words.specs.declared.Form.{Form}
 use Rattle.row_fields.specs.declared.Bounds.{Bounds}
@@ -40,11 +40,11 @@ module _ {form : Form} {bounds : Bounds} {joined rows : List ℤ} {ρ : ℕ → 
 
   -- the number that a declaration or a name has is no link, and stays
   pub declared-number : (row : ℕ) → row < rowCount rows → isDeclaration rows row ≡ true → numberAt joined (ρ row) 1 ≡ numberAt rows row 1
-  unfolding isDeclaration numberAt sortAt sortOf sortIn kindOf kindIn kinds kindRow expressionFields statementFields markFields memberFields isLink
+  unfolding isDeclaration numberAt sortAt sortOf sortIn kindOf kindIn kinds kindRow expressionFields statementFields markFields definitionFields memberFields isLink
   declared-number row n d = ap natural (h .stays row 1 n (omega arith) (omega arith) (rw (eqb-true (numberAt rows row 0) declarationKind d)))
 
   pub named-number : (row : ℕ) → row < rowCount rows → isName rows row ≡ true → numberAt joined (ρ row) 1 ≡ numberAt rows row 1
-  unfolding isName numberAt sortAt sortOf sortIn kindOf kindIn kinds kindRow expressionFields statementFields markFields memberFields isLink
+  unfolding isName numberAt sortAt sortOf sortIn kindOf kindIn kinds kindRow expressionFields statementFields markFields definitionFields memberFields isLink
   named-number row n d = ap natural (h .stays row 1 n (omega arith) (omega arith) (rw (eqb-true (numberAt rows row 0) 2 d)))
 
   -- a declaration is not row 0, which is a block

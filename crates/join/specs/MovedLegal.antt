@@ -11,9 +11,10 @@ use borrow.Author.Tests.{ne-eqb}
 use Rattle.words.specs.Word.{natural}
 use Rattle.words.specs.Laws.{by-cases}
 use Rattle.words.specs.Table.{rowCount, wordAt, numberAt}
-use Rattle.words.specs.Kinds.{kinds, kindIn, kindOf, unused, variable, array, label, declaredNumber, expression, optionalArm, isLink, isRequired, inLanguage, kindRow, expressionFields, statementFields, markFields, memberFields, sortIn, sortOf, sortAt}
+use Rattle.words.specs.Kinds.{kinds, kindIn, kindOf, unused, variable, array, label, declaredNumber, expression, absentLink, isLink, isRequired, inLanguage, kindRow, expressionFields, statementFields, markFields, definitionFields, memberFields, sortIn, sortOf, sortAt}
 use Rattle.words.specs.KindLaws.{between-both}
-use Rattle.words.specs.Links.{link, fits, isExpression, isPlace, isStatement, isBlock, isArm}
+use Rattle.words.specs.Declarations.{isDeclaration}
+use Rattle.words.specs.Links.{link, fits, isExpression, isPlace, isStatement, isBlock, isArm, isArgument}
 use Rattle.words.specs.declared.Form.{Form}
 use Rattle.row_fields.specs.Fields.{numberFits}
 use Rattle.structure.specs.Structured.{Leads, Structured}
@@ -28,7 +29,7 @@ use Rattle.join.specs.MovedTrees.{next-alike}
 pub link-named : (bounds : Bounds) (sort number : ℕ) → isLink sort ≡ true → numberFits bounds sort number ≡ true
 unfolding numberFits isLink
 link-named bounds sort number e =
-    let range = between-both expression optionalArm sort e in
+    let range = between-both expression absentLink sort e in
     let least = range .0 in
     rw (ne-eqb sort variable (λ q. omega arith), ne-eqb sort array (λ q. omega arith), ne-eqb sort label (λ q. omega arith), ne-eqb sort declaredNumber (λ q. omega arith))
 
@@ -75,7 +76,7 @@ module _ {form : Form} {bounds : Bounds} {joined rows : List ℤ} {ρ : ℕ → 
         (λ e. rw (h .stays row field n most own e) (s .named row n field least most)))
 
   fits-held : (sort row : ℕ) → 0 < row → row < rowCount rows → fits joined sort (ρ row) ≡ fits rows sort row
-  unfolding fits isExpression isPlace isStatement isBlock isArm
+  unfolding fits isExpression isPlace isStatement isBlock isArm isArgument isDeclaration
   fits-held sort row p n = rw (sort-held h row 0 n, number-held h row n, zero-alike (numberAt joined (ρ row) 5) (numberAt rows row 5) (next-alike s (holds-itself h) row p n))
 
   pub fitting-held : (row field : ℕ) → row < rowCount rows → 1 ≤ field → field < 6 → field < 5 + row → 0 < link joined (ρ row) field
@@ -128,7 +129,7 @@ module _ {form : Form} {bounds : Bounds} {joined rows : List ℤ} {ρ : ℕ → 
     not-root (suc row) number e m = omega arith
 
     case-value : (row : ℕ) → row < rowCount rows → numberAt rows row 0 ≡ 48 → wordAt joined (ρ row) 1 ≡ wordAt rows row 1
-    unfolding sortAt sortOf sortIn kindOf kindIn kinds kindRow expressionFields statementFields markFields memberFields isLink
+    unfolding sortAt sortOf sortIn kindOf kindIn kinds kindRow expressionFields statementFields markFields definitionFields memberFields isLink
     case-value row n k = h .stays row 1 n (omega arith) (omega arith) (rw k)
 
     old-number : {row item number : ℕ} → row < rowCount rows → (m : EarlierItem row item) → numberAt joined item 0 ≡ number → numberAt rows (m .old) 0 ≡ number

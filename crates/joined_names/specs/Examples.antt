@@ -5,7 +5,7 @@ use Prim.Native.Nat.{ℕ}
 use lib.IntN.{ℤ, pos}
 use Rattle.words.specs.Word.{natural}
 use Rattle.words.specs.Table.{wordAt, numberAt}
-use Rattle.words.specs.Kinds.{kinds, kindIn, kindOf, isLink, sortAt, sortOf, sortIn, kindRow, expressionFields, statementFields, markFields, memberFields}
+use Rattle.words.specs.Kinds.{kinds, kindIn, kindOf, isLink, sortAt, sortOf, sortIn, kindRow, expressionFields, statementFields, markFields, definitionFields, memberFields}
 use Rattle.words.specs.Search.{lowest}
 use Rattle.words.specs.Links.{link, target, linker, received, noteBy, note}
 use Rattle.words.specs.Declarations.{isDeclaration, declarationsBefore}
@@ -31,7 +31,7 @@ twice a b c d =
     row 42 7 0 0 0 0 (row 58 c 8 0 0 9 (row 1 7 0 0 0 0 (row 41 10 0 0 0 0 (row 2 d 0 0 0 0 []))))))))))
 
 pub twice-resolved : resolved 10 (joinedRows (declares 0 0) (declares 0 0)) ≡ twice 10 10 11 11
-unfolding joinedRows firstRows movedRows movedWord outerBlock resolved resolvedWord resolvedName variableWord numberAt natural wordAt meantAt wordOf meantFrom declarationsBefore scopeAt isDeclaration isName inScope note noteBy received linker lowest target link isLink sortAt sortOf sortIn kindOf kindIn kinds kindRow expressionFields statementFields markFields memberFields
+unfolding joinedRows firstRows movedRows movedWord outerBlock resolved resolvedWord resolvedName variableWord numberAt natural wordAt meantAt wordOf meantFrom declarationsBefore scopeAt isDeclaration isName inScope note noteBy received linker lowest target link isLink sortAt sortOf sortIn kindOf kindIn kinds kindRow expressionFields statementFields markFields definitionFields memberFields
 twice-resolved = refl
 
 -- { { int v0 = 7; v0; } { v0; } }: the first's object is not the second's
@@ -41,5 +41,5 @@ once a b c =
     row 42 7 0 0 0 0 (row 41 8 0 0 0 0 (row 2 c 0 0 0 0 []))))))))
 
 pub once-resolved : resolved 10 (joinedRows (declares 0 0) (names 0)) ≡ once 10 10 0
-unfolding joinedRows firstRows movedRows movedWord outerBlock resolved resolvedWord resolvedName variableWord numberAt natural wordAt meantAt wordOf meantFrom declarationsBefore scopeAt isDeclaration isName inScope note noteBy received linker lowest target link isLink sortAt sortOf sortIn kindOf kindIn kinds kindRow expressionFields statementFields markFields memberFields
+unfolding joinedRows firstRows movedRows movedWord outerBlock resolved resolvedWord resolvedName variableWord numberAt natural wordAt meantAt wordOf meantFrom declarationsBefore scopeAt isDeclaration isName inScope note noteBy received linker lowest target link isLink sortAt sortOf sortIn kindOf kindIn kinds kindRow expressionFields statementFields markFields definitionFields memberFields
 once-resolved = refl

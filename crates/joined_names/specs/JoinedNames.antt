@@ -206,11 +206,11 @@ module _ (L : Layout) (first second : List ℤ) (s : Structured Source (boundsIn
     first-same =
         moved-trees resolved-first first-part refl 0 (structured-tree Source _ (resolved S first) resolved-first .some-rows) .statement ∙ statement-itself (statementAt (resolved S first) 0)
 
-    second-same : statementAt (resolved S joined) begins ≡ renamedStatement (shifted S up) (decode (resolved S second))
+    second-same : statementAt (resolved S joined) begins ≡ renamedStatement (shifted S up) itself (decode (resolved S second))
     unfolding decode
     second-same =
         ap (statementAt (resolved S joined)) (let e : begins ≡ begins + 0 = omega arith in e)
         ∙ moved-trees resolved-second second-part word-zero 0 (structured-tree Source _ (resolved S second) resolved-second .some-rows) .statement
 
-    pub decode-resolved : decode (resolved S joined) ≡ joinedTree (decode (resolved S first)) (renamedStatement (shifted S up) (decode (resolved S second)))
+    pub decode-resolved : decode (resolved S joined) ≡ joinedTree (decode (resolved S first)) (renamedStatement (shifted S up) itself (decode (resolved S second)))
     decode-resolved = decode-blocks (resolved S joined) begins resolved-blocks ∙ ap₂ joinedTree first-same second-same

@@ -14,7 +14,7 @@ use Rattle.words.specs.Word.{natural}
 use Rattle.words.specs.Laws.{by-cases}
 use Rattle.words.specs.Table.{rowCount, wordAt, numberAt}
 use Rattle.words.specs.Declarations.{isDeclaration}
-use Rattle.words.specs.Kinds.{kinds, kindIn, kindOf, isLink, kindRow, expressionFields, statementFields, markFields, memberFields, sortIn, sortOf, sortAt}
+use Rattle.words.specs.Kinds.{kinds, kindIn, kindOf, isLink, kindRow, expressionFields, statementFields, markFields, definitionFields, memberFields, sortIn, sortOf, sortAt}
 use Rattle.words.specs.KindLaws.{everyLine, every-number}
 use Rattle.words.specs.declared.Form.{Form}
 use Rattle.row_fields.specs.declared.Bounds.{Bounds}
@@ -33,7 +33,7 @@ use Rattle.joined_names.specs.MovedScope.{above-root, moved-meant}
 
 -- kinds 2 and 58 alone have such a field, and it is a
 first-alone : (number field : ℕ) → field < 6 → namesWord (sortOf number field) ≡ true → field ≡ 1
-unfolding everyLine kinds sortIn kindRow expressionFields statementFields markFields memberFields
+unfolding everyLine kinds sortIn kindRow expressionFields statementFields markFields definitionFields memberFields
 first-alone number zero f e = absurd (true≢false (sym e ∙ no-kind-has namesWord 0 refl refl number))
 first-alone number (suc zero) f e = refl
 first-alone number (suc (suc zero)) f e = absurd (true≢false (sym e ∙ no-kind-has namesWord 2 refl refl number))
@@ -43,7 +43,7 @@ first-alone number (suc (suc (suc (suc (suc zero))))) f e = absurd (true≢false
 first-alone number (suc (suc (suc (suc (suc (suc field)))))) f e = absurd (omega arith)
 
 names-or-declares : (number : ℕ) → namesWord (sortOf number 1) ≡ true → (eqb number 58 || eqb number 2) ≡ true
-unfolding everyLine kinds sortOf sortIn kindRow expressionFields statementFields markFields memberFields
+unfolding everyLine kinds sortOf sortIn kindRow expressionFields statementFields markFields definitionFields memberFields
 names-or-declares number e =
     by (namesWord (sortOf number 1)) e (every-number (λ number kind. not (namesWord (sortIn kind 1)) || (eqb number 58 || eqb number 2)) refl (λ number. refl) number)
   where

@@ -18,16 +18,18 @@ use Rattle.computation.specs.Run.{start, Result, Limit, run, final, endingOf}
 use Rattle.computation.specs.RunLaws.{store-keeps-length}
 use Rattle.language.specs.Decode.{decode}
 use Rattle.language.specs.Meaning.{Signal, exec}
+use Rattle.language.specs.Functions.{plain}
 use Rattle.language.specs.Program.{Finished, finished}
 use Rattle.renaming.specs.Renaming.{renamedStatement}
 use Rattle.renaming.specs.RenamingLaws.{itself}
 use Rattle.renaming.specs.Renamed.{scoped-runs}
+use Rattle.renaming.specs.RenamedFunctions.{plain-calls}
 use Rattle.renaming.specs.Twin.{Twin, Renames}
 use Rattle.renaming.specs.TwinLaws.{twin-start, twin-ending, twin-final}
 use Rattle.names.specs.Names.{resolved}
 use Rattle.scoped_programs.specs.Sources.{SourceRows}
-use Rattle.scoped_programs.specs.Scoped.{program-scoped}
-use Rattle.scoped_programs.specs.Independent.{Outer, Stored, runFrom, independent-start}
+use Rattle.scoped_programs.specs.Scoped.{plain-program, program-scoped}
+use Rattle.scoped_programs.specs.Independent.{Outer, Stored, independent-start}
 use Rattle.joined_names.specs.JoinedFate.{shown}
 use Rattle.joined_names.specs.JoinedNames.{shifted, shifted-outer}
 
@@ -61,6 +63,10 @@ module _ (L : Layout) (rows : List ℤ) (source : SourceRows L rows) where
   abbrev D : ℕ
   D = declarationCount rows
 
+  -- no form has functions yet
+  abbrev pub plainFrom : Limit → List ℤ → Result Signal
+  plainFrom limit store = run limit (exec (plain L) (decode (resolved S rows))) (start store)
+
   variables-fit : L .variables ≤ S
   unfolding storeSize
   variables-fit = omega arith
@@ -73,10 +79,10 @@ module _ (L : Layout) (rows : List ℤ) (source : SourceRows L rows) where
 
   -- "whatever the D words held at the start"
   pub own-shown : (limit : Limit) (store own all : List ℤ) → length store ≡ S → D ≤ length own → D ≤ length all
-      → shown S (finished (runFrom L rows limit (store ++ all))) ≡ shown S (finished (runFrom L rows limit (store ++ own)))
+      → shown S (finished (plainFrom limit (store ++ all))) ≡ shown S (finished (plainFrom limit (store ++ own)))
   own-shown limit store own all e h k =
-      let alike = independent-start L rows source limit store own all e h k in
-      shown-alike {π = itself} S (λ i p. refl) (runFrom L rows limit (store ++ own)) (runFrom L rows limit (store ++ all))
+      let alike = rw (plain-program L rows source) at (independent-start L rows source limit store own all e h k) in
+      shown-alike {π = itself} S (λ i p. refl) (plainFrom limit (store ++ own)) (plainFrom limit (store ++ all))
       (long limit _ (store ++ own) (omega (arith, length-append store own))) (long limit _ (store ++ all) (omega (arith, length-append store all))) (alike .0) (alike .1)
 
   -- ---- where they are moved up
@@ -114,9 +120,9 @@ module _ (L : Layout) (rows : List ℤ) (source : SourceRows L rows) where
           (λ i (p : Stored L rows i). (rw (length-append (take S left) other, front) (omega arith), (let below = shifted-below i p in omega arith)))
 
       -- the same ending, count and first S words as where its declared words stand behind the first S
-      pub shifted-shown : (limit : Limit) → shown S (finished (run limit (exec L (renamedStatement π (decode (resolved S rows)))) (start left)))
-          ≡ shown S (finished (runFrom L rows limit (take S left ++ other)))
+      pub shifted-shown : (limit : Limit) → shown S (finished (run limit (exec (plain L) (renamedStatement π itself (decode (resolved S rows)))) (start left)))
+          ≡ shown S (finished (plainFrom limit (take S left ++ other)))
       shifted-shown limit =
-          let twins = scoped-runs shift-renames (decode (resolved S rows)) (program-scoped L rows source (Stored L rows) (λ word w. w .most) (Outer L rows) (λ word h. omega (arith, variables-fit))) limit (start (take S left ++ other)) (start left) shift-start in
-          shown-alike {π = π} S (shifted-outer S up) (runFrom L rows limit (take S left ++ other)) (run limit (exec L (renamedStatement π (decode (resolved S rows)))) (start left))
+          let twins = scoped-runs plain-calls shift-renames (decode (resolved S rows)) (program-scoped L rows source (Stored L rows) (λ word w. w .most) (Outer L rows) (λ word h. omega (arith, variables-fit))) limit (start (take S left ++ other)) (start left) shift-start in
+          shown-alike {π = π} S (shifted-outer S up) (plainFrom limit (take S left ++ other)) (run limit (exec (plain L) (renamedStatement π itself (decode (resolved S rows)))) (start left))
           (long limit _ (take S left ++ other) (omega (arith, length-append (take S left) other, front))) (long limit _ left (omega arith)) (twin-ending twins) (twin-final (λ i p. p) twins)

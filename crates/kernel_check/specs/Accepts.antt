@@ -29,8 +29,14 @@ use Rattle.kernel_check.specs.LabelLaws.{label-test, test-label, label-i
 use Rattle.kernel_check.specs.Labels.{isLabel, repeatedLabel, labelAhead, gotoWithoutLabel, labelFault}
 use Rattle.kernel_check.specs.Legal.{Label, Ahead, Legal}
 use Rattle.kernel_check.specs.Passes.{LabelNumbers}
-use Rattle.kernel_check.specs.Refusal.{kernelCauses, refusal}
+use Rattle.kernel_check.specs.Refusal.{formCauses, kernelCauses, refusal}
 use Rattle.kernel_statements.specs.Statements.{isKernelStatement, notKernelForm}
+use Rattle.declaration_causes.specs.Causes.{declaredBefore}
+use Rattle.declaration_causes.specs.DeclarationLaws.{block-undeclared, not-declared-before, declared-once}
+use Rattle.function_causes.specs.Causes.{returnsOutside}
+use Rattle.function_causes.specs.FrontLaws.{block-undefined}
+use Rattle.function_causes.specs.AroundLaws.{inside-function, function-inside}
+use Rattle.function_causes.specs.AcceptsFunctions.{accepts-functions}
 
 -- ---- what causes 1 to 6 leave to cause 13
 
@@ -127,13 +133,17 @@ module _ (rows : List ℤ) (row : ℕ) where
 
 module _ (header rows : List ℤ) where
   pub accepted-legal : refusal header rows ≡ Accepted → Legal header rows
-  unfolding refusal kernelCauses
+  unfolding refusal kernelCauses formCauses
   accepted-legal e =
       let structural = next-accepts (structuralRefusal Kernel header rows) _ e in
       let sound = accepted-structured Kernel header rows (structural .0) in
       let s = sound .1 in
       let t = structured-tree Kernel _ rows s in
-      let c9 = next-accepts (at 9 _) _ (structural .1) in
+      let root = block-undefined rows 0 (s .block) in
+      let c7 = next-accepts (at 7 _) _ (structural .1) in
+      let form = next-accepts (formCauses rows) _ (c7 .1) in
+      let c9 = next-accepts (at 9 _) _ (form .0) in
+      let c19 = next-accepts (at 19 _) _ (form .1) in
       let c12 = next-accepts (at 12 _) _ (c9 .1) in
       let formed = lowestRow-all rows (notKernelForm rows) (at-accepts 12 _ (c12 .0)) in
       let labels = lowestRow-all rows (labelFault rows) (at-accepts 13 _ (c12 .1)) in
@@ -144,6 +154,9 @@ module _ (header rows : List ℤ) where
         formed = λ row n. form-kept rows row (formed row n);
         labels-once = λ number row other l k. once t labels number row other l k (ℕ-discrete row other) (decLt row other);
         gotos-ahead = λ row n k. goto-ahead rows row t (structured-lone _ rows s) n (fault-goto rows row (labels row n)) k;
+        returns-inside = λ row n. inside-function rows t root row n (lowestRow-all rows (returnsOutside rows) (at-accepts 7 _ (c7 .0)) row n);
+        not-twice = λ row n. not-declared-before rows t row (block-undeclared rows 0 (s .block)) (lowestRow-all rows (declaredBefore rows) (at-accepts 19 _ (c19 .0)) row n);
+        well-called = accepts-functions rows t root .0 (c19 .1);
       }
     where
       once : Tree rows → ((row : ℕ) → row < rowCount rows → labelFault rows row ≡ false) → (number row other : ℕ) → Label rows number row → Label rows number other
@@ -155,16 +168,21 @@ module _ (header rows : List ℤ) where
           (lt-of-le-ne (omega (arith, d)) (λ (x : other ≡ row). q (sym x))))
 
   pub legal-accepted : Legal header rows → refusal header rows ≡ Accepted
-  unfolding refusal kernelCauses
+  unfolding refusal kernelCauses formCauses
   legal-accepted l =
       let s = l .structured in
       let t = structured-tree Kernel _ rows s in
       let lone = structured-lone _ rows s in
+      let root = block-undefined rows 0 (s .block) in
       accepts-next (structuralRefusal Kernel header rows) _ (structured-accepted Kernel header rows (l .header-fits) s)
+      (accepts-next (at 7 _) _ (accepts-at 7 _ (all-lowestRow rows (returnsOutside rows) (λ row n. function-inside rows t root row (l .returns-inside row n))))
+      (accepts-next (formCauses rows) _
       (accepts-next (at 9 _) _ (accepts-at 9 _ (shallow-none-deep rows t Kernel (l .shallow)))
       (accepts-next (at 12 _) _ (accepts-at 12 _ (all-lowestRow rows (notKernelForm rows) (λ row n. kept-form rows row (l .formed row n))))
       (accepts-at 13 _ (all-lowestRow rows (labelFault rows)
       (λ row n. no-fault rows row (repeats rows row (λ number other. l .labels-once number row other)) (ahead-goto rows row t lone (l .gotos-ahead row n)))))))
+      (accepts-next (at 19 _) _ (accepts-at 19 _ (all-lowestRow rows (declaredBefore rows) (λ row n. declared-once rows t row n (l .not-twice row n))))
+      (accepts-functions rows t root .1 (l .well-called)))))
 
   -- "The kernel check accepts the legal kernel programs and no others."
   pub accepts-legal : (refusal header rows ≡ Accepted → Legal header rows) × (Legal header rows → refusal header rows ≡ Accepted)

@@ -10,13 +10,14 @@ use lib.IntN.{ℤ}
 use borrow.Author.Tests.{eq-eqb, ne-eqb, eqb-true, eqb-false}
 use Rattle.words.specs.Word.{pick}
 use Rattle.words.specs.Table.{rowCount, numberAt}
-use Rattle.words.specs.Laws.{both}
+use Rattle.words.specs.Laws.{by-cases, both}
 use Rattle.words.specs.Links.{link}
 use Rattle.structure.specs.NoteLaws.{above-zero}
 use Rattle.structure.specs.Structured.{Leads, Tree}
 use Rattle.structure.specs.Lists.{Before, adjacent, Step, once, on, before-later, before-inside, before-before, before-step}
 use Rattle.kernel_statements.specs.Laws.{number-beyond}
-use Rattle.kernel_check.specs.Labels.{isLabel, ownerAt, labelBehind, labelAhead}
+use Rattle.function_causes.specs.Functions.{isDefinition}
+use Rattle.kernel_check.specs.Labels.{isLabel, ownerAt, aroundAt, labelBehind, labelAhead}
 use Rattle.kernel_check.specs.Legal.{Label, Owner, part, beside, Ahead, behind, outward}
 use Rattle.kernel_check.specs.ListLaws.{owner-root, owner-is, owner-earlier, owner-of-row, owner-below}
 
@@ -95,31 +96,54 @@ module _ (rows : List ℤ) (t : Tree rows) (number : ℕ) where
     root-behind zero = refl
     root-behind (suc items) = rw lone
 
+    -- ---- the row around a row, in its function
+
+    around-none : (row : ℕ) → isDefinition rows (ownerAt rows row) ≡ true → aroundAt rows row ≡ 0
+    unfolding aroundAt
+    around-none row d = rw d
+
+    around-owner : (row : ℕ) → isDefinition rows (ownerAt rows row) ≡ false → aroundAt rows row ≡ ownerAt rows row
+    unfolding aroundAt
+    around-owner row d = rw d
+
+    around-is : {owner row : ℕ} → Owner rows owner row → isDefinition rows owner ≡ false → aroundAt rows row ≡ owner
+    around-is {owner} {row} o d = let is = owner-is rows t o in around-owner row (ap (isDefinition rows) is ∙ d) ∙ is
+
+    around-root : aroundAt rows 0 ≡ 0
+    around-root =
+        by-cases (isDefinition rows (ownerAt rows 0)) (λ d. around-none 0 d) (λ d. around-owner 0 d ∙ owner-root rows t)
+
+    pub around-below : (row : ℕ) → 0 < row → row < rowCount rows → aroundAt rows row < row
+    around-below row p n =
+        by-cases (isDefinition rows (ownerAt rows row))
+        (λ d. let is = around-none row d in omega arith)
+        (λ d. let is = around-owner row d in let below = owner-below rows t lone row p n in omega arith)
+
     root-ahead : (levels : ℕ) → labelAhead levels rows number 0 ≡ false
     unfolding labelAhead
     root-ahead zero = refl
-    root-ahead (suc levels) = rw (root-behind (rowCount rows), owner-root rows t) (root-ahead levels)
+    root-ahead (suc levels) = rw (root-behind (rowCount rows), around-root) (root-ahead levels)
 
     -- as many levels as the row's number are enough
     enough : (levels more row : ℕ) → row ≤ levels → row ≤ more → row < rowCount rows → labelAhead levels rows number row ≡ labelAhead more rows number row
     unfolding labelAhead
     enough zero more row h k n = let z : row ≡ 0 = omega arith in rw z (sym (root-ahead more))
     enough (suc levels) zero row h k n = let z : row ≡ 0 = omega arith in rw z (root-ahead (suc levels))
-    enough (suc levels) (suc more) row h k n = go (ℕ-discrete row 0) (enough levels more (ownerAt rows row))
+    enough (suc levels) (suc more) row h k n = go (ℕ-discrete row 0) (enough levels more (aroundAt rows row))
       where
-        go : Dec (row ≡ 0) → (ownerAt rows row ≤ levels → ownerAt rows row ≤ more → ownerAt rows row < rowCount rows → labelAhead levels rows number (ownerAt rows row) ≡ labelAhead more rows number (ownerAt rows row))
+        go : Dec (row ≡ 0) → (aroundAt rows row ≤ levels → aroundAt rows row ≤ more → aroundAt rows row < rowCount rows → labelAhead levels rows number (aroundAt rows row) ≡ labelAhead more rows number (aroundAt rows row))
             → labelAhead (suc levels) rows number row ≡ labelAhead (suc more) rows number row
         go (yes q) r = rw q (root-ahead (suc levels) ∙ sym (root-ahead (suc more)))
-        go (no q) r = let below = owner-below rows t lone row (above-zero row q) n in rw (r (omega arith) (omega arith) (omega arith))
+        go (no q) r = let below = around-below row (above-zero row q) n in rw (r (omega arith) (omega arith) (omega arith))
 
     -- one step of the climb
     pub ahead-step : (row : ℕ) → 0 < row → row < rowCount rows
-        → labelAhead row rows number row ≡ pick (labelBehind (rowCount rows) rows number row) true (labelAhead (ownerAt rows row) rows number (ownerAt rows row))
+        → labelAhead row rows number row ≡ pick (labelBehind (rowCount rows) rows number row) true (labelAhead (aroundAt rows row) rows number (aroundAt rows row))
     unfolding labelAhead
     ahead-step zero p n = absurd (omega arith)
     ahead-step (suc row) p n =
-        let below = owner-below rows t lone (suc row) p n in
-        ap (pick (labelBehind (rowCount rows) rows number (suc row)) true) (enough row (ownerAt rows (suc row)) (ownerAt rows (suc row)) (omega arith) (omega arith) (omega arith))
+        let below = around-below (suc row) p n in
+        ap (pick (labelBehind (rowCount rows) rows number (suc row)) true) (enough row (aroundAt rows (suc row)) (aroundAt rows (suc row)) (omega arith) (omega arith) (omega arith))
 
     pub ahead-end : labelAhead 0 rows number 0 ≡ false
     ahead-end = root-ahead 0
@@ -128,15 +152,18 @@ module _ (rows : List ℤ) (t : Tree rows) (number : ℕ) where
     unfolding labelAhead
     search-ahead zero row n e = absurd (false≢true e)
     search-ahead (suc levels) row n e =
-        go (labelBehind (rowCount rows) rows number row) refl e (ℕ-discrete row 0) (search-ahead levels (ownerAt rows row))
+        go (labelBehind (rowCount rows) rows number row) refl e (ℕ-discrete row 0) (search-ahead levels (aroundAt rows row))
       where
-        go : (here : Bool) → labelBehind (rowCount rows) rows number row ≡ here → pick here true (labelAhead levels rows number (ownerAt rows row)) ≡ true → Dec (row ≡ 0)
-            → (ownerAt rows row < rowCount rows → labelAhead levels rows number (ownerAt rows row) ≡ true → Ahead rows number (ownerAt rows row)) → Ahead rows number row
+        go : (here : Bool) → labelBehind (rowCount rows) rows number row ≡ here → pick here true (labelAhead levels rows number (aroundAt rows row)) ≡ true → Dec (row ≡ 0)
+            → (aroundAt rows row < rowCount rows → labelAhead levels rows number (aroundAt rows row) ≡ true → Ahead rows number (aroundAt rows row)) → Ahead rows number row
         go true b e d r = let z = search-behind (rowCount rows) row n b in behind (z .before) (z .is)
-        go false b e (yes q) r = absurd (true≢false (sym e ∙ (rw (q, owner-root rows t) (root-ahead levels))))
+        go false b e (yes q) r = absurd (true≢false (sym e ∙ (rw (q, around-root) (root-ahead levels))))
         go false b e (no q) r =
             let o = owner-of-row rows t lone row (above-zero row q) n in
-            outward o (r (let below = owner-earlier rows t o in omega arith) e)
+            by-cases (isDefinition rows (ownerAt rows row))
+            (λ d. absurd (true≢false (sym e ∙ rw (around-none row d) (root-ahead levels))))
+            (λ d. let is = around-owner row d in
+            outward o d (rw is at (r (let below = owner-earlier rows t o in omega arith) e)))
 
     owner-row-inside : {owner row : ℕ} → Owner rows owner row → row < rowCount rows
     owner-row-inside (part h leads) = leads .inside
@@ -151,7 +178,7 @@ module _ (rows : List ℤ) (t : Tree rows) (number : ℕ) where
             let i = before-inside b in
             let later = before-later b in
             rw (ahead-step row (above-zero row q) (omega arith), behind-search (rowCount rows) row item (omega arith) b l)
-    ahead-search (outward {owner} {row} o a) =
+    ahead-search (outward {owner} {row} o d a) =
         let inside = owner-row-inside o in
         let earlier = owner-earlier rows t o in
-        rw (ahead-step row (omega arith) inside, owner-is rows t o, ahead-search a) (either-way (labelBehind (rowCount rows) rows number row))
+        rw (ahead-step row (omega arith) inside, around-is o d, ahead-search a) (either-way (labelBehind (rowCount rows) rows number row))

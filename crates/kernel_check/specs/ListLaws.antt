@@ -11,7 +11,7 @@ use borrow.Author.Tests.{ne-eqb}
 use Rattle.words.specs.Table.{rowCount}
 use Rattle.words.specs.Links.{link}
 use Rattle.structure.specs.LinkLaws.{owner-of, by-owner}
-use Rattle.structure.specs.NoteLaws.{note-root, note-link}
+use Rattle.structure.specs.NoteLaws.{above-zero, note-root, note-link}
 use Rattle.structure.specs.Structured.{Leads, Tree}
 use Rattle.structure.specs.Lists.{Before, adjacent, further, before-next}
 use Rattle.kernel_check.specs.Labels.{owning, ownerAt}
@@ -147,3 +147,10 @@ module _ (rows : List ℤ) (t : Tree rows) where
 
     pub owner-below : (row : ℕ) → 0 < row → row < rowCount rows → ownerAt rows row < row
     owner-below row p n = owner-earlier (owner-of-row row p n)
+
+    pub owner-inside : (row : ℕ) → row < rowCount rows → ownerAt rows row < rowCount rows
+    owner-inside row n = go (ℕ-discrete row 0)
+      where
+        go : Dec (row ≡ 0) → ownerAt rows row < rowCount rows
+        go (yes z) = rw (z, owner-root) (omega arith)
+        go (no z) = let below = owner-below row (above-zero row z) n in omega arith

@@ -17,10 +17,14 @@ use Rattle.structure.specs.Links.{linksAmong, linkCount, loneBlock, notOnce, de
 use Rattle.structure.specs.Refusal.{at, unless, _next_, rowCauses, structuralRefusal}
 use Rattle.words.specs.Search.{lowest, some, lowestRow, someField}
 use Rattle.kernel_check.specs.Accepts.{accepted-legal}
-use Rattle.kernel_check.specs.Labels.{isLabel, repeatedLabel, owning, ownerAt, labelBehind, labelAhead, gotoWithoutLabel, labelFault}
+use Rattle.kernel_check.specs.Labels.{isLabel, repeatedLabel, owning, ownerAt, aroundAt, labelBehind, labelAhead, gotoWithoutLabel, labelFault}
 use Rattle.kernel_check.specs.Legal.{Legal}
-use Rattle.kernel_check.specs.Refusal.{kernelCauses, refusal}
+use Rattle.kernel_check.specs.Refusal.{formCauses, kernelCauses, refusal}
 use Rattle.kernel_statements.specs.Statements.{isAtom, isAtomMinus, isAtomOperation, isAtomElement, fitsVariable, isAssignment, isBlock, isKernelIf, isKernelWhile, isKernelExpression, isKernelStatement, notKernelForm}
+use Rattle.words.specs.Declarations.{isDeclaration}
+use Rattle.declaration_causes.specs.Causes.{declaredBefore}
+use Rattle.function_causes.specs.Functions.{isDefinition, isCall, isReturn}
+use Rattle.function_causes.specs.Causes.{returnsOutside, outOfOrder, wrongCall, functionRefusal}
 
 -- One variable (0), one temporary (4), one array of 3.
 abbrev header : List ℤ
@@ -62,7 +66,7 @@ pub record Answers : Type 0 where
   pub label-twice : refusal header (changed 60 53) ≡ refused 13 11
 
 pub sample-answers : Answers
-unfolding natural wordAt numberAt layoutOf sum storeSize headerStore allWithin headerFits countFits foreign fits leadsRight mislinked boundsOf numberFits outside sortOf sortIn kindOf kindIn kinds kindRow expressionFields statementFields markFields memberFields sortAt inLanguage isExpression isPlace isStatement isLink isRequired link target linksAmong linkCount loneBlock notOnce linker received noteBy note deeper depthAt tooDeep at unless _next_ rowCauses structuralRefusal lowest some lowestRow someField isLabel repeatedLabel owning ownerAt labelBehind labelAhead gotoWithoutLabel labelFault kernelCauses refusal isAtom isAtomMinus isAtomOperation isAtomElement fitsVariable isAssignment isBlock isKernelIf isKernelWhile isKernelExpression isKernelStatement notKernelForm
+unfolding natural wordAt numberAt layoutOf sum storeSize headerStore allWithin headerFits countFits foreign fits leadsRight mislinked boundsOf numberFits outside sortOf sortIn kindOf kindIn kinds kindRow expressionFields statementFields markFields memberFields sortAt inLanguage isExpression isPlace isStatement isLink isRequired link target linksAmong linkCount loneBlock notOnce linker received noteBy note deeper depthAt tooDeep at unless _next_ rowCauses structuralRefusal lowest some lowestRow someField isLabel repeatedLabel owning ownerAt aroundAt labelBehind labelAhead gotoWithoutLabel labelFault isDeclaration declaredBefore isReturn isDefinition isCall returnsOutside outOfOrder wrongCall functionRefusal formCauses kernelCauses refusal isAtom isAtomMinus isAtomOperation isAtomElement fitsVariable isAssignment isBlock isKernelIf isKernelWhile isKernelExpression isKernelStatement notKernelForm
 sample-answers = record { whole = refl; variable-V = refl; no-block = refl; no-label = refl; label-twice = refl }
 
 pub sample-legal : Legal header program

@@ -2,6 +2,7 @@
 use super::Note;
 use super::chains::chain_rows;
 use super::notes::write_notes;
+use function_check::front::is_definition;
 use kernel_statements::number_or_zero;
 use structure::row_number::narrow;
 use structure::row_number::wide;
@@ -14,9 +15,9 @@ ghost use Rattle.words.specs.Links.{link};
 ghost use Rattle.words.specs.Search.{some, lowestRow};
 ghost use Rattle.structure.specs.Passes.{Notes};
 ghost use Rattle.structure.specs.Structured.{Tree};
-ghost use Rattle.kernel_check.specs.Labels.{isLabel, labelBehind, labelAhead, labelFault};
+ghost use Rattle.kernel_check.specs.Labels.{aroundAt, isLabel, labelBehind, labelAhead, labelFault};
 ghost use Rattle.kernel_check.specs.Passes.{noteAt, Noted, Jump, NextJump, LabelNumbers, Heads, Chain, Marks, Marked, LowestAmong, NumberBelow, lower};
-ghost use Rattle.kernel_check.specs.declared.Note.the-variants.{First};
+ghost use Rattle.kernel_check.specs.declared.Note.the-variants.{First, Owner};
 
 // A label with this number.
 fn is_label(rows: &[i32], number: usize, row: usize) -> bool
@@ -73,7 +74,19 @@ fn is_behind(rows: &[i32], firsts: &[u16], marks: &[u16], number: usize, row: us
     false
 }
 
-// It is one of the row's list, or of a list around that: a climb from owner to owner.
+// The owner of a row, where that is no definition; else 0.
+fn around(rows: &[i32], owners: &[u16], row: usize) -> usize
+    requires { ⌜ Tree (now rows) × (link (now rows) 0 5 ≡ 0) × Notes (now rows) (noteAt Owner (now rows)) (now owners) × (row < length (now rows) / 6) ⌝ }
+    ensures { λ r. ⌜ r ≡ aroundAt (now (rows .entry)) row ⌝ }
+{
+    let owner = wide(owners[row]);
+    if is_definition(rows, owner) {
+        return 0;
+    }
+    owner
+}
+
+// It is one of the row's list, or of a list around that in its function: a climb from owner to owner.
 fn is_ahead(
     rows: &[i32],
     firsts: &[u16],
@@ -90,7 +103,7 @@ fn is_ahead(
         if is_behind(rows, firsts, marks, number, row) {
             return true;
         }
-        row = wide(owners[row]);
+        row = around(rows, owners, row);
     }
     false
 }

@@ -7,14 +7,14 @@ use Prim.Native.Nat.{ℕ, zero, suc, _<_, _≤_}
 use native.Mathlib.Omega.{arith}
 use lib.Dec.{ltb, eqb}
 use lib.IntN.{ℤ}
-use borrow.Author.Tests.{ltb-false, le-ltb, eqb-true, eq-eqb, ne-eqb}
+use borrow.Author.Tests.{ltb-false, le-ltb, eqb-true, eq-eqb, ne-eqb, not-true}
 use Rattle.words.specs.Table.{rowCount, numberAt, Whole}
-use Rattle.words.specs.Kinds.{kinds, kindIn, kindOf, kindAt, expression, optionalExpression, place, branch, optionalBranch, optionalItem, bodyBlock, optionalArm, expressionRow, placeRow, statementRow, armRow, between, sortAt, sortOf, isLink, isRequired, sortIn, kindRow, expressionFields, statementFields, markFields, memberFields, standsIn, isStatementKind}
+use Rattle.words.specs.Kinds.{kinds, kindIn, kindOf, kindAt, expression, optionalExpression, place, branch, optionalBranch, optionalItem, bodyBlock, optionalArm, optionalArgument, optionalParameter, absentLink, expressionRow, placeRow, statementRow, armRow, argumentRow, between, sortAt, sortOf, isLink, isRequired, sortIn, kindRow, expressionFields, statementFields, markFields, definitionFields, memberFields, standsIn, isStatementKind}
 use Rattle.words.specs.KindLaws.{everyLine, every-number}
 use Rattle.words.specs.SearchLaws.{from-on}
 use Rattle.words.specs.Word.{pick}
 use Rattle.words.specs.Laws.{both, either, by-cases}
-use Rattle.words.specs.Links.{isExpression, isPlace, isStatement, isArm, link, fits}
+use Rattle.words.specs.Links.{isExpression, isPlace, isStatement, isArm, isArgument, link, fits}
 use Rattle.words.specs.declared.Form.the-variants.{Kernel}
 use Rattle.words.specs.declared.Kind.{Kind}
 use Rattle.words.specs.declared.Kind.the-variants.{OfExpression, OfStatement, OfMark, OfMember, Other}
@@ -30,7 +30,7 @@ use Rattle.row_fields.specs.declared.Bounds.{Bounds}
 use Rattle.structure.specs.Structured.{Leads, Structured}
 use Rattle.kernel_check.specs.Legal.{Legal}
 use Rattle.kernel_statements.specs.Statements.{isAtom, isAssignment, isBlock, isKernelIf, isKernelWhile, isKernelExpression, isKernelStatement}
-use Rattle.accepted.specs.Sorts.{statementNumber, between-true, number-is, sort-is, statement-kind, in-language, expression-statement-or-arm, arm-is}
+use Rattle.accepted.specs.Sorts.{statementNumber, between-true, number-is, sort-is, statement-kind, in-language, no-definition, row-sort, arm-is, argument-is}
 use Rattle.accepted.specs.Fields.{holds, Linked, MayLink, linked, may-link, next-link}
 use Rattle.accepted.specs.Expressions.{whole-rows}
 use Rattle.accepted.specs.Statements.{list-some}
@@ -118,8 +118,19 @@ abbrev linksTested : ℕ → Kind → Bool
 linksTested number kind = nextTested number kind && (tested number kind 1 && (tested number kind 2 && (tested number kind 3 && tested number kind 4)))
 
 links-tested : (number : ℕ) → linksTested number (kindOf number) ≡ true
-unfolding everyLine kinds sortIn kindRow expressionFields statementFields markFields memberFields
+unfolding everyLine kinds sortIn kindRow expressionFields statementFields markFields definitionFields memberFields
 links-tested number = every-number linksTested refl (λ number. refl) number
+
+-- no form has functions yet, so that no field of a kernel row links parameters
+abbrev parameterless : ℕ → Kind → ℕ → Bool
+parameterless number kind field = pick (standsIn (kindRow kind .forms) Kernel) (not (eqb (sortIn kind field) optionalParameter)) true
+
+abbrev parametersTested : ℕ → Kind → Bool
+parametersTested number kind = parameterless number kind 5 && (parameterless number kind 1 && (parameterless number kind 2 && (parameterless number kind 3 && parameterless number kind 4)))
+
+parameters-tested : (number : ℕ) → parametersTested number (kindOf number) ≡ true
+unfolding everyLine kinds sortIn kindRow expressionFields statementFields markFields definitionFields memberFields
+parameters-tested number = every-number parametersTested refl (λ number. refl) number
 
 -- A field that links a statement.
 pub data StatementLink (rows : List ℤ) (row : ℕ) : ℕ → Type 0 where
@@ -156,10 +167,15 @@ module _ (rows : List ℤ) (row : ℕ) where
   unfolding isArm isStatement
   as-arm e = ne-eqb _ _ (λ (q : sortAt rows row 0 ≡ statementRow). let z = eqb-true (sortAt rows row 0) armRow e in omega arith)
 
-  statement-sort : (sort : ℕ) → isLink sort ≡ true → SortOf sort
+  as-argument : isArgument rows row ≡ true → isStatement rows row ≡ false
+  unfolding isArgument isStatement
+  as-argument e = ne-eqb _ _ (λ (q : sortAt rows row 0 ≡ statementRow). let z = eqb-true (sortAt rows row 0) argumentRow e in omega arith)
+
+  statement-sort : (sort : ℕ) → isLink sort ≡ true → eqb sort optionalParameter ≡ false → SortOf sort
   unfolding fits isLink
-  statement-sort sort l =
-      let range = between-true expression optionalArm sort l in
+  statement-sort sort l other =
+      let range = between-true expression absentLink sort l in
+      let apart : sort ≡ optionalParameter → ⊥ = λ q. true≢false (sym (eq-eqb _ _ q) ∙ other) in
       from-on SortOf sort expression (range .0) (λ f t. never (as-expression f) t)
       (λ h. from-on SortOf sort optionalExpression h (λ f t. never (as-expression f) t)
       (λ h. from-on SortOf sort place h (λ f t. never (as-place f) t)
@@ -168,7 +184,10 @@ module _ (rows : List ℤ) (row : ℕ) where
       (λ h. from-on SortOf sort optionalItem h (λ f t. refl)
       (λ h. from-on SortOf sort bodyBlock h (λ f t. refl)
       (λ h. from-on SortOf sort optionalArm h (λ f t. never (as-arm f) t)
-      (λ h. absurd (omega arith)))))))))
+      (λ h. from-on SortOf sort optionalArgument h (λ f t. never (as-argument f) t)
+      (λ h. from-on (λ (k : ℕ). (k ≡ optionalParameter → ⊥) → SortOf k) sort optionalParameter h (λ d f t. absurd (d refl))
+      (λ h d. from-on SortOf sort absentLink h (λ f t. absurd (true≢false (sym f)))
+      (λ h. absurd (omega arith))) apart)))))))))
 
 -- A table of rows that is legal with some header.
 pub record KernelTable (rows : List ℤ) : Type 0 where
@@ -198,8 +217,8 @@ module _ (header rows : List ℤ) (legal : Legal header rows) where
     pub expression-or-statement : (isExpression rows row ≡ true) ⊎ (isStatement rows row ≡ true)
     unfolding kindRow memberFields
     expression-or-statement =
-        ⊎-elim (λ e. inl e) (λ h. ⊎-elim (λ e. inr e) (λ e. absurd (not-in-kernel (arm-is rows row e) refl)) h)
-        (expression-statement-or-arm Kernel rows row (s .known row n))
+        ⊎-elim (λ e. inl e) (λ h. ⊎-elim (λ e. inr e) (λ h. ⊎-elim (λ e. absurd (not-in-kernel (arm-is rows row e) refl)) (λ e. absurd (not-in-kernel (argument-is rows row e) refl)) h) h)
+        (row-sort Kernel rows row (s .known row n))
 
     -- The fields that link statements.
     is-link : (field : ℕ) → 0 < link rows row field → isLink (sortAt rows row field) ≡ true
@@ -239,10 +258,28 @@ module _ (header rows : List ℤ) (legal : Legal header rows) where
         (λ h. from-on Linking field 4 h (λ e. may-link-by 4 (rw (e, kernel) at (four .1)))
         (λ h. from-on Linking field 5 h (λ e. next-item refl (rw (sort-is rows row 0) (rw e at (one .0)))) (λ h. absurd (omega arith))))))
 
+    abbrev Parameterless : ℕ → Type 0
+    Parameterless field = eqb (sortIn (kindAt rows row) field) optionalParameter ≡ false
+
+    without-parameters : (field : ℕ) → 1 ≤ field → field < 6 → Parameterless field
+    unfolding kindAt
+    without-parameters field first last =
+        let number = numberAt rows row 0 in
+        let one = both (parameterless number (kindOf number) 5) _ (parameters-tested number) in
+        let two = both (parameterless number (kindOf number) 1) _ (one .1) in
+        let three = both (parameterless number (kindOf number) 2) _ (two .1) in
+        let four = both (parameterless number (kindOf number) 3) _ (three .1) in
+        let kernel = kernel-kind in
+        from-on Parameterless field 1 first (not-true _ (rw kernel at (two .0)))
+        (λ h. from-on Parameterless field 2 h (not-true _ (rw kernel at (three .0)))
+        (λ h. from-on Parameterless field 3 h (not-true _ (rw kernel at (four .0)))
+        (λ h. from-on Parameterless field 4 h (not-true _ (rw kernel at (four .1)))
+        (λ h. from-on Parameterless field 5 h (not-true _ (rw kernel at (one .0))) (λ h. absurd (omega arith))))))
+
     pub statement-link : (field : ℕ) → 1 ≤ field → field < 6 → 0 < link rows row field → isStatement rows (link rows row field) ≡ true → StatementLink rows row field
     statement-link field first last p t =
         linking field first last
-        (rw (sort-is rows row field) at (statement-sort rows (link rows row field) (sortAt rows row field) (is-link field p) (s .fitting row n field first last p) t))
+        (rw (sort-is rows row field) at (statement-sort rows (link rows row field) (sortAt rows row field) (is-link field p) (rw (sort-is rows row field) (without-parameters field first last)) (s .fitting row n field first last p) t))
 
     -- ---- links
 
@@ -271,7 +308,7 @@ module _ (header rows : List ℤ) (legal : Legal header rows) where
     lone-at k field t e = let l = linked Kernel bounds rows s row n k branch field refl t in lone-by field (l .leads) (l .same) (both (isStatement rows (link rows row field)) _ (l .fit)) e
 
     else-at : kindAt rows row ≡ OfStatement If → isBlock rows (numberAt rows row 3) ≡ true → Lone rows row 3
-    unfolding isLink sortIn kindRow expressionFields statementFields markFields memberFields fits isBlock
+    unfolding isLink sortIn kindRow expressionFields statementFields markFields definitionFields memberFields fits isBlock
     else-at k e =
         let c = may-link Kernel bounds rows s row n k optionalBranch 3 refl refl in
         let there : 0 < link rows row 3 = rw (c .same) (above-zero _ (λ q. true≢false (sym (both (not (eqb (numberAt rows row 3) 0)) _ e .0) ∙ ap not (eq-eqb _ _ q)))) in
@@ -295,21 +332,21 @@ module _ (header rows : List ℤ) (legal : Legal header rows) where
     -- ---- statements, by the number of the kind
 
     pub assign-at : numberAt rows row 0 ≡ 41 → isKernelExpression rows row ≡ true → AssignRow rows row
-    unfolding isKernelExpression kindOf kindIn kinds sortIn kindRow expressionFields statementFields markFields memberFields
+    unfolding isKernelExpression kindOf kindIn kinds sortIn kindRow expressionFields statementFields markFields definitionFields memberFields
     assign-at k e =
         let kind = kind-of 41 k in
         let a = operand-at kind 1 refl in
         record { operand = a; assigns = both (eqb (numberAt rows row 0) 41) _ e .1; is = at-express rows whole row kind (a .later) }
 
     pub block-at : numberAt rows row 0 ≡ 42 → BlockRow rows row
-    unfolding kindOf kindIn kinds isLink sortIn kindRow expressionFields statementFields markFields memberFields
+    unfolding kindOf kindIn kinds isLink sortIn kindRow expressionFields statementFields markFields definitionFields memberFields
     block-at k =
         let kind = kind-of 42 k in
         let first = may-link Kernel bounds rows s row n kind optionalItem 1 refl refl in
         record { listed = listed-by 1 first; is = at-block rows whole row kind (first .later) }
 
     if-at : numberAt rows row 0 ≡ 43 → isKernelIf rows row ≡ true → IfRow rows row
-    unfolding isKernelIf kindOf kindIn kinds sortIn kindRow expressionFields statementFields markFields memberFields
+    unfolding isKernelIf kindOf kindIn kinds sortIn kindRow expressionFields statementFields markFields definitionFields memberFields
     if-at k e =
         let parts = both (eqb (numberAt rows row 0) 43) _ e in
         let others = both (isAtom rows (numberAt rows row 1)) _ (parts .1) in
@@ -321,7 +358,7 @@ module _ (header rows : List ℤ) (legal : Legal header rows) where
         record { operand = a; atom = others .0; onTrue = b; onFalse = c; is = at-ifElse rows whole row kind (a .later) (b .later) (c .later) }
 
     while-at : numberAt rows row 0 ≡ 44 → isKernelWhile rows row ≡ true → WhileRow rows row
-    unfolding isKernelWhile kindOf kindIn kinds sortIn kindRow expressionFields statementFields markFields memberFields
+    unfolding isKernelWhile kindOf kindIn kinds sortIn kindRow expressionFields statementFields markFields definitionFields memberFields
     while-at k e =
         let parts = both (eqb (numberAt rows row 0) 44) _ e in
         let others = both (isAtom rows (numberAt rows row 1)) _ (parts .1) in
@@ -413,13 +450,14 @@ module _ (header rows : List ℤ) (legal : Legal header rows) where
     label-list k t = let next = next-link Kernel bounds rows s row n t in at-label rows whole row (kind-of 53 k) (next .later)
 
     pub statement-list : (numberAt rows row 0 ≡ 53 → ⊥) → isStatement rows row ≡ true → itemsAt rows row ≡ statementAt rows row then listAt rows (numberAt rows row 5)
-    unfolding isStatement sortIn kindRow expressionFields statementFields markFields memberFields statementNumber
+    unfolding isStatement sortIn kindRow expressionFields statementFields markFields definitionFields memberFields statementNumber
     statement-list other t =
         let next = next-link Kernel bounds rows s row n t in
         ⊎-elim (λ k. at-item rows whole row k (next .later))
         (⊎-elim (λ k. absurd (not-in-kernel k refl))
         (⊎-elim (λ k. absurd (not-in-kernel k refl))
-        (λ k. absurd (other (number-is rows row k refl)))))
+        (⊎-elim (λ k. absurd (other (number-is rows row k refl)))
+        (λ k. absurd (no-definition Kernel rows row (s .known row n) k)))))
         (statement-kind rows row (eqb-true _ _ t))
 
   -- The list of a branch or body: its one statement.
@@ -439,7 +477,7 @@ abbrev rowTested : ℕ → Kind → Bool
 rowTested number kind = pick (ltb number 40) (not (eqb (sortIn kind 0) statementRow)) (not (between expressionRow placeRow (sortIn kind 0)))
 
 row-tested : (number : ℕ) → rowTested number (kindOf number) ≡ true
-unfolding everyLine kinds sortIn kindRow expressionFields statementFields markFields memberFields
+unfolding everyLine kinds sortIn kindRow expressionFields statementFields markFields definitionFields memberFields
 row-tested number = every-number rowTested refl other-passes number
   where
     other-passes : (number : ℕ) → rowTested number Other ≡ true

@@ -11,6 +11,7 @@ use Rattle.words.specs.declared.Form.the-variants.{Kernel}
 use Rattle.words.specs.Table.{numberAt}
 use Rattle.language.specs.Trees.{block, none, _then_}
 use Rattle.language.specs.Decode.{itemsAt}
+use Rattle.language.specs.PlainCalls.{plain-calls}
 use Rattle.language.specs.Program.{contents}
 use Rattle.row_fields.specs.Fields.{boundsOf, boundsIn}
 use Rattle.structure.specs.StructuredLaws.{structured-tree}
@@ -19,7 +20,7 @@ use Rattle.kernel_check.specs.Legal.{Legal}
 use Rattle.accepted.specs.Fields.{NamesVariable}
 use Rattle.accepted.specs.Names.{named-contents}
 use Rattle.accepted.specs.Statements.{root-inside, root-statement, program-contents}
-use Rattle.accepted_kernel.specs.Kernel.{legal-form, legal-rows, legal-depth}
+use Rattle.accepted_kernel.specs.Kernel.{legal-sound, legal-form, legal-rows, legal-depth}
 use Rattle.kernel_rows.specs.Rows.{block-at, statement-list}
 use Rattle.kernel_rows.specs.Labels.{legal-once}
 
@@ -44,6 +45,8 @@ module _ (header rows : List ℤ) (legal : Legal header rows) where
         form = legal-form header rows legal;
         labels-once = λ l. legal-once header rows legal l;
         named = named-contents Kernel (boundsOf Kernel header) rows (legal .structured) (KernelName (layoutOf Kernel header) (behindOf Kernel header)) named;
+        -- no form has functions yet
+        calls = plain-calls rows (legal-sound header rows legal .whole) (legal-sound header rows legal .no-function);
         few-temporaries = let f = headerFits-facts Kernel header (legal .header-fits) in omega (arith, f .few-declared, f .few-temporaries);
         few-rows = omega (arith, legal-rows header rows legal, structured-tree Kernel (boundsOf Kernel header) rows (legal .structured) .few);
         shallow = legal-depth header rows legal;

@@ -1,7 +1,7 @@
 -- Laws of decode: a row's tree by its kind, where its links lead to later rows.
 use mathlib.Core.Path.{_≡_, refl, sym, _∙_, ap, ap₂, fun-ext}
 use mathlib.Core.Bool.{Bool, true, false, false≢true, true≢false}
-use mathlib.Core.List.{List}
+use mathlib.Core.List.{List, [], _∷_}
 use Prim.Native.Nat.{ℕ, zero, suc, _+_, _*_, _≤_, _<_}
 use native.Mathlib.Omega.{arith}
 use lib.Dec.{ltb}
@@ -10,16 +10,17 @@ use lib.IntN.{ℤ, pos}
 use lib.ListN.{length, List·getD-eq-default}
 use Rattle.words.specs.Word.{natural, pick}
 use Rattle.words.specs.Table.{rowCount, Whole, wordAt, numberAt}
+use Rattle.words.specs.Declarations.{isDeclaration}
 use Rattle.words.specs.Kinds.{kinds, kindIn, kindOf, kindAt, isExpressionKind, isStatementKind}
 use Rattle.words.specs.declared.Operator.{Operator}
 use Rattle.words.specs.declared.Kind.{Kind}
-use Rattle.words.specs.declared.Kind.the-variants.{OfExpression, OfStatement, OfMark, OfMember, Other}
-use Rattle.words.specs.declared.ExpressionKind.the-variants.{Constant, Variable, Element, Minus, Not, Binary, And, Or, Conditional, Comma, Assign, Compound, Prefix, Postfix}
-use Rattle.words.specs.declared.StatementKind.the-variants.{Empty, Express, Block, If, While, Do, For, Switch, Break, Continue, Goto, GuardedIf, GuardedDo, Abort, Declare}
+use Rattle.words.specs.declared.Kind.the-variants.{OfExpression, OfStatement, OfMark, OfMember, Definition, Other}
+use Rattle.words.specs.declared.ExpressionKind.the-variants.{Constant, Variable, Element, Minus, Not, Binary, And, Or, Conditional, Comma, Assign, Compound, Prefix, Postfix, Call}
+use Rattle.words.specs.declared.StatementKind.the-variants.{Empty, Express, Block, If, While, Do, For, Switch, Break, Continue, Goto, GuardedIf, GuardedDo, Abort, Declare, Return}
 use Rattle.words.specs.declared.MarkKind.the-variants.{Case, Default, Label}
-use Rattle.words.specs.declared.MemberKind.the-variants.{Arm}
-use Rattle.language.specs.Trees.{Expression, constant, read, minus, not, binary, and, or, comma, conditional, assign, compound, prefix, postfix, variable, element, present, case, default, label, Statement, empty, express, block, ifThen, ifElse, while, doWhile, for, switch, break, continue, goto, guardedIf, guardedDo, abort, declare, Arms, noArm, arm, Items, none, _then_, _here_}
-use Rattle.language.specs.Decode.{later, placeOf, expressionOf, expressionBy, expressionAt, partOf, ifOf, statementOf, itemsOf, armsOf, treesOf, treesBy, statementAt, itemsAt, armsAt, Forward, listAt, armListAt, partAt}
+use Rattle.words.specs.declared.MemberKind.the-variants.{Arm, Argument}
+use Rattle.language.specs.Trees.{Expression, constant, read, minus, not, binary, and, or, comma, conditional, assign, compound, prefix, postfix, call, variable, element, Arguments, noMore, _also_, present, case, default, label, Statement, empty, express, block, ifThen, ifElse, while, doWhile, for, switch, break, continue, goto, guardedIf, guardedDo, abort, declare, giveBack, Arms, noArm, arm, Items, none, _then_, _here_, define}
+use Rattle.language.specs.Decode.{later, placeOf, expressionOf, argumentsOf, valuesOf, valuesBy, expressionAt, argumentsAt, parametersBy, parametersAt, partOf, ifOf, blockItems, statementOf, itemsOf, armsOf, treesOf, treesBy, statementAt, itemsAt, armsAt, Forward, listAt, armListAt, partAt, argumentListAt, parameterListAt}
 
 later-same : {A : Type 0} (other : A) (row : ℕ) (f g : ℕ → A) → ((l : ℕ) → row < l → f l ≡ g l) → (l : ℕ) → later other row f l ≡ later other row g l
 later-same {A} other row f g h l = by (ltb row l) refl
@@ -33,13 +34,14 @@ part-some rows zero h = absurd (omega arith)
 part-some rows (suc l) h = refl
 
 -- A row that is no expression, or no statement, decodes to something harmless.
-no-expression-of : (k : Kind) (word : ℕ → ℤ) (tree : ℕ → Expression) → isExpressionKind k ≡ false → expressionOf k word tree ≡ constant (pos 0)
+no-expression-of : (k : Kind) (word : ℕ → ℤ) (tree : ℕ → Expression) (arguments : ℕ → Arguments) → isExpressionKind k ≡ false → expressionOf k word tree arguments ≡ constant (pos 0)
 unfolding expressionOf
-no-expression-of (OfExpression k) word tree e = absurd (true≢false e)
-no-expression-of (OfStatement k) word tree e = refl
-no-expression-of (OfMark k) word tree e = refl
-no-expression-of (OfMember k) word tree e = refl
-no-expression-of Other word tree e = refl
+no-expression-of (OfExpression k) word tree arguments e = absurd (true≢false e)
+no-expression-of (OfStatement k) word tree arguments e = refl
+no-expression-of (OfMark k) word tree arguments e = refl
+no-expression-of (OfMember k) word tree arguments e = refl
+no-expression-of Definition word tree arguments e = refl
+no-expression-of Other word tree arguments e = refl
 
 no-statement-of : (k : Kind) (word : ℕ → ℤ) (expression : ℕ → Expression) (statement : ℕ → Statement) (items : ℕ → Items) (arms : ℕ → Arms) → isStatementKind k ≡ false
     → statementOf k word expression statement items arms ≡ empty
@@ -48,15 +50,17 @@ no-statement-of (OfExpression k) word expression statement items arms e = refl
 no-statement-of (OfStatement k) word expression statement items arms e = absurd (true≢false e)
 no-statement-of (OfMark k) word expression statement items arms e = refl
 no-statement-of (OfMember k) word expression statement items arms e = refl
+no-statement-of Definition word expression statement items arms e = refl
 no-statement-of Other word expression statement items arms e = refl
 
-items-statement : (k : Kind) (word : ℕ → ℤ) (s : Statement) (is : Items) → isStatementKind k ≡ true → itemsOf k word s is ≡ s then is
+items-statement : (k : Kind) (word : ℕ → ℤ) (s : Statement) (words : List ℕ) (body : Statement) (is : Items) → isStatementKind k ≡ true → itemsOf k word s words body is ≡ s then is
 unfolding itemsOf
-items-statement (OfExpression k) word s is e = refl
-items-statement (OfStatement k) word s is e = refl
-items-statement (OfMark k) word s is e = absurd (false≢true e)
-items-statement (OfMember k) word s is e = absurd (false≢true e)
-items-statement Other word s is e = absurd (false≢true e)
+items-statement (OfExpression k) word s words body is e = refl
+items-statement (OfStatement k) word s words body is e = refl
+items-statement (OfMark k) word s words body is e = absurd (false≢true e)
+items-statement (OfMember k) word s words body is e = absurd (false≢true e)
+items-statement Definition word s words body is e = absurd (false≢true e)
+items-statement Other word s words body is e = absurd (false≢true e)
 
 if-some : (l : ℕ) (e : Expression) (s t : Statement) → 0 < l → ifOf l e s t ≡ ifElse e s t
 if-some zero e s t h = absurd (omega arith)
@@ -71,14 +75,29 @@ module _ (rows : List ℤ) (whole : Whole rows) where
   unfolding kindAt numberAt wordAt natural kindOf kindIn kinds
   kind-beyond row h = let l : length rows ≤ 6 * row + 0 = omega arith in rw (List·getD-eq-default rows (pos 0) l)
 
-  expression-same : (k n row : ℕ) → rowCount rows ≤ row + k → rowCount rows ≤ row + n → expressionBy k rows row ≡ expressionBy n rows row
-  unfolding expressionBy expressionOf
-  expression-same zero zero row p q = refl
-  expression-same zero (suc n) row p q = rw (kind-beyond row (omega arith))
-  expression-same (suc k) zero row p q = rw (kind-beyond row (omega arith))
-  expression-same (suc k) (suc n) row p q =
-      ap (expressionOf (kindAt rows row) (wordAt rows row))
-      (fun-ext (later-same (constant (pos 0)) row (expressionBy k rows) (expressionBy n rows) (λ l h. expression-same k n l (omega arith) (omega arith))))
+  -- and no declaration
+  declaration-beyond : (row : ℕ) → rowCount rows ≤ row → isDeclaration rows row ≡ false
+  unfolding isDeclaration numberAt wordAt natural
+  declaration-beyond row h = let l : length rows ≤ 6 * row + 0 = omega arith in rw (List·getD-eq-default rows (pos 0) l)
+
+  values-same : (k n row : ℕ) → rowCount rows ≤ row + k → rowCount rows ≤ row + n → valuesBy k rows row ≡ valuesBy n rows row
+  unfolding valuesBy valuesOf expressionOf argumentsOf
+  values-same zero zero row p q = refl
+  values-same zero (suc n) row p q = rw (kind-beyond row (omega arith))
+  values-same (suc k) zero row p q = rw (kind-beyond row (omega arith))
+  values-same (suc k) (suc n) row p q =
+      ap₂ (valuesOf (kindAt rows row) (wordAt rows row))
+      (fun-ext (later-same (constant (pos 0)) row (λ l. (valuesBy k rows l) .expression) (λ l. (valuesBy n rows l) .expression) (λ l h. ap (λ t. t .expression) (values-same k n l (omega arith) (omega arith)))))
+      (fun-ext (later-same noMore row (λ l. (valuesBy k rows l) .arguments) (λ l. (valuesBy n rows l) .arguments) (λ l h. ap (λ t. t .arguments) (values-same k n l (omega arith) (omega arith)))))
+
+  parameters-same : (k n row : ℕ) → rowCount rows ≤ row + k → rowCount rows ≤ row + n → parametersBy k rows row ≡ parametersBy n rows row
+  unfolding parametersBy
+  parameters-same zero zero row p q = refl
+  parameters-same zero (suc n) row p q = rw (declaration-beyond row (omega arith))
+  parameters-same (suc k) zero row p q = rw (declaration-beyond row (omega arith))
+  parameters-same (suc k) (suc n) row p q =
+      ap (λ (words : List ℕ). pick (isDeclaration rows row) (numberAt rows row 1 ∷ words) [])
+      (later-same [] row (parametersBy k rows) (parametersBy n rows) (λ l h. parameters-same k n l (omega arith) (omega arith)) (numberAt rows row 5))
 
   trees-same : (k n row : ℕ) → rowCount rows ≤ row + k → rowCount rows ≤ row + n → treesBy k rows row ≡ treesBy n rows row
   unfolding treesBy treesOf statementOf itemsOf armsOf
@@ -86,17 +105,29 @@ module _ (rows : List ℤ) (whole : Whole rows) where
   trees-same zero (suc n) row p q = rw (kind-beyond row (omega arith))
   trees-same (suc k) zero row p q = rw (kind-beyond row (omega arith))
   trees-same (suc k) (suc n) row p q =
-      ap₃ (treesOf (kindAt rows row) (wordAt rows row) (later (constant (pos 0)) row (expressionAt rows)))
+      ap₃ (treesOf (kindAt rows row) (wordAt rows row) (later (constant (pos 0)) row (expressionAt rows)) (later [] row (parametersAt rows)))
       (fun-ext (later-same empty row (λ l. (treesBy k rows l) .statement) (λ l. (treesBy n rows l) .statement) (λ l h. ap (λ t. t .statement) (trees-same k n l (omega arith) (omega arith)))))
       (fun-ext (later-same none row (λ l. (treesBy k rows l) .items) (λ l. (treesBy n rows l) .items) (λ l h. ap (λ t. t .items) (trees-same k n l (omega arith) (omega arith)))))
       (fun-ext (later-same noArm row (λ l. (treesBy k rows l) .arms) (λ l. (treesBy n rows l) .arms) (λ l h. ap (λ t. t .arms) (trees-same k n l (omega arith) (omega arith)))))
 
-  -- One row's expression, from those at its links.
-  pub expression-at : (row : ℕ) → expressionAt rows row ≡ expressionOf (kindAt rows row) (wordAt rows row) (later (constant (pos 0)) row (expressionAt rows))
-  unfolding expressionAt expressionBy
-  expression-at row = expression-same (rowCount rows) (suc (rowCount rows)) row (omega arith) (omega arith)
+  values-at : (row : ℕ) → valuesBy (rowCount rows) rows row ≡ valuesOf (kindAt rows row) (wordAt rows row) (later (constant (pos 0)) row (expressionAt rows)) (later noMore row (argumentsAt rows))
+  unfolding valuesBy expressionAt argumentsAt
+  values-at row = values-same (rowCount rows) (suc (rowCount rows)) row (omega arith) (omega arith)
 
-  trees-at : (row : ℕ) → treesBy (rowCount rows) rows row ≡ treesOf (kindAt rows row) (wordAt rows row) (later (constant (pos 0)) row (expressionAt rows)) (later empty row (statementAt rows)) (later none row (itemsAt rows)) (later noArm row (armsAt rows))
+  -- One row's expression, from the trees at its links; the arguments and the parameters from it on.
+  pub expression-at : (row : ℕ) → expressionAt rows row ≡ expressionOf (kindAt rows row) (wordAt rows row) (later (constant (pos 0)) row (expressionAt rows)) (later noMore row (argumentsAt rows))
+  unfolding valuesOf expressionAt
+  expression-at row = ap (λ t. t .expression) (values-at row)
+
+  pub arguments-at : (row : ℕ) → argumentsAt rows row ≡ argumentsOf (kindAt rows row) (later (constant (pos 0)) row (expressionAt rows) (numberAt rows row 1)) (later noMore row (argumentsAt rows) (numberAt rows row 5))
+  unfolding valuesOf argumentsAt numberAt
+  arguments-at row = ap (λ t. t .arguments) (values-at row)
+
+  pub parameters-at : (row : ℕ) → parametersAt rows row ≡ pick (isDeclaration rows row) (numberAt rows row 1 ∷ later [] row (parametersAt rows) (numberAt rows row 5)) []
+  unfolding parametersAt parametersBy
+  parameters-at row = parameters-same (rowCount rows) (suc (rowCount rows)) row (omega arith) (omega arith)
+
+  trees-at : (row : ℕ) → treesBy (rowCount rows) rows row ≡ treesOf (kindAt rows row) (wordAt rows row) (later (constant (pos 0)) row (expressionAt rows)) (later [] row (parametersAt rows)) (later empty row (statementAt rows)) (later none row (itemsAt rows)) (later noArm row (armsAt rows))
   unfolding treesBy statementAt itemsAt armsAt
   trees-at row = trees-same (rowCount rows) (suc (rowCount rows)) row (omega arith) (omega arith)
 
@@ -105,9 +136,11 @@ module _ (rows : List ℤ) (whole : Whole rows) where
   unfolding treesOf statementAt
   statement-at row = ap (λ t. t .statement) (trees-at row)
 
-  pub items-at : (row : ℕ) → itemsAt rows row ≡ itemsOf (kindAt rows row) (wordAt rows row) (statementAt rows row) (later none row (itemsAt rows) (numberAt rows row 5))
+  pub items-at : (row : ℕ) → itemsAt rows row ≡ itemsOf (kindAt rows row) (wordAt rows row) (statementAt rows row) (later [] row (parametersAt rows) (numberAt rows row 2)) (later empty row (statementAt rows) (numberAt rows row 3)) (later none row (itemsAt rows) (numberAt rows row 5))
   unfolding treesOf itemsAt numberAt
-  items-at row = ap (λ t. t .items) (trees-at row) ∙ ap (λ s. itemsOf (kindAt rows row) (wordAt rows row) s (later none row (itemsAt rows) (natural (wordAt rows row 5)))) (sym (statement-at row))
+  items-at row =
+      ap (λ t. t .items) (trees-at row)
+      ∙ ap (λ s. itemsOf (kindAt rows row) (wordAt rows row) s (later [] row (parametersAt rows) (natural (wordAt rows row 2))) (later empty row (statementAt rows) (natural (wordAt rows row 3))) (later none row (itemsAt rows) (natural (wordAt rows row 5)))) (sym (statement-at row))
 
   pub arms-at : (row : ℕ) → armsAt rows row ≡ armsOf (kindAt rows row) (later (constant (pos 0)) row (expressionAt rows) (numberAt rows row 1)) (later empty row (statementAt rows) (numberAt rows row 2)) (later noArm row (armsAt rows) (numberAt rows row 5))
   unfolding treesOf armsAt numberAt
@@ -121,6 +154,14 @@ module _ (rows : List ℤ) (whole : Whole rows) where
   later-arms : (row l : ℕ) → Forward row l → later noArm row (armsAt rows) l ≡ armListAt rows l
   later-arms row zero p = rw (le-ltb row 0 (omega arith))
   later-arms row (suc l) p = rw (lt-ltb row (suc l) (p (omega arith)))
+
+  later-arguments : (row l : ℕ) → Forward row l → later noMore row (argumentsAt rows) l ≡ argumentListAt rows l
+  later-arguments row zero p = rw (le-ltb row 0 (omega arith))
+  later-arguments row (suc l) p = rw (lt-ltb row (suc l) (p (omega arith)))
+
+  later-parameters : (row l : ℕ) → Forward row l → later [] row (parametersAt rows) l ≡ parameterListAt rows l
+  later-parameters row zero p = rw (le-ltb row 0 (omega arith))
+  later-parameters row (suc l) p = rw (lt-ltb row (suc l) (p (omega arith)))
 
   later-part : (row l : ℕ) → Forward row l → partOf l (later (constant (pos 0)) row (expressionAt rows) l) ≡ partAt rows l
   later-part row zero p = refl
@@ -143,10 +184,10 @@ module _ (rows : List ℤ) (whole : Whole rows) where
     abbrev e-at : ℕ → Expression
     e-at l = expressionAt rows l
 
-    -- ---- kinds 1 to 30
+    -- ---- kinds 1 to 31
 
     pub at-no-expression : isExpressionKind (kindAt rows row) ≡ false → expressionAt rows row ≡ constant (pos 0)
-    at-no-expression k = expression-at row ∙ no-expression-of (kindAt rows row) (wordAt rows row) _ k
+    at-no-expression k = expression-at row ∙ no-expression-of (kindAt rows row) (wordAt rows row) _ _ k
 
     pub at-constant : kindAt rows row ≡ OfExpression Constant → expressionAt rows row ≡ constant (wordAt rows row 1)
     unfolding expressionOf
@@ -204,7 +245,11 @@ module _ (rows : List ℤ) (whole : Whole rows) where
     unfolding expressionOf numberAt
     at-postfix o k p = rw (expression-at row, k, lt-ltb row a p)
 
-    -- ---- kinds 40 to 58
+    pub at-call : kindAt rows row ≡ OfExpression Call → Forward row b → expressionAt rows row ≡ call a (argumentListAt rows b)
+    unfolding expressionOf numberAt
+    at-call k p = rw (expression-at row, k) (ap (call a) (later-arguments row b p))
+
+    -- ---- kinds 40 to 60
 
     abbrev s-at : ℕ → Statement
     s-at l = statementAt rows l
@@ -277,16 +322,20 @@ module _ (rows : List ℤ) (whole : Whole rows) where
     unfolding statementOf numberAt
     at-declare k p = rw (statement-at row, k, lt-ltb row b p)
 
-    -- ---- items: a statement or a mark, and the list behind it
+    pub at-return : kindAt rows row ≡ OfStatement Return → Forward row a → statementAt rows row ≡ giveBack (partAt rows a)
+    unfolding statementOf numberAt
+    at-return k p = rw (statement-at row, k) (ap giveBack (later-part row a p))
+
+    -- ---- items: a statement, a mark or a definition, and the list behind it
 
     abbrev behind : ℕ
     behind = numberAt rows row 5
 
-    pub at-items : Forward row behind → itemsAt rows row ≡ itemsOf (kindAt rows row) (wordAt rows row) (statementAt rows row) (listAt rows behind)
-    at-items p = items-at row ∙ ap (itemsOf (kindAt rows row) (wordAt rows row) (statementAt rows row)) (later-list row behind p)
+    pub at-items : Forward row behind → itemsAt rows row ≡ itemsOf (kindAt rows row) (wordAt rows row) (statementAt rows row) (later [] row (parametersAt rows) b) (later empty row (statementAt rows) c) (listAt rows behind)
+    at-items p = items-at row ∙ ap (itemsOf (kindAt rows row) (wordAt rows row) (statementAt rows row) _ _) (later-list row behind p)
 
     pub at-item : isStatementKind (kindAt rows row) ≡ true → Forward row behind → itemsAt rows row ≡ statementAt rows row then listAt rows behind
-    at-item k p = items-at row ∙ items-statement (kindAt rows row) (wordAt rows row) (statementAt rows row) _ k ∙ ap (λ l. statementAt rows row then l) (later-list row behind p)
+    at-item k p = items-at row ∙ items-statement (kindAt rows row) (wordAt rows row) (statementAt rows row) _ _ _ k ∙ ap (λ l. statementAt rows row then l) (later-list row behind p)
 
     pub at-case : kindAt rows row ≡ OfMark Case → Forward row behind → itemsAt rows row ≡ case (wordAt rows row 1) here listAt rows behind
     unfolding itemsOf
@@ -300,7 +349,18 @@ module _ (rows : List ℤ) (whole : Whole rows) where
     unfolding itemsOf numberAt
     at-label k p = rw (items-at row, k) (ap (λ l. label a here l) (later-list row behind p))
 
-    -- ---- arms: a guard and a block, and the arms behind them
+    pub at-definition : kindAt rows row ≡ Definition → Forward row b → row < c → Forward row behind → itemsAt rows row ≡ define a (parameterListAt rows b) (blockItems (s-at c)) (listAt rows behind)
+    unfolding itemsOf numberAt
+    at-definition k p q r = rw (items-at row, k, lt-ltb row c q) (ap₂ (λ words l. define a words (blockItems (s-at c)) l) (later-parameters row b p) (later-list row behind r))
+
+    -- ---- members: the parameters of a definition, the arguments of a call, arms; and those behind them
+
+    pub at-parameter : isDeclaration rows row ≡ true → Forward row behind → parametersAt rows row ≡ a ∷ parameterListAt rows behind
+    at-parameter k p = rw (parameters-at row, k) (ap (λ words. a ∷ words) (later-parameters row behind p))
+
+    pub at-argument : kindAt rows row ≡ OfMember Argument → row < a → Forward row behind → argumentsAt rows row ≡ e-at a also argumentListAt rows behind
+    unfolding argumentsOf
+    at-argument k p q = rw (arguments-at row, k, lt-ltb row a p) (ap (λ l. e-at a also l) (later-arguments row behind q))
 
     pub at-arm : kindAt rows row ≡ OfMember Arm → row < a → row < b → Forward row behind → armsAt rows row ≡ arm (e-at a) (s-at b) (armListAt rows behind)
     unfolding armsOf

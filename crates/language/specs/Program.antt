@@ -11,6 +11,7 @@ use Rattle.computation.specs.Run.{Result, Limit, steps, run, start, final, endi
 use Rattle.language.specs.Trees.{Items}
 use Rattle.language.specs.Decode.{decode, listAt}
 use Rattle.language.specs.Meaning.{Signal, exec}
+use Rattle.language.specs.Functions.{contextOf}
 
 -- A program is its items: "Row 0 is a block", and its list begins at field a.
 unfoldable pub contents : List ℤ → Items
@@ -25,9 +26,9 @@ pub record Finished : Type 0 where
 abbrev pub finished : {A : Type 0} → Result A → Finished
 finished r = record { ending = endingOf r; count = (final r) .count; store = (final r) .store }
 
--- What a table does: a number of a variable is its store word.
+-- What a table does: a number of a variable is its store word, and a call's is one of the functions that its items define.
 unfoldable pub tableProgram : Form → List ℤ → List ℤ → Computation Signal
-tableProgram form header rows = exec (layoutOf form header) (decode rows)
+tableProgram form header rows = exec (contextOf (layoutOf form header) (contents rows)) (decode rows)
 
 -- The run of a table under a limit, from a store.
 unfoldable pub runTableUnder : Limit → Form → List ℤ → List ℤ → List ℤ → Result Signal

@@ -1,6 +1,8 @@
 -- Sizes: the rows and the depth of a tree. "Row 0 has 1, a row has its owner's plus 1, items of one list share theirs."
+use mathlib.Core.List.{List, [], _∷_}
 use Prim.Native.Nat.{ℕ, _+_, max}
-use Rattle.language.specs.Trees.{Expression, constant, read, minus, not, binary, and, or, comma, conditional, assign, compound, prefix, postfix, Place, variable, element, Part, absent, present, Statement, empty, express, block, ifThen, ifElse, while, doWhile, for, switch, break, continue, goto, guardedIf, guardedDo, abort, declare, Arms, noArm, arm, Items, none, _then_, _here_}
+use lib.ListN.{length}
+use Rattle.language.specs.Trees.{Expression, constant, read, minus, not, binary, and, or, comma, conditional, assign, compound, prefix, postfix, call, Place, variable, element, Arguments, noMore, _also_, Part, absent, present, Statement, empty, express, block, ifThen, ifElse, while, doWhile, for, switch, break, continue, goto, guardedIf, guardedDo, abort, declare, giveBack, Arms, noArm, arm, Items, none, _then_, _here_, define}
 
 unfoldable mutual
   pub expressionRows : Expression → ℕ
@@ -17,10 +19,15 @@ unfoldable mutual
   expressionRows (compound o p e) = 1 + placeRows p + expressionRows e
   expressionRows (prefix o p) = 1 + placeRows p
   expressionRows (postfix o p) = 1 + placeRows p
+  expressionRows (call f arguments) = 1 + argumentsRows arguments
 
   pub placeRows : Place → ℕ
   placeRows (variable i) = 1
   placeRows (element a e) = 1 + expressionRows e
+
+  pub argumentsRows : Arguments → ℕ
+  argumentsRows noMore = 0
+  argumentsRows (e also arguments) = 1 + expressionRows e + argumentsRows arguments
 
 abbrev pub partRows : Part → ℕ
 partRows absent = 0
@@ -44,6 +51,7 @@ unfoldable mutual
   statementRows (guardedDo arms) = 1 + armsRows arms
   statementRows abort = 1
   statementRows (declare word e) = 1 + expressionRows e
+  statementRows (giveBack value) = 1 + partRows value
 
   pub armsRows : Arms → ℕ
   armsRows noArm = 0
@@ -53,6 +61,7 @@ unfoldable mutual
   itemsRows none = 0
   itemsRows (s then is) = statementRows s + itemsRows is
   itemsRows (m here is) = 1 + itemsRows is
+  itemsRows (define f words body is) = 2 + length words + itemsRows body + itemsRows is
 
 unfoldable mutual
   pub expressionDepth : Expression → ℕ
@@ -69,10 +78,21 @@ unfoldable mutual
   expressionDepth (compound o p e) = 1 + max (placeDepth p) (expressionDepth e)
   expressionDepth (prefix o p) = 1 + placeDepth p
   expressionDepth (postfix o p) = 1 + placeDepth p
+  expressionDepth (call f arguments) = 1 + argumentsDepth arguments
 
   pub placeDepth : Place → ℕ
   placeDepth (variable i) = 1
   placeDepth (element a e) = 1 + expressionDepth e
+
+  -- Arguments share their depth, as items do.
+  pub argumentsDepth : Arguments → ℕ
+  argumentsDepth noMore = 0
+  argumentsDepth (e also arguments) = max (1 + expressionDepth e) (argumentsDepth arguments)
+
+-- Parameters share theirs.
+abbrev pub parametersDepth : List ℕ → ℕ
+parametersDepth [] = 0
+parametersDepth (word ∷ words) = 1
 
 abbrev pub partDepth : Part → ℕ
 partDepth absent = 0
@@ -96,6 +116,7 @@ unfoldable mutual
   statementDepth (guardedDo arms) = 1 + armsDepth arms
   statementDepth abort = 1
   statementDepth (declare word e) = 1 + expressionDepth e
+  statementDepth (giveBack value) = 1 + partDepth value
 
   -- Arms share their depth, as items do.
   pub armsDepth : Arms → ℕ
@@ -106,3 +127,4 @@ unfoldable mutual
   itemsDepth none = 0
   itemsDepth (s then is) = max (statementDepth s) (itemsDepth is)
   itemsDepth (m here is) = max 1 (itemsDepth is)
+  itemsDepth (define f words body is) = max (1 + max (parametersDepth words) (1 + itemsDepth body)) (itemsDepth is)

@@ -1,13 +1,13 @@
 -- Sound tables: what a run asks of a table. Every link that a run follows leads to a later row, and every number names a word of the
 -- store. Both checks give it.
 use mathlib.Core.Path.{_≡_}
-use mathlib.Core.Bool.{true}
+use mathlib.Core.Bool.{true, false}
 use mathlib.Core.List.{List}
 use Prim.Native.Nat.{ℕ, _<_, _≤_}
 use lib.IntN.{ℤ}
 use lib.ListN.{length}
 use Rattle.words.specs.Table.{rowCount, Whole, numberAt}
-use Rattle.words.specs.Kinds.{kindAt, unused, variable, array, declaredNumber, place, optionalArm, isLink, isRequired, sortIn, isPlaceKind}
+use Rattle.words.specs.Kinds.{kindAt, unused, variable, array, declaredNumber, place, optionalArm, isLink, isRequired, sortIn, isFunctionNumber, isPlaceKind}
 use Rattle.words.specs.Layout.{Layout, storeSize}
 use Rattle.words.specs.declared.Kind.the-variants.{OfMember, Other}
 use Rattle.words.specs.declared.MemberKind.the-variants.{Arm}
@@ -47,3 +47,5 @@ module _ (rows : List ℤ) (L : Layout) (words : ℕ) where
     pub known : (row : ℕ) → row < rowCount rows → kindAt rows row ≡ Other → ⊥
     pub fields : (row : ℕ) → row < rowCount rows → (field : ℕ) → 1 ≤ field → field < 6 → SoundField row field (sortIn (kindAt rows row) field)
     pub store-fits : storeSize L ≤ words
+    -- no form has the kinds of functions yet
+    pub no-function : (row : ℕ) → row < rowCount rows → isFunctionNumber (numberAt rows row 0) ≡ false

@@ -7,12 +7,12 @@ use native.Mathlib.Omega.{arith}
 use lib.IntN.{ℤ}
 use lib.ListN.{length}
 use Rattle.words.specs.Table.{rowCount, numberAt}
-use Rattle.words.specs.Kinds.{kindAt, unused, variable, array, place, optionalArm, isLink, isRequired, kindRow, memberFields, sortIn}
+use Rattle.words.specs.Kinds.{kindAt, unused, variable, array, place, optionalArm, isLink, isRequired, kindRow, definitionFields, memberFields, sortIn}
 use Rattle.words.specs.KindLaws.{required-link}
 use Rattle.words.specs.Layout.{Layout}
 use Rattle.words.specs.declared.Kind.{Kind}
-use Rattle.words.specs.declared.Kind.the-variants.{OfExpression, OfStatement, OfMark, OfMember, Other}
-use Rattle.words.specs.declared.MemberKind.the-variants.{Arm}
+use Rattle.words.specs.declared.Kind.the-variants.{OfExpression, OfStatement, OfMark, OfMember, Definition, Other}
+use Rattle.words.specs.declared.MemberKind.the-variants.{Arm, Argument}
 use Rattle.language.specs.Sound.{Link, OptionalLink, PlaceLink, ArmLink, SoundField, Sound}
 
 module _ {rows : List ℤ} {L : Layout} {words : ℕ} (sound : Sound rows L words) {row : ℕ} (inside : row < rowCount rows) where
@@ -37,7 +37,7 @@ module _ {rows : List ℤ} {L : Layout} {words : ℕ} (sound : Sound rows L word
 
   -- Next leads to a later row of the table, or is 0.
   pub behind : OptionalLink rows L words row 5
-  unfolding sortIn kindRow memberFields isLink
+  unfolding sortIn kindRow definitionFields memberFields isLink
   behind = go (kindAt rows row) refl
     where
       none : numberAt rows row 5 ≡ 0 → OptionalLink rows L words row 5
@@ -48,4 +48,6 @@ module _ {rows : List ℤ} {L : Layout} {words : ℕ} (sound : Sound rows L word
       go (OfStatement kind) k = optional-link-of k 5 (omega arith) (omega arith) refl
       go (OfMark kind) k = optional-link-of k 5 (omega arith) (omega arith) refl
       go (OfMember Arm) k = optional-link-of k 5 (omega arith) (omega arith) refl
+      go (OfMember Argument) k = optional-link-of k 5 (omega arith) (omega arith) refl
+      go Definition k = optional-link-of k 5 (omega arith) (omega arith) refl
       go Other k = absurd (sound .known row inside k)

@@ -3,6 +3,7 @@
 use mathlib.Core.Path.{_≡_, refl, sym, _∙_}
 use mathlib.Core.Bool.{Bool, true, false, true≢false, _||_}
 use mathlib.Core.Logic.{⊎-elim}
+use mathlib.Core.List.{List}
 use Prim.Native.Nat.{ℕ, _+_, _<_, _≤_}
 use native.Mathlib.Omega.{arith}
 use native.Mathlib.Decide.{decLt}
@@ -19,10 +20,10 @@ use Rattle.arithmetic.specs.Arithmetic.{Outcome, value, fault, isTrue, apply, m
 use Rattle.words.specs.declared.Operator.{Operator}
 use Rattle.computation.specs.Computation.{Computation, ret, _>>=_, step, load, save, settle}
 use Rattle.computation.specs.Run.{State, stepped, Stop, spent, Result, ok, stopped, Limit, hasRoom, andThen, run}
-use Rattle.language.specs.Trees.{Expression, constant, read, minus, not, binary, and, or, comma, conditional, assign, compound, prefix, postfix, Place, variable, element}
-use Rattle.language.specs.Meaning.{enter, update, evaluate, locate}
+use Rattle.language.specs.Trees.{Expression, constant, read, minus, not, binary, and, or, comma, conditional, assign, compound, prefix, postfix, call, Place, variable, element, Arguments, noMore, _also_}
+use Rattle.language.specs.Meaning.{enter, update, Context, evaluate, locate, given}
 use Rattle.language.specs.WellFormed.{SourceName}
-use Rattle.language.specs.Writes.{isVariable, writes, indexWrites}
+use Rattle.language.specs.Writes.{isVariable, writes, indexWrites, argumentsWrite}
 
 -- ---- computations
 
@@ -44,7 +45,7 @@ module _ {i : ℕ} where
   unfolding run
   leaves-ret q = record { leaves = λ l σ. untouched-ok refl q }
 
-  untouched-then : {A B : Type 0} {Q : A → Type 0} {P : B → Type 0} {w : ℤ} {r : Result A} (k : A → State → Result B) → Untouched i Q w r
+  pub untouched-then : {A B : Type 0} {Q : A → Type 0} {P : B → Type 0} {w : ℤ} {r : Result A} (k : A → State → Result B) → Untouched i Q w r
       → ((a : A) (τ : State) → Q a → Untouched i P (getD (τ .store) i (pos 0)) (k a τ)) → Untouched i P w (andThen r k)
   untouched-then k (untouched-ok {a = a} {σ = τ} e q) f = rw e at (f a τ q)
   untouched-then k (untouched-stopped e) f = untouched-stopped e
@@ -53,7 +54,7 @@ module _ {i : ℕ} where
   unfolding run
   leaves-then {m = m} {k = k} p q = record { leaves = λ l σ. untouched-then (λ a. run l (k a)) (p .leaves l σ) (λ a τ h. q a h .leaves l τ) }
 
-  leaves-step : Leaves i Any step
+  pub leaves-step : Leaves i Any step
   unfolding run
   leaves-step = record { leaves = λ l σ. by (hasRoom l σ) σ }
     where
@@ -111,58 +112,68 @@ name-apart L first i name array index position h f =
     let below = element-in-store L array position (within .least) (within .most) in
     ⊎-elim (λ variable. omega (arith, within .least)) (λ declared. omega arith) (name .apart)
 
-module _ (L : Layout) (i : ℕ) (apart : NoElement L i) where
+-- Calls leave the variable alone where their functions cannot write it.
+module _ (C : Context) (called : ℕ → ℕ → Bool) (i : ℕ) (apart : NoElement (C .layout) i) (calls : (f : ℕ) (values : List ℤ) → called f i ≡ false → Leaves i Any (C .calling f values)) where
   mutual
     unfolding evaluate writes
 
-    pub expression-leaves : (e : Expression) → writes e i ≡ false → Leaves i Any (evaluate L e)
+    pub expression-leaves : (e : Expression) → writes called e i ≡ false → Leaves i Any (evaluate C e)
     expression-leaves (constant v) n = leaves-ret tt
     expression-leaves (read p) n = leaves-then (index-leaves p n) (λ _ _. leaves-load)
     expression-leaves (minus e) n = leaves-then (leaves-enter (expression-leaves e n)) (λ v _. leaves-settle (minusWord v) (λ _ _. tt))
     expression-leaves (not e) n = leaves-then (leaves-enter (expression-leaves e n)) (λ v _. leaves-ret tt)
     expression-leaves (binary operator a b) n =
-        let none = neither (writes a i) (writes b i) n in
+        let none = neither (writes called a i) (writes called b i) n in
         leaves-then (leaves-enter (expression-leaves b (none .1)))
         (λ right _. leaves-then (leaves-enter (expression-leaves a (none .0))) (λ left _. leaves-settle (apply operator left right) (λ _ _. tt)))
     expression-leaves (and a b) n =
-        let none = neither (writes a i) (writes b i) n in
+        let none = neither (writes called a i) (writes called b i) n in
         leaves-then (leaves-enter (expression-leaves a (none .0)))
         (λ left _. leaves-pick (isTrue left) (leaves-then (leaves-enter (expression-leaves b (none .1))) (λ _ _. leaves-ret tt)) (leaves-ret tt))
     expression-leaves (or a b) n =
-        let none = neither (writes a i) (writes b i) n in
+        let none = neither (writes called a i) (writes called b i) n in
         leaves-then (leaves-enter (expression-leaves a (none .0)))
         (λ left _. leaves-pick (isTrue left) (leaves-ret tt) (leaves-then (leaves-enter (expression-leaves b (none .1))) (λ _ _. leaves-ret tt)))
     expression-leaves (comma a b) n =
-        let none = neither (writes a i) (writes b i) n in
+        let none = neither (writes called a i) (writes called b i) n in
         leaves-then (leaves-enter (expression-leaves a (none .0))) (λ _ _. leaves-enter (expression-leaves b (none .1)))
     expression-leaves (conditional c a b) n =
-        let none = neither (writes c i) (writes a i || writes b i) n in
-        let branches = neither (writes a i) (writes b i) (none .1) in
+        let none = neither (writes called c i) (writes called a i || writes called b i) n in
+        let branches = neither (writes called a i) (writes called b i) (none .1) in
         leaves-then (leaves-enter (expression-leaves c (none .0)))
         (λ test _. leaves-pick (isTrue test) (leaves-enter (expression-leaves a (branches .0))) (leaves-enter (expression-leaves b (branches .1))))
     expression-leaves (assign p e) n =
-        let none = neither (isVariable p i) (indexWrites p i || writes e i) n in
-        let parts = neither (indexWrites p i) (writes e i) (none .1) in
+        let none = neither (isVariable p i) (indexWrites called p i || writes called e i) n in
+        let parts = neither (indexWrites called p i) (writes called e i) (none .1) in
         leaves-then (leaves-enter (expression-leaves e (parts .1)))
         (λ v _. leaves-then (leaves-enter (place-leaves p (none .0) (parts .0))) (λ position other. leaves-then (leaves-save other) (λ _ _. leaves-ret tt)))
     expression-leaves (compound operator p e) n =
-        let none = neither (isVariable p i) (indexWrites p i || writes e i) n in
-        let parts = neither (indexWrites p i) (writes e i) (none .1) in
+        let none = neither (isVariable p i) (indexWrites called p i || writes called e i) n in
+        let parts = neither (indexWrites called p i) (writes called e i) (none .1) in
         leaves-then (leaves-enter (expression-leaves e (parts .1)))
         (λ right _. leaves-then (leaves-enter (place-leaves p (none .0) (parts .0))) (λ position other. leaves-update operator right _ other))
     expression-leaves (prefix operator p) n =
-        let none = neither (isVariable p i) (indexWrites p i) n in
+        let none = neither (isVariable p i) (indexWrites called p i) n in
         leaves-then (leaves-enter (place-leaves p (none .0) (none .1))) (λ position other. leaves-update operator (pos 1) _ other)
     expression-leaves (postfix operator p) n =
-        let none = neither (isVariable p i) (indexWrites p i) n in
+        let none = neither (isVariable p i) (indexWrites called p i) n in
         leaves-then (leaves-enter (place-leaves p (none .0) (none .1))) (λ position other. leaves-update operator (pos 1) _ other)
+    expression-leaves (call f arguments) n =
+        let none = neither (called f i) (argumentsWrite called arguments i) n in
+        leaves-then (arguments-leave arguments (none .1)) (λ values _. calls f values (none .0))
+
+    arguments-leave : (arguments : Arguments) → argumentsWrite called arguments i ≡ false → Leaves i Any (given C arguments)
+    arguments-leave noMore n = leaves-ret tt
+    arguments-leave (e also arguments) n =
+        let none = neither (writes called e i) (argumentsWrite called arguments i) n in
+        leaves-then (arguments-leave arguments (none .1)) (λ _ _. leaves-then (leaves-enter (leaves-enter (expression-leaves e (none .0)))) (λ _ _. leaves-ret tt))
 
     -- The position of a place that is read.
-    index-leaves : (p : Place) → indexWrites p i ≡ false → Leaves i Any (locate L p)
+    index-leaves : (p : Place) → indexWrites called p i ≡ false → Leaves i Any (locate C p)
     index-leaves (variable j) n = leaves-ret tt
-    index-leaves (element array e) n = leaves-then (leaves-enter (expression-leaves e n)) (λ index _. leaves-settle (elementWord (arrayBase L array) (arrayLength L array) index) (λ _ _. tt))
+    index-leaves (element array e) n = leaves-then (leaves-enter (expression-leaves e n)) (λ index _. leaves-settle (elementWord (arrayBase (C .layout) array) (arrayLength (C .layout) array) index) (λ _ _. tt))
 
     -- The position of a place that is not the variable i is another one.
-    place-leaves : (p : Place) → isVariable p i ≡ false → indexWrites p i ≡ false → Leaves i (λ position. i ≡ position → ⊥) (locate L p)
+    place-leaves : (p : Place) → isVariable p i ≡ false → indexWrites called p i ≡ false → Leaves i (λ position. i ≡ position → ⊥) (locate C p)
     place-leaves (variable j) o n = leaves-ret (other-variable j i o)
-    place-leaves (element array e) o n = leaves-then (leaves-enter (expression-leaves e n)) (λ index _. leaves-settle (elementWord (arrayBase L array) (arrayLength L array) index) (λ position h. apart array index position h))
+    place-leaves (element array e) o n = leaves-then (leaves-enter (expression-leaves e n)) (λ index _. leaves-settle (elementWord (arrayBase (C .layout) array) (arrayLength (C .layout) array) index) (λ position h. apart array index position h))

@@ -13,8 +13,9 @@ use Rattle.words.specs.declared.Form.{Form}
 use Rattle.words.specs.declared.Form.the-variants.{Source, Kernel}
 use Rattle.computation.specs.Run.{steps, run}
 use Rattle.computation.specs.WritesMade.{Stored, visible, made}
-use Rattle.language.specs.Decode.{expressionOf, expressionBy, expressionAt, statementOf, itemsOf, treesOf, treesBy, statementAt, itemsAt, decode}
+use Rattle.language.specs.Decode.{expressionOf, argumentsOf, valuesOf, valuesBy, expressionAt, statementOf, itemsOf, treesOf, treesBy, statementAt, itemsAt, decode}
 use Rattle.language.specs.Meaning.{evaluate, perform}
+use Rattle.language.specs.Functions.{contextOf}
 use Rattle.language.specs.Program.{tableProgram, runTableUnder}
 use Rattle.language.specs.Rule.{Rule, row, constant}
 use Rattle.language.specs.StarredRules.{worked-ends}
@@ -45,5 +46,5 @@ pub record WriteExamples : Type 0 where
   pub no-write-yet : endlessWrites 6 ≡ []
 
 pub write-examples : WriteExamples
-unfolding isWord sameWord natural wordAt numberAt kinds kindIn kindOf kindAt layoutOf sum arrayLength arrayBase inWord isTrue apply element run visible expressionOf expressionBy expressionAt statementOf itemsOf treesOf treesBy statementAt itemsAt decode evaluate perform tableProgram runTableUnder
+unfolding isWord sameWord natural wordAt numberAt kinds kindIn kindOf kindAt layoutOf sum arrayLength arrayBase inWord isTrue apply element run visible expressionOf argumentsOf valuesOf valuesBy expressionAt statementOf itemsOf treesOf treesBy statementAt itemsAt decode evaluate perform contextOf tableProgram runTableUnder
 write-examples = record { worked-at-12 = refl; worked-at-13 = refl; temporaries-left-out = refl; equal-value-is-written = refl; no-write-yet = refl }

@@ -4,7 +4,7 @@ use mathlib.Core.Bool.{Bool, false, _||_}
 use Prim.Native.Nat.{ℕ}
 use lib.Dec.{eqb}
 use Rattle.words.specs.declared.Operator.{Operator}
-use Rattle.language.specs.Trees.{Expression, constant, read, minus, not, binary, and, or, comma, conditional, assign, compound, prefix, postfix, Place, variable, element}
+use Rattle.language.specs.Trees.{Expression, constant, read, minus, not, binary, and, or, comma, conditional, assign, compound, prefix, postfix, call, Place, variable, element, Arguments, noMore, _also_}
 
 -- ---- in the request's words
 
@@ -19,7 +19,12 @@ pub data Stores (p : Place) : Expression → Type 0 where
 pub data Index (d : Expression) : Place → Type 0 where
   of-element : {array : ℕ} → Index d (element array d)
 
--- The expressions that hang at an expression's links, or at those of its place.
+-- One of the arguments of a call.
+pub data Argument (d : Expression) : Arguments → Type 0 where
+  first-argument : {arguments : Arguments} → Argument d (d also arguments)
+  later-argument : {e : Expression} {arguments : Arguments} → Argument d arguments → Argument d (e also arguments)
+
+-- The expressions that hang at an expression's links, or at those of its place or of its arguments.
 pub data Operand (d : Expression) : Expression → Type 0 where
   of-read : {p : Place} → Index d p → Operand d (read p)
   of-minus : Operand d (minus d)
@@ -41,11 +46,14 @@ pub data Operand (d : Expression) : Expression → Type 0 where
   value-of-compound : {operator : Operator} {p : Place} → Operand d (compound operator p d)
   index-of-prefix : {operator : Operator} {p : Place} → Index d p → Operand d (prefix operator p)
   index-of-postfix : {operator : Operator} {p : Place} → Index d p → Operand d (postfix operator p)
+  argument-of-call : {f : ℕ} {arguments : Arguments} → Argument d arguments → Operand d (call f arguments)
 
--- "Has it as the place of a kind 21 to 30": in its own row, or in a row below it.
-pub data HasAsPlace (i : ℕ) : Expression → Type 0 where
-  at-row : {e : Expression} → Stores (variable i) e → HasAsPlace i e
-  below : {d e : Expression} → Operand d e → HasAsPlace i d → HasAsPlace i e
+-- "Has it as the place of a kind 21 to 30": in its own row, or in a row below it; or the row calls a function that can write it: "a call can
+-- write what its function can".
+pub data HasAsPlace (Called : ℕ → Type 0) (i : ℕ) : Expression → Type 0 where
+  at-row : {e : Expression} → Stores (variable i) e → HasAsPlace Called i e
+  below : {d e : Expression} → Operand d e → HasAsPlace Called i d → HasAsPlace Called i e
+  by-call : {f : ℕ} {arguments : Arguments} → Called f → HasAsPlace Called i (call f arguments)
 
 -- ---- as a test
 
@@ -54,24 +62,36 @@ abbrev pub isVariable : Place → ℕ → Bool
 isVariable (variable j) i = eqb j i
 isVariable (element array e) i = false
 
-unfoldable mutual
-  -- Whether an expression can write the variable i.
-  pub writes : Expression → ℕ → Bool
-  writes (constant v) i = false
-  writes (read p) i = indexWrites p i
-  writes (minus e) i = writes e i
-  writes (not e) i = writes e i
-  writes (binary operator a b) i = writes a i || writes b i
-  writes (and a b) i = writes a i || writes b i
-  writes (or a b) i = writes a i || writes b i
-  writes (comma a b) i = writes a i || writes b i
-  writes (conditional c a b) i = writes c i || (writes a i || writes b i)
-  writes (assign p e) i = isVariable p i || (indexWrites p i || writes e i)
-  writes (compound operator p e) i = isVariable p i || (indexWrites p i || writes e i)
-  writes (prefix operator p) i = isVariable p i || indexWrites p i
-  writes (postfix operator p) i = isVariable p i || indexWrites p i
+-- `called f i`: whether function f can write the variable i.
+module _ (called : ℕ → ℕ → Bool) where
+  unfoldable mutual
+    -- Whether an expression can write the variable i.
+    pub writes : Expression → ℕ → Bool
+    writes (constant v) i = false
+    writes (read p) i = indexWrites p i
+    writes (minus e) i = writes e i
+    writes (not e) i = writes e i
+    writes (binary operator a b) i = writes a i || writes b i
+    writes (and a b) i = writes a i || writes b i
+    writes (or a b) i = writes a i || writes b i
+    writes (comma a b) i = writes a i || writes b i
+    writes (conditional c a b) i = writes c i || (writes a i || writes b i)
+    writes (assign p e) i = isVariable p i || (indexWrites p i || writes e i)
+    writes (compound operator p e) i = isVariable p i || (indexWrites p i || writes e i)
+    writes (prefix operator p) i = isVariable p i || indexWrites p i
+    writes (postfix operator p) i = isVariable p i || indexWrites p i
+    writes (call f arguments) i = called f i || argumentsWrite arguments i
 
-  -- Whether the index of a place can.
-  pub indexWrites : Place → ℕ → Bool
-  indexWrites (variable j) i = false
-  indexWrites (element array e) i = writes e i
+    -- Whether the index of a place can.
+    pub indexWrites : Place → ℕ → Bool
+    indexWrites (variable j) i = false
+    indexWrites (element array e) i = writes e i
+
+    -- Whether one of the arguments can.
+    pub argumentsWrite : Arguments → ℕ → Bool
+    argumentsWrite noMore i = false
+    argumentsWrite (e also arguments) i = writes e i || argumentsWrite arguments i
+
+-- Of a program without functions.
+abbrev pub noFunction : ℕ → ℕ → Bool
+noFunction f i = false

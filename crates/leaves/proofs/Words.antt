@@ -9,7 +9,7 @@ use lib.ListN.{length}
 use Rattle.words.specs.Word.{pick}
 use Rattle.words.specs.declared.Operator.{Operator}
 use Rattle.words.specs.declared.Operator.the-variants.{Add, Subtract, Multiply, Divide, Remainder, Less, Greater, LessOrEqual, GreaterOrEqual, Equal, NotEqual}
-use Rattle.language.specs.Trees.{read, minus, binary, assign, variable, element, empty, express, block, ifElse, goto, abort, label, none, _then_, _here_}
+use Rattle.language.specs.Trees.{read, minus, binary, assign, variable, element, present, empty, express, block, ifElse, goto, abort, giveBack, label, none, _then_, _here_}
 use Rattle.language.specs.Sizes.{expressionRows, statementRows}
 use Rattle.emission.specs.Emission.{rowOf, operatorNumber, emitExpression, emitItems}
 use Rattle.words.specs.Over.{over}
@@ -135,6 +135,11 @@ module _ (base : ℕ) (follows : Bool) where
   store-words array (Constant v) (Variable k) = let s = sums base in cc
   store-words array (Variable n) (Constant w) = let s = sums base in cc
   store-words array (Variable n) (Variable k) = let s = sums base in cc
+
+  pub return-words : (x : Atom) {next : ℕ} → next ≡ pick follows (base + 2) 0 → rowOf 60 (pos (base + 1)) 0 0 0 next ++ atomRow x ≡ emitItems follows (giveBack (present (atomTree x)) then none) base
+  unfolding emitItems emitExpression statementRows expressionRows
+  return-words (Constant v) e = let s = sums base in cc
+  return-words (Variable n) e = let s = sums base in cc
 
   pub exit-words : (number : ℕ) (x : Atom) {next : ℕ} → next ≡ pick follows (base + 5) 0
       → ((rowOf 43 (pos (base + 1)) (base + 2) (base + 3) 0 next ++ emitExpression (atomTree x) (base + 1)) ++ rowOf 42 (pos 0) 0 0 0 0) ++ (rowOf 42 (pos (base + 3 + 1)) 0 0 0 0 ++ rowOf 52 (pos number) 0 0 0 0)

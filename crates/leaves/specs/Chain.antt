@@ -8,7 +8,7 @@ use lib.IntN.{ℤ, pos}
 use lib.ListN.{length, length-append, length-drop}
 use borrow.Rule.Slice.PartMut.{midOf, putMid}
 use Rattle.words.specs.Word.{pick}
-use Rattle.language.specs.Trees.{Expression, Statement, block, ifElse, Items, none, _then_, _here_, _⧺_}
+use Rattle.language.specs.Trees.{Expression, Statement, block, ifElse, Items, none, _then_, _here_, define, _⧺_}
 use Rattle.language.specs.Sizes.{expressionRows, statementRows, itemsRows}
 use Rattle.language.specs.TreeLaws.{statement-some}
 use Rattle.translation.specs.TranslateRows.{rows-append}
@@ -78,12 +78,14 @@ unfolding itemsRows
 more-is follows none = refl
 more-is follows (s then is) = sym (more-some follows (statementRows s + itemsRows is) (omega (arith, statement-some s)))
 more-is follows (m here is) = sym (more-some follows (1 + itemsRows is) (omega arith))
+more-is follows (define f words body is) = sym (more-some follows (2 + length words + itemsRows body + itemsRows is) (omega arith))
 
 pub link-is : (follows : Bool) (is : Items) (base : ℕ) → listLink follows is base ≡ pick (moreRows follows (itemsRows is)) base 0
 unfolding itemsRows
 link-is follows none base = refl
 link-is follows (s then is) base = rw (more-some follows (statementRows s + itemsRows is) (omega (arith, statement-some s)))
 link-is follows (m here is) base = rw (more-some follows (1 + itemsRows is) (omega arith))
+link-is follows (define f words body is) base = rw (more-some follows (2 + length words + itemsRows body + itemsRows is) (omega arith))
 
 -- The list `is`, n rows from the row `base` on, was written from the start of l, which gave m.
 pub record Wrote (follows : Bool) (is : Items) (base n : ℕ) (l m : List ℤ) : Type 0 where

@@ -6,7 +6,7 @@ use Prim.Native.Nat.{ℕ, _≤_}
 use native.Mathlib.Omega.{arith}
 use lib.IntN.{ℤ}
 use Rattle.words.specs.declared.Operator.{Operator}
-use Rattle.language.specs.Trees.{read, binary, assign, Place, variable, element, express, block, ifElse, goto, abort, label, Items, none, _then_, _here_}
+use Rattle.language.specs.Trees.{read, binary, assign, Place, variable, element, present, express, block, ifElse, goto, abort, giveBack, label, Items, none, _then_, _here_}
 use Rattle.language.specs.Sizes.{expressionRows, itemsRows}
 use Rattle.translation.specs.Translate.{placeTaken, atomOf}
 use Rattle.emission.specs.Emission.{emitItems}
@@ -66,6 +66,11 @@ module _ (follows : Bool) (base : ℕ) (l m : List ℤ) where
   unfolding itemsRows
   label-wrote number e = record { table = e; size = refl }
 
+  pub return-wrote : (x : Atom) → m ≡ over (emitItems follows (giveBack (present (atomTree x)) then none) base) l → Wrote follows (giveBack (present (atomTree x)) then none) base 2 l m
+  unfolding itemsRows expressionRows
+  return-wrote (Constant v) e = record { table = e; size = refl }
+  return-wrote (Variable n) e = record { table = e; size = refl }
+
   pub exit-wrote : (number : ℕ) (x : Atom) → m ≡ over (emitItems follows (ifElse (atomTree x) (block none) (block (goto number then none)) then none) base) l
       → Wrote follows (ifElse (atomTree x) (block none) (block (goto number then none)) then none) base 5 l m
   unfolding itemsRows expressionRows
@@ -73,7 +78,7 @@ module _ (follows : Bool) (base : ℕ) (l m : List ℤ) where
   exit-wrote number (Variable n) e = record { table = e; size = refl }
 
 -- an index takes a temporary or none
-pub place-taken-most : (p : Place) → placeTaken p ≤ 1
+pub place-taken-most : (called : ℕ → ℕ → Bool) (p : Place) → placeTaken called p ≤ 1
 unfolding placeTaken
-place-taken-most (variable i) = omega arith
-place-taken-most (element array e) = taken-most (atomOf e)
+place-taken-most called (variable i) = omega arith
+place-taken-most called (element array e) = taken-most (atomOf called e)

@@ -1,4 +1,4 @@
-// Rows that say where a run goes on: blocks, ifs, loops, labels, gotos, aborts, and empty statements.
+// Rows that say where a run goes on: blocks, ifs, loops, labels, gotos, aborts, returns, and empty statements.
 use super::Atom;
 use super::rows::behind;
 use super::rows::put_atom;
@@ -10,7 +10,7 @@ ghost use Prim.Native.Nat.{_+_, _^_, _≤_, _<_};
 ghost use lib.IntN.{pos};
 ghost use lib.ListN.{length};
 ghost use Rattle.words.specs.Word.{pick};
-ghost use Rattle.language.specs.Trees.{read, variable, empty, block, ifElse, goto, abort, label, none, _then_, _here_};
+ghost use Rattle.language.specs.Trees.{read, variable, present, empty, block, ifElse, goto, abort, giveBack, label, none, _then_, _here_};
 ghost use Rattle.emission.specs.Emission.{rowOf, emitExpression, emitItems};
 ghost use Rattle.words.specs.Over.{over};
 ghost use Rattle.leaves.specs.Room.{Room};
@@ -70,6 +70,15 @@ pub fn put_label(number: usize, base: usize, follows: bool, out: &mut [i32])
     ensures { λ _. ⌜ now (out .exit) ≡ over (emitItems follows (label number here none) base) (now (out .entry)) ⌝ }
 {
     put_item(53, number, base, follows, out);
+}
+
+// "A kernel return takes an atom."
+pub fn put_return(value: Atom, base: usize, follows: bool, out: &mut [i32])
+    requires { ⌜ Room 2 base (length (now out)) × AtomFits value ⌝ }
+    ensures { λ _. ⌜ now (out .exit) ≡ over (emitItems follows (giveBack (present (atomTree value)) then none) base) (now (out .entry)) ⌝ }
+{
+    put_row(60, base + 1, 0, 0, behind(follows, base + 2), out);
+    put_atom(value, &mut out[6..]);
 }
 
 // The rows that head a loop: the while, its constant test, and the block of its body, which takes `rows` rows.

@@ -17,8 +17,10 @@ use Rattle.computation.specs.Remaining.{spend}
 use Rattle.language.specs.Decode.{statementAt, decode}
 use Rattle.language.specs.Meaning.{exec}
 use Rattle.language.specs.Program.{tableProgram}
+use Rattle.operations.specs.Rows.{contextIn}
 use Rattle.operations.specs.Bounds.{boundsFrom, boundsOf, lengthsFrom, lengthsOf, layoutFrom}
 use Rattle.machine.specs.Whole.{wholeAt, Startable, Runnable}
+use Rattle.machine.proofs.Plain.{plain-sound}
 
 -- the bounds before the i-th are written, and `total` is the i-th
 pub record Filled (lengths : List ℤ) (variables : ℕ) (bounds : List ℕ) (total i : ℕ) : Type 0 where
@@ -114,10 +116,11 @@ module _ {form : Form} {header rows store : List ℤ} (r : Runnable form header 
       few-words = few-words;
       few-rows = omega (arith, r .few-rows);
       few-arrays = rw layout-lent (fits .few-arrays);
+      calls = plain-sound (r .sound);
     };
   }
 
   -- the statement at row 0 is the program
   pub whole-program : (b : ℕ) (s : List ℤ) → spend (wholeAt lent variables rows) b s ≡ spend (tableProgram form header rows) b s
   unfolding tableProgram decode
-  whole-program b s = ap (λ (L : Layout). spend (exec L (statementAt rows 0)) b s) layout-lent
+  whole-program b s = ap (λ (L : Layout). spend (exec (contextIn L rows) (statementAt rows 0)) b s) layout-lent

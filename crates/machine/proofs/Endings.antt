@@ -18,15 +18,15 @@ use Rattle.computation.specs.RunLaws.{count-never-passes}
 use Rattle.computation.specs.Remaining.{Rest, gives, halts, spend, told, spend-is-run}
 use Rattle.language.specs.Meaning.{Signal}
 use Rattle.language.specs.Program.{Finished, finished}
-use Rattle.operations.specs.Answers.{beyond, stopOf, operandOf}
+use Rattle.operations.specs.Answers.{beyond, stopOf, isReturn, operandOf}
 use Rattle.operations.specs.declared.Operand.{Operand}
 use Rattle.operations.specs.declared.Operand.the-variants.{Value, Halted as Stopped}
 use Rattle.operations.proofs.Decoding.{handed, handed-is}
 use Rattle.flows.specs.Flows.{passingOf, flowRest, ran}
 use Rattle.machine.specs.Whole.{endingOfStop, endingOfAnswer}
 use Rattle.flows.specs.declared.Flow.{Flow}
-use Rattle.flows.specs.declared.Flow.the-variants.{Next, Break, Continue, Goto, Halted}
-use Rattle.flows.proofs.Answers.{flow-stops, flow-passes}
+use Rattle.flows.specs.declared.Flow.the-variants.{Next, Break, Continue, Goto, Return, Halted}
+use Rattle.flows.proofs.Answers.{flow-stops, flow-passes, flow-returns}
 
 -- an answer that is no word, and not that of a spent run, is a fault's
 unspent : (z : ℤ) → (z ≡ pos 2147483648 → ⊥) → stopOf z ≡ fault (faultNumbered (beyond z))
@@ -92,10 +92,15 @@ ran-finished b z n s = by (operandOf z) refl
     passes Break q = refl
     passes Continue q = refl
     passes (Goto l) q = refl
+    passes Return q = refl
     passes Halted q = absurd (q refl)
 
+    value : (v : ℤ) → operandOf z ≡ Value v → (r : Bool) → isReturn z ≡ r → record { ending = endingOfAnswer z; count = b - n; store = s } ≡ finishedRest b (ran z n s)
+    value v e true r = rw (flow-returns z r, e)
+    value v e false r = rw (flow-passes z v r e, e) (passes (passingOf v) (passing-goes-on v))
+
     by : (o : Operand) → operandOf z ≡ o → record { ending = endingOfAnswer z; count = b - n; store = s } ≡ finishedRest b (ran z n s)
-    by (Value v) e = rw (flow-passes z v e, e) (passes (passingOf v) (passing-goes-on v))
+    by (Value v) e = value v e (isReturn z) refl
     by Stopped e = rw (flow-stops z e, e)
 
 pub run-finished : (b : ℕ) (m : Computation Signal) (s : List ℤ) (z : ℤ) (n : ℕ) (t : List ℤ) → ran z n t ≡ spend m b s

@@ -10,6 +10,7 @@ use lib.ListN.{length, take, drop, set, getD}
 use lib.IntN.{ℤ}
 use Rattle.words.specs.Table.{rowCount}
 use Rattle.language.specs.Decode.{expressionAt, statementAt, itemsAt, armsAt}
+use Rattle.measure_table.specs.Parts.{calledIn}
 use Rattle.measure_table.specs.Measures.{width, rowsSlot, levelsSlot, valueSlot, statementRowsSlot, statementLevelsSlot, statementLabelsSlot, listRowsSlot, listLevelsSlot, listLabelsSlot, listCasesSlot, listDefaultSlot, copiedSlot, droppedRowsSlot, droppedLevelsSlot, storedLevelsSlot, armsRowsSlot, armsLevelsSlot, armsLabelsSlot, slot, rowWords, ExpressionMeasured, StatementMeasured, ListMeasured, ArmsMeasured, MeasuredRow, MeasuredFrom}
 use Rattle.measure_table.specs.declared.ExpressionMeasures.{ExpressionMeasures}
 use Rattle.measure_table.specs.declared.StatementMeasures.{StatementMeasures}
@@ -50,7 +51,7 @@ module _ (rows : List ℤ) (t u : List ℕ) (row : ℕ) (e : ExpressionMeasures)
   others : (other k : ℕ) → row < other → slot u other k ≡ slot t other k
   others other k h = other-words width t u (rowWords e s l a) row refl fits is (width * other + k) (omega arith)
 
-  module _ (em : ExpressionMeasured rows (expressionAt rows row) e) (sm : StatementMeasured (statementAt rows row) s) (lm : ListMeasured (itemsAt rows row) l) (am : ArmsMeasured (armsAt rows row) a) where
+  module _ (em : ExpressionMeasured rows (expressionAt rows row) e) (sm : StatementMeasured (calledIn rows) (statementAt rows row) s) (lm : ListMeasured (calledIn rows) (itemsAt rows row) l) (am : ArmsMeasured (calledIn rows) (armsAt rows row) a) where
     own-row : MeasuredRow rows u row
     own-row = record {
       expression = rw (own rowsSlot (omega arith), own levelsSlot (omega arith), own valueSlot (omega arith), own copiedSlot (omega arith), own droppedRowsSlot (omega arith), own droppedLevelsSlot (omega arith), own storedLevelsSlot (omega arith)) em;

@@ -7,7 +7,7 @@ use native.Mathlib.Omega.{arith}
 use lib.IntN.{ℤ}
 use lib.ListN.{length}
 use Rattle.words.specs.Table.{rowCount}
-use Rattle.language.specs.Trees.{Expression, constant, read, minus, not, binary, and, or, comma, conditional, assign, compound, prefix, postfix, Place, variable, element, present, _here_}
+use Rattle.language.specs.Trees.{Expression, constant, read, minus, not, binary, and, or, comma, conditional, assign, compound, prefix, postfix, call, Place, variable, element, present, _here_}
 use Rattle.language.specs.Decode.{expressionAt, statementAt, listAt, armListAt, partAt}
 use Rattle.translation.specs.Uses.{direct}
 use Rattle.translation.specs.declared.Use.{Use}
@@ -20,7 +20,7 @@ use Rattle.shapes.specs.Shapes.{choiceTree, Onward, OptionalOnward}
 use Rattle.shapes.specs.Source.{Source}
 use Rattle.shapes.specs.declared.ChoiceShape.{ChoiceShape}
 use Rattle.shapes.specs.declared.ChoiceShape.the-variants.{And, Or, Conditional}
-use Rattle.measure_table.specs.Parts.{firstOperand, secondOperand, thirdOperand, fourthOperand, aboveFirst, firstCopied, plainAtom, firstUse, secondUse, ownLevels, usePassed, UseFits}
+use Rattle.measure_table.specs.Parts.{calledIn, passedRows, firstOperand, secondOperand, thirdOperand, fourthOperand, aboveFirst, firstCopied, plainAtom, firstUse, secondUse, ownLevels, usePassed, UseFits}
 use Rattle.measure_table.specs.Measures.{limited, defaultPlace, width, rowsSlot, levelsSlot, valueSlot, statementRowsSlot, statementLevelsSlot, statementLabelsSlot, listRowsSlot, listLevelsSlot, listLabelsSlot, listCasesSlot, listDefaultSlot, copiedSlot, armsRowsSlot, armsLevelsSlot, armsLabelsSlot, rowsFor, levelsFor, slot, slotAt, LinkMeasured, MeasuredRow, MeasuredFrom, Measured}
 
 -- ---- sums that are cut off
@@ -50,40 +50,43 @@ at-some table (suc link) k h = refl
 -- ---- a value that is stored
 
 -- takes the rows of one that is wanted; and it does not matter which variable stores it
-pub stored-size : (e : Expression) (i : ℕ) → expressionSize e (stored i) ≡ expressionSize e wanted
-unfolding expressionSize
-stored-size (constant v) i = refl
-stored-size (read p) i = refl
-stored-size (minus e) i = refl
-stored-size (not e) i = refl
-stored-size (binary operator a b) i = refl
-stored-size (and a b) i = refl
-stored-size (or a b) i = refl
-stored-size (comma a b) i = refl
-stored-size (conditional c a b) i = refl
-stored-size (assign p e) i = refl
-stored-size (compound operator p e) i = refl
-stored-size (prefix operator p) i = refl
-stored-size (postfix operator (variable j)) i = refl
-stored-size (postfix operator (element array e)) i = refl
+module _ (called : ℕ → ℕ → Bool) where
+  pub stored-size : (e : Expression) (i : ℕ) → expressionSize called e (stored i) ≡ expressionSize called e wanted
+  unfolding expressionSize
+  stored-size (constant v) i = refl
+  stored-size (read p) i = refl
+  stored-size (minus e) i = refl
+  stored-size (not e) i = refl
+  stored-size (binary operator a b) i = refl
+  stored-size (and a b) i = refl
+  stored-size (or a b) i = refl
+  stored-size (comma a b) i = refl
+  stored-size (conditional c a b) i = refl
+  stored-size (assign p e) i = refl
+  stored-size (compound operator p e) i = refl
+  stored-size (prefix operator p) i = refl
+  stored-size (postfix operator (variable j)) i = refl
+  stored-size (postfix operator (element array e)) i = refl
+  stored-size (call f arguments) i = refl
 
-pub stored-levels : (e : Expression) (i : ℕ) → expressionLevels e (stored i) ≡ expressionLevels e (stored 0)
-unfolding expressionLevels
-stored-levels (constant v) i = refl
-stored-levels (read (variable j)) i = refl
-stored-levels (read (element array e)) i = refl
-stored-levels (minus e) i = refl
-stored-levels (not e) i = refl
-stored-levels (binary operator a b) i = refl
-stored-levels (and a b) i = refl
-stored-levels (or a b) i = refl
-stored-levels (comma a b) i = refl
-stored-levels (conditional c a b) i = refl
-stored-levels (assign p e) i = refl
-stored-levels (compound operator p e) i = refl
-stored-levels (prefix operator p) i = refl
-stored-levels (postfix operator (variable j)) i = refl
-stored-levels (postfix operator (element array e)) i = refl
+  pub stored-levels : (e : Expression) (i : ℕ) → expressionLevels called e (stored i) ≡ expressionLevels called e (stored 0)
+  unfolding expressionLevels
+  stored-levels (constant v) i = refl
+  stored-levels (read (variable j)) i = refl
+  stored-levels (read (element array e)) i = refl
+  stored-levels (minus e) i = refl
+  stored-levels (not e) i = refl
+  stored-levels (binary operator a b) i = refl
+  stored-levels (and a b) i = refl
+  stored-levels (or a b) i = refl
+  stored-levels (comma a b) i = refl
+  stored-levels (conditional c a b) i = refl
+  stored-levels (assign p e) i = refl
+  stored-levels (compound operator p e) i = refl
+  stored-levels (prefix operator p) i = refl
+  stored-levels (postfix operator (variable j)) i = refl
+  stored-levels (postfix operator (element array e)) i = refl
+  stored-levels (call f arguments) i = refl
 
 -- a use that is passed on stores nothing
 pub passed-fits : (passes : Bool) (u : Use) → UseFits (usePassed passes u)
@@ -94,15 +97,15 @@ passed-fits false u = tt
 
 -- ---- the measures of a row, by the use of its value
 
-pub measured-rows : {rows : List ℤ} {table : List ℕ} {row : ℕ} (u : Use) → MeasuredRow rows table row → slot table row (rowsFor u) ≡ limited (expressionSize (expressionAt rows row) u)
+pub measured-rows : {rows : List ℤ} {table : List ℕ} {row : ℕ} (u : Use) → MeasuredRow rows table row → slot table row (rowsFor u) ≡ limited (expressionSize (calledIn rows) (expressionAt rows row) u)
 measured-rows dropped m = m .expression .dropped-rows-are
 measured-rows wanted m = m .expression .rows-are
-measured-rows {rows} {table} {row} (stored i) m = m .expression .rows-are ∙ ap limited (sym (stored-size (expressionAt rows row) i))
+measured-rows {rows} {table} {row} (stored i) m = m .expression .rows-are ∙ ap limited (sym (stored-size (calledIn rows) (expressionAt rows row) i))
 
-pub measured-levels : {rows : List ℤ} {table : List ℕ} {row : ℕ} (u : Use) → MeasuredRow rows table row → slot table row (levelsFor u) ≡ limited (expressionLevels (expressionAt rows row) u)
+pub measured-levels : {rows : List ℤ} {table : List ℕ} {row : ℕ} (u : Use) → MeasuredRow rows table row → slot table row (levelsFor u) ≡ limited (expressionLevels (calledIn rows) (expressionAt rows row) u)
 measured-levels dropped m = m .expression .dropped-levels-are
 measured-levels wanted m = m .expression .levels-are
-measured-levels {rows} {table} {row} (stored i) m = m .expression .stored-levels-are ∙ ap limited (sym (stored-levels (expressionAt rows row) i))
+measured-levels {rows} {table} {row} (stored i) m = m .expression .stored-levels-are ∙ ap limited (sym (stored-levels (calledIn rows) (expressionAt rows row) i))
 
 module _ (rows : List ℤ) (table : List ℕ) where
   -- a link of this row that leads on leads to a measured row
@@ -114,23 +117,23 @@ module _ (rows : List ℤ) (table : List ℕ) where
 
   module _ {row : ℕ} (m : MeasuredFrom rows table (row + 1)) where
     -- the measures of an expression at a link, by the use of its value
-    pub part-rows : (u : Use) (link : ℕ) → OptionalOnward rows row link → slotAt table link (rowsFor u) ≡ limited (operandSize (partAt rows link) u)
+    pub part-rows : (u : Use) (link : ℕ) → OptionalOnward rows row link → slotAt table link (rowsFor u) ≡ limited (operandSize (calledIn rows) (partAt rows link) u)
     unfolding limited
     part-rows u zero o = refl
     part-rows u (suc link) o = measured-rows u (link-measured (suc link) m (o (omega arith)))
 
-    pub part-levels : (u : Use) (link : ℕ) → OptionalOnward rows row link → slotAt table link (levelsFor u) ≡ limited (operandLevels (partAt rows link) u)
+    pub part-levels : (u : Use) (link : ℕ) → OptionalOnward rows row link → slotAt table link (levelsFor u) ≡ limited (operandLevels (calledIn rows) (partAt rows link) u)
     unfolding limited
     part-levels u zero o = refl
     part-levels u (suc link) o = measured-levels u (link-measured (suc link) m (o (omega arith)))
 
     -- those of a list
-    pub list-rows : (link : ℕ) → OptionalOnward rows row link → slotAt table link listRowsSlot ≡ limited (itemsSize (listAt rows link))
+    pub list-rows : (link : ℕ) → OptionalOnward rows row link → slotAt table link listRowsSlot ≡ limited (itemsSize (calledIn rows) (listAt rows link))
     unfolding limited itemsSize
     list-rows zero o = refl
     list-rows (suc link) o = link-measured (suc link) m (o (omega arith)) .list .rows-are
 
-    pub list-levels : (link : ℕ) → OptionalOnward rows row link → slotAt table link listLevelsSlot ≡ limited (itemsLevels (listAt rows link))
+    pub list-levels : (link : ℕ) → OptionalOnward rows row link → slotAt table link listLevelsSlot ≡ limited (itemsLevels (calledIn rows) (listAt rows link))
     unfolding limited itemsLevels
     list-levels zero o = refl
     list-levels (suc link) o = link-measured (suc link) m (o (omega arith)) .list .levels-are
@@ -151,12 +154,12 @@ module _ (rows : List ℤ) (table : List ℕ) where
     list-default (suc link) o = link-measured (suc link) m (o (omega arith)) .list .default-is
 
     -- those of arms
-    pub arms-rows : (link : ℕ) → OptionalOnward rows row link → slotAt table link armsRowsSlot ≡ limited (armsSize (armListAt rows link))
+    pub arms-rows : (link : ℕ) → OptionalOnward rows row link → slotAt table link armsRowsSlot ≡ limited (armsSize (calledIn rows) (armListAt rows link))
     unfolding limited armsSize
     arms-rows zero o = refl
     arms-rows (suc link) o = link-measured (suc link) m (o (omega arith)) .arms .rows-are
 
-    pub arms-levels : (link : ℕ) → OptionalOnward rows row link → slotAt table link armsLevelsSlot ≡ limited (armsLevels (armListAt rows link))
+    pub arms-levels : (link : ℕ) → OptionalOnward rows row link → slotAt table link armsLevelsSlot ≡ limited (armsLevels (calledIn rows) (armListAt rows link))
     unfolding limited armsLevels
     arms-levels zero o = refl
     arms-levels (suc link) o = link-measured (suc link) m (o (omega arith)) .arms .levels-are
@@ -167,10 +170,10 @@ module _ (rows : List ℤ) (table : List ℕ) where
     arms-labels (suc link) o = link-measured (suc link) m (o (omega arith)) .arms .labels-are
 
     -- those of a statement
-    pub body-rows : (link : ℕ) → Onward rows row link → slotAt table link statementRowsSlot ≡ limited (statementSize (statementAt rows link))
+    pub body-rows : (link : ℕ) → Onward rows row link → slotAt table link statementRowsSlot ≡ limited (statementSize (calledIn rows) (statementAt rows link))
     body-rows link o = at-some table link statementRowsSlot (omega (arith, o .later)) ∙ link-measured link m o .statement .rows-are
 
-    pub body-levels : (link : ℕ) → Onward rows row link → slotAt table link statementLevelsSlot ≡ limited (statementLevels (statementAt rows link))
+    pub body-levels : (link : ℕ) → Onward rows row link → slotAt table link statementLevelsSlot ≡ limited (statementLevels (calledIn rows) (statementAt rows link))
     body-levels link o = at-some table link statementLevelsSlot (omega (arith, o .later)) ∙ link-measured link m o .statement .levels-are
 
     pub body-labels : (link : ℕ) → Onward rows row link → slotAt table link statementLabelsSlot ≡ limited (labels (statementAt rows link))
@@ -178,97 +181,102 @@ module _ (rows : List ℤ) (table : List ℕ) where
 
 -- ---- an expression's measures, from those of its operands
 
-pub size-parts : (e : Expression) (u : Use)
-    → expressionSize e u
-    ≡ operandSize (firstOperand e) (firstUse e) + operandSize (secondOperand e) (secondUse e u) + operandSize (thirdOperand e) wanted + operandSize (fourthOperand e) wanted + ownRows e u
-unfolding expressionSize
-size-parts (constant v) u = refl
-size-parts (read (variable i)) u = refl
-size-parts (read (element array e)) u = omega arith
-size-parts (minus e) u = omega arith
-size-parts (not e) u = omega arith
-size-parts (binary operator a b) u = omega arith
-size-parts (and a b) u = omega arith
-size-parts (or a b) u = omega arith
-size-parts (comma a b) u = omega arith
-size-parts (conditional c a b) u = omega arith
-size-parts (assign (variable i) e) u = omega arith
-size-parts (assign (element array i) e) u = omega arith
-size-parts (compound operator (variable i) e) u = omega arith
-size-parts (compound operator (element array i) e) u = omega arith
-size-parts (prefix operator (variable i)) u = refl
-size-parts (prefix operator (element array i)) u = omega arith
-size-parts (postfix operator (variable i)) u = omega arith
-size-parts (postfix operator (element array i)) u = omega arith
+module _ (called : ℕ → ℕ → Bool) where
+  pub size-parts : (e : Expression) (u : Use)
+      → expressionSize called e u
+      ≡ operandSize called (firstOperand called e) (firstUse e) + operandSize called (secondOperand called e) (secondUse e u) + operandSize called (thirdOperand called e) wanted + operandSize called (fourthOperand called e) wanted + ownRows called e u + passedRows called e
+  unfolding expressionSize
+  size-parts (constant v) u = refl
+  size-parts (read (variable i)) u = refl
+  size-parts (read (element array e)) u = omega arith
+  size-parts (minus e) u = omega arith
+  size-parts (not e) u = omega arith
+  size-parts (binary operator a b) u = omega arith
+  size-parts (and a b) u = omega arith
+  size-parts (or a b) u = omega arith
+  size-parts (comma a b) u = omega arith
+  size-parts (conditional c a b) u = omega arith
+  size-parts (assign (variable i) e) u = omega arith
+  size-parts (assign (element array i) e) u = omega arith
+  size-parts (compound operator (variable i) e) u = omega arith
+  size-parts (compound operator (element array i) e) u = omega arith
+  size-parts (prefix operator (variable i)) u = refl
+  size-parts (prefix operator (element array i)) u = omega arith
+  size-parts (postfix operator (variable i)) u = omega arith
+  size-parts (postfix operator (element array i)) u = omega arith
+  size-parts (call f arguments) u = omega arith
 
-pub levels-parts : (e : Expression) (u : Use)
-    → expressionLevels e u
-    ≡ max (ownLevels e u)
-    (max (max (operandLevels (firstOperand e) (firstUse e)) (aboveFirst e + operandLevels (secondOperand e) (secondUse e u))) (max (operandLevels (thirdOperand e) wanted) (operandLevels (fourthOperand e) wanted)))
-unfolding expressionLevels atomOf
-levels-parts (constant v) u = refl
-levels-parts (read (variable i)) u = refl
-levels-parts (read (element array e)) u = omega arith
-levels-parts (minus e) u = omega arith
-levels-parts (not e) u = omega arith
-levels-parts (binary operator a b) u = omega arith
-levels-parts (and a b) u = omega arith
-levels-parts (or a b) u = omega arith
-levels-parts (comma a b) u = omega arith
-levels-parts (conditional c a b) u = omega arith
-levels-parts (assign (variable i) e) u = omega arith
-levels-parts (assign (element array i) e) u = omega arith
-levels-parts (compound operator (variable i) e) u = omega arith
-levels-parts (compound operator (element array i) e) u = omega arith
-levels-parts (prefix operator (variable i)) u = refl
-levels-parts (prefix operator (element array i)) u = omega arith
-levels-parts (postfix operator (variable i)) u = omega arith
-levels-parts (postfix operator (element array i)) u = omega arith
+  pub levels-parts : (e : Expression) (u : Use)
+      → expressionLevels called e u
+      ≡ max (ownLevels called e u)
+      (max (max (operandLevels called (firstOperand called e) (firstUse e)) (aboveFirst called e + operandLevels called (secondOperand called e) (secondUse e u))) (max (operandLevels called (thirdOperand called e) wanted) (operandLevels called (fourthOperand called e) wanted)))
+  unfolding expressionLevels atomOf
+  levels-parts (constant v) u = refl
+  levels-parts (read (variable i)) u = refl
+  levels-parts (read (element array e)) u = omega arith
+  levels-parts (minus e) u = omega arith
+  levels-parts (not e) u = omega arith
+  levels-parts (binary operator a b) u = omega arith
+  levels-parts (and a b) u = omega arith
+  levels-parts (or a b) u = omega arith
+  levels-parts (comma a b) u = omega arith
+  levels-parts (conditional c a b) u = omega arith
+  levels-parts (assign (variable i) e) u = omega arith
+  levels-parts (assign (element array i) e) u = omega arith
+  levels-parts (compound operator (variable i) e) u = omega arith
+  levels-parts (compound operator (element array i) e) u = omega arith
+  levels-parts (prefix operator (variable i)) u = refl
+  levels-parts (prefix operator (element array i)) u = omega arith
+  levels-parts (postfix operator (variable i)) u = omega arith
+  levels-parts (postfix operator (element array i)) u = omega arith
+  levels-parts (call f arguments) u = omega arith
 
--- ---- the value of a choice stands in a temporary
+  -- ---- the value of a choice stands in a temporary
 
-pub choice-top : (rows : List ℤ) (c : ChoiceShape) → plainAtom (choiceTree rows c) ≡ top
-choice-top rows (And a b) = refl
-choice-top rows (Or a b) = refl
-choice-top rows (Conditional c a b) = refl
+  pub choice-top : (rows : List ℤ) (c : ChoiceShape) → plainAtom called (choiceTree rows c) ≡ top
+  choice-top rows (And a b) = refl
+  choice-top rows (Or a b) = refl
+  choice-top rows (Conditional c a b) = refl
 
--- ---- the copy of the first operand's value
+  -- ---- the copy of the first operand's value
 
-pub first-copied-most : (e : Expression) → firstCopied e ≤ 1
-first-copied-most (constant v) = omega arith
-first-copied-most (read p) = omega arith
-first-copied-most (minus e) = omega arith
-first-copied-most (not e) = omega arith
-first-copied-most (binary operator a b) = copied-most (atomOf b) (writes a)
-first-copied-most (and a b) = omega arith
-first-copied-most (or a b) = omega arith
-first-copied-most (comma a b) = omega arith
-first-copied-most (conditional c a b) = omega arith
-first-copied-most (assign p e) = copied-most (atomOf e) (indexWrites p)
-first-copied-most (compound operator p e) = copied-most (atomOf e) (indexWrites p)
-first-copied-most (prefix operator p) = omega arith
-first-copied-most (postfix operator p) = omega arith
+  pub first-copied-most : (e : Expression) → firstCopied called e ≤ 1
+  first-copied-most (constant v) = omega arith
+  first-copied-most (read p) = omega arith
+  first-copied-most (minus e) = omega arith
+  first-copied-most (not e) = omega arith
+  first-copied-most (binary operator a b) = copied-most (atomOf called b) (writes called a)
+  first-copied-most (and a b) = omega arith
+  first-copied-most (or a b) = omega arith
+  first-copied-most (comma a b) = omega arith
+  first-copied-most (conditional c a b) = omega arith
+  first-copied-most (assign p e) = copied-most (atomOf called e) (indexWrites called p)
+  first-copied-most (compound operator p e) = copied-most (atomOf called e) (indexWrites called p)
+  first-copied-most (prefix operator p) = omega arith
+  first-copied-most (postfix operator p) = omega arith
+  first-copied-most (call f arguments) = omega arith
 
--- a value that an assignment stores is copied where its own atom would be: a variable has no index
-pub landed-copied : (p : Place) (straight : Bool) (h : Atom) → copied (landed p straight h) (indexWrites p) ≡ copied h (indexWrites p)
-landed-copied (variable i) straight h = rw (held-variable (landed (variable i) straight h) i, held-variable h i) (omega arith)
-landed-copied (element array e) straight h = refl
+  -- a value that an assignment stores is copied where its own atom would be: a variable has no index
+  pub landed-copied : (p : Place) (straight : Bool) (h : Atom) → copied (landed p straight h) (indexWrites called p) ≡ copied h (indexWrites called p)
+  landed-copied (variable i) straight h = rw (held-variable called (landed (variable i) straight h) i, held-variable called h i) (omega arith)
+  landed-copied (element array e) straight h = refl
 
--- its rows are among the own ones
-pub own-copies : (e : Expression) (u : Use) → 4 * firstCopied e ≤ ownRows e u
-own-copies (constant v) u = omega arith
-own-copies (read p) u = omega arith
-own-copies (minus e) u = omega arith
-own-copies (not e) u = omega arith
-own-copies (binary operator a b) u = omega arith
-own-copies (and a b) u = omega arith
-own-copies (or a b) u = omega arith
-own-copies (comma a b) u = omega arith
-own-copies (conditional c a b) u = omega arith
-own-copies (assign p e) u = omega (arith, landed-copied p (direct e) (atomOf e))
-own-copies (compound operator p e) u = omega arith
-own-copies (prefix operator p) u = omega arith
-own-copies (postfix operator p) u = omega arith
+  -- its rows are among the own ones
+  pub own-copies : (e : Expression) (u : Use) → 4 * firstCopied called e ≤ ownRows called e u
+  own-copies (constant v) u = omega arith
+  own-copies (read p) u = omega arith
+  own-copies (minus e) u = omega arith
+  own-copies (not e) u = omega arith
+  own-copies (binary operator a b) u = omega arith
+  own-copies (and a b) u = omega arith
+  own-copies (or a b) u = omega arith
+  own-copies (comma a b) u = omega arith
+  own-copies (conditional c a b) u = omega arith
+  own-copies (assign p e) u = omega (arith, landed-copied p (direct e) (atomOf called e))
+  own-copies (compound operator p e) u = omega arith
+  own-copies (prefix operator p) u = omega arith
+  own-copies (postfix operator p) u = omega arith
+  own-copies (call f arguments) u = omega arith
 
 -- ---- what calls ask
 
@@ -287,7 +295,7 @@ measured-small s m (suc (suc (suc (suc (suc (suc (suc zero))))))) h = limited-as
 measured-small s m (suc (suc (suc (suc (suc (suc (suc (suc zero)))))))) h = limited-as _ (m .list .labels-are)
 measured-small s m (suc (suc (suc (suc (suc (suc (suc (suc (suc zero))))))))) h = limited-as _ (m .list .cases-are)
 measured-small s m (suc (suc (suc (suc (suc (suc (suc (suc (suc (suc zero)))))))))) h = limited-as _ (m .list .default-is)
-measured-small {rows} {table} {row} s m (suc (suc (suc (suc (suc (suc (suc (suc (suc (suc (suc zero))))))))))) h = omega (arith, m .expression .copied-is, first-copied-most (expressionAt rows row))
+measured-small {rows} {table} {row} s m (suc (suc (suc (suc (suc (suc (suc (suc (suc (suc (suc zero))))))))))) h = omega (arith, m .expression .copied-is, first-copied-most (calledIn rows) (expressionAt rows row))
 measured-small s m (suc (suc (suc (suc (suc (suc (suc (suc (suc (suc (suc (suc zero)))))))))))) h = limited-as _ (m .expression .dropped-rows-are)
 measured-small s m (suc (suc (suc (suc (suc (suc (suc (suc (suc (suc (suc (suc (suc zero))))))))))))) h = limited-as _ (m .expression .dropped-levels-are)
 measured-small s m (suc (suc (suc (suc (suc (suc (suc (suc (suc (suc (suc (suc (suc (suc zero)))))))))))))) h = limited-as _ (m .expression .stored-levels-are)
@@ -342,12 +350,12 @@ module _ {rows : List ℤ} {table : List ℕ} (m : Measured rows table) where
       by zero h = omega arith
       by (suc link) h = measured-small (m .source) (whole-row h) k l
 
-  pub whole-part : (u : Use) (link : ℕ) → link < rowCount rows → slotAt table link (rowsFor u) ≡ limited (operandSize (partAt rows link) u)
+  pub whole-part : (u : Use) (link : ℕ) → link < rowCount rows → slotAt table link (rowsFor u) ≡ limited (operandSize (calledIn rows) (partAt rows link) u)
   unfolding limited
   whole-part u zero h = refl
   whole-part u (suc link) h = measured-rows u (whole-row h)
 
-  pub whole-list : (link : ℕ) → link < rowCount rows → slotAt table link listRowsSlot ≡ limited (itemsSize (listAt rows link))
+  pub whole-list : (link : ℕ) → link < rowCount rows → slotAt table link listRowsSlot ≡ limited (itemsSize (calledIn rows) (listAt rows link))
   unfolding limited itemsSize
   whole-list zero h = refl
   whole-list (suc link) h = whole-row h .list .rows-are
@@ -362,7 +370,7 @@ module _ {rows : List ℤ} {table : List ℕ} (m : Measured rows table) where
   whole-default zero h = refl
   whole-default (suc link) h = whole-row h .list .default-is
 
-  pub whole-arms : (link : ℕ) → link < rowCount rows → slotAt table link armsRowsSlot ≡ limited (armsSize (armListAt rows link))
+  pub whole-arms : (link : ℕ) → link < rowCount rows → slotAt table link armsRowsSlot ≡ limited (armsSize (calledIn rows) (armListAt rows link))
   unfolding limited armsSize
   whole-arms zero h = refl
   whole-arms (suc link) h = whole-row h .arms .rows-are

@@ -1,13 +1,14 @@
 -- Measures: what the table of measures holds, as many words for each source row as it has measures. Sums are cut off at 65,536, which is above every
 -- limit, so that they fit on any table.
 use mathlib.Core.Path.{_≡_}
+use mathlib.Core.Bool.{Bool}
 use mathlib.Core.List.{List, [], _∷_}
 use Prim.Native.Nat.{ℕ, zero, suc, _+_, _*_, _≤_, _<_, min, max}
 use lib.IntN.{ℤ}
 use lib.ListN.{length, getD}
 use Rattle.words.specs.Table.{rowCount}
 use Rattle.words.specs.declared.Operator.{Operator}
-use Rattle.language.specs.Trees.{Expression, assign, postfix, variable, Statement, Arms, Items, none, _then_, _here_, case, default, label}
+use Rattle.language.specs.Trees.{Expression, assign, postfix, variable, Statement, Arms, Items, none, _then_, _here_, define, case, default, label}
 use Rattle.language.specs.Decode.{placeOf, expressionAt, statementAt, itemsAt, armsAt}
 use Rattle.translation.specs.declared.Use.{Use}
 use Rattle.translation.specs.declared.Use.the-variants.{Dropped as dropped, Wanted as wanted, Stored as stored}
@@ -15,7 +16,7 @@ use Rattle.translation.specs.Translate.{atomOf, labels, armsLabels, itemsLabels
 use Rattle.translation.specs.TranslateSize.{expressionSize, statementSize, armsSize, itemsSize, cases}
 use Rattle.shapes.specs.Shapes.{Onward}
 use Rattle.shapes.specs.Source.{mostWords, Source}
-use Rattle.measure_table.specs.Parts.{firstCopied, plainAtom}
+use Rattle.measure_table.specs.Parts.{calledIn, firstCopied, plainAtom}
 use Rattle.measure_table.specs.declared.ExpressionMeasures.{ExpressionMeasures}
 use Rattle.measure_table.specs.declared.StatementMeasures.{StatementMeasures}
 use Rattle.measure_table.specs.declared.ListMeasures.{ListMeasures}
@@ -35,38 +36,40 @@ defaultPlace (s then is) = pastLabels (labels s) (defaultPlace is)
 defaultPlace (case v here is) = pastLabels 1 (defaultPlace is)
 defaultPlace (default here is) = 1
 defaultPlace (label l here is) = pastLabels 1 (defaultPlace is)
+defaultPlace (define f words body is) = defaultPlace is
 
 -- ---- what is measured
 
 pub record ExpressionMeasured (rows : List ℤ) (e : Expression) (m : ExpressionMeasures) : Type 0 where
-  pub rows-are : m .rows ≡ limited (expressionSize e wanted)
-  pub levels-are : m .levels ≡ limited (expressionLevels e wanted)
+  pub rows-are : m .rows ≡ limited (expressionSize (calledIn rows) e wanted)
+  pub levels-are : m .levels ≡ limited (expressionLevels (calledIn rows) e wanted)
   -- the row that the value comes from
-  pub value-is : plainAtom (expressionAt rows (m .value)) ≡ atomOf e
+  pub value-is : plainAtom (calledIn rows) (expressionAt rows (m .value)) ≡ atomOf (calledIn rows) e
   pub value-inside : m .value < rowCount rows
   -- 1 where the value of the first operand is copied
-  pub copied-is : m .copied ≡ firstCopied e
+  pub copied-is : m .copied ≡ firstCopied (calledIn rows) e
   -- where nobody uses the value
-  pub dropped-rows-are : m .«dropped_rows» ≡ limited (expressionSize e dropped)
-  pub dropped-levels-are : m .«dropped_levels» ≡ limited (expressionLevels e dropped)
+  pub dropped-rows-are : m .«dropped_rows» ≡ limited (expressionSize (calledIn rows) e dropped)
+  pub dropped-levels-are : m .«dropped_levels» ≡ limited (expressionLevels (calledIn rows) e dropped)
   -- where a variable stores it, whichever; its rows are those of a value that is wanted
-  pub stored-levels-are : m .«stored_levels» ≡ limited (expressionLevels e (stored 0))
+  pub stored-levels-are : m .«stored_levels» ≡ limited (expressionLevels (calledIn rows) e (stored 0))
 
-pub record StatementMeasured (s : Statement) (m : StatementMeasures) : Type 0 where
-  pub rows-are : m .rows ≡ limited (statementSize s)
-  pub levels-are : m .levels ≡ limited (statementLevels s)
+-- `called f i`: whether function f can write the variable i.
+pub record StatementMeasured (called : ℕ → ℕ → Bool) (s : Statement) (m : StatementMeasures) : Type 0 where
+  pub rows-are : m .rows ≡ limited (statementSize called s)
+  pub levels-are : m .levels ≡ limited (statementLevels called s)
   pub labels-are : m .labels ≡ limited (labels s)
 
-pub record ListMeasured (is : Items) (m : ListMeasures) : Type 0 where
-  pub rows-are : m .rows ≡ limited (itemsSize is)
-  pub levels-are : m .levels ≡ limited (itemsLevels is)
+pub record ListMeasured (called : ℕ → ℕ → Bool) (is : Items) (m : ListMeasures) : Type 0 where
+  pub rows-are : m .rows ≡ limited (itemsSize called is)
+  pub levels-are : m .levels ≡ limited (itemsLevels called is)
   pub labels-are : m .labels ≡ limited (itemsLabels is)
   pub cases-are : m .cases ≡ limited (cases is)
   pub default-is : m .default ≡ limited (defaultPlace is)
 
-pub record ArmsMeasured (arms : Arms) (m : StatementMeasures) : Type 0 where
-  pub rows-are : m .rows ≡ limited (armsSize arms)
-  pub levels-are : m .levels ≡ limited (armsLevels arms)
+pub record ArmsMeasured (called : ℕ → ℕ → Bool) (arms : Arms) (m : StatementMeasures) : Type 0 where
+  pub rows-are : m .rows ≡ limited (armsSize called arms)
+  pub levels-are : m .levels ≡ limited (armsLevels called arms)
   pub labels-are : m .labels ≡ limited (armsLabels arms)
 
 -- ---- the table
@@ -199,10 +202,10 @@ pub record TestIs (table : List ℕ) (test r : ℕ) : Type 0 where
 -- A row is measured.
 pub record MeasuredRow (rows : List ℤ) (table : List ℕ) (row : ℕ) : Type 0 where
   pub expression : ExpressionMeasured rows (expressionAt rows row) (expressionSlots table row)
-  pub statement : StatementMeasured (statementAt rows row) (statementSlots table row)
-  pub list : ListMeasured (itemsAt rows row) (listSlots table row)
+  pub statement : StatementMeasured (calledIn rows) (statementAt rows row) (statementSlots table row)
+  pub list : ListMeasured (calledIn rows) (itemsAt rows row) (listSlots table row)
   -- a row that is no arm ends the arms: none of it on
-  pub arms : ArmsMeasured (armsAt rows row) (armsSlots table row)
+  pub arms : ArmsMeasured (calledIn rows) (armsAt rows row) (armsSlots table row)
 
 -- The rows from `least` on are measured.
 pub record MeasuredFrom (rows : List ℤ) (table : List ℕ) (least : ℕ) : Type 0 where
@@ -298,6 +301,9 @@ module _ (table : List ℕ) where
   -- `store` is how many rows store the value.
   abbrev pub declareMeasures : ℕ → ℕ → StatementMeasures
   declareMeasures store e = measures (limited (store + slotAt table e rowsSlot)) (slotAt table e storedLevelsSlot) 0
+
+  abbrev pub returnMeasures : ℕ → StatementMeasures
+  returnMeasures value = measures (limited (2 + slotAt table value rowsSlot)) (slotAt table value levelsSlot) 0
 
   -- ---- what the function that measures an arm gives; `next` is the row behind it
 

@@ -3,13 +3,15 @@
 use mathlib.Core.Path.{_≡_}
 use mathlib.Core.Bool.{Bool, true, false}
 use mathlib.Core.List.{List}
-use Prim.Native.Nat.{ℕ, _+_, _<_}
+use Prim.Native.Nat.{ℕ, _+_, _<_, max}
 use lib.IntN.{ℤ}
 use Rattle.words.specs.Word.{pick}
 use Rattle.words.specs.Table.{rowCount}
-use Rattle.language.specs.Trees.{Expression, constant, read, minus, not, binary, and, or, comma, conditional, assign, compound, prefix, postfix, Place, variable, element, Part, absent, present}
+use Rattle.language.specs.Trees.{Expression, constant, read, minus, not, binary, and, or, comma, conditional, assign, compound, prefix, postfix, call, Place, variable, element, Part, absent, present}
 use Rattle.language.specs.Decode.{placeOf, expressionAt, partAt}
 use Rattle.language.specs.Writes.{writes, indexWrites}
+use Rattle.language.specs.FunctionWrites.{functionsWrite}
+use Rattle.language.specs.Program.{contents}
 use Rattle.shapes.specs.Shapes.{OptionalOnward}
 use Rattle.shapes.specs.Source.{mostWords, Name}
 use Rattle.shapes.specs.declared.PlaceShape.{PlaceShape}
@@ -19,26 +21,20 @@ use Rattle.shapes.specs.declared.OperationShape.the-variants.{Minus, Not, Binar
 use Rattle.translation.specs.Uses.{useFor, passedOn, direct}
 use Rattle.translation.specs.declared.Use.{Use}
 use Rattle.translation.specs.declared.Use.the-variants.{Dropped as dropped, Wanted as wanted, Stored as stored}
-use Rattle.translation.specs.Translate.{Atom, number, word, top, held, landed, updated, atomOf, taken, resultLevels, readLevels, oldLevels}
-use Rattle.translation.specs.TranslateSize.{indexRows, copied, ownRows}
+use Rattle.translation.specs.Translate.{Atom, number, word, top, held, nothing, landed, updated, atomOf, taken, resultLevels, readLevels, oldLevels, argumentsLevels}
+use Rattle.translation.specs.TranslateSize.{indexRows, copied, ownRows, argumentsSize}
 use Rattle.measure_table.specs.declared.Holder.{Holder}
 use Rattle.measure_table.specs.declared.Holder.the-variants.{Number, Variable, Temporary}
 use Rattle.measure_table.specs.declared.Own.{Own}
 use Rattle.measure_table.specs.declared.PlaceOwn.{PlaceOwn}
 
+-- What the functions of a table's program can write.
+abbrev pub calledIn : List ℤ → ℕ → ℕ → Bool
+calledIn rows = functionsWrite (contents rows)
+
 abbrev pub indexOf : Place → Part
 indexOf (variable i) = absent
 indexOf (element array e) = present e
-
--- The levels of an update: none for a variable; for an element the result's, the index's and one above it.
-abbrev pub updateOwn : Place → ℕ
-updateOwn (variable i) = 0
-updateOwn (element array e) = 2 + taken (atomOf e)
-
--- e++ and e−− keep a variable's old value where it is used.
-abbrev pub postfixOwn : Place → Use → ℕ
-postfixOwn (variable i) u = oldLevels u
-postfixOwn (element array e) u = 2 + taken (atomOf e)
 
 abbrev pub readAtom : Place → Atom
 readAtom (variable i) = word i
@@ -61,43 +57,6 @@ abbrev pub parts : Part → Part → Part → Part → ℕ → ℕ → Atom → 
 parts first second third fourth above copies atom =
     record { first = first; second = second; third = third; fourth = fourth; above = above; copied = copies; atom = atom }
 
-abbrev pub partsOf : Expression → Parts
-partsOf (constant v) = parts absent absent absent absent 0 0 (number v)
-partsOf (read p) = parts (indexOf p) absent absent absent 0 0 (readAtom p)
-partsOf (minus e) = parts (present e) absent absent absent 0 0 top
-partsOf (not e) = parts (present e) absent absent absent 0 0 top
-partsOf (binary operator a b) = parts (present b) (present a) absent absent (taken (held (atomOf b) (writes a))) (copied (atomOf b) (writes a)) top
-partsOf (and a b) = parts (present a) absent (present b) absent 0 0 top
-partsOf (or a b) = parts (present a) absent (present b) absent 0 0 top
-partsOf (comma a b) = parts (present a) (present b) absent absent 0 0 top
-partsOf (conditional c a b) = parts (present c) absent (present a) (present b) 0 0 top
-partsOf (assign p e) =
-    parts (present e) (indexOf p) absent absent (taken (held (landed p (direct e) (atomOf e)) (indexWrites p))) (copied (atomOf e) (indexWrites p)) (updated p)
-partsOf (compound operator p e) = parts (present e) (indexOf p) absent absent (indexRows p) (copied (atomOf e) (indexWrites p)) (updated p)
-partsOf (prefix operator p) = parts absent (indexOf p) absent absent (indexRows p) 0 (updated p)
-partsOf (postfix operator p) = parts absent (indexOf p) absent absent (indexRows p) 0 top
-
-abbrev pub firstOperand : Expression → Part
-firstOperand e = partsOf e .first
-
-abbrev pub secondOperand : Expression → Part
-secondOperand e = partsOf e .second
-
-abbrev pub thirdOperand : Expression → Part
-thirdOperand e = partsOf e .third
-
-abbrev pub fourthOperand : Expression → Part
-fourthOperand e = partsOf e .fourth
-
-abbrev pub aboveFirst : Expression → ℕ
-aboveFirst e = partsOf e .above
-
-abbrev pub firstCopied : Expression → ℕ
-firstCopied e = partsOf e .copied
-
-abbrev pub plainAtom : Expression → Atom
-plainAtom e = partsOf e .atom
-
 -- The use of the first operand's value, and that of the second one's, where u is the use of the expression's. Those in branches are wanted.
 abbrev pub firstUse : Expression → Use
 firstUse (constant v) = wanted
@@ -113,6 +72,7 @@ firstUse (assign p e) = useFor p
 firstUse (compound operator p e) = wanted
 firstUse (prefix operator p) = wanted
 firstUse (postfix operator p) = wanted
+firstUse (call f arguments) = wanted
 
 abbrev pub secondUse : Expression → Use → Use
 secondUse (constant v) u = wanted
@@ -128,22 +88,91 @@ secondUse (assign p e) u = wanted
 secondUse (compound operator p e) u = wanted
 secondUse (prefix operator p) u = wanted
 secondUse (postfix operator p) u = wanted
+secondUse (call f arguments) u = wanted
 
--- The levels that the expression's own code names.
-abbrev pub ownLevels : Expression → Use → ℕ
-ownLevels (constant v) u = 0
-ownLevels (read p) u = readLevels p u
-ownLevels (minus e) u = resultLevels u
-ownLevels (not e) u = resultLevels u
-ownLevels (binary operator a b) u = resultLevels u
-ownLevels (and a b) u = 1
-ownLevels (or a b) u = 1
-ownLevels (comma a b) u = 0
-ownLevels (conditional c a b) u = 1
-ownLevels (assign p e) u = 0
-ownLevels (compound operator p e) u = updateOwn p
-ownLevels (prefix operator p) u = updateOwn p
-ownLevels (postfix operator p) u = postfixOwn p u
+-- `called f i`: whether function f can write the variable i.
+module _ (called : ℕ → ℕ → Bool) where
+  -- The levels of an update: none for a variable; for an element the result's, the index's and one above it.
+  abbrev pub updateOwn : Place → ℕ
+  updateOwn (variable i) = 0
+  updateOwn (element array e) = 2 + taken (atomOf called e)
+
+  -- e++ and e−− keep a variable's old value where it is used.
+  abbrev pub postfixOwn : Place → Use → ℕ
+  postfixOwn (variable i) u = oldLevels u
+  postfixOwn (element array e) u = 2 + taken (atomOf called e)
+
+  abbrev pub partsOf : Expression → Parts
+  partsOf (constant v) = parts absent absent absent absent 0 0 (number v)
+  partsOf (read p) = parts (indexOf p) absent absent absent 0 0 (readAtom p)
+  partsOf (minus e) = parts (present e) absent absent absent 0 0 top
+  partsOf (not e) = parts (present e) absent absent absent 0 0 top
+  partsOf (binary operator a b) = parts (present b) (present a) absent absent (taken (held (atomOf called b) (writes called a))) (copied (atomOf called b) (writes called a)) top
+  partsOf (and a b) = parts (present a) absent (present b) absent 0 0 top
+  partsOf (or a b) = parts (present a) absent (present b) absent 0 0 top
+  partsOf (comma a b) = parts (present a) (present b) absent absent 0 0 top
+  partsOf (conditional c a b) = parts (present c) absent (present a) (present b) 0 0 top
+  partsOf (assign p e) =
+      parts (present e) (indexOf p) absent absent (taken (held (landed p (direct e) (atomOf called e)) (indexWrites called p))) (copied (atomOf called e) (indexWrites called p)) (updated p)
+  partsOf (compound operator p e) = parts (present e) (indexOf p) absent absent (indexRows p) (copied (atomOf called e) (indexWrites called p)) (updated p)
+  partsOf (prefix operator p) = parts absent (indexOf p) absent absent (indexRows p) 0 (updated p)
+  partsOf (postfix operator p) = parts absent (indexOf p) absent absent (indexRows p) 0 top
+  partsOf (call f arguments) = parts absent absent absent absent 0 0 top
+
+  abbrev pub firstOperand : Expression → Part
+  firstOperand e = partsOf e .first
+
+  abbrev pub secondOperand : Expression → Part
+  secondOperand e = partsOf e .second
+
+  abbrev pub thirdOperand : Expression → Part
+  thirdOperand e = partsOf e .third
+
+  abbrev pub fourthOperand : Expression → Part
+  fourthOperand e = partsOf e .fourth
+
+  abbrev pub aboveFirst : Expression → ℕ
+  aboveFirst e = partsOf e .above
+
+  abbrev pub firstCopied : Expression → ℕ
+  firstCopied e = partsOf e .copied
+
+  abbrev pub plainAtom : Expression → Atom
+  plainAtom e = partsOf e .atom
+
+  -- The levels that the expression's own code names; a call's, with those of its arguments.
+  abbrev pub ownLevels : Expression → Use → ℕ
+  ownLevels (constant v) u = 0
+  ownLevels (read p) u = readLevels p u
+  ownLevels (minus e) u = resultLevels u
+  ownLevels (not e) u = resultLevels u
+  ownLevels (binary operator a b) u = resultLevels u
+  ownLevels (and a b) u = 1
+  ownLevels (or a b) u = 1
+  ownLevels (comma a b) u = 0
+  ownLevels (conditional c a b) u = 1
+  ownLevels (assign p e) u = 0
+  ownLevels (compound operator p e) u = updateOwn p
+  ownLevels (prefix operator p) u = updateOwn p
+  ownLevels (postfix operator p) u = postfixOwn p u
+  ownLevels (call f arguments) u = max (resultLevels u) (argumentsLevels called arguments nothing)
+
+  -- The rows of a call's arguments.
+  abbrev pub passedRows : Expression → ℕ
+  passedRows (constant v) = 0
+  passedRows (read p) = 0
+  passedRows (minus e) = 0
+  passedRows (not e) = 0
+  passedRows (binary operator a b) = 0
+  passedRows (and a b) = 0
+  passedRows (or a b) = 0
+  passedRows (comma a b) = 0
+  passedRows (conditional c a b) = 0
+  passedRows (assign p e) = 0
+  passedRows (compound operator p e) = 0
+  passedRows (prefix operator p) = 0
+  passedRows (postfix operator p) = 0
+  passedRows (call f arguments) = argumentsSize called arguments nothing
 
 -- ---- what an own row brings, as the code puts it together
 
@@ -202,21 +231,21 @@ module _ (rows : List ℤ) (row : ℕ) where
 
   -- What the row brings, where e is its expression.
   pub record Brings (e : Expression) (o : Own) : Type 0 where
-    pub first : Operand (o .first) (firstOperand e)
-    pub second : Operand (o .second) (secondOperand e)
-    pub third : Operand (o .third) (thirdOperand e)
-    pub fourth : Operand (o .fourth) (fourthOperand e)
+    pub first : Operand (o .first) (firstOperand (calledIn rows) e)
+    pub second : Operand (o .second) (secondOperand (calledIn rows) e)
+    pub third : Operand (o .third) (thirdOperand (calledIn rows) e)
+    pub fourth : Operand (o .fourth) (fourthOperand (calledIn rows) e)
     pub first-use : o .«first_use» ≡ firstUse e
     pub first-fits : UseFits (o .«first_use»)
     pub second-use : (u : Use) → usePassed (o .passes) u ≡ secondUse e u
-    pub above-is : o .above ≡ aboveFirst e
-    pub rows-are : o .rows ≡ ownRows e wanted
-    pub levels-are : o .levels ≡ ownLevels e wanted
-    pub dropped-rows-are : o .«dropped_rows» ≡ ownRows e dropped
-    pub dropped-levels-are : o .«dropped_levels» ≡ ownLevels e dropped
+    pub above-is : o .above ≡ aboveFirst (calledIn rows) e
+    pub rows-are : o .rows ≡ ownRows (calledIn rows) e wanted
+    pub levels-are : o .levels ≡ ownLevels (calledIn rows) e wanted
+    pub dropped-rows-are : o .«dropped_rows» ≡ ownRows (calledIn rows) e dropped
+    pub dropped-levels-are : o .«dropped_levels» ≡ ownLevels (calledIn rows) e dropped
     -- in which variable a value is stored changes nothing here
-    pub stored-levels-are : o .«stored_levels» ≡ ownLevels e (stored 0)
-    pub value-is : plainAtom (expressionAt rows (o .value)) ≡ atomOf e
+    pub stored-levels-are : o .«stored_levels» ≡ ownLevels (calledIn rows) e (stored 0)
+    pub value-is : plainAtom (calledIn rows) (expressionAt rows (o .value)) ≡ atomOf (calledIn rows) e
     pub value-inside : o .value < rowCount rows
 
   abbrev pub OwnAt : Own → Type 0
@@ -226,7 +255,7 @@ module _ (rows : List ℤ) (row : ℕ) where
   pub record PlaceOwnAt (o : PlaceOwn) : Type 0 where
     pub index : Operand (o .index) (indexOf (placeOf (expressionAt rows row)))
     pub rows-are : o .rows ≡ indexRows (placeOf (expressionAt rows row))
-    pub levels-are : o .levels ≡ updateOwn (placeOf (expressionAt rows row))
+    pub levels-are : o .levels ≡ updateOwn (calledIn rows) (placeOf (expressionAt rows row))
 
 -- ---- what holds a value, as the code says it
 

@@ -19,12 +19,13 @@ use Rattle.shapes.specs.Shapes.{statementTree, Onward, OptionalOnward, ItemAt, 
 use Rattle.shapes.specs.Source.{StatementAt}
 use Rattle.shapes.specs.ShapeLaws.{optional}
 use Rattle.shapes.specs.declared.StatementShape.{StatementShape}
-use Rattle.shapes.specs.declared.StatementShape.the-variants.{Express, Block, If, While, Do, For, Switch, GuardedIf, GuardedDo, Declare}
+use Rattle.shapes.specs.declared.StatementShape.the-variants.{Express, Block, If, While, Do, For, Switch, GuardedIf, GuardedDo, Declare, Return}
 use Rattle.shapes.specs.declared.MarkShape.the-variants.{Case, Default, Label}
 use Rattle.shapes.specs.declared.Item.the-variants as item
 use Rattle.shapes.specs.declared.ArmShape.{ArmShape}
 use Rattle.shapes.specs.declared.ArmShape.the-variants.{Arm, NoArm}
-use Rattle.measure_table.specs.Measures.{limited, pastLabels, defaultPlace, rowsSlot, levelsSlot, droppedRowsSlot, droppedLevelsSlot, rowsFor, levelsFor, statementRowsSlot, statementLevelsSlot, statementLabelsSlot, listRowsSlot, listLevelsSlot, listLabelsSlot, listCasesSlot, listDefaultSlot, armsRowsSlot, armsLevelsSlot, armsLabelsSlot, slotAt, testSlots, MeasuredFrom, StatementMeasured, ListMeasured, ArmsMeasured, markMeasures, statementMeasures, plainMeasures, noMeasures, aroundArms, expressMeasures, blockMeasures, ifMeasures, loopMeasures, switchMeasures, guardedMeasures, roundsMeasures, declareMeasures, armMeasures}
+use Rattle.measure_table.specs.Parts.{calledIn}
+use Rattle.measure_table.specs.Measures.{limited, pastLabels, defaultPlace, rowsSlot, levelsSlot, droppedRowsSlot, droppedLevelsSlot, rowsFor, levelsFor, statementRowsSlot, statementLevelsSlot, statementLabelsSlot, listRowsSlot, listLevelsSlot, listLabelsSlot, listCasesSlot, listDefaultSlot, armsRowsSlot, armsLevelsSlot, armsLabelsSlot, slotAt, testSlots, MeasuredFrom, StatementMeasured, ListMeasured, ArmsMeasured, markMeasures, statementMeasures, plainMeasures, noMeasures, aroundArms, expressMeasures, blockMeasures, ifMeasures, loopMeasures, switchMeasures, guardedMeasures, roundsMeasures, declareMeasures, returnMeasures, armMeasures}
 use Rattle.measure_table.specs.declared.StatementMeasures.{StatementMeasures}
 use Rattle.measure_table.specs.declared.ListMeasures.{ListMeasures}
 use Rattle.measure_table.specs.MeasureLaws.{part-rows, part-levels, list-rows, list-levels, list-labels, list-cases, list-default, arms-rows, arms-levels, arms-labels, body-rows, body-levels, body-labels}
@@ -79,21 +80,25 @@ past-limited more zero (suc d) h = absurd (omega arith)
 past-limited more (suc x) zero h = absurd (omega arith)
 past-limited more (suc x) (suc d) h = omega arith
 
+past-nothing : (place : ℕ) → pastLabels 0 place ≡ place
+past-nothing zero = refl
+past-nothing (suc place) = omega arith
+
 -- while and do are loops of one form with for
-same-measured : {s t : Statement} {r : StatementMeasures} → statementSize s ≡ statementSize t → statementLevels s ≡ statementLevels t → labels s ≡ labels t → StatementMeasured s r → StatementMeasured t r
+same-measured : {called : ℕ → ℕ → Bool} {s t : Statement} {r : StatementMeasures} → statementSize called s ≡ statementSize called t → statementLevels called s ≡ statementLevels called t → labels s ≡ labels t → StatementMeasured called s r → StatementMeasured called t r
 same-measured p q l h = record { rows-are = h .rows-are ∙ ap limited p; levels-are = h .levels-are ∙ ap limited q; labels-are = h .labels-are ∙ ap limited l }
 
-while-measured : {e : Expression} {body : Statement} {r : StatementMeasures} → StatementMeasured (for absent (present e) absent body) r → StatementMeasured (while e body) r
+while-measured : {called : ℕ → ℕ → Bool} {e : Expression} {body : Statement} {r : StatementMeasures} → StatementMeasured called (for absent (present e) absent body) r → StatementMeasured called (while e body) r
 unfolding statementSize statementLevels labels
-while-measured {e} {body} h = same-measured {s = for absent (present e) absent body} {t = while e body} (omega arith) (omega arith) refl h
+while-measured {called} {e} {body} h = same-measured {called = called} {s = for absent (present e) absent body} {t = while e body} (omega arith) (omega arith) refl h
 
-do-measured : {e : Expression} {body : Statement} {r : StatementMeasures} → StatementMeasured (for absent (present e) absent body) r → StatementMeasured (doWhile body e) r
+do-measured : {called : ℕ → ℕ → Bool} {e : Expression} {body : Statement} {r : StatementMeasures} → StatementMeasured called (for absent (present e) absent body) r → StatementMeasured called (doWhile body e) r
 unfolding statementSize statementLevels labels
-do-measured {e} {body} h = same-measured {s = for absent (present e) absent body} {t = doWhile body e} (omega arith) (omega arith) refl h
+do-measured {called} {e} {body} h = same-measured {called = called} {s = for absent (present e) absent body} {t = doWhile body e} (omega arith) (omega arith) refl h
 
 -- a guarded do by its arms: what their measures x, y, z come to
-rounds-measured : (arms : Arms) (x y z : ℕ) → x ≡ limited (armsSize arms) → y ≡ limited (armsLevels arms) → z ≡ limited (armsLabels arms)
-    → StatementMeasured (guardedDo arms) (aroundArms x (record { rows = limited (6 + x); levels = y; labels = limited (2 + z) }))
+rounds-measured : {called : ℕ → ℕ → Bool} (arms : Arms) (x y z : ℕ) → x ≡ limited (armsSize called arms) → y ≡ limited (armsLevels called arms) → z ≡ limited (armsLabels arms)
+    → StatementMeasured called (guardedDo arms) (aroundArms x (record { rows = limited (6 + x); levels = y; labels = limited (2 + z) }))
 unfolding statementSize statementLevels labels armsSize armsLevels armsLabels limited
 rounds-measured noArm zero y z p q r = record { rows-are = refl; levels-are = refl; labels-are = refl }
 rounds-measured noArm (suc x) y z p q r = absurd (omega arith)
@@ -102,27 +107,27 @@ rounds-measured (arm e s arms) (suc x) y z p q r = record { rows-are = omega ari
 
 module _ {rows : List ℤ} {table : List ℕ} {row : ℕ} (m : MeasuredFrom rows table (row + 1)) where
   -- an expression that is there
-  some-rows : (u : Use) (link : ℕ) → Onward rows row link → slotAt table link (rowsFor u) ≡ limited (expressionSize (expressionAt rows link) u)
-  some-rows u link o = part-rows rows table m u link (optional o) ∙ ap (λ p. limited (operandSize p u)) (part-some rows link (omega (arith, o .later)))
+  some-rows : (u : Use) (link : ℕ) → Onward rows row link → slotAt table link (rowsFor u) ≡ limited (expressionSize (calledIn rows) (expressionAt rows link) u)
+  some-rows u link o = part-rows rows table m u link (optional o) ∙ ap (λ p. limited (operandSize (calledIn rows) p u)) (part-some rows link (omega (arith, o .later)))
 
-  some-levels : (u : Use) (link : ℕ) → Onward rows row link → slotAt table link (levelsFor u) ≡ limited (expressionLevels (expressionAt rows link) u)
-  some-levels u link o = part-levels rows table m u link (optional o) ∙ ap (λ p. limited (operandLevels p u)) (part-some rows link (omega (arith, o .later)))
+  some-levels : (u : Use) (link : ℕ) → Onward rows row link → slotAt table link (levelsFor u) ≡ limited (expressionLevels (calledIn rows) (expressionAt rows link) u)
+  some-levels u link o = part-levels rows table m u link (optional o) ∙ ap (λ p. limited (operandLevels (calledIn rows) p u)) (part-some rows link (omega (arith, o .later)))
 
   -- ---- statements, shape by shape
 
-  by-shape : {s : StatementShape} {r r′ : StatementMeasures} → StatementAt rows row s → r ≡ r′ → StatementMeasured (statementTree rows s) r′ → StatementMeasured (statementAt rows row) r
-  by-shape {s} {r} {r′} f e h = rw e (subst (λ (t : Statement). StatementMeasured t r′) (sym (f .is)) h)
+  by-shape : {s : StatementShape} {r r′ : StatementMeasures} → StatementAt rows row s → r ≡ r′ → StatementMeasured (calledIn rows) (statementTree rows s) r′ → StatementMeasured (calledIn rows) (statementAt rows row) r
+  by-shape {s} {r} {r′} f e h = rw e (subst (λ (t : Statement). StatementMeasured (calledIn rows) t r′) (sym (f .is)) h)
 
-  pub plain-measured : {s : StatementShape} {r : StatementMeasures} → StatementAt rows row s → statementSize (statementTree rows s) ≡ 1 → statementLevels (statementTree rows s) ≡ 0 → labels (statementTree rows s) ≡ 0
-      → r ≡ plainMeasures → StatementMeasured (statementAt rows row) r
+  pub plain-measured : {s : StatementShape} {r : StatementMeasures} → StatementAt rows row s → statementSize (calledIn rows) (statementTree rows s) ≡ 1 → statementLevels (calledIn rows) (statementTree rows s) ≡ 0 → labels (statementTree rows s) ≡ 0
+      → r ≡ plainMeasures → StatementMeasured (calledIn rows) (statementAt rows row) r
   plain-measured f p q l e =
       by-shape f e (record { rows-are = small 1 (omega arith) ∙ sym (ap limited p); levels-are = small 0 (omega arith) ∙ sym (ap limited q); labels-are = small 0 (omega arith) ∙ sym (ap limited l) })
 
-  pub express-measured : {e : ℕ} {r : StatementMeasures} → StatementAt rows row (Express e) → r ≡ expressMeasures table e → StatementMeasured (statementAt rows row) r
+  pub express-measured : {e : ℕ} {r : StatementMeasures} → StatementAt rows row (Express e) → r ≡ expressMeasures table e → StatementMeasured (calledIn rows) (statementAt rows row) r
   unfolding statementSize statementLevels labels limited
   express-measured {e} f h = by-shape f h (record { rows-are = omega (arith, some-rows dropped e (f .onward)); levels-are = some-levels dropped e (f .onward); labels-are = refl })
 
-  pub block-measured : {list : ℕ} {r : StatementMeasures} → StatementAt rows row (Block list) → r ≡ blockMeasures table list → StatementMeasured (statementAt rows row) r
+  pub block-measured : {list : ℕ} {r : StatementMeasures} → StatementAt rows row (Block list) → r ≡ blockMeasures table list → StatementMeasured (calledIn rows) (statementAt rows row) r
   unfolding statementSize statementLevels labels limited
   block-measured {list} f h = by-shape f h (record {
     rows-are = omega (arith, list-rows rows table m list (f .onward));
@@ -130,12 +135,12 @@ module _ {rows : List ℤ} {table : List ℕ} {row : ℕ} (m : MeasuredFrom rows
     labels-are = list-labels rows table m list (f .onward);
   })
 
-  if-rows : (e onTrue onFalse : ℕ) → Onward rows row e → Onward rows row onTrue → OptionalOnward rows row onFalse → ifMeasures table e onTrue onFalse .rows ≡ limited (statementSize (statementTree rows (If e onTrue onFalse)))
+  if-rows : (e onTrue onFalse : ℕ) → Onward rows row e → Onward rows row onTrue → OptionalOnward rows row onFalse → ifMeasures table e onTrue onFalse .rows ≡ limited (statementSize (calledIn rows) (statementTree rows (If e onTrue onFalse)))
   unfolding statementSize limited
   if-rows e onTrue zero a b c = omega (arith, some-rows wanted e a, body-rows rows table m onTrue b)
   if-rows e onTrue (suc onFalse) a b c = omega (arith, some-rows wanted e a, body-rows rows table m onTrue b, body-rows rows table m (suc onFalse) (c (omega arith)))
 
-  if-levels : (e onTrue onFalse : ℕ) → Onward rows row e → Onward rows row onTrue → OptionalOnward rows row onFalse → ifMeasures table e onTrue onFalse .levels ≡ limited (statementLevels (statementTree rows (If e onTrue onFalse)))
+  if-levels : (e onTrue onFalse : ℕ) → Onward rows row e → Onward rows row onTrue → OptionalOnward rows row onFalse → ifMeasures table e onTrue onFalse .levels ≡ limited (statementLevels (calledIn rows) (statementTree rows (If e onTrue onFalse)))
   unfolding statementLevels
   if-levels e onTrue zero a b c =
       let none : max (slotAt table onTrue statementLevelsSlot) 0 ≡ slotAt table onTrue statementLevelsSlot = omega arith in
@@ -148,18 +153,18 @@ module _ {rows : List ℤ} {table : List ℕ} {row : ℕ} (m : MeasuredFrom rows
   if-labels e onTrue zero b c = omega (arith, body-labels rows table m onTrue b)
   if-labels e onTrue (suc onFalse) b c = omega (arith, body-labels rows table m onTrue b, body-labels rows table m (suc onFalse) (c (omega arith)))
 
-  pub if-measured : {e onTrue onFalse : ℕ} {r : StatementMeasures} → StatementAt rows row (If e onTrue onFalse) → r ≡ ifMeasures table e onTrue onFalse → StatementMeasured (statementAt rows row) r
+  pub if-measured : {e onTrue onFalse : ℕ} {r : StatementMeasures} → StatementAt rows row (If e onTrue onFalse) → r ≡ ifMeasures table e onTrue onFalse → StatementMeasured (calledIn rows) (statementAt rows row) r
   if-measured {e} {onTrue} {onFalse} f h =
       let o = f .onward in
       by-shape f h (record { rows-are = if-rows e onTrue onFalse (o .0) (o .1) (o .2); levels-are = if-levels e onTrue onFalse (o .0) (o .1) (o .2); labels-are = if-labels e onTrue onFalse (o .1) (o .2) })
 
-  test-slots : (test : ℕ) → OptionalOnward rows row test → limited (testSlots table test) ≡ limited (testSize (partAt rows test))
+  test-slots : (test : ℕ) → OptionalOnward rows row test → limited (testSlots table test) ≡ limited (testSize (calledIn rows) (partAt rows test))
   unfolding limited
   test-slots zero o = refl
   test-slots (suc test) o = omega (arith, part-rows rows table m wanted (suc test) o)
 
   loop-measured : (first test action body : ℕ) → OptionalOnward rows row first → OptionalOnward rows row test → OptionalOnward rows row action → Onward rows row body
-      → StatementMeasured (for (partAt rows first) (partAt rows test) (partAt rows action) (statementAt rows body)) (loopMeasures table first test action body)
+      → StatementMeasured (calledIn rows) (for (partAt rows first) (partAt rows test) (partAt rows action) (statementAt rows body)) (loopMeasures table first test action body)
   unfolding statementSize statementLevels labels
   loop-measured first test action body a b c d = record {
     rows-are =
@@ -169,33 +174,33 @@ module _ {rows : List ℤ} {table : List ℕ} {row : ℕ} (m : MeasuredFrom rows
     labels-are = two-more _ _ (body-labels rows table m body d);
   }
 
-  pub for-measured : {first test action body : ℕ} {r : StatementMeasures} → StatementAt rows row (For first test action body) → r ≡ loopMeasures table first test action body → StatementMeasured (statementAt rows row) r
+  pub for-measured : {first test action body : ℕ} {r : StatementMeasures} → StatementAt rows row (For first test action body) → r ≡ loopMeasures table first test action body → StatementMeasured (calledIn rows) (statementAt rows row) r
   for-measured {first} {test} {action} {body} f h = let o = f .onward in by-shape f h (loop-measured first test action body (o .0) (o .1) (o .2) (o .3))
 
   -- a loop with a test and a body
-  tested : (e body : ℕ) → Onward rows row e → Onward rows row body → StatementMeasured (for absent (present (expressionAt rows e)) absent (statementAt rows body)) (loopMeasures table 0 e 0 body)
+  tested : (e body : ℕ) → Onward rows row e → Onward rows row body → StatementMeasured (calledIn rows) (for absent (present (expressionAt rows e)) absent (statementAt rows body)) (loopMeasures table 0 e 0 body)
   tested e body a b = rw (part-some rows e (omega (arith, a .later))) at (loop-measured 0 e 0 body (λ h. absurd (omega arith)) (optional a) (λ h. absurd (omega arith)) b)
 
-  pub while-shape : {e body : ℕ} {r : StatementMeasures} → StatementAt rows row (While e body) → r ≡ loopMeasures table 0 e 0 body → StatementMeasured (statementAt rows row) r
+  pub while-shape : {e body : ℕ} {r : StatementMeasures} → StatementAt rows row (While e body) → r ≡ loopMeasures table 0 e 0 body → StatementMeasured (calledIn rows) (statementAt rows row) r
   while-shape {e} {body} f h = by-shape f h (while-measured (tested e body (f .onward .0) (f .onward .1)))
 
-  pub do-shape : {e body : ℕ} {r : StatementMeasures} → StatementAt rows row (Do body e) → r ≡ loopMeasures table 0 e 0 body → StatementMeasured (statementAt rows row) r
+  pub do-shape : {e body : ℕ} {r : StatementMeasures} → StatementAt rows row (Do body e) → r ≡ loopMeasures table 0 e 0 body → StatementMeasured (calledIn rows) (statementAt rows row) r
   do-shape {e} {body} f h = by-shape f h (do-measured (tested e body (f .onward .1) (f .onward .0)))
 
-  pub switch-measured : {e list held : ℕ} {r : StatementMeasures} → StatementAt rows row (Switch e list) → held ≡ taken (atomOf (expressionAt rows e)) → r ≡ switchMeasures table held e list → StatementMeasured (statementAt rows row) r
+  pub switch-measured : {e list held : ℕ} {r : StatementMeasures} → StatementAt rows row (Switch e list) → held ≡ taken (atomOf (calledIn rows) (expressionAt rows e)) → r ≡ switchMeasures table held e list → StatementMeasured (calledIn rows) (statementAt rows row) r
   unfolding statementSize statementLevels labels
   switch-measured {e} {list} {held} f p h =
       let o = f .onward in
       by-shape f h (record {
         rows-are = switch-rows e list (o .0) (o .1);
-        levels-are = simp limited-max (ap₂ max (small (held + 1) (omega (arith, taken-most (atomOf (expressionAt rows e)))) ∙ ap (λ (n : ℕ). limited (n + 1)) p) (ap₂ max (some-levels wanted e (o .0)) (list-levels rows table m list (o .1))));
+        levels-are = simp limited-max (ap₂ max (small (held + 1) (omega (arith, taken-most (atomOf (calledIn rows) (expressionAt rows e)))) ∙ ap (λ (n : ℕ). limited (n + 1)) p) (ap₂ max (some-levels wanted e (o .0)) (list-levels rows table m list (o .1))));
         labels-are = one-more _ _ (list-labels rows table m list (o .1));
       })
     where
-      switch-rows : (e list : ℕ) → Onward rows row e → OptionalOnward rows row list → switchMeasures table held e list .rows ≡ limited (2 + expressionSize (expressionAt rows e) wanted + 11 * cases (listAt rows list) + itemsSize (listAt rows list))
+      switch-rows : (e list : ℕ) → Onward rows row e → OptionalOnward rows row list → switchMeasures table held e list .rows ≡ limited (2 + expressionSize (calledIn rows) (expressionAt rows e) wanted + 11 * cases (listAt rows list) + itemsSize (calledIn rows) (listAt rows list))
       switch-rows e list a b = selected _ _ _ _ _ _ (some-rows wanted e a) (list-cases rows table m list b) (list-rows rows table m list b)
 
-  pub guarded-measured : {arms : ℕ} {r : StatementMeasures} → StatementAt rows row (GuardedIf arms) → r ≡ guardedMeasures table 2 1 arms → StatementMeasured (statementAt rows row) r
+  pub guarded-measured : {arms : ℕ} {r : StatementMeasures} → StatementAt rows row (GuardedIf arms) → r ≡ guardedMeasures table 2 1 arms → StatementMeasured (calledIn rows) (statementAt rows row) r
   unfolding statementSize statementLevels labels
   guarded-measured {arms} f h = by-shape f h (record {
     rows-are = two-more _ _ (arms-rows rows table m arms (f .onward));
@@ -203,11 +208,11 @@ module _ {rows : List ℤ} {table : List ℕ} {row : ℕ} (m : MeasuredFrom rows
     labels-are = one-more _ _ (arms-labels rows table m arms (f .onward));
   })
 
-  pub rounds-shape : {arms : ℕ} {r : StatementMeasures} → StatementAt rows row (GuardedDo arms) → r ≡ roundsMeasures table arms → StatementMeasured (statementAt rows row) r
+  pub rounds-shape : {arms : ℕ} {r : StatementMeasures} → StatementAt rows row (GuardedDo arms) → r ≡ roundsMeasures table arms → StatementMeasured (calledIn rows) (statementAt rows row) r
   rounds-shape {arms} f h =
       by-shape f h (rounds-measured (armListAt rows arms) _ _ _ (arms-rows rows table m arms (f .onward)) (arms-levels rows table m arms (f .onward)) (arms-labels rows table m arms (f .onward)))
 
-  pub declare-measured : {i e store : ℕ} {r : StatementMeasures} → StatementAt rows row (Declare i e) → store ≡ pick (direct (expressionAt rows e)) 0 4 → r ≡ declareMeasures table store e → StatementMeasured (statementAt rows row) r
+  pub declare-measured : {i e store : ℕ} {r : StatementMeasures} → StatementAt rows row (Declare i e) → store ≡ pick (direct (expressionAt rows e)) 0 4 → r ≡ declareMeasures table store e → StatementMeasured (calledIn rows) (statementAt rows row) r
   unfolding statementSize statementLevels labels
   declare-measured {i} {e} {store} f p h =
       let o = f .onward .1 in
@@ -217,9 +222,14 @@ module _ {rows : List ℤ} {table : List ℕ} {row : ℕ} (m : MeasuredFrom rows
         labels-are = small 0 (omega arith);
       })
 
+  pub return-measured : {value : ℕ} {r : StatementMeasures} → StatementAt rows row (Return value) → r ≡ returnMeasures table value → StatementMeasured (calledIn rows) (statementAt rows row) r
+  unfolding statementSize statementLevels labels
+  return-measured {value} f h =
+      by-shape f h (record { rows-are = two-more _ _ (part-rows rows table m wanted value (f .onward)); levels-are = part-levels rows table m wanted value (f .onward); labels-are = small 0 (omega arith) })
+
   -- ---- arms
 
-  pub arm-measured : {guard body next : ℕ} {r : StatementMeasures} → ArmAt rows row next (Arm guard body) → r ≡ armMeasures table guard body next → ArmsMeasured (armsAt rows row) r
+  pub arm-measured : {guard body next : ℕ} {r : StatementMeasures} → ArmAt rows row next (Arm guard body) → r ≡ armMeasures table guard body next → ArmsMeasured (calledIn rows) (armsAt rows row) r
   unfolding armsSize armsLevels armsLabels
   arm-measured {guard} {body} {next} f h =
       let o = f .onward in
@@ -229,7 +239,7 @@ module _ {rows : List ℤ} {table : List ℕ} {row : ℕ} (m : MeasuredFrom rows
         labels-are = sum _ _ _ _ (body-labels rows table m body (o .1)) (arms-labels rows table m next (f .behind));
       })
 
-  pub no-arm-measured : {next : ℕ} {r : StatementMeasures} → ArmAt rows row next NoArm → r ≡ noMeasures → ArmsMeasured (armsAt rows row) r
+  pub no-arm-measured : {next : ℕ} {r : StatementMeasures} → ArmAt rows row next NoArm → r ≡ noMeasures → ArmsMeasured (calledIn rows) (armsAt rows row) r
   unfolding armsSize armsLevels armsLabels
   no-arm-measured f h = rw (h, f .is) (record { rows-are = small 0 (omega arith); levels-are = small 0 (omega arith); labels-are = small 0 (omega arith) })
 
@@ -238,7 +248,7 @@ module _ {rows : List ℤ} {table : List ℕ} {row : ℕ} (m : MeasuredFrom rows
   -- a list that begins with a mark: what it adds to the list behind it
   mark-list : (k : Mark) (next cased place : ℕ) (is : Items) → OptionalOnward rows row next
       → is ≡ k here listAt rows next → (n : ℕ) → cases (k here listAt rows next) ≡ cased + cases (listAt rows next) → place ≡ limited (defaultPlace (k here listAt rows next))
-      → ListMeasured is (markMeasures table next cased place)
+      → ListMeasured (calledIn rows) is (markMeasures table next cased place)
   unfolding itemsSize itemsLevels itemsLabels limited
   mark-list k next cased place is o e n c d = rw e (record {
     rows-are = omega (arith, list-rows rows table m next o);
@@ -252,20 +262,20 @@ module _ {rows : List ℤ} {table : List ℕ} {row : ℕ} (m : MeasuredFrom rows
   limited-past more next x o e = past-limited more x (defaultPlace (listAt rows next)) (e ∙ list-default rows table m next o)
 
   module _ (next : ℕ) where
-    pub case-list : {v : ℤ} {place x : ℕ} {r : ListMeasures} → ItemAt rows row next (item.Mark (Case v)) → x ≡ slotAt table next listDefaultSlot → place ≡ limited (pastLabels 1 x) → r ≡ markMeasures table next 1 place → ListMeasured (itemsAt rows row) r
+    pub case-list : {v : ℤ} {place x : ℕ} {r : ListMeasures} → ItemAt rows row next (item.Mark (Case v)) → x ≡ slotAt table next listDefaultSlot → place ≡ limited (pastLabels 1 x) → r ≡ markMeasures table next 1 place → ListMeasured (calledIn rows) (itemsAt rows row) r
     unfolding defaultPlace
     case-list {v} {place} {x} {r} f h p e = rw e (mark-list (case v) next 1 place (itemsAt rows row) (f .onward) (f .is) 0 refl (p ∙ limited-past 1 next x (f .onward) h))
 
-    pub label-list : {l place x : ℕ} {r : ListMeasures} → ItemAt rows row next (item.Mark (Label l)) → x ≡ slotAt table next listDefaultSlot → place ≡ limited (pastLabels 1 x) → r ≡ markMeasures table next 0 place → ListMeasured (itemsAt rows row) r
+    pub label-list : {l place x : ℕ} {r : ListMeasures} → ItemAt rows row next (item.Mark (Label l)) → x ≡ slotAt table next listDefaultSlot → place ≡ limited (pastLabels 1 x) → r ≡ markMeasures table next 0 place → ListMeasured (calledIn rows) (itemsAt rows row) r
     unfolding defaultPlace
     label-list {l} {place} {x} {r} f h p e = rw e (mark-list (label l) next 0 place (itemsAt rows row) (f .onward) (f .is) 0 (omega arith) (p ∙ limited-past 1 next x (f .onward) h))
 
-    pub default-list : {r : ListMeasures} → ItemAt rows row next (item.Mark Default) → r ≡ markMeasures table next 0 1 → ListMeasured (itemsAt rows row) r
+    pub default-list : {r : ListMeasures} → ItemAt rows row next (item.Mark Default) → r ≡ markMeasures table next 0 1 → ListMeasured (calledIn rows) (itemsAt rows row) r
     unfolding defaultPlace limited
     default-list {r} f e = rw e (mark-list default next 0 1 (itemsAt rows row) (f .onward) (f .is) 0 (omega arith) refl)
 
     -- a list that begins with a statement
-    pub statement-list : {s : StatementMeasures} {r : ListMeasures} → ItemAt rows row next item.Statement → StatementMeasured (statementAt rows row) s → r ≡ statementMeasures table next s → ListMeasured (itemsAt rows row) r
+    pub statement-list : {s : StatementMeasures} {r : ListMeasures} → ItemAt rows row next item.Statement → StatementMeasured (calledIn rows) (statementAt rows row) s → r ≡ statementMeasures table next s → ListMeasured (calledIn rows) (itemsAt rows row) r
     unfolding itemsSize itemsLevels itemsLabels defaultPlace
     statement-list {s} {r} f sm e = rw (e, f .is) (record {
       rows-are = sum (s .rows) (slotAt table next listRowsSlot) _ _ (sm .rows-are) (list-rows rows table m next (f .onward));
@@ -273,6 +283,17 @@ module _ {rows : List ℤ} {table : List ℕ} {row : ℕ} (m : MeasuredFrom rows
       labels-are = sum (s .labels) (slotAt table next listLabelsSlot) _ _ (sm .labels-are) (list-labels rows table m next (f .onward));
       cases-are = list-cases rows table m next (f .onward);
       default-is = limited-past (s .labels) next _ (f .onward) refl ∙ more (labels (statementAt rows row)) (s .labels) (sm .labels-are) (defaultPlace (listAt rows next));
+    })
+
+    -- a definition adds nothing where it stands
+    pub definition-list : {f words body : ℕ} {r : ListMeasures} → ItemAt rows row next (item.Definition f words body) → r ≡ statementMeasures table next noMeasures → ListMeasured (calledIn rows) (itemsAt rows row) r
+    unfolding itemsSize itemsLevels itemsLabels defaultPlace limited
+    definition-list {r = r} f e = rw (e, f .is) (record {
+      rows-are = omega (arith, list-rows rows table m next (f .onward));
+      levels-are = omega (arith, list-levels rows table m next (f .onward));
+      labels-are = omega (arith, list-labels rows table m next (f .onward));
+      cases-are = list-cases rows table m next (f .onward);
+      default-is = limited-past 0 next _ (f .onward) refl ∙ ap limited (past-nothing (defaultPlace (listAt rows next)));
     })
 
 -- ---- the place of a default behind more labels

@@ -18,6 +18,7 @@ ghost use mathlib.Core.Path.{_≡_};
 ghost use Prim.Native.Nat.{_+_, _<_};
 ghost use Rattle.words.specs.Table.{rowCount};
 ghost use Rattle.language.specs.Decode.{armsAt};
+ghost use Rattle.measure_table.specs.Parts.{calledIn};
 ghost use Rattle.measure_table.specs.Measures.{armMeasures, LinkMeasured, MeasuredFrom, ArmsMeasured};
 
 // An arm brings 5 rows beside its guard and its block: an if with its atom and two blocks, and a goto. `next` is the row behind it.
@@ -43,7 +44,7 @@ fn arm_measures(table: &[usize], guard: usize, body: usize, next: usize) -> Stat
 // The arms from a row on; a row that is no arm ends them.
 pub fn measured_arms(rows: &[i32], table: &[usize], row: usize) -> StatementMeasures
     requires { ⌜ MeasuredFrom (now rows) (now table) (row + 1) × (row < rowCount (now rows)) ⌝ }
-    ensures { λ r. ⌜ ArmsMeasured (armsAt (now (rows .entry)) row) r ⌝ }
+    ensures { λ r. ⌜ ArmsMeasured (calledIn (now (rows .entry))) (armsAt (now (rows .entry)) row) r ⌝ }
 {
     let next = number_at(rows, row, 5);
     let shape = arm_at(rows, row);

@@ -19,6 +19,7 @@ ghost use Rattle.words.specs.Table.{rowCount};
 ghost use Rattle.language.specs.Decode.{statementAt, itemsAt};
 ghost use Rattle.shapes.specs.Shapes.{ItemAt};
 ghost use Rattle.shapes.specs.declared.Item.the-variants.{Mark};
+ghost use Rattle.measure_table.specs.Parts.{calledIn};
 ghost use Rattle.measure_table.specs.Measures.{limited as limitedTo, pastLabels, MarkAsks, markMeasures, StatementAsks, statementMeasures, MeasuredFrom, StatementMeasured, ListMeasured};
 
 // The place of a default that stands behind `more` labels; 0 stays 0.
@@ -69,7 +70,7 @@ fn measured_mark(
     mark: MarkShape,
 ) -> ListMeasures
     requires { ⌜ MeasuredFrom (now rows) (now table) (row + 1) × ItemAt (now rows) row next (Mark mark) ⌝ }
-    ensures { λ r. ⌜ ListMeasured (itemsAt (now (rows .entry)) row) r ⌝ }
+    ensures { λ r. ⌜ ListMeasured (calledIn (now (rows .entry))) (itemsAt (now (rows .entry)) row) r ⌝ }
 {
     match mark {
         MarkShape::Case(_) => {
@@ -98,13 +99,25 @@ pub fn measured_list(
     row: usize,
     statement: StatementMeasures,
 ) -> ListMeasures
-    requires { ⌜ MeasuredFrom (now rows) (now table) (row + 1) × (row < rowCount (now rows)) × StatementMeasured (statementAt (now rows) row) statement ⌝ }
-    ensures { λ r. ⌜ ListMeasured (itemsAt (now (rows .entry)) row) r ⌝ }
+    requires { ⌜ MeasuredFrom (now rows) (now table) (row + 1) × (row < rowCount (now rows)) × StatementMeasured (calledIn (now rows)) (statementAt (now rows) row) statement ⌝ }
+    ensures { λ r. ⌜ ListMeasured (calledIn (now (rows .entry))) (itemsAt (now (rows .entry)) row) r ⌝ }
 {
     let next = number_at(rows, row, 5);
     let item = item_at(rows, row);
     match item {
         Item::Statement => behind_statement(table, next, statement),
         Item::Mark(mark) => measured_mark(rows, table, row, next, mark),
+        // adds nothing where it stands
+        Item::Definition(_, _, _) => {
+            behind_statement(
+                table,
+                next,
+                StatementMeasures {
+                    rows: 0,
+                    levels: 0,
+                    labels: 0,
+                },
+            )
+        }
     }
 }

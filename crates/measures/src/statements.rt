@@ -26,7 +26,8 @@ ghost use mathlib.Core.Path.{_≡_};
 ghost use Prim.Native.Nat.{_+_, _≤_, _<_};
 ghost use Rattle.words.specs.Table.{rowCount};
 ghost use Rattle.language.specs.Decode.{statementAt};
-ghost use Rattle.measure_table.specs.Measures.{plainMeasures, expressMeasures, blockMeasures, ifMeasures, loopMeasures, switchMeasures, guardedMeasures, roundsMeasures, declareMeasures, LinkMeasured, TestIs, MeasuredFrom, StatementMeasured};
+ghost use Rattle.measure_table.specs.Parts.{calledIn};
+ghost use Rattle.measure_table.specs.Measures.{plainMeasures, expressMeasures, blockMeasures, ifMeasures, loopMeasures, switchMeasures, guardedMeasures, roundsMeasures, declareMeasures, returnMeasures, LinkMeasured, TestIs, MeasuredFrom, StatementMeasured};
 
 // The test of a loop takes 5 rows beside its code, where there is one.
 fn test_rows(table: &[usize], test: usize) -> usize
@@ -173,9 +174,21 @@ fn declare_measures(table: &[usize], store: usize, e: usize) -> StatementMeasure
     }
 }
 
+// A return takes 2 rows beside the code of its value: its own and that of the atom.
+fn return_measures(table: &[usize], value: usize) -> StatementMeasures
+    requires { ⌜ LinkMeasured (now table) value ⌝ }
+    ensures { λ r. ⌜ r ≡ returnMeasures (now (table .entry)) value ⌝ }
+{
+    StatementMeasures {
+        rows: limited(2 + measure_at(table, value, ROWS)),
+        levels: measure_at(table, value, LEVELS),
+        labels: 0,
+    }
+}
+
 pub fn measured_statement(rows: &[i32], table: &[usize], row: usize) -> StatementMeasures
     requires { ⌜ MeasuredFrom (now rows) (now table) (row + 1) × (row < rowCount (now rows)) ⌝ }
-    ensures { λ r. ⌜ StatementMeasured (statementAt (now (rows .entry)) row) r ⌝ }
+    ensures { λ r. ⌜ StatementMeasured (calledIn (now (rows .entry))) (statementAt (now (rows .entry)) row) r ⌝ }
 {
     let shape = statement_at(rows, row);
     match shape {
@@ -198,5 +211,6 @@ pub fn measured_statement(rows: &[i32], table: &[usize], row: usize) -> Statemen
         StatementShape::GuardedDo(arms) => rounds_measures(table, arms),
         StatementShape::Abort => plain_measures(),
         StatementShape::Declare(_, e) => declare_measures(table, store_rows(rows, e), e),
+        StatementShape::Return(value) => return_measures(table, value),
     }
 }

@@ -14,7 +14,7 @@ use Rattle.words.specs.Laws.{by-cases, both, either}
 use Rattle.words.specs.Layout.{Layout, storeSize}
 use Rattle.words.specs.declared.Form.{Form}
 use Rattle.words.specs.Kinds.{kinds, kindIn, kindOf, variable, declaredNumber, unused, isLink, isRequired, sortAt, sortOf, sortIn, kindRow, expressionFields, statementFields}
-use Rattle.words.specs.Links.{link, isExpression, isPlace, isStatement, isBlock, isArm, fits}
+use Rattle.words.specs.Links.{link, isExpression, isPlace, isStatement, isBlock, isArm, isArgument, fits}
 use Rattle.row_fields.specs.Fields.{boundsIn, variableFits, numberFits}
 use Rattle.row_fields.specs.declared.Bounds.{Bounds}
 use Rattle.structure.specs.Structured.{Tree, Structured}
@@ -89,7 +89,7 @@ module _ (form : Form) (L : Layout) (rows : List ℤ) (s : Structured form (boun
   next-kept row = rw (resolved-kept S rows row 5 (omega arith) (λ q. omega arith))
 
   fits-same : (sort row : ℕ) → fits table sort row ≡ fits rows sort row
-  unfolding fits isExpression isPlace isStatement isBlock isArm
+  unfolding fits isExpression isPlace isStatement isBlock isArm isArgument isDeclaration
   fits-same sort row = rw (resolved-sort S rows row 0, resolved-kind S rows row, next-kept row)
 
   -- numbers

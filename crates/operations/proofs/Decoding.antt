@@ -28,7 +28,7 @@ use Rattle.arithmetic.specs.declared.Computed.the-variants.{Value as Computes, 
 use Rattle.computation.specs.Computation.{settle}
 use Rattle.computation.specs.Run.{Stop, spent, fault}
 use Rattle.computation.specs.Remaining.{gives, halts, spend, onward}
-use Rattle.operations.specs.Answers.{stopNumber, beyond, stopOf, operandOf, answered, placed, Settles, Places}
+use Rattle.operations.specs.Answers.{stopNumber, beyond, stopOf, isReturn, operandOf, answered, placed, Settles, Places}
 use Rattle.operations.specs.declared.Operand.the-variants.{Value, Halted}
 use Rattle.arithmetic.specs.declared.Located.{Located}
 use Rattle.arithmetic.specs.declared.Located.the-variants.{At, Outside}
@@ -55,17 +55,53 @@ pub operand-word : (z : ℤ) → mag z < 2 ^ 31 → operandOf z ≡ Value z
 unfolding operandOf isWord
 operand-word z h = rw (lt-ltb _ _ h)
 
-pub operand-other : (z : ℤ) → 2 ^ 31 ≤ mag z → operandOf z ≡ Halted
+pub operand-other : (z : ℤ) → 2 ^ 31 ≤ mag z → isReturn z ≡ false → operandOf z ≡ Halted
 unfolding operandOf isWord
-operand-other z h = rw (le-ltb _ _ h)
+operand-other z h e = rw (le-ltb _ _ h, e)
+
+pub operand-return : (z : ℤ) → 2 ^ 31 ≤ mag z → isReturn z ≡ true → operandOf z ≡ Value (pos 0)
+unfolding operandOf isWord
+operand-return z h e = rw (le-ltb _ _ h, e)
+
+-- a number below the least return's, or a negative one, is none
+pub no-return-below : (n : ℕ) → n < 6442450944 → isReturn (pos n) ≡ false
+unfolding isReturn
+no-return-below n h = rw (lt-ltb _ _ h)
+
+pub word-no-return : (z : ℤ) → mag z < 2 ^ 31 → isReturn z ≡ false
+unfolding isReturn
+word-no-return (pos n) h = no-return-below n (omega arith)
+word-no-return (negsuc n) h = refl
+
+pub no-return-negative : (z : ℤ) → ltZ z (negsuc 2147483647) ≡ true → isReturn z ≡ false
+unfolding isReturn
+no-return-negative (pos n) e = absurd (true≢false (sym e))
+no-return-negative (negsuc n) e = refl
+
+-- the tests of `is_return`
+module _ (z : ℤ) (h : SFits w64 z) where
+  pub return-below : ltZ (handed z) (pos 6442450944) ≡ true → false ≡ isReturn z
+  unfolding isReturn
+  return-below e = rw (rw (toZ-ofZ {z = z} h) at e)
+
+  pub return-test : ltZ (handed z) (pos 6442450944) ≡ false → ltZ (handed z) (pos 10737418240) ≡ isReturn z
+  unfolding isReturn
+  return-test e = rw (toZ-ofZ {z = z} h) (rw (rw (toZ-ofZ {z = z} h) at e))
 
 -- the tests of `operand`
 module _ (z : ℤ) (h : SFits w64 z) where
-  pub operand-above : ltZ (pos 2147483647) (handed z) ≡ true → Halted ≡ operandOf z
-  operand-above e = sym (operand-other z (above-greatest-word z (rw (toZ-ofZ {z = z} h) at e)))
+  abbrev same : handed z ≡ z
+  same = toZ-ofZ {z = z} h
+
+  module _ (e : ltZ (pos 2147483647) (handed z) ≡ true) {b : Bool} (r : b ≡ isReturn (handed z)) where
+    pub operand-above : b ≡ false → Halted ≡ operandOf z
+    operand-above q = sym (operand-other z (above-greatest-word z (rw same at e)) (ap isReturn (sym same) ∙ sym r ∙ q))
+
+    pub operand-returns : b ≡ true → Value (pos 0) ≡ operandOf z
+    operand-returns q = sym (operand-return z (above-greatest-word z (rw same at e)) (ap isReturn (sym same) ∙ sym r ∙ q))
 
   pub operand-below : ltZ (handed z) (negsuc 2147483647) ≡ true → Halted ≡ operandOf z
-  operand-below e = sym (operand-other z (below-least-word z (rw (toZ-ofZ {z = z} h) at e)))
+  operand-below e = let f = rw same at e in sym (operand-other z (below-least-word z f) (no-return-negative z f))
 
   module _ (e : ltZ (pos 2147483647) (handed z) ≡ false) (g : ltZ (handed z) (negsuc 2147483647) ≡ false) where
     pub operand-fits : SFits w32 (handed z)
@@ -73,7 +109,6 @@ module _ (z : ℤ) (h : SFits w64 z) where
 
     pub operand-is : Value (toZ w32 (ofZ w32 (handed z))) ≡ operandOf z
     operand-is =
-        let same = toZ-ofZ {z = z} h in
         ap Value (toZ-ofZ operand-fits ∙ same) ∙ sym (operand-word z (rw same at (operand-fits .sfits)))
 
 -- ---- what answers say
@@ -93,6 +128,11 @@ pub stop-other : (why : Stop) → 2 ^ 31 ≤ mag (stopNumber why)
 unfolding stopNumber
 stop-other spent = omega arith
 stop-other (fault sort) = omega (arith, faults-apart sort .no-other)
+
+pub stop-no-return : (why : Stop) → isReturn (stopNumber why) ≡ false
+unfolding stopNumber
+stop-no-return spent = no-return-below 2147483648 (omega arith)
+stop-no-return (fault sort) = no-return-below (2147483647 + faultNumber sort) (omega (arith, faults-apart sort .small))
 
 pub stop-again : (why : Stop) → stopOf (stopNumber why) ≡ why
 unfolding stopOf stopNumber beyond
@@ -135,10 +175,10 @@ behind-is (pos n) e = refl
 behind-is (negsuc n) e = absurd (true≢false e)
 
 pub answered-stop : (why : Stop) (n : ℕ) (s : List ℤ) → answered (stopNumber why) n s ≡ halts why n s
-answered-stop why n s = rw (operand-other (stopNumber why) (stop-other why), stop-again why)
+answered-stop why n s = rw (operand-other (stopNumber why) (stop-other why) (stop-no-return why), stop-again why)
 
 pub placed-stop : (why : Stop) (n : ℕ) (s : List ℤ) → placed (stopNumber why) n s ≡ halts why n s
-placed-stop why n s = rw (operand-other (stopNumber why) (stop-other why), stop-again why)
+placed-stop why n s = rw (operand-other (stopNumber why) (stop-other why) (stop-no-return why), stop-again why)
 
 -- a run that has no step left
 module _ (n : ℕ) (s : List ℤ) where

@@ -1,7 +1,7 @@
 -- What follows the entry of a row of a sound table, by its kind: where the links of the row lead, from the sorts of its fields, and what the tree
 -- at the row does, told by the steps left. The links are given as the code has them.
 use mathlib.Core.Path.{_≡_, refl, sym, ap, ap₂, _∙_}
-use mathlib.Core.Bool.{Bool, true, false}
+use mathlib.Core.Bool.{Bool, true, false, true≢false}
 use mathlib.Core.List.{List}
 use Prim.Native.Nat.{ℕ, _+_, _*_, _≤_, _<_}
 use native.Mathlib.Omega.{arith}
@@ -9,7 +9,7 @@ use lib.IntN.{ℤ, pos}
 use lib.ListN.{length, getD, set}
 use Rattle.words.specs.Word.{pick}
 use Rattle.words.specs.Table.{rowCount, wordAt, numberAt}
-use Rattle.words.specs.Kinds.{kindOf, isExpressionKind, place, isRequired, expressionFields, kindRow, sortIn}
+use Rattle.words.specs.Kinds.{kindOf, isExpressionKind, place, isRequired, expressionFields, kindRow, sortIn, isFunctionNumber}
 use Rattle.words.specs.KindLaws.{kind-numbered, no-expression}
 use Rattle.words.specs.Layout.{arrayBase, arrayLength}
 use Rattle.arithmetic.specs.Arithmetic.{isTrue, truth, logicalNot, apply, minus as minusWord, element as elementWord}
@@ -23,17 +23,18 @@ use Rattle.language.specs.Trees.{Expression, read, minus, not, binary, and, or,
 use Rattle.language.specs.Decode.{placeOf, expressionAt}
 use Rattle.language.specs.DecodeLaws.{at-no-expression, at-constant, at-variable, at-element, at-minus, at-not, at-binary, at-and, at-or, at-conditional, at-comma, at-assign, at-compound, at-prefix, at-postfix}
 use Rattle.language.specs.Meaning.{evaluate, locate, update, oldValue, newValue}
+use Rattle.language.specs.Functions.{contextOf}
 use Rattle.language.specs.Sound.{Link, PlaceLink}
 use Rattle.language.specs.SoundLaws.{field-of, link-of, place-link-of}
 use Rattle.operations.specs.Bounds.{layoutFrom}
 use Rattle.operations.specs.Ready.{Ready, Entered}
-use Rattle.operations.specs.Rows.{valueAt, evaluateAt, locateAt, placeAt}
+use Rattle.operations.specs.Rows.{contextAt, valueAt, evaluateAt, locateAt, placeAt}
 use Rattle.operations.proofs.Enter.{onward-same, forks}
 
 -- the tree at the row is known
 known : (rows : List ℤ) (bounds : List ℕ) (row : ℕ) (t : Expression) (n : ℕ) (s : List ℤ) → expressionAt rows row ≡ t
-    → spend (evaluateAt rows bounds row) n s ≡ spend (evaluate (layoutFrom bounds) t) n s
-known rows bounds row t n s e = ap (λ (x : Expression). spend (evaluate (layoutFrom bounds) x) n s) e
+    → spend (evaluateAt rows bounds row) n s ≡ spend (evaluate (contextAt rows bounds) t) n s
+known rows bounds row t n s e = ap (λ (x : Expression). spend (evaluate (contextAt rows bounds) x) n s) e
 
 module _ {rows : List ℤ} {bounds : List ℕ} {words row : ℕ} where
   -- the fields of a row are in the table
@@ -74,7 +75,7 @@ module _ {rows : List ℤ} {bounds : List ℕ} {words row : ℕ} where
   pub place-variable-row : Entered rows bounds words row (OfExpression Variable) → (n : ℕ) (s : List ℤ) → spend (locateAt rows bounds row) n s ≡ gives (numberAt rows row 1) n s
   unfolding spend evaluate
   place-variable-row here n s =
-      ap (λ (x : Expression). spend (locate (layoutFrom bounds) (placeOf x)) n s) (at-variable rows (whole here) row (here .kind-is))
+      ap (λ (x : Expression). spend (locate (contextAt rows bounds) (placeOf x)) n s) (at-variable rows (whole here) row (here .kind-is))
 
   pub element-array : Entered rows bounds words row (OfExpression Element) → numberAt rows row 1 < length (layoutFrom bounds .lengths)
   unfolding sortIn kindRow expressionFields
@@ -94,12 +95,12 @@ module _ {rows : List ℤ} {bounds : List ℕ} {words row : ℕ} where
   unfolding spend evaluate
   element-row here n s =
       let t = element-tree here refl refl in
-      known rows bounds row _ n s t ∙ ap (λ (x : Expression). onward (spend (locate (layoutFrom bounds) (placeOf x)) n s) (λ i n s. gives (getD s i (pos 0)) n s)) (sym t)
+      known rows bounds row _ n s t ∙ ap (λ (x : Expression). onward (spend (locate (contextAt rows bounds) (placeOf x)) n s) (λ i n s. gives (getD s i (pos 0)) n s)) (sym t)
 
   pub locate-row : Entered rows bounds words row (OfExpression Element) → {a b : ℕ} → a ≡ numberAt rows row 1 → b ≡ numberAt rows row 2 → (n : ℕ) (s : List ℤ)
       → spend (locateAt rows bounds row) n s ≡ onward (spend (valueAt rows bounds b) n s) (λ index n s. spend (settle (elementWord (arrayBase (layoutFrom bounds) a) (arrayLength (layoutFrom bounds) a) index)) n s)
-  unfolding spend evaluate
-  locate-row here p q n s = ap (λ (x : Expression). spend (locate (layoutFrom bounds) (placeOf x)) n s) (element-tree here p q)
+  unfolding spend evaluate contextOf
+  locate-row here p q n s = ap (λ (x : Expression). spend (locate (contextAt rows bounds) (placeOf x)) n s) (element-tree here p q)
 
   -- ---- kinds 4 and 5
 
@@ -211,8 +212,13 @@ module _ {rows : List ℤ} {bounds : List ℕ} {words row : ℕ} where
   increment-row false o here p n s =
       known rows bounds row _ n s (at-prefix rows (whole here) row o (here .kind-is) (increment-link false o here .0 .later) ∙ ap (λ (k : ℕ). prefix o (placeOf (expressionAt rows k))) (sym p))
 
+  -- no form has calls yet
+  pub no-call : Ready rows bounds words row → {number : ℕ} → number ≡ numberAt rows row 0 → number ≡ 31 → ⊥
+  unfolding isFunctionNumber
+  no-call here p e = true≢false (rw (sym p ∙ e) at (here .setting .sound .no-function row (here .below)))
+
   -- a row whose number no expression has
-  pub other-row : Ready rows bounds words row → {number : ℕ} → number ≡ numberAt rows row 0 → ((1 ≤ number) × (number ≤ 30) → ⊥) → (n : ℕ) (s : List ℤ) → spend (evaluateAt rows bounds row) n s ≡ gives (pos 0) n s
+  pub other-row : Ready rows bounds words row → {number : ℕ} → number ≡ numberAt rows row 0 → ((1 ≤ number) × (number ≤ 31) → ⊥) → (n : ℕ) (s : List ℤ) → spend (evaluateAt rows bounds row) n s ≡ gives (pos 0) n s
   unfolding spend evaluate
   other-row here {number} p beyond n s =
       known rows bounds row _ n s (at-no-expression rows (here .setting .sound .whole) row (ap isExpressionKind (kind-numbered rows row p number refl) ∙ no-expression number beyond))

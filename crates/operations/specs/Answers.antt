@@ -1,12 +1,13 @@
 -- Answers: what the code's answers say of a run, in the words of `spend`. An answer is one number, so that it comes back in a
 -- register: a word is a value, and the numbers behind the words say why the run stopped.
 use mathlib.Core.Path.{_≡_}
-use mathlib.Core.Bool.{Bool}
+use mathlib.Core.Bool.{Bool, false}
 use mathlib.Core.List.{List}
 use Prim.Native.Nat.{ℕ, _+_, _-_}
 use lib.Dec.{eqb}
 use lib.IntN.{ℤ, pos, negsuc}
 use lib.ListN.{getD}
+use lib.Signed.{ltZ}
 use Rattle.words.specs.Word.{isWord, natural, pick}
 use Rattle.arithmetic.specs.Arithmetic.{Outcome, logicalNot, minus}
 use Rattle.words.specs.Answers.{faultNumber, faultNumbered, endingNumber}
@@ -32,9 +33,13 @@ beyond (negsuc n) = 0
 unfoldable pub stopOf : ℤ → Stop
 stopOf answer = pick (eqb (beyond answer) (endingNumber Spent)) spent (fault (faultNumbered (beyond answer)))
 
--- The operand that an answer gives.
+-- Whether an answer is a return's: its value, counted from 2^33.
+unfoldable pub isReturn : ℤ → Bool
+isReturn answer = pick (ltZ answer (pos 6442450944)) false (ltZ answer (pos 10737418240))
+
+-- The operand that an answer gives. A return's answer is no evaluation's, and no stop; read as an operand it would be 0.
 unfoldable pub operandOf : ℤ → Operand
-operandOf answer = pick (isWord answer) (Value answer) Halted
+operandOf answer = pick (isWord answer) (Value answer) (pick (isReturn answer) (Value (pos 0)) Halted)
 
 abbrev pub operandRest : Operand → ℤ → ℕ → List ℤ → Rest ℤ
 operandRest (Value v) answer n s = gives v n s

@@ -7,5 +7,7 @@ pub mod Bounds
 pub mod Answers
 -- Rows: what is done at a row.
 pub mod Rows
+-- Functions: what a run asks of the functions of a table and of its calls.
+pub mod Functions
 -- Ready: what the code asks of a table, a row and a store.
 pub mod Ready

@@ -10,6 +10,7 @@ use Rattle.words.specs.Kinds.{kindAt, isPlaceKind}
 use Rattle.words.specs.declared.Kind.{Kind}
 use Rattle.language.specs.Sound.{Sound}
 use Rattle.operations.specs.Bounds.{boundsOf, layoutFrom}
+use Rattle.operations.specs.Functions.{SoundCalls}
 
 -- An array's own bound and the next one are in the list, in order, and small.
 pub record Bounded (bounds : List ℕ) (array : ℕ) : Type 0 where
@@ -17,13 +18,14 @@ pub record Bounded (bounds : List ℕ) (array : ℕ) : Type 0 where
   pub ordered : getD bounds array 0 ≤ getD bounds (array + 1) 0
   pub small : getD bounds (array + 1) 0 < 65536
 
--- A sound table, the bounds of its layout, and a store of so many words.
+-- A sound table with sound calls, the bounds of its layout, and a store of so many words.
 pub record Setting (rows : List ℤ) (bounds : List ℕ) (words : ℕ) : Type 0 where
   pub sound : Sound rows (layoutFrom bounds) words
   pub bounds-are : bounds ≡ boundsOf (layoutFrom bounds)
   pub few-words : words < 65536
   pub few-rows : rowCount rows < 65536
   pub few-arrays : length (layoutFrom bounds .lengths) ≤ 32
+  pub calls : SoundCalls rows
 
 -- The row is one of the table.
 pub record Ready (rows : List ℤ) (bounds : List ℕ) (words row : ℕ) : Type 0 where

@@ -9,13 +9,26 @@ use words::table::natural;
 ghost use mathlib.Core.Path.{_≡_};
 ghost use Rattle.arithmetic.specs.Answers.{computed as computedOf};
 ghost use Rattle.computation.specs.Run.{fault as faultOf};
-ghost use Rattle.operations.specs.Answers.{operandOf, positionOf, stopNumber, beyond as beyondOf, Settles};
+ghost use Rattle.operations.specs.Answers.{isReturn as isReturnOf, operandOf, positionOf, stopNumber, beyond as beyondOf, Settles};
+
+// Whether an answer is a return's: its value, counted from 2^33.
+pub fn is_return(answer: i64) -> bool
+    ensures { λ r. ⌜ r ≡ isReturnOf answer ⌝ }
+{
+    if answer < 6442450944 {
+        return false;
+    }
+    answer < 10737418240
+}
 
 // The operand that an answer gives.
 pub fn operand(answer: i64) -> Operand
     ensures { λ r. ⌜ r ≡ operandOf answer ⌝ }
 {
     if answer > GREATEST_WORD {
+        if is_return(answer) {
+            return Operand::Value(0);
+        }
         return Operand::Halted;
     }
     if answer < -2147483648 {

@@ -11,7 +11,7 @@ use lib.IntN.{ℤ}
 use borrow.Author.Tests.{eqb-true}
 use Rattle.words.specs.Word.{natural}
 use Rattle.words.specs.Table.{rowCount, wordAt, numberAt, Whole}
-use Rattle.words.specs.Kinds.{kinds, kindIn, kindOf, kindAt, unused, expression, place, branch, optionalBranch, optionalItem, isLink, isRequired, isStatementKind, sortAt, sortIn, kindRow, expressionFields, statementFields, markFields, memberFields, standsIn}
+use Rattle.words.specs.Kinds.{kinds, kindIn, kindOf, kindAt, unused, expression, place, branch, optionalBranch, optionalItem, isLink, isRequired, isStatementKind, sortAt, sortIn, kindRow, expressionFields, statementFields, markFields, definitionFields, memberFields, standsIn}
 use Rattle.words.specs.Laws.{both, either, by-cases}
 use Rattle.words.specs.Links.{isExpression, isStatement, link, fits}
 use Rattle.words.specs.declared.Form.the-variants.{Kernel}
@@ -27,10 +27,10 @@ use Rattle.structure.specs.NoteLaws.{above-zero}
 use Rattle.row_fields.specs.declared.Bounds.{Bounds}
 use Rattle.structure.specs.Structured.{Leads, Structured}
 use Rattle.kernel_statements.specs.Statements.{isAtom, isBlock, isKernelIf, isKernelWhile, isKernelExpression, isKernelStatement}
-use Rattle.accepted.specs.Sorts.{sort-is, statement-kind, in-language, statementNumber, number-is}
+use Rattle.accepted.specs.Sorts.{sort-is, statement-kind, in-language, no-definition, statementNumber, number-is}
 use Rattle.accepted.specs.Fields.{holds, noLink, MayLink, linked, may-link, next-link, link-none}
-use Rattle.accepted.specs.Expressions.{ExpressionRow, constant-row, variable-row, element-row, minus-row, not-row, binary-row, and-row, or-row, comma-row, conditional-row, assign-row, compound-row, prefix-row, postfix-row, whole-rows, read-place, expression-row, place-expression}
-use Rattle.accepted.specs.Statements.{StatementRow, empty-row, express-row, block-row, ifThen-row, ifElse-row, while-row, doWhile-row, for-row, switch-row, case-row, default-row, break-row, continue-row, goto-row, label-row, guardedIf-row, guardedDo-row, abort-row, declare-row, statement-row}
+use Rattle.accepted.specs.Expressions.{ExpressionRow, constant-row, variable-row, element-row, minus-row, not-row, binary-row, and-row, or-row, comma-row, conditional-row, assign-row, compound-row, prefix-row, postfix-row, call-row, whole-rows, read-place, expression-row, place-expression}
+use Rattle.accepted.specs.Statements.{StatementRow, empty-row, express-row, block-row, ifThen-row, ifElse-row, while-row, doWhile-row, for-row, switch-row, case-row, default-row, break-row, continue-row, goto-row, label-row, guardedIf-row, guardedDo-row, abort-row, declare-row, return-row, statement-row}
 use Rattle.page.specs.TreeKinds.{expressionKind, expression-kind, statementKind, kind-of-statement}
 
 module _ (bounds : Bounds) (rows other : List ℤ) (s : Structured Kernel bounds rows) (t : Structured Kernel bounds other)
@@ -75,7 +75,8 @@ module _ (bounds : Bounds) (rows other : List ℤ) (s : Structured Kernel bounds
       ⊎-elim (λ k. let f = at-item table w row k (next .later) in let z : _≡_ {A = ℕ} 0 1 = cc in omega arith)
       (⊎-elim (λ k. let f = at-case table w row k (next .later) in let z : _≡_ {A = ℕ} 0 1 = cc in omega arith)
       (⊎-elim (λ k. let f = at-default table w row k (next .later) in let z : _≡_ {A = ℕ} 0 1 = cc in omega arith)
-      (λ k. let f = at-label table w row k (next .later) in let z : _≡_ {A = ℕ} 0 1 = cc in omega arith)))
+      (⊎-elim (λ k. let f = at-label table w row k (next .later) in let z : _≡_ {A = ℕ} 0 1 = cc in omega arith)
+      (λ k. absurd (no-definition Kernel table row (u .known row n) k)))))
       (statement-kind table row (eqb-true _ _ h))
 
   not-in-kernel : (table : List ℤ) → Structured Kernel bounds table → (row : ℕ) → row < rowCount table → {kind : Kind} → kindAt table row ≡ kind → standsIn (kindRow kind .forms) Kernel ≡ false → ⊥
@@ -85,7 +86,11 @@ module _ (bounds : Bounds) (rows other : List ℤ) (s : Structured Kernel bounds
   kernel-kinds : (table : List ℤ) → Structured Kernel bounds table → (row : ℕ) → row < rowCount table → isStatement table row ≡ true → (isStatementKind (kindAt table row) ≡ true) ⊎ (kindAt table row ≡ OfMark Label)
   unfolding isStatement kindRow markFields
   kernel-kinds table u row n h =
-      ⊎-elim (λ k. inl k) (⊎-elim (λ k. absurd (not-in-kernel table u row n k refl)) (⊎-elim (λ k. absurd (not-in-kernel table u row n k refl)) (λ k. inr k))) (statement-kind table row (eqb-true _ _ h))
+      ⊎-elim (λ k. inl k)
+      (⊎-elim (λ k. absurd (not-in-kernel table u row n k refl))
+      (⊎-elim (λ k. absurd (not-in-kernel table u row n k refl))
+      (⊎-elim (λ k. inr k) (λ k. absurd (no-definition Kernel table row (u .known row n) k)))))
+      (statement-kind table row (eqb-true _ _ h))
 
   list-child : (one two : ℕ) → (0 < one → (one < rowCount rows) × (isStatement rows one ≡ true)) → (0 < two → (two < rowCount other) × (isStatement other two ≡ true))
       → listAt rows one ≡ listAt other two → Child one two
@@ -224,6 +229,8 @@ module _ (bounds : Bounds) (rows other : List ℤ) (s : Structured Kernel bounds
     expression-same (compound-row k p r i e x y) j q = absurd (not-in-kernel rows s row n k refl)
     expression-same (prefix-row k p i e x) j q = absurd (not-in-kernel rows s row n k refl)
     expression-same (postfix-row k p i e x) j q = absurd (not-in-kernel rows s row n k refl)
+    -- no form has functions yet
+    expression-same (call-row k e x) j q = absurd (not-in-kernel rows s row n k refl)
 
     -- ---- statements
 
@@ -352,6 +359,7 @@ module _ (bounds : Bounds) (rows other : List ℤ) (s : Structured Kernel bounds
     statement-same (guardedIf-row k e x) h o j q next = absurd (not-in-kernel rows s row n k refl)
     statement-same (guardedDo-row k e x) h o j q next = absurd (not-in-kernel rows s row n k refl)
     statement-same (declare-row k p e x) h o j q next = absurd (not-in-kernel rows s row n k refl)
+    statement-same (return-row k e x) h o j q next = absurd (not-in-kernel rows s row n k refl)
 
     -- ---- items
 

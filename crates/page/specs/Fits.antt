@@ -1,12 +1,16 @@
 -- Fits: lines of kernel form whose constants are words and whose names are within bounds; a kernel program has no others.
+use mathlib.Core.Path.{_≡_, refl}
+use mathlib.Core.Bool.{Bool, false, true≢false}
 use mathlib.Core.List.{List, [], _∷_, _++_}
 use Prim.Native.Nat.{ℕ, _+_, _^_, _<_}
+use native.Mathlib.Omega.{arith}
 use lib.IntN.{ℤ}
 use lib.Signed.{mag}
 use Rattle.words.specs.declared.Operator.{Operator}
 use Rattle.language.specs.Trees.{Expression, constant, read, minus, binary, assign, variable, element, label, Statement, empty, express, goto, abort, Items}
+use Rattle.language.specs.Calls.{CallsBelow, StatementCallsBelow, ItemsCallBelow}
 use Rattle.language.specs.WellFormed.{NamedExpression, NamedStatement, NamedItems}
-use Rattle.translation.specs.KernelForm.{IsAtom, constant-atom, variable-atom, Assigns, assigns-atom, assigns-minus, assigns-operation, assigns-element, assigns-to-element, isLabelNumber, KernelStatement, kernel-empty, kernel-assign, kernel-block, kernel-if, kernel-while, kernel-goto, kernel-abort, KernelItems, kernel-none, kernel-then, kernel-label}
+use Rattle.translation.specs.KernelForm.{IsAtom, constant-atom, variable-atom, Assigns, assigns-atom, assigns-minus, assigns-operation, assigns-element, assigns-call, assigns-to-element, isLabelNumber, KernelStatement, kernel-empty, kernel-assign, kernel-block, kernel-if, kernel-while, kernel-goto, kernel-abort, kernel-return, KernelItems, kernel-none, kernel-then, kernel-label}
 use Rattle.accepted.specs.Worded.{ValuedExpression, ValuedStatement, ValuedItems, IsWord}
 use Rattle.page.specs.Lines.{Line, single, mark, opens, opensWhile, opensIf, turns, closes, Indented, indented, statementLines, itemsLines}
 
@@ -50,29 +54,39 @@ module _ (Names : ℕ → Type 0) (arrays : ℕ) where
   atom-fits constant-atom n v = fits-constant v
   atom-fits variable-atom n v = fits-variable n
 
-  assignment-fits : {e : Expression} → Assigns e → NamedExpression Names arrays e → ValuedExpression IsWord e → LineFits (single (express e))
-  unfolding NamedExpression ValuedExpression
-  assignment-fits (assigns-atom h) n v = fits-store (n .0) (value-atom (atom-fits h (n .1) (v .1)))
-  assignment-fits (assigns-minus h) n v = fits-store (n .0) (value-minus (atom-fits h (n .1) (v .1)))
-  assignment-fits (assigns-operation h k) n v = fits-store (n .0) (value-binary (atom-fits h (n .1 .0) (v .1 .0)) (atom-fits k (n .1 .1) (v .1 .1)))
-  assignment-fits (assigns-element h) n v = fits-store (n .0) (value-element (n .1 .0) (atom-fits h (n .1 .1) (v .1)))
-  assignment-fits (assigns-to-element h k) n v = fits-put (n .0 .0) (atom-fits h (n .0 .1) (v .0)) (atom-fits k (n .1) (v .1))
+  -- No call goes anywhere, since no form has functions yet.
+  module _ (arity : ℕ → ℕ) where
+    assignment-fits : {e : Expression} → Assigns e → CallsBelow arity 0 e → NamedExpression Names arrays e → ValuedExpression IsWord e → LineFits (single (express e))
+    unfolding NamedExpression ValuedExpression CallsBelow
+    assignment-fits (assigns-atom h) c n v = fits-store (n .0) (value-atom (atom-fits h (n .1) (v .1)))
+    assignment-fits (assigns-minus h) c n v = fits-store (n .0) (value-minus (atom-fits h (n .1) (v .1)))
+    assignment-fits (assigns-operation h k) c n v = fits-store (n .0) (value-binary (atom-fits h (n .1 .0) (v .1 .0)) (atom-fits k (n .1 .1) (v .1 .1)))
+    assignment-fits (assigns-element h) c n v = fits-store (n .0) (value-element (n .1 .0) (atom-fits h (n .1 .1) (v .1)))
+    assignment-fits (assigns-call h) c n v = absurd (omega (arith, c .1 .0))
+    assignment-fits (assigns-to-element h k) c n v = fits-put (n .0 .0) (atom-fits h (n .0 .1) (v .0)) (atom-fits k (n .1) (v .1))
 
-  mutual
-    unfolding statementLines NamedStatement ValuedStatement
+    mutual
+      unfolding statementLines NamedStatement ValuedStatement StatementCallsBelow
 
-    statement-fits : {ahead : Items} {s : Statement} → (level : ℕ) → KernelStatement ahead s → NamedStatement Names arrays s → ValuedStatement IsWord s → AllFit (statementLines level s)
-    statement-fits level kernel-empty n v = all-more fits-empty all-none
-    statement-fits level (kernel-assign h) n v = all-more (assignment-fits h n v) all-none
-    statement-fits level (kernel-block h) n v = all-more fits-opens (fit-append (items-fit (level + 1) h n v) (all-more fits-closes all-none))
-    statement-fits level (kernel-if a h k) n v =
-        all-more (fits-if (atom-fits a (n .0) (v .0)))
-        (fit-append (items-fit (level + 1) h (n .1) (v .1)) (all-more fits-turns (fit-append (items-fit (level + 1) k (n .2) (v .2)) (all-more fits-closes all-none))))
-    statement-fits level (kernel-while a h) n v = all-more (fits-while (atom-fits a (n .0) (v .0))) (fit-append (items-fit (level + 1) h (n .1) (v .1)) (all-more fits-closes all-none))
-    statement-fits level (kernel-goto b h) n v = all-more (fits-goto b) all-none
-    statement-fits level kernel-abort n v = all-more fits-abort all-none
+      statement-fits : {mayReturn : Bool} {ahead : Items} {s : Statement} → (level : ℕ) → KernelStatement mayReturn ahead s → mayReturn ≡ false → StatementCallsBelow arity 0 s → NamedStatement Names arrays s → ValuedStatement IsWord s
+          → AllFit (statementLines level s)
+      statement-fits level kernel-empty r c n v = all-more fits-empty all-none
+      statement-fits level (kernel-assign h) r c n v = all-more (assignment-fits h c n v) all-none
+      statement-fits level (kernel-block h) r c n v = all-more fits-opens (fit-append (items-within (level + 1) h r c n v) (all-more fits-closes all-none))
+      statement-fits level (kernel-if a h k) r c n v =
+          all-more (fits-if (atom-fits a (n .0) (v .0)))
+          (fit-append (items-within (level + 1) h r (c .1) (n .1) (v .1))
+          (all-more fits-turns (fit-append (items-within (level + 1) k r (c .2) (n .2) (v .2)) (all-more fits-closes all-none))))
+      statement-fits level (kernel-while a h) r c n v =
+          all-more (fits-while (atom-fits a (n .0) (v .0))) (fit-append (items-within (level + 1) h r (c .1) (n .1) (v .1)) (all-more fits-closes all-none))
+      statement-fits level (kernel-goto b h) r c n v = all-more (fits-goto b) all-none
+      statement-fits level kernel-abort r c n v = all-more fits-abort all-none
+      statement-fits level (kernel-return a) r c n v = absurd (true≢false r)
 
-    pub items-fit : {ahead is : Items} → (level : ℕ) → KernelItems ahead is → NamedItems Names arrays is → ValuedItems IsWord is → AllFit (itemsLines level is)
-    items-fit level kernel-none n v = all-none
-    items-fit level (kernel-then h hs) n v = fit-append (statement-fits level h (n .0) (v .0)) (items-fit level hs (n .1) (v .1))
-    items-fit level (kernel-label b hs) n v = all-more (fits-label b) (items-fit level hs n (v .1))
+      items-within : {mayReturn : Bool} {ahead is : Items} → (level : ℕ) → KernelItems mayReturn ahead is → mayReturn ≡ false → ItemsCallBelow arity 0 is → NamedItems Names arrays is → ValuedItems IsWord is → AllFit (itemsLines level is)
+      items-within level kernel-none r c n v = all-none
+      items-within level (kernel-then h hs) r c n v = fit-append (statement-fits level h r (c .0) (n .0) (v .0)) (items-within level hs r (c .1) (n .1) (v .1))
+      items-within level (kernel-label b hs) r c n v = all-more (fits-label b) (items-within level hs r c n (v .1))
+
+    pub items-fit : {ahead is : Items} → (level : ℕ) → KernelItems false ahead is → ItemsCallBelow arity 0 is → NamedItems Names arrays is → ValuedItems IsWord is → AllFit (itemsLines level is)
+    items-fit level h c n v = items-within level h refl c n v

@@ -2,7 +2,7 @@
 use mathlib.Core.List.{List, [], _∷_, _++_}
 use mathlib.Core.Option.{Option, none, some}
 use Prim.Native.Nat.{ℕ, _+_}
-use Rattle.language.specs.Trees.{Expression, Mark, Statement, empty, express, block, ifThen, ifElse, while, doWhile, for, switch, break, continue, goto, guardedIf, guardedDo, abort, declare, Items, none as noItem, _then_, _here_}
+use Rattle.language.specs.Trees.{Expression, Mark, Statement, empty, express, block, ifThen, ifElse, while, doWhile, for, switch, break, continue, goto, guardedIf, guardedDo, abort, declare, giveBack, Items, none as noItem, _then_, _here_, define}
 
 -- What a line says. Blocks end in a line of their own, so that their ends do not hang on the indent.
 pub data Line : Type 0 where
@@ -39,6 +39,7 @@ unfoldable mutual
   statementLines level (guardedIf arms) = []
   statementLines level (guardedDo arms) = []
   statementLines level (declare word e) = []
+  statementLines level (giveBack value) = []
 
   -- A branch or body is a block: its items stand between the lines of its owner.
   pub branchLines : ℕ → Statement → List Indented
@@ -58,11 +59,13 @@ unfoldable mutual
   branchLines level (guardedDo arms) = []
   branchLines level abort = []
   branchLines level (declare word e) = []
+  branchLines level (giveBack value) = []
 
   pub itemsLines : ℕ → Items → List Indented
   itemsLines level noItem = []
   itemsLines level (s then is) = statementLines level s ++ itemsLines level is
   itemsLines level (m here is) = indented level (mark m) ∷ itemsLines level is
+  itemsLines level (define f words body is) = itemsLines level is
 
 -- The lines without their levels.
 unfoldable pub plain : List Indented → List Line

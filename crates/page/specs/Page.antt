@@ -9,7 +9,7 @@ use Rattle.words.specs.declared.Operator.{Operator}
 use Rattle.words.specs.declared.Operator.the-variants.{Add, Subtract, Multiply, Divide, Remainder, Less, Greater, LessOrEqual, GreaterOrEqual, Equal, NotEqual}
 use Rattle.text_numbers.specs.Number.{digits, numberBytes}
 use Rattle.text_lines.specs.Line.{newline}
-use Rattle.language.specs.Trees.{Expression, constant, read, minus, not, binary, and, or, comma, conditional, assign, compound, prefix, postfix, Place, variable, element, Mark, case, default, label, Statement, empty, express, block, ifThen, ifElse, while, doWhile, for, switch, break, continue, goto, guardedIf, guardedDo, abort, declare, Items}
+use Rattle.language.specs.Trees.{Expression, constant, read, minus, not, binary, and, or, comma, conditional, assign, compound, prefix, postfix, call, Place, variable, element, Mark, case, default, label, Statement, empty, express, block, ifThen, ifElse, while, doWhile, for, switch, break, continue, goto, guardedIf, guardedDo, abort, declare, giveBack, Items}
 use Rattle.page.specs.declared.Sizes.{Sizes}
 use Rattle.page.specs.Lines.{Line, single, mark, opens, opensWhile, opensIf, turns, closes, Indented, indented, itemsLines}
 
@@ -141,6 +141,7 @@ module _ (sizes : Sizes) where
   atomWord (compound o p e) = []
   atomWord (prefix o p) = []
   atomWord (postfix o p) = []
+  atomWord (call f arguments) = []
 
   -- `v7`, `a7[X]`
   abbrev pub placeWord : Place → List ℕ
@@ -162,6 +163,7 @@ module _ (sizes : Sizes) where
   valueWords (compound o p e) = []
   valueWords (prefix o p) = []
   valueWords (postfix o p) = []
+  valueWords (call f arguments) = []
 
   -- `P = X;`
   abbrev pub assignmentWords : Expression → List (List ℕ)
@@ -178,6 +180,7 @@ module _ (sizes : Sizes) where
   assignmentWords (compound o p e) = []
   assignmentWords (prefix o p) = []
   assignmentWords (postfix o p) = []
+  assignmentWords (call f arguments) = []
 
   abbrev pub singleWords : Statement → List (List ℕ)
   singleWords empty = emptyWord ∷ []
@@ -196,6 +199,7 @@ module _ (sizes : Sizes) where
   singleWords (guardedIf arms) = []
   singleWords (guardedDo arms) = []
   singleWords (declare word e) = []
+  singleWords (giveBack value) = []
 
   -- `L7:;`
   abbrev pub markWords : Mark → List (List ℕ)

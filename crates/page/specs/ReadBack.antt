@@ -200,6 +200,6 @@ module _ {Names : ℕ → Type 0} {arrays : ℕ} (sizes : Sizes) where
   lines-read-page lines contents h r p = rw (lines-shown 1 lines h, r, p, same-all (linesBytes sizes 1 lines))
 
   -- "Read with the header by docs/, the lines give back" the program, of which the names and constants are within any bounds.
-  pub page-read-back : {contents : Items} → KernelItems noItem contents → AllFit Names arrays (itemsLines 0 contents) → readPage sizes (pageBytes sizes contents) ≡ some contents
+  pub page-read-back : {contents : Items} → KernelItems false noItem contents → AllFit Names arrays (itemsLines 0 contents) → readPage sizes (pageBytes sizes contents) ≡ some contents
   unfolding pageBytes
   page-read-back {contents} k h = lines-read-page (itemsLines 0 contents) contents h (lines-read-back k 0) refl

@@ -1,7 +1,7 @@
 -- Laws of tables: the page of every legal kernel table has 80 columns, few lines, and gives back its rows, up to numbering; that of a
 -- translation gives back its very rows.
 use mathlib.Core.Path.{_≡_, ap, sym, subst, _∙_}
-use mathlib.Core.Bool.{true}
+use mathlib.Core.Bool.{true, false}
 use mathlib.Core.List.{List}
 use mathlib.Core.Option.{some}
 use mathlib.Core.Logic.{⊎-elim}
@@ -14,7 +14,9 @@ use Rattle.words.specs.Table.{rowCount}
 use Rattle.words.specs.Layout.{Layout, layoutOf, storeSize, headerStore, behindOf, headerFits}
 use Rattle.words.specs.Laws.{headerFits-facts, countFits-facts}
 use Rattle.words.specs.declared.Form.the-variants.{Source, Kernel}
-use Rattle.language.specs.Trees.{block, Items}
+use Rattle.language.specs.Trees.{block, none, Items}
+use Rattle.language.specs.Functions.{functionCount}
+use Rattle.language.specs.Calls.{ItemsCallBelow, arityIn}
 use Rattle.language.specs.Decode.{decode}
 use Rattle.language.specs.Program.{contents}
 use Rattle.language.specs.Sizes.{statementRows, statementDepth}
@@ -22,7 +24,7 @@ use Rattle.language.specs.WellFormed.{SourceTree}
 use Rattle.row_fields.specs.Fields.{boundsOf}
 use Rattle.row_fields.specs.declared.Bounds.{Bounds}
 use Rattle.structure.specs.Structured.{Structured}
-use Rattle.translation.specs.KernelForm.{KernelName, name-variable, name-temporary}
+use Rattle.translation.specs.KernelForm.{KernelItems, KernelName, name-variable, name-temporary}
 use Rattle.translation.specs.Translate.{translate, temporaries, kernelHeader}
 use Rattle.emission.specs.Emission.{emit}
 use Rattle.emission.specs.EmissionLaws.{length-emit}
@@ -36,7 +38,7 @@ use Rattle.accepted.specs.Fields.{NamesVariable}
 use Rattle.accepted.specs.Names.{named-contents}
 use Rattle.accepted.specs.Worded.{ValuedStatement, ValuedItems, IsWord}
 use Rattle.accepted.specs.Words.{structured-worded}
-use Rattle.accepted_kernel.specs.Kernel.{legal-block, legal-form, legal-rows}
+use Rattle.accepted_kernel.specs.Kernel.{legal-block, legal-plain, legal-rows}
 use Rattle.page.specs.Page.{name, pageBytes}
 use Rattle.page.specs.LinesLaws.{lines-few}
 use Rattle.page.specs.Fits.{AllFit, items-fit}
@@ -52,13 +54,20 @@ module _ (header rows : List ℤ) (legal : Legal header rows) (words : (i : ℕ)
   abbrev bounds : Bounds
   bounds = boundsOf Kernel header
 
+  -- no form has functions yet
+  form : KernelItems false none (contents rows)
+  form = legal-plain header rows legal .items
+
+  calls : ItemsCallBelow (arityIn (contents rows)) 0 (contents rows)
+  calls = legal-plain header rows legal .calls
+
   valued : ValuedItems IsWord (contents rows)
   unfolding ValuedStatement
   valued = rw (legal-block header rows legal) at (structured-worded Kernel bounds rows (legal .structured) words)
 
   pub lines-fit : AllFit (NamesVariable bounds) (bounds .arrays) (tableLines rows)
   lines-fit =
-      items-fit (NamesVariable bounds) (bounds .arrays) 0 (legal-form header rows legal)
+      items-fit (NamesVariable bounds) (bounds .arrays) (arityIn (contents rows)) 0 form calls
       (named-contents Kernel bounds rows (legal .structured) (NamesVariable bounds) (λ number n. n)) valued
 
   -- "Variable .. number outside" is refused: a name has at most five columns.
@@ -74,7 +83,7 @@ module _ (header rows : List ℤ) (legal : Legal header rows) (words : (i : ℕ)
 
   -- Row 0 has no line and every other row at most two: five columns hold every line's number.
   pub lines-of-rows : length (tableLines rows) + 2 ≤ 2 * rowCount rows
-  lines-of-rows = omega (arith, lines-few (legal-form header rows legal), legal-rows header rows legal)
+  lines-of-rows = omega (arith, lines-few form, legal-rows header rows legal)
 
   -- "Lines of 80 columns plus a newline".
   pub page-columns : length (tablePage header rows) ≡ 81 * length (tableLines rows)
@@ -85,7 +94,7 @@ module _ (header rows : List ℤ) (legal : Legal header rows) (words : (i : ℕ)
 
   page-gives : readTable header (tablePage header rows) ≡ some (emit (block (contents rows)))
   unfolding readTable tablePage
-  page-gives = rw (page-read-back (sizesOf header) (legal-form header rows legal) lines-fit)
+  page-gives = rw (page-read-back (sizesOf header) form lines-fit)
 
   -- the rows read are a structured table too
   kernel-name : (i : ℕ) → NamesVariable bounds i → KernelName (layoutOf Kernel header) (behindOf Kernel header) i
@@ -104,11 +113,11 @@ module _ (header rows : List ℤ) (legal : Legal header rows) (words : (i : ℕ)
   unfolding boundsOf
   structured-back =
       let few = countFits-facts Kernel (length rows) (legal .structured .count-fits) .most in
-      emitted-structured header (omega (arith, legal-rows header rows legal)) (legal-form header rows legal)
+      emitted-structured header (omega (arith, legal-rows header rows legal)) form (arityIn (contents rows)) calls
       (named-contents Kernel bounds rows (legal .structured) (KernelName (layoutOf Kernel header) (behindOf Kernel header)) kernel-name)
 
   decodes-back : decode (emit (block (contents rows))) ≡ decode rows
-  decodes-back = decode-emit (a-block (items-kinds (legal-form header rows legal))) ∙ sym (legal-block header rows legal)
+  decodes-back = decode-emit (a-block (items-kinds form)) ∙ sym (legal-block header rows legal)
 
   -- "Read with the header by docs/, the lines give back the same rows, up to numbering."
   pub gives-back : GivenBack header rows (tablePage header rows)
@@ -133,7 +142,7 @@ emitted-gives-back header program legal decodes words =
 
 -- So does every translation: its header and its table, where the check has found the program's limits and its tree well formed.
 module _ (header : List ℤ) (program : Items) (fit : headerFits Source header ≡ true) (few : statementRows (block program) ≤ 2048) (shallow : statementDepth (block program) ≤ 64)
-    (D : ℕ) (declared : D ≤ 64) (source : SourceTree (layoutOf Source header) (storeSize (layoutOf Source header) + D) program) where
+    (D : ℕ) (declared : D ≤ 64) (source : SourceTree (layoutOf Source header) (storeSize (layoutOf Source header) + D) program) (none-defined : functionCount program ≡ 0) where
   abbrev layout : Layout
   layout = layoutOf Source header
 
@@ -144,4 +153,6 @@ module _ (header : List ℤ) (program : Items) (fit : headerFits Source header �
   headerOfKernel = kernelHeader layout D (temporaries program)
 
   pub translation-gives-back : ((i : ℕ) → mag (getD kernelRows i (pos 0)) < 2 ^ 31) → readTable headerOfKernel (tablePage headerOfKernel kernelRows) ≡ some kernelRows
-  translation-gives-back = emitted-gives-back headerOfKernel (translate (storeSize layout + D) program) (translated-legal header program fit few shallow D declared source) (translated-decodes header program fit few shallow D declared source)
+  translation-gives-back =
+      emitted-gives-back headerOfKernel (translate (storeSize layout + D) program)
+      (translated-legal header program fit few shallow D declared source none-defined) (translated-decodes header program fit few shallow D declared source none-defined)

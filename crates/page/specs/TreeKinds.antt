@@ -10,16 +10,18 @@ use Rattle.words.specs.Table.{numberAt}
 use Rattle.words.specs.Kinds.{kinds, kindOf, kindAt, isStatementKind}
 use Rattle.words.specs.KindLaws.{everyLine, every-number}
 use Rattle.words.specs.declared.Kind.{Kind}
-use Rattle.words.specs.declared.Kind.the-variants.{OfExpression, OfStatement, OfMark, OfMember, Other}
+use Rattle.words.specs.declared.Kind.the-variants.{OfExpression, OfStatement, OfMark, OfMember, Definition, Other}
 use Rattle.words.specs.declared.ExpressionKind.{ExpressionKind}
-use Rattle.words.specs.declared.ExpressionKind.the-variants.{Constant, Variable, Element, Minus, Not, Binary, And, Or, Conditional, Comma, Assign, Compound, Prefix, Postfix}
-use Rattle.words.specs.declared.StatementKind.the-variants.{Empty, Express, Block, If, While, Do, For, Switch, Break, Continue, Goto, GuardedIf, GuardedDo, Abort, Declare}
-use Rattle.language.specs.Trees.{Expression, constant, read, minus, not, binary, and, or, comma, conditional, assign, compound, prefix, postfix, variable, element, Statement, empty, express, block, ifThen, ifElse, while, doWhile, for, switch, break, continue, goto, guardedIf, guardedDo, abort, declare}
+use Rattle.words.specs.declared.ExpressionKind.the-variants.{Constant, Variable, Element, Minus, Not, Binary, And, Or, Conditional, Comma, Assign, Compound, Prefix, Postfix, Call}
+use Rattle.words.specs.declared.StatementKind.the-variants.{Empty, Express, Block, If, While, Do, For, Switch, Break, Continue, Goto, GuardedIf, GuardedDo, Abort, Declare, Return}
+use Rattle.words.specs.declared.MemberKind.{MemberKind}
+use Rattle.words.specs.declared.MemberKind.the-variants.{Arm, Argument}
+use Rattle.language.specs.Trees.{Expression, constant, read, minus, not, binary, and, or, comma, conditional, assign, compound, prefix, postfix, call, variable, element, Statement, empty, express, block, ifThen, ifElse, while, doWhile, for, switch, break, continue, goto, guardedIf, guardedDo, abort, declare, giveBack}
 use Rattle.language.specs.Decode.{expressionAt, statementAt}
 use Rattle.emission.specs.Emission.{operatorNumber}
 use Rattle.accepted.specs.Sorts.{statementNumber}
-use Rattle.accepted.specs.Expressions.{ExpressionRow, constant-row, variable-row, element-row, minus-row, not-row, binary-row, and-row, or-row, comma-row, conditional-row, assign-row, compound-row, prefix-row, postfix-row}
-use Rattle.accepted.specs.Statements.{StatementRow, empty-row, express-row, block-row, ifThen-row, ifElse-row, while-row, doWhile-row, for-row, switch-row, case-row, default-row, break-row, continue-row, goto-row, label-row, guardedIf-row, guardedDo-row, abort-row, declare-row}
+use Rattle.accepted.specs.Expressions.{ExpressionRow, constant-row, variable-row, element-row, minus-row, not-row, binary-row, and-row, or-row, comma-row, conditional-row, assign-row, compound-row, prefix-row, postfix-row, call-row}
+use Rattle.accepted.specs.Statements.{StatementRow, empty-row, express-row, block-row, ifThen-row, ifElse-row, while-row, doWhile-row, for-row, switch-row, case-row, default-row, break-row, continue-row, goto-row, label-row, guardedIf-row, guardedDo-row, abort-row, declare-row, return-row}
 
 abbrev pub expressionKind : Expression → Kind
 expressionKind (constant v) = OfExpression Constant
@@ -36,6 +38,7 @@ expressionKind (assign p e) = OfExpression Assign
 expressionKind (compound o p e) = OfExpression (Compound o)
 expressionKind (prefix o p) = OfExpression (Prefix o)
 expressionKind (postfix o p) = OfExpression (Postfix o)
+expressionKind (call f arguments) = OfExpression Call
 
 abbrev pub statementKind : Statement → Kind
 statementKind empty = OfStatement Empty
@@ -54,6 +57,7 @@ statementKind (guardedIf arms) = OfStatement GuardedIf
 statementKind (guardedDo arms) = OfStatement GuardedDo
 statementKind abort = OfStatement Abort
 statementKind (declare word e) = OfStatement Declare
+statementKind (giveBack value) = OfStatement Return
 
 module _ (rows : List ℤ) where
   pub expression-kind : {row : ℕ} → ExpressionRow rows row → kindAt rows row ≡ expressionKind (expressionAt rows row)
@@ -71,6 +75,7 @@ module _ (rows : List ℤ) where
   expression-kind (compound-row k p q i e x y) = k ∙ sym (ap expressionKind e)
   expression-kind (prefix-row k p i e x) = k ∙ sym (ap expressionKind e)
   expression-kind (postfix-row k p i e x) = k ∙ sym (ap expressionKind e)
+  expression-kind (call-row k e x) = k ∙ sym (ap expressionKind e)
 
   -- Of marks the statement is empty.
   pub kind-of-statement : {row : ℕ} → StatementRow rows row → isStatementKind (kindAt rows row) ≡ true → kindAt rows row ≡ statementKind (statementAt rows row)
@@ -93,6 +98,7 @@ module _ (rows : List ℤ) where
   kind-of-statement (guardedDo-row k e x) t = k ∙ sym (ap statementKind e)
   kind-of-statement (abort-row k e) t = k ∙ sym (ap statementKind e)
   kind-of-statement (declare-row k p e x) t = k ∙ sym (ap statementKind e)
+  kind-of-statement (return-row k e x) t = k ∙ sym (ap statementKind e)
 
 -- ---- the number of a kind
 
@@ -111,12 +117,18 @@ expressionNumber Assign = 21
 expressionNumber (Compound o) = 22 + operatorNumber o
 expressionNumber (Prefix o) = 27 + operatorNumber o
 expressionNumber (Postfix o) = 29 + operatorNumber o
+expressionNumber Call = 31
+
+memberNumber : MemberKind → ℕ
+memberNumber Arm = 56
+memberNumber Argument = 32
 
 kindNumber : Kind → ℕ
 kindNumber (OfExpression kind) = expressionNumber kind
 kindNumber (OfStatement kind) = statementNumber (OfStatement kind)
 kindNumber (OfMark kind) = statementNumber (OfMark kind)
-kindNumber (OfMember kind) = statementNumber (OfMember kind)
+kindNumber (OfMember kind) = memberNumber kind
+kindNumber Definition = 59
 kindNumber Other = 0
 
 abbrev hasNumber : ℕ → Kind → Bool
@@ -124,10 +136,11 @@ hasNumber number (OfExpression kind) = eqb (kindNumber (OfExpression kind)) numb
 hasNumber number (OfStatement kind) = eqb (kindNumber (OfStatement kind)) number
 hasNumber number (OfMark kind) = eqb (kindNumber (OfMark kind)) number
 hasNumber number (OfMember kind) = eqb (kindNumber (OfMember kind)) number
+hasNumber number Definition = eqb (kindNumber Definition) number
 hasNumber number Other = true
 
 number-of : (number : ℕ) → (kindOf number ≡ Other → ⊥) → kindNumber (kindOf number) ≡ number
-unfolding everyLine kinds expressionNumber kindNumber statementNumber
+unfolding everyLine kinds expressionNumber memberNumber kindNumber statementNumber
 number-of number known = go (kindOf number) known (every-number hasNumber refl (λ number. refl) number)
   where
     go : (kind : Kind) → (kind ≡ Other → ⊥) → hasNumber number kind ≡ true → kindNumber kind ≡ number
@@ -135,6 +148,7 @@ number-of number known = go (kindOf number) known (every-number hasNumber refl (
     go (OfStatement kind) f e = eqb-true _ _ e
     go (OfMark kind) f e = eqb-true _ _ e
     go (OfMember kind) f e = eqb-true _ _ e
+    go Definition f e = eqb-true _ _ e
     go Other f e = absurd (f refl)
 
 pub kind-number : (rows other : List ℤ) (row that : ℕ) → (kindAt rows row ≡ Other → ⊥) → kindAt other that ≡ kindAt rows row → numberAt other that 0 ≡ numberAt rows row 0

@@ -20,7 +20,7 @@ use Rattle.language.specs.Program.{contents}
 use Rattle.row_fields.specs.Fields.{boundsOf}
 use Rattle.kernel_check.specs.Legal.{Legal}
 use Rattle.accepted.specs.Fields.{NamesVariable}
-use Rattle.accepted_kernel.specs.Kernel.{legal-form, legal-rows}
+use Rattle.accepted_kernel.specs.Kernel.{legal-plain, legal-rows}
 use Rattle.page.specs.declared.Sizes.{Sizes}
 use Rattle.page.specs.Lines.{Line as PageLine, Indented, indented, itemsLines, plain, readLines}
 use Rattle.page.specs.LinesLaws.{lines-read-back}
@@ -151,7 +151,7 @@ module _ (header rows : List ℤ) (legal : Legal header rows) (words : (i : ℕ)
       let few = countFits-facts Kernel (length rows) (legal .structured .count-fits) .most in
       let within : Within sizes names = record { variables-inside = omega arith; same-declared = refl } in
       let l = lines-of names sizes within (tableLines rows) (lines-fit header rows legal words) in
-      let back : readLines (trees sizes (l .found)) ≡ some (contents rows) = ap readLines (l .tree) ∙ lines-read-back (legal-form header rows legal) 0 in
+      let back : readLines (trees sizes (l .found)) ≡ some (contents rows) = ap readLines (l .tree) ∙ lines-read-back (legal-plain header rows legal .items) 0 in
       let balances = read-balanced sizes (l .found) (contents rows) back in
       let p = balanced-program sizes (l .found) balances in
       let again : some (p .items) ≡ some (contents rows) = sym (p .read) ∙ back in

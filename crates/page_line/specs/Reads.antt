@@ -13,7 +13,7 @@ use Rattle.shapes.specs.declared.PlaceShape.the-variants.{Variable, Element}
 use Rattle.shapes.specs.declared.OperationShape.{OperationShape}
 use Rattle.shapes.specs.declared.OperationShape.the-variants.{Minus, Not, Binary, Comma, Assign, Compound, Prefix, Postfix}
 use Rattle.shapes.specs.declared.ExpressionShape.{ExpressionShape}
-use Rattle.shapes.specs.declared.ExpressionShape.the-variants.{Number, Read, Operation, Choice}
+use Rattle.shapes.specs.declared.ExpressionShape.the-variants.{Number, Read, Operation, Choice, Call}
 
 -- Every link leads on.
 pub record Readable (rows : List ℤ) : Type 0 where
@@ -41,6 +41,7 @@ ExpressionInside count (Number v) = Unit {0}
 ExpressionInside count (Read p) = PlaceInside count p
 ExpressionInside count (Operation o) = OperationInside count o
 ExpressionInside count (Choice c) = Unit {0}
+ExpressionInside count (Call f arguments) = Unit {0}
 
 module _ (rows : List ℤ) (row : ℕ) where
   pub record PlaceRead (shape : PlaceShape) : Type 0 where

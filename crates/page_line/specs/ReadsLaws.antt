@@ -17,7 +17,7 @@ use Rattle.shapes.specs.declared.OperationShape.the-variants.{Minus, Not, Binar
 use Rattle.shapes.specs.declared.ChoiceShape.{ChoiceShape}
 use Rattle.shapes.specs.declared.ChoiceShape.the-variants.{And, Or, Conditional}
 use Rattle.shapes.specs.declared.ExpressionShape.{ExpressionShape}
-use Rattle.shapes.specs.declared.ExpressionShape.the-variants.{Number, Read, Operation, Choice}
+use Rattle.shapes.specs.declared.ExpressionShape.the-variants.{Number, Read, Operation, Choice, Call}
 use Rattle.shapes.specs.declared.Shape.{Shape}
 use Rattle.page_line.specs.Reads.{Readable, PlaceInside, OperationInside, ExpressionInside, PlaceRead, ExpressionRead}
 
@@ -41,6 +41,7 @@ module _ (rows : List ℤ) (row : ℕ) where
   expression-inside name arrays (Read p) o = place-inside name arrays p o
   expression-inside name arrays (Operation s) o = operation-inside s o
   expression-inside name arrays (Choice c) o = tt
+  expression-inside name arrays (Call f arguments) o = tt
 
 module _ {rows : List ℤ} {row : ℕ} where
   module _ (readable : Readable rows) (inside : row < rowCount rows) where
@@ -81,6 +82,7 @@ module _ {rows : List ℤ} {row : ℕ} where
       no-choice (And a b) = refl
       no-choice (Or a b) = refl
       no-choice (Conditional c a b) = refl
+  place-in-read (Call f arguments) r = record { is = ap placeOf (r .is); inside = tt }
 
   pub place-read : {e : ExpressionShape} {p : PlaceShape} → ExpressionRead rows row e → p ≡ placeIn e → PlaceRead rows row p
   place-read {e} found g = subst (λ (x : PlaceShape). PlaceRead rows row x) (sym g) (place-in-read e found)

@@ -39,6 +39,7 @@ pub fn lay_atom(sizes: Sizes, rows: &[i32], row: usize, at: usize, text: &mut [u
         },
         ExpressionShape::Operation(_) => at,
         ExpressionShape::Choice(_) => at,
+        ExpressionShape::Call(_, _) => at,
     }
 }
 
@@ -220,6 +221,7 @@ fn lay_value(sizes: Sizes, rows: &[i32], row: usize, at: usize, text: &mut [u8])
         ExpressionShape::Read(place) => lay_read_value(sizes, rows, place, at, text),
         ExpressionShape::Operation(operation) => lay_operation(sizes, rows, operation, at, text),
         ExpressionShape::Choice(_) => at,
+        ExpressionShape::Call(_, _) => at,
     }
 }
 
@@ -277,5 +279,6 @@ pub fn lay_assignment(sizes: Sizes, rows: &[i32], row: usize, at: usize, text: &
         ExpressionShape::Read(_) => at,
         ExpressionShape::Operation(operation) => lay_operated(sizes, rows, operation, at, text),
         ExpressionShape::Choice(_) => at,
+        ExpressionShape::Call(_, _) => at,
     }
 }

@@ -17,6 +17,8 @@ fn expression_of(shape: Shape) -> ExpressionShape
         Shape::OfStatement(_) => ExpressionShape::Number(0),
         Shape::OfMark(_) => ExpressionShape::Number(0),
         Shape::OfArm(_, _) => ExpressionShape::Number(0),
+        Shape::OfArgument(_) => ExpressionShape::Number(0),
+        Shape::OfDefinition(_, _, _) => ExpressionShape::Number(0),
         Shape::Other => ExpressionShape::Number(0),
     }
 }
@@ -29,6 +31,7 @@ fn place_of(expression: ExpressionShape) -> PlaceShape
         ExpressionShape::Read(place) => place,
         ExpressionShape::Operation(_) => PlaceShape::Variable(0),
         ExpressionShape::Choice(_) => PlaceShape::Variable(0),
+        ExpressionShape::Call(_, _) => PlaceShape::Variable(0),
     }
 }
 

@@ -4,7 +4,7 @@ use mathlib.Core.List.{[], _∷_, _++_}
 use Prim.Native.Nat.{ℕ, _+_}
 use native.Mathlib.Omega.{arith}
 use lib.ListN.{length, length-append}
-use Rattle.language.specs.Trees.{Statement, empty, express, block, ifThen, ifElse, while, doWhile, for, switch, break, continue, goto, guardedIf, guardedDo, abort, declare, Items, none, _then_, _here_}
+use Rattle.language.specs.Trees.{Statement, empty, express, block, ifThen, ifElse, while, doWhile, for, switch, break, continue, goto, guardedIf, guardedDo, abort, declare, giveBack, Items, none, _then_, _here_, define}
 use Rattle.page.specs.Lines.{indented, closes, turns, statementLines, branchLines, itemsLines}
 
 mutual
@@ -38,6 +38,7 @@ mutual
   statement-level l k (guardedDo arms) = refl
   statement-level l k abort = refl
   statement-level l k (declare word e) = refl
+  statement-level l k (giveBack value) = refl
 
   pub branch-level : (l k : ℕ) (s : Statement) → length (branchLines l s) ≡ length (branchLines k s)
   branch-level l k empty = refl
@@ -56,9 +57,11 @@ mutual
   branch-level l k (guardedDo arms) = refl
   branch-level l k abort = refl
   branch-level l k (declare word e) = refl
+  branch-level l k (giveBack value) = refl
 
   pub items-level : (l k : ℕ) (is : Items) → length (itemsLines l is) ≡ length (itemsLines k is)
   items-level l k none = refl
   items-level l k (s then is) =
       omega (arith, length-append (statementLines l s) (itemsLines l is), length-append (statementLines k s) (itemsLines k is), statement-level l k s, items-level l k is)
   items-level l k (m here is) = omega (arith, items-level l k is)
+  items-level l k (define f words body is) = items-level l k is

@@ -10,7 +10,7 @@ use Rattle.language.specs.Decode.{statementAt, itemsAt, listAt}
 use Rattle.shapes.specs.Shapes.{shapeAt, statementIn, itemIn, Onward, statementTree, markTree, StatementOnward, StatementWithin, ItemAt}
 use Rattle.shapes.specs.ShapeLaws.{statement-found, item-found, stated, itemed}
 use Rattle.shapes.specs.declared.Shape.{Shape}
-use Rattle.shapes.specs.declared.Shape.the-variants.{OfExpression, OfStatement, OfMark, OfArm, Other}
+use Rattle.shapes.specs.declared.Shape.the-variants.{OfExpression, OfStatement, OfMark, OfArm, OfArgument, OfDefinition, Other}
 use Rattle.shapes.specs.declared.StatementShape.{StatementShape}
 use Rattle.shapes.specs.declared.StatementShape.the-variants as statement
 use Rattle.shapes.specs.declared.MarkShape.{MarkShape}
@@ -56,6 +56,7 @@ module _ {rows : List ℤ} (readable : Readable rows) {row : ℕ} (inside : row 
   statement-outlined level (statement.GuardedDo a) e = refl
   statement-outlined level statement.Abort e = refl
   statement-outlined level (statement.Declare a b) e = refl
+  statement-outlined level (statement.Return a) e = refl
 
   module _ (level : ℕ) where
     abbrev behind : List Indented
@@ -80,6 +81,10 @@ module _ {rows : List ℤ} (readable : Readable rows) {row : ℕ} (inside : row 
             let found = itemed (item-found (readable .sound) inside) (ap itemIn e) in
             ap (itemsLines level) (found .is) ∙ ap (λ x. indented level (mark x) ∷ behind) (mark-same rows m)
         go (OfArm guard body) e = as-statement (OfArm guard body) e refl
+        go (OfArgument x) e = as-statement (OfArgument x) e refl
+        go (OfDefinition f words body) e =
+            let found = itemed (item-found (readable .sound) inside) (ap itemIn e) in
+            ap (itemsLines level) (found .is)
         go Other e = as-statement Other e refl
 
     list-lines : (s : StatementShape) → branchLines level (statementTree rows s) ≡ itemsLines level (listAt rows (listOf s))
@@ -100,6 +105,7 @@ module _ {rows : List ℤ} (readable : Readable rows) {row : ℕ} (inside : row 
     list-lines (statement.GuardedDo a) = refl
     list-lines statement.Abort = refl
     list-lines (statement.Declare a b) = refl
+    list-lines (statement.Return a) = refl
 
     pub block-lines : branchLines level (statementAt rows row) ≡ itemsLines level (listAt rows (blockList rows row))
     unfolding blockList
@@ -110,6 +116,8 @@ module _ {rows : List ℤ} (readable : Readable rows) {row : ℕ} (inside : row 
         go (OfStatement x) e = ap (branchLines level) (at-statement (OfStatement x) e .is) ∙ list-lines x
         go (OfMark m) e = ap (branchLines level) (at-statement (OfMark m) e .is) ∙ list-lines statement.Empty
         go (OfArm guard body) e = ap (branchLines level) (at-statement (OfArm guard body) e .is) ∙ list-lines statement.Empty
+        go (OfArgument x) e = ap (branchLines level) (at-statement (OfArgument x) e .is) ∙ list-lines statement.Empty
+        go (OfDefinition f words body) e = ap (branchLines level) (at-statement (OfDefinition f words body) e .is) ∙ list-lines statement.Empty
         go Other e = ap (branchLines level) (at-statement Other e .is) ∙ list-lines statement.Empty
 
   -- ---- rows
@@ -141,6 +149,7 @@ module _ {rows : List ℤ} (readable : Readable rows) {row : ℕ} (inside : row 
   statement-inside (statement.GuardedDo a) o = tt
   statement-inside statement.Abort o = tt
   statement-inside (statement.Declare a b) o = tt
+  statement-inside (statement.Return a) o = tt
 
   pub outline-inside : OutlineInside (rowCount rows) (outlineAt rows row)
   unfolding outlineAt
@@ -151,6 +160,8 @@ module _ {rows : List ℤ} (readable : Readable rows) {row : ℕ} (inside : row 
       go (OfStatement x) e = statement-inside x (at-statement (OfStatement x) e .onward)
       go (OfMark m) e = tt
       go (OfArm guard body) e = tt
+      go (OfArgument x) e = tt
+      go (OfDefinition f words body) e = tt
       go Other e = tt
 
   list-inside : (s : StatementShape) → StatementOnward rows row Any s → listOf s < rowCount rows
@@ -169,6 +180,7 @@ module _ {rows : List ℤ} (readable : Readable rows) {row : ℕ} (inside : row 
   list-inside (statement.GuardedDo a) o = omega arith
   list-inside statement.Abort o = omega arith
   list-inside (statement.Declare a b) o = omega arith
+  list-inside (statement.Return a) o = omega arith
 
   pub block-inside : blockList rows row < rowCount rows
   unfolding blockList
@@ -179,4 +191,6 @@ module _ {rows : List ℤ} (readable : Readable rows) {row : ℕ} (inside : row 
       go (OfStatement x) e = list-inside x (at-statement (OfStatement x) e .onward)
       go (OfMark m) e = omega arith
       go (OfArm guard body) e = omega arith
+      go (OfArgument x) e = omega arith
+      go (OfDefinition f words body) e = omega arith
       go Other e = omega arith

@@ -5,7 +5,7 @@ use lib.IntN.{ℤ}
 use Rattle.language.specs.Decode.{statementAt}
 use Rattle.shapes.specs.Shapes.{shapeAt}
 use Rattle.shapes.specs.declared.Shape.{Shape}
-use Rattle.shapes.specs.declared.Shape.the-variants.{OfExpression, OfStatement, OfMark, OfArm, Other}
+use Rattle.shapes.specs.declared.Shape.the-variants.{OfExpression, OfStatement, OfMark, OfArm, OfArgument, OfDefinition, Other}
 use Rattle.shapes.specs.declared.StatementShape.{StatementShape}
 use Rattle.shapes.specs.declared.StatementShape.the-variants as statement
 use Rattle.page.specs.Lines.{Indented, indented, closes, branchLines}
@@ -38,12 +38,15 @@ statementOutline row (statement.GuardedIf arms) = Nothing
 statementOutline row (statement.GuardedDo arms) = Nothing
 statementOutline row statement.Abort = Single Abort
 statementOutline row (statement.Declare word e) = Nothing
+statementOutline row (statement.Return value) = Nothing
 
 abbrev pub outlineOf : ℕ → Shape → Outline
 outlineOf row (OfExpression e) = Single Empty
 outlineOf row (OfStatement s) = statementOutline row s
 outlineOf row (OfMark m) = Single (Mark m)
 outlineOf row (OfArm guard body) = Single Empty
+outlineOf row (OfArgument e) = Single Empty
+outlineOf row (OfDefinition f words body) = Nothing
 outlineOf row Other = Single Empty
 
 unfoldable pub outlineAt : List ℤ → ℕ → Outline
@@ -67,12 +70,15 @@ listOf (statement.GuardedIf arms) = 0
 listOf (statement.GuardedDo arms) = 0
 listOf statement.Abort = 0
 listOf (statement.Declare word e) = 0
+listOf (statement.Return value) = 0
 
 abbrev pub listIn : Shape → ℕ
 listIn (OfExpression e) = 0
 listIn (OfStatement s) = listOf s
 listIn (OfMark m) = 0
 listIn (OfArm guard body) = 0
+listIn (OfArgument e) = 0
+listIn (OfDefinition f words body) = 0
 listIn Other = 0
 
 unfoldable pub blockList : List ℤ → ℕ → ℕ

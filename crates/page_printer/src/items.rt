@@ -37,6 +37,7 @@ fn statement_outline(row: usize, statement: StatementShape) -> Outline
         StatementShape::GuardedDo(_) => Outline::Nothing,
         StatementShape::Abort => Outline::Single(Line::Abort),
         StatementShape::Declare(_, _) => Outline::Nothing,
+        StatementShape::Return(_) => Outline::Nothing,
     }
 }
 
@@ -51,6 +52,8 @@ pub fn outline_at(rows: &[i32], row: usize) -> Outline
         Shape::OfStatement(statement) => statement_outline(row, statement),
         Shape::OfMark(mark) => Outline::Single(Line::Mark(mark)),
         Shape::OfArm(_, _) => Outline::Single(Line::Empty),
+        Shape::OfArgument(_) => Outline::Single(Line::Empty),
+        Shape::OfDefinition(_, _, _) => Outline::Nothing,
         Shape::Other => Outline::Single(Line::Empty),
     }
 }
@@ -74,6 +77,7 @@ fn list_of(statement: StatementShape) -> usize
         StatementShape::GuardedDo(_) => 0,
         StatementShape::Abort => 0,
         StatementShape::Declare(_, _) => 0,
+        StatementShape::Return(_) => 0,
     }
 }
 
@@ -88,6 +92,8 @@ pub fn block_list(rows: &[i32], row: usize) -> usize
         Shape::OfStatement(statement) => list_of(statement),
         Shape::OfMark(_) => 0,
         Shape::OfArm(_, _) => 0,
+        Shape::OfArgument(_) => 0,
+        Shape::OfDefinition(_, _, _) => 0,
         Shape::Other => 0,
     }
 }

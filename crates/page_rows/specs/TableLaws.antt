@@ -10,7 +10,7 @@ use lib.IntN.{ℤ, pos}
 use lib.ListN.{getD, drop}
 use Rattle.words.specs.Word.{pick}
 use Rattle.text_numbers.specs.NumberLaws.{not-some}
-use Rattle.language.specs.Trees.{Expression, Statement, Items, none as noItem, _then_, _here_, _⧺_, block, while, ifElse}
+use Rattle.language.specs.Trees.{Expression, Statement, Items, none as noItem, _then_, _here_, define, _⧺_, block, while, ifElse}
 use Rattle.language.specs.Sizes.{expressionRows, statementRows, itemsRows}
 use Rattle.emission.specs.Emission.{rowOf, listLink, emitExpression, emitStatement, emitItems, emit}
 use Rattle.emission.specs.EmissionLaws.{orMore, emit-append}
@@ -31,6 +31,7 @@ link-is : (is : Items) (base : ℕ) → listLink false is base ≡ pick (orMore 
 link-is noItem base = refl
 link-is (s then is) base = refl
 link-is (m here is) base = refl
+link-is (define f words body is) base = refl
 
 -- ---- lists that wait
 

@@ -14,8 +14,9 @@ use Rattle.words.specs.declared.Found.{Found}
 use Rattle.words.specs.declared.Found.the-variants.{At, Nothing}
 use Rattle.structure.specs.Refusal.{at, unless, _next_, rowCauses, structuralRefusal}
 use Rattle.declaration_causes.specs.Causes.{declarationRefusal}
+use Rattle.function_causes.specs.Causes.{functionRefusal}
 use Rattle.source_check.specs.Refusal.{laterRefusal, refusal as sourceRefusal}
-use Rattle.kernel_check.specs.Refusal.{kernelCauses, refusal as kernelRefusal}
+use Rattle.kernel_check.specs.Refusal.{formCauses, kernelCauses, refusal as kernelRefusal}
 use Rattle.source_check.specs.AcceptsLegal.{accepts-legal as source-accepts}
 use Rattle.kernel_check.specs.Accepts.{accepts-legal as kernel-accepts}
 use Rattle.program_runs.specs.Acceptance.{AcceptsLegal, NoCauseIfLegal}
@@ -47,15 +48,21 @@ structural-caused form header rows =
     next-caused _ _ (unless-caused _ 1 (omega arith)) (next-caused _ _ (unless-caused _ 2 (omega arith)) (next-caused _ _ (at-caused 3 _ (omega arith))
     (next-caused _ _ (at-caused 4 _ (omega arith)) (next-caused _ _ (at-caused 5 _ (omega arith)) (at-caused 6 _ (omega arith))))))
 
+function-caused : (rows : List ℤ) → Caused (functionRefusal rows)
+unfolding functionRefusal
+function-caused rows = next-caused _ _ (at-caused 23 _ (omega arith)) (at-caused 24 _ (omega arith))
+
 refusal-caused : (form : Form) (header rows : List ℤ) → Caused (refusalOf form header rows)
-unfolding sourceRefusal laterRefusal declarationRefusal kernelRefusal kernelCauses
+unfolding sourceRefusal laterRefusal declarationRefusal kernelRefusal kernelCauses formCauses
 refusal-caused Source header rows =
     next-caused _ _ (structural-caused Source header rows)
     (next-caused _ _ (at-caused 7 _ (omega arith)) (next-caused _ _ (at-caused 8 _ (omega arith)) (next-caused _ _ (at-caused 9 _ (omega arith))
-    (next-caused _ _ (at-caused 18 _ (omega arith)) (next-caused _ _ (at-caused 19 _ (omega arith)) (at-caused 20 _ (omega arith)))))))
+    (next-caused _ _ (next-caused _ _ (at-caused 18 _ (omega arith)) (next-caused _ _ (at-caused 19 _ (omega arith)) (at-caused 20 _ (omega arith)))) (function-caused rows)))))
 refusal-caused Kernel header rows =
     next-caused _ _ (structural-caused Kernel header rows)
-    (next-caused _ _ (at-caused 9 _ (omega arith)) (next-caused _ _ (at-caused 12 _ (omega arith)) (at-caused 13 _ (omega arith))))
+    (next-caused _ _ (at-caused 7 _ (omega arith))
+    (next-caused _ _ (next-caused _ _ (at-caused 9 _ (omega arith)) (next-caused _ _ (at-caused 12 _ (omega arith)) (at-caused 13 _ (omega arith))))
+    (next-caused _ _ (at-caused 19 _ (omega arith)) (function-caused rows))))
 
 no-cause-accepted : (verdict : Verdict) → Caused verdict → verdictNumbers verdict .cause ≡ 0 → verdict ≡ Accepted
 no-cause-accepted Accepted h e = refl

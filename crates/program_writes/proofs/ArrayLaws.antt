@@ -19,9 +19,10 @@ use Rattle.shapes.specs.declared.PlaceShape.the-variants.{Variable, Element}
 use Rattle.shapes.specs.declared.OperationShape.the-variants.{Minus, Not, Binary, Comma, Assign, Compound, Prefix, Postfix}
 use Rattle.shapes.specs.declared.ChoiceShape.the-variants.{And, Or, Conditional}
 use Rattle.shapes.specs.declared.ExpressionShape.{ExpressionShape}
-use Rattle.shapes.specs.declared.ExpressionShape.the-variants.{Number, Read, Operation, Choice}
+use Rattle.shapes.specs.declared.ExpressionShape.the-variants.{Number, Read, Operation, Choice, Call}
 use Rattle.write_sets.specs.Sets.{memberArray}
 use Rattle.write_sets.specs.SetLaws.{array-none, array-join, array-alone}
+use Rattle.measure_table.specs.PlainRows.{no-call}
 use Rattle.program_writes.specs.ArrayWrites.{isElement, writesArray, indexWritesArray, placeWritesArray}
 use Rattle.program_writes.specs.Links.{linksOf}
 use Rattle.program_writes.specs.Arrays.{ArraysAre, linkWrites, storedArrays, arraysAt, linkedArrays, LinkHeld, LinksHeld, ArraysFrom}
@@ -101,6 +102,7 @@ module _ {rows : List ℤ} {row : ℕ} where
   links-onward (Choice (And a b)) o = record { first = here (o .0); second = here (o .1); third = absent; place = absent }
   links-onward (Choice (Or a b)) o = record { first = here (o .0); second = here (o .1); third = absent; place = absent }
   links-onward (Choice (Conditional c a b)) o = record { first = here (o .0); second = here (o .1); third = here (o .2); place = absent }
+  links-onward (Call f arguments) o = record { first = absent; second = absent; third = absent; place = absent }
 
   one : (n : ℕ) {a : ℕ} → Onward rows row a → (linkWrites rows a n || false) ≡ writesArray (expressionAt rows a) n
   one n {a} o = or-none _ ∙ link-some rows a n (omega (arith, o .later))
@@ -116,23 +118,39 @@ module _ {rows : List ℤ} {row : ℕ} where
   stepped : (n : ℕ) {p : ℕ} → Onward rows row p → (storedArrays rows p n || false) ≡ placeWritesArray (placeOf (expressionAt rows p)) n
   stepped n {p} o = or-none _ ∙ stored-is rows p n (omega (arith, o .later))
 
-links-write : (rows : List ℤ) (row n : ℕ) (sh : ExpressionShape) → ExpressionOnward rows row (Name rows) mostArrays sh → linksWrite rows (linksOf sh) n ≡ writesArray (expressionTree rows sh) n
+-- no form has calls yet
+abbrev NoCall : ExpressionShape → Type 0
+NoCall (Number v) = Unit {0}
+NoCall (Read p) = Unit {0}
+NoCall (Operation o) = Unit {0}
+NoCall (Choice c) = Unit {0}
+NoCall (Call f arguments) = ⊥
+
+not-called : {rows : List ℤ} {row : ℕ} (sh : ExpressionShape) → Source rows → row < rowCount rows → ExpressionAt rows row sh → NoCall sh
+not-called (Number v) s inside f = tt
+not-called (Read p) s inside f = tt
+not-called (Operation o) s inside f = tt
+not-called (Choice c) s inside f = tt
+not-called {row = row} (Call g arguments) s inside f = no-call s row inside (f .is)
+
+links-write : (rows : List ℤ) (row n : ℕ) (sh : ExpressionShape) → NoCall sh → ExpressionOnward rows row (Name rows) mostArrays sh → linksWrite rows (linksOf sh) n ≡ writesArray (expressionTree rows sh) n
 unfolding writesArray indexWritesArray
-links-write rows row n (Number v) o = refl
-links-write rows row n (Read (Variable i)) o = refl
-links-write rows row n (Read (Element array index)) o = one n (o .1)
-links-write rows row n (Operation (Minus a)) o = one n o
-links-write rows row n (Operation (Not a)) o = one n o
-links-write rows row n (Operation (Binary operator a b)) o = two n (o .0) (o .1)
-links-write rows row n (Operation (Comma a b)) o = two n (o .0) (o .1)
-links-write rows row n (Operation (Assign p e)) o = valued n (o .0) (o .1)
-links-write rows row n (Operation (Compound operator p e)) o = valued n (o .0) (o .1)
-links-write rows row n (Operation (Prefix operator p)) o = stepped n o
-links-write rows row n (Operation (Postfix operator p)) o = stepped n o
-links-write rows row n (Choice (And a b)) o = two n (o .0) (o .1)
-links-write rows row n (Choice (Or a b)) o = two n (o .0) (o .1)
-links-write rows row n (Choice (Conditional c a b)) o =
-    ap₂ _||_ (link-some rows c n (omega (arith, o .0 .later))) (ap₂ _||_ (link-some rows a n (omega (arith, o .1 .later))) (link-some rows b n (omega (arith, o .2 .later))))
+links-write rows row n (Number v) c o = refl
+links-write rows row n (Read (Variable i)) c o = refl
+links-write rows row n (Read (Element array index)) c o = one n (o .1)
+links-write rows row n (Operation (Minus a)) c o = one n o
+links-write rows row n (Operation (Not a)) c o = one n o
+links-write rows row n (Operation (Binary operator a b)) c o = two n (o .0) (o .1)
+links-write rows row n (Operation (Comma a b)) c o = two n (o .0) (o .1)
+links-write rows row n (Operation (Assign p e)) c o = valued n (o .0) (o .1)
+links-write rows row n (Operation (Compound operator p e)) c o = valued n (o .0) (o .1)
+links-write rows row n (Operation (Prefix operator p)) c o = stepped n o
+links-write rows row n (Operation (Postfix operator p)) c o = stepped n o
+links-write rows row n (Choice (And a b)) c o = two n (o .0) (o .1)
+links-write rows row n (Choice (Or a b)) c o = two n (o .0) (o .1)
+links-write rows row n (Choice (Conditional test a b)) c o =
+    ap₂ _||_ (link-some rows test n (omega (arith, o .0 .later))) (ap₂ _||_ (link-some rows a n (omega (arith, o .1 .later))) (link-some rows b n (omega (arith, o .2 .later))))
+links-write rows row n (Call f arguments) c o = absurd c
 
 -- the links that were found lead on
 pub found-onward : {rows : List ℤ} {row : ℕ} {sh : ExpressionShape} {links : Links} → ExpressionAt rows row sh → links ≡ linksOf sh → LinksOnward rows row links
@@ -165,12 +183,12 @@ module _ {rows : List ℤ} {arrays : List ℕ} {row : ℕ} (m : ArraysFrom rows 
 
   -- ---- an expression
 
-  pub row-arrays-are : {sh : ExpressionShape} {links : Links} {own operands w : ℕ} → ExpressionAt rows row sh → links ≡ linksOf sh → ArraysAre own (storedArrays rows (links .place)) → operands ≡ linkedArrays arrays links → w ≡ bitOr own operands → ArraysAre w (writesArray (expressionAt rows row))
-  row-arrays-are {sh} {links} {own} {operands} f el x eo e =
+  pub row-arrays-are : {sh : ExpressionShape} {links : Links} {own operands w : ℕ} → row < rowCount rows → ExpressionAt rows row sh → links ≡ linksOf sh → ArraysAre own (storedArrays rows (links .place)) → operands ≡ linkedArrays arrays links → w ≡ bitOr own operands → ArraysAre w (writesArray (expressionAt rows row))
+  row-arrays-are {sh} {links} {own} {operands} inside f el x eo e =
       let on = found-onward f el in
       arrays-as _ _ (arrays-join own operands _ _ x
       (arrays-join _ _ _ _ (linked-are (links .first) (on .first)) (arrays-join _ _ _ _ (linked-are (links .second) (on .second)) (linked-are (links .third) (on .third)) refl) eo) e)
-      (λ n. ap (λ (l : Links). linksWrite rows l n) el ∙ links-write rows row n sh (f .onward) ∙ sym (ap (λ (t : Expression). writesArray t n) (f .is)))
+      (λ n. ap (λ (l : Links). linksWrite rows l n) el ∙ links-write rows row n sh (not-called sh (m .source) inside f) (f .onward) ∙ sym (ap (λ (t : Expression). writesArray t n) (f .is)))
 
 pub variable-arrays : {rows : List ℤ} {row i : ℕ} → PlaceAt rows row (Variable i) → ArraysAre 0 (placeWritesArray (placeOf (expressionAt rows row)))
 unfolding indexWritesArray

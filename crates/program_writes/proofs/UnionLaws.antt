@@ -18,6 +18,7 @@ use Rattle.words.specs.declared.StatementKind.the-variants.{Declare}
 use Rattle.language.specs.Decode.{expressionAt}
 use Rattle.language.specs.Writes.{writes}
 use Rattle.shapes.specs.Source.{NamesFrom}
+use Rattle.measure_table.specs.Parts.{calledIn}
 use Rattle.row_writes.specs.WriteSets.{SetIs, Sets, setWidth, setOf}
 use Rattle.write_sets.specs.Sets.{variableBits, declaredBits, variableBit, declaredBit, nothing, join, single}
 use Rattle.write_sets.specs.Counts.{countBelow, count-same}
@@ -46,7 +47,7 @@ declared-none {S} rows row {s} d es = subst (λ (b : Bool). SetIs S s (λ j. b &
 -- What the rows below k can write.
 pub record Variables (S : ℕ) (rows : List ℤ) (s : WriteSet) (k : ℕ) : Type 0 where
   pub within : k ≤ rowCount rows
-  pub are : SetIs S s (λ i. anyBelow k (λ row. writes (expressionAt rows row) i || declares rows row i))
+  pub are : SetIs S s (λ i. anyBelow k (λ row. writes (calledIn rows) (expressionAt rows row) i || declares rows row i))
 
 pub record Arrays (rows : List ℤ) (w k : ℕ) : Type 0 where
   pub within : k ≤ rowCount rows
@@ -61,12 +62,12 @@ module _ {S : ℕ} {rows : List ℤ} where
   unfolding anyBelow
   variables-next {sets} {s} {t} {d} {both} {u} {k} m v h et declared eb eu = rw (add-one k) (record {
     within = omega arith;
-    are = set-join s both _ _ (v .are) (set-join t d _ _ (subst (λ (z : WriteSet). SetIs S z (writes (expressionAt rows k))) (sym et) (m .row-set k (omega arith) h)) declared eb) eu;
+    are = set-join s both _ _ (v .are) (set-join t d _ _ (subst (λ (z : WriteSet). SetIs S z (writes (calledIn rows) (expressionAt rows k))) (sym et) (m .row-set k (omega arith) h)) declared eb) eu;
   })
 
   pub variables-end : {s : WriteSet} {k : ℕ} → Variables S rows s k → rowCount rows ≤ k → SetIs S s (programWrites rows)
   unfolding programWrites
-  variables-end {s} {k} v h = let e : k ≡ rowCount rows = omega (arith, v .within) in subst (λ (n : ℕ). SetIs S s (λ i. anyBelow n (λ row. writes (expressionAt rows row) i || declares rows row i))) e (v .are)
+  variables-end {s} {k} v h = let e : k ≡ rowCount rows = omega (arith, v .within) in subst (λ (n : ℕ). SetIs S s (λ i. anyBelow n (λ row. writes (calledIn rows) (expressionAt rows row) i || declares rows row i))) e (v .are)
 
 module _ {rows : List ℤ} where
   pub arrays-start : Arrays rows 0 0

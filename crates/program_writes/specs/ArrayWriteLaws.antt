@@ -5,9 +5,9 @@ use mathlib.Core.Logic.{_↔_, ⊎-elim}
 use Prim.Native.Nat.{ℕ}
 use borrow.Author.Tests.{eqb-true, eq-eqb}
 use Rattle.words.specs.Laws.{either}
-use Rattle.language.specs.Trees.{Expression, constant, read, minus, not, binary, and, or, comma, conditional, assign, compound, prefix, postfix, Place, variable, element}
-use Rattle.language.specs.Writes.{Stores, by-assign, by-compound, by-prefix, by-postfix, Index, of-element, Operand, of-read, of-minus, of-not, left-of-binary, right-of-binary, left-of-and, right-of-and, left-of-or, right-of-or, left-of-comma, right-of-comma, test-of-conditional, yes-of-conditional, no-of-conditional, index-of-assign, value-of-assign, index-of-compound, value-of-compound, index-of-prefix, index-of-postfix}
-use Rattle.program_writes.specs.ArrayWrites.{HasElementAsPlace, at-row, below, isElement, writesArray, indexWritesArray}
+use Rattle.language.specs.Trees.{Expression, constant, read, minus, not, binary, and, or, comma, conditional, assign, compound, prefix, postfix, call, Place, variable, element, Arguments, noMore, _also_}
+use Rattle.language.specs.Writes.{Stores, by-assign, by-compound, by-prefix, by-postfix, Index, of-element, Argument, first-argument, later-argument, Operand, of-read, of-minus, of-not, left-of-binary, right-of-binary, left-of-and, right-of-and, left-of-or, right-of-or, left-of-comma, right-of-comma, test-of-conditional, yes-of-conditional, no-of-conditional, index-of-assign, value-of-assign, index-of-compound, value-of-compound, index-of-prefix, index-of-postfix, argument-of-call}
+use Rattle.program_writes.specs.ArrayWrites.{HasElementAsPlace, at-row, below, isElement, writesArray, indexWritesArray, argumentsWriteArray}
 
 module _ (n : ℕ) where
   -- ---- where the place stands, the test holds
@@ -22,6 +22,11 @@ module _ (n : ℕ) where
   index-writes : {d : Expression} {p : Place} → Index d p → writesArray d n ≡ true → indexWritesArray p n ≡ true
   unfolding indexWritesArray
   index-writes of-element h = h
+
+  argument-writes : {d : Expression} {arguments : Arguments} → Argument d arguments → writesArray d n ≡ true → argumentsWriteArray arguments n ≡ true
+  unfolding argumentsWriteArray
+  argument-writes first-argument h = rw h
+  argument-writes (later-argument x) h = simp (argument-writes x h, or-true)
 
   operand-writes : {d e : Expression} → Operand d e → writesArray d n ≡ true → writesArray e n ≡ true
   unfolding writesArray
@@ -45,6 +50,7 @@ module _ (n : ℕ) where
   operand-writes value-of-compound h = simp (h, or-true)
   operand-writes (index-of-prefix x) h = simp (index-writes x h, or-true)
   operand-writes (index-of-postfix x) h = simp (index-writes x h, or-true)
+  operand-writes (argument-of-call x) h = argument-writes x h
 
   place-writes : {e : Expression} → HasElementAsPlace n e → writesArray e n ≡ true
   place-writes (at-row s) = own-writes s
@@ -62,6 +68,12 @@ module _ (n : ℕ) where
     index : Expression
     is-index : Index index p
     has : HasElementAsPlace n index
+
+  -- an argument that has it
+  record ArgumentHas (arguments : Arguments) : Type 0 where
+    argument : Expression
+    is-argument : Argument argument arguments
+    has : HasElementAsPlace n argument
 
   mutual
     unfolding writesArray
@@ -86,10 +98,17 @@ module _ (n : ℕ) where
         (λ r. ⊎-elim (λ n. let x = index-place p n in below (index-of-compound (x .is-index)) (x .has)) (λ v. below value-of-compound (writes-place e v)) (either _ _ r)) (either _ _ h)
     writes-place (prefix operator p) h = ⊎-elim (λ o. at-own p by-prefix o) (λ n. let x = index-place p n in below (index-of-prefix (x .is-index)) (x .has)) (either _ _ h)
     writes-place (postfix operator p) h = ⊎-elim (λ o. at-own p by-postfix o) (λ n. let x = index-place p n in below (index-of-postfix (x .is-index)) (x .has)) (either _ _ h)
+    writes-place (call f arguments) h = let x = argument-place arguments h in below (argument-of-call (x .is-argument)) (x .has)
 
     index-place : (p : Place) → indexWritesArray p n ≡ true → IndexHas p
     index-place (variable j) h = absurd (false≢true h)
     index-place (element array e) h = record { index = e; is-index = of-element; has = writes-place e h }
+
+    argument-place : (arguments : Arguments) → argumentsWriteArray arguments n ≡ true → ArgumentHas arguments
+    argument-place noMore h = absurd (false≢true h)
+    argument-place (e also arguments) h =
+        ⊎-elim (λ o. record { argument = e; is-argument = first-argument; has = writes-place e o })
+        (λ r. let x = argument-place arguments r in record { argument = x .argument; is-argument = later-argument (x .is-argument); has = x .has }) (either _ _ h)
 
   -- "exactly where the expression has .. an element of that array, as the place of a kind 21 to 30"
   pub array-exactly : (e : Expression) → (writesArray e n ≡ true) ↔ HasElementAsPlace n e

@@ -3,7 +3,7 @@
 use mathlib.Core.Bool.{Bool, false, _||_}
 use Prim.Native.Nat.{ℕ}
 use lib.Dec.{eqb}
-use Rattle.language.specs.Trees.{Expression, constant, read, minus, not, binary, and, or, comma, conditional, assign, compound, prefix, postfix, Place, variable, element}
+use Rattle.language.specs.Trees.{Expression, constant, read, minus, not, binary, and, or, comma, conditional, assign, compound, prefix, postfix, call, Place, variable, element, Arguments, noMore, _also_}
 use Rattle.language.specs.Writes.{Stores, Operand}
 
 -- In its own row, or in a row below it.
@@ -32,11 +32,18 @@ unfoldable mutual
   writesArray (compound operator p e) n = isElement p n || (indexWritesArray p n || writesArray e n)
   writesArray (prefix operator p) n = isElement p n || indexWritesArray p n
   writesArray (postfix operator p) n = isElement p n || indexWritesArray p n
+  -- what the function writes is written by its own rows
+  writesArray (call f arguments) n = argumentsWriteArray arguments n
 
   -- Whether the index of a place can.
   pub indexWritesArray : Place → ℕ → Bool
   indexWritesArray (variable j) n = false
   indexWritesArray (element array e) n = writesArray e n
+
+  -- Whether one of the arguments can.
+  pub argumentsWriteArray : Arguments → ℕ → Bool
+  argumentsWriteArray noMore n = false
+  argumentsWriteArray (e also arguments) n = writesArray e n || argumentsWriteArray arguments n
 
 -- What an update of a place writes: an element of the array that it is of, and what its index writes.
 abbrev pub placeWritesArray : Place → ℕ → Bool

@@ -7,7 +7,7 @@ use Rattle.shapes.specs.declared.OperationShape.the-variants.{Minus, Not, Binar
 use Rattle.shapes.specs.declared.ChoiceShape.{ChoiceShape}
 use Rattle.shapes.specs.declared.ChoiceShape.the-variants.{And, Or, Conditional}
 use Rattle.shapes.specs.declared.ExpressionShape.{ExpressionShape}
-use Rattle.shapes.specs.declared.ExpressionShape.the-variants.{Number, Read, Operation, Choice}
+use Rattle.shapes.specs.declared.ExpressionShape.the-variants.{Number, Read, Operation, Choice, Call}
 use Rattle.program_writes.specs.declared.Links.{Links}
 
 abbrev pub linksTo : ℕ → ℕ → ℕ → ℕ → Links
@@ -37,3 +37,5 @@ linksOf (Number v) = linksTo 0 0 0 0
 linksOf (Read p) = readLinks p
 linksOf (Operation o) = operationLinks o
 linksOf (Choice c) = choiceLinks c
+-- no form has calls yet
+linksOf (Call f arguments) = linksTo 0 0 0 0

@@ -15,10 +15,11 @@ use Rattle.language.specs.Trees.{Expression}
 use Rattle.language.specs.Decode.{expressionAt}
 use Rattle.language.specs.Writes.{HasAsPlace, writes}
 use Rattle.language.specs.WriteLaws.{writes-exactly}
+use Rattle.measure_table.specs.Parts.{calledIn}
 use Rattle.write_sets.specs.Sets.{variableBits, declaredBits, variableBit, declaredBit, memberArray}
 use Rattle.program_writes.specs.ArrayWrites.{HasElementAsPlace, writesArray}
 use Rattle.program_writes.specs.ArrayWriteLaws.{array-exactly}
-use Rattle.program_writes.specs.ProgramWrites.{SomeRow, SomeDeclaration, anyBelow, declares, programWrites, programWritesArray, WritesAre}
+use Rattle.program_writes.specs.ProgramWrites.{CalledWrites, SomeRow, SomeDeclaration, anyBelow, declares, programWrites, programWritesArray, WritesAre}
 use Rattle.program_writes.specs.declared.Writes.{Writes}
 
 -- ---- a test of some number below k
@@ -63,26 +64,26 @@ declared-row rows row i h d = let p = both _ _ d in record { row = row; inside =
 declaration-writes : (rows : List ℤ) (i : ℕ) (d : SomeDeclaration rows i) → declares rows (d .row) i ≡ true
 declaration-writes rows i d = rw (d .declaration, eq-eqb _ _ (d .word))
 
-pub program-exactly : (rows : List ℤ) (i : ℕ) → (programWrites rows i ≡ true) ↔ (SomeRow rows (HasAsPlace i) ⊎ SomeDeclaration rows i)
+pub program-exactly : (rows : List ℤ) (i : ℕ) → (programWrites rows i ≡ true) ↔ (SomeRow rows (HasAsPlace (CalledWrites rows i) i) ⊎ SomeDeclaration rows i)
 unfolding programWrites
 program-exactly rows i = (
   λ h.
       let f = found _ _ h in
-      ⊎-elim (λ w. inl (record { row = f .at; inside = f .below; holds = writes-exactly i (expressionAt rows (f .at)) .0 w })) (λ d. inr (declared-row rows (f .at) i (f .below) d)) (either _ _ (f .passes)),
-  ⊎-elim (λ s. any-found _ _ (s .row) (s .inside) (or-left _ _ (writes-exactly i (expressionAt rows (s .row)) .1 (s .holds))))
-      (λ d. any-found _ _ (d .row) (d .inside) (or-right (writes (expressionAt rows (d .row)) i) _ (declaration-writes rows i d))),
+      ⊎-elim (λ w. inl (record { row = f .at; inside = f .below; holds = writes-exactly (calledIn rows) i (expressionAt rows (f .at)) .0 w })) (λ d. inr (declared-row rows (f .at) i (f .below) d)) (either _ _ (f .passes)),
+  ⊎-elim (λ s. any-found _ _ (s .row) (s .inside) (or-left _ _ (writes-exactly (calledIn rows) i (expressionAt rows (s .row)) .1 (s .holds))))
+      (λ d. any-found _ _ (d .row) (d .inside) (or-right (writes (calledIn rows) (expressionAt rows (d .row)) i) _ (declaration-writes rows i d))),
 )
 
 -- ---- the sets
 
 module _ {S : ℕ} {w : Writes} {rows : List ℤ} (is : WritesAre S w rows) where
-  pub variable-bit : (i : ℕ) → i < variableBits → i < S → (variableBit (w .variables) i ≡ true) ↔ (SomeRow rows (HasAsPlace i) ⊎ SomeDeclaration rows i)
+  pub variable-bit : (i : ℕ) → i < variableBits → i < S → (variableBit (w .variables) i ≡ true) ↔ (SomeRow rows (HasAsPlace (CalledWrites rows i) i) ⊎ SomeDeclaration rows i)
   variable-bit i h k =
       let x = program-exactly rows i in
       let b = is .variables .variables i h ∙ ap (λ (below : Bool). below && programWrites rows i) (lt-ltb i S k) in
       (λ t. x .0 (sym b ∙ t), λ s. b ∙ x .1 s)
 
-  pub declared-bit : (i : ℕ) → i < declaredBits → (declaredBit (w .variables) i ≡ true) ↔ (SomeRow rows (HasAsPlace (S + i)) ⊎ SomeDeclaration rows (S + i))
+  pub declared-bit : (i : ℕ) → i < declaredBits → (declaredBit (w .variables) i ≡ true) ↔ (SomeRow rows (HasAsPlace (CalledWrites rows (S + i)) (S + i)) ⊎ SomeDeclaration rows (S + i))
   declared-bit i h = let x = program-exactly rows (S + i) in let b = is .variables .declared i h in (λ t. x .0 (sym b ∙ t), λ s. b ∙ x .1 s)
 
   pub array-bit : (n : ℕ) → (memberArray (w .arrays) n ≡ true) ↔ SomeRow rows (HasElementAsPlace n)

@@ -10,6 +10,7 @@ use Rattle.words.specs.Declarations.{isDeclaration}
 use Rattle.language.specs.Trees.{Expression}
 use Rattle.language.specs.Decode.{expressionAt}
 use Rattle.language.specs.Writes.{writes}
+use Rattle.measure_table.specs.Parts.{calledIn}
 use Rattle.row_writes.specs.WriteSets.{SetIs}
 use Rattle.write_sets.specs.Sets.{variableBits, declaredBits}
 use Rattle.write_sets.specs.Counts.{countBelow}
@@ -18,6 +19,10 @@ use Rattle.program_writes.specs.Arrays.{ArraysAre}
 use Rattle.program_writes.specs.declared.Writes.{Writes}
 
 -- ---- in the request's words
+
+-- Function f of the program can write the word i: "a call can write what its function can".
+abbrev pub CalledWrites : List ℤ → ℕ → ℕ → Type 0
+CalledWrites rows i f = calledIn rows f i ≡ true
 
 -- Some row of the table is an expression of which P holds.
 pub record SomeRow (rows : List ℤ) (P : Expression → Type 0) : Type 0 where
@@ -45,7 +50,7 @@ declares rows row i = isDeclaration rows row && eqb (numberAt rows row 1) i
 
 -- Whether the program can write the word i, which is a variable's or a declared one: "each declared word among them".
 unfoldable pub programWrites : List ℤ → ℕ → Bool
-programWrites rows i = anyBelow (rowCount rows) (λ row. writes (expressionAt rows row) i || declares rows row i)
+programWrites rows i = anyBelow (rowCount rows) (λ row. writes (calledIn rows) (expressionAt rows row) i || declares rows row i)
 
 -- Whether it can write an element of the array n.
 unfoldable pub programWritesArray : List ℤ → ℕ → Bool

@@ -60,5 +60,7 @@ pub fn links_of(shape: ExpressionShape) -> Links
         ExpressionShape::Read(place) => read_links(place),
         ExpressionShape::Operation(operation) => operation_links(operation),
         ExpressionShape::Choice(choice) => choice_links(choice),
+        // no form has calls yet
+        ExpressionShape::Call(_, _) => links(0, 0, 0, 0),
     }
 }

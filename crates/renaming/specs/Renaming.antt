@@ -1,9 +1,10 @@
--- Renaming: a program with every variable named by another store word. Arrays keep their numbers.
+-- Renaming: a program with every variable named by another store word, and every function by another number. Arrays keep their numbers.
+use mathlib.Core.List.{map}
 use Prim.Native.Nat.{ℕ}
-use Rattle.language.specs.Trees.{Expression, constant, read, minus, not, binary, and, or, comma, conditional, assign, compound, prefix, postfix, Place, variable, element, Part, absent, present, Statement, empty, express, block, ifThen, ifElse, while, doWhile, for, switch, break, continue, goto, guardedIf, guardedDo, abort, declare, Arms, noArm, arm, Items, none, _then_, _here_}
+use Rattle.language.specs.Trees.{Expression, constant, read, minus, not, binary, and, or, comma, conditional, assign, compound, prefix, postfix, call, Place, variable, element, Arguments, noMore, _also_, Part, absent, present, Statement, empty, express, block, ifThen, ifElse, while, doWhile, for, switch, break, continue, goto, guardedIf, guardedDo, abort, declare, giveBack, Arms, noArm, arm, Items, none, _then_, _here_, define}
 
--- `π i` is the word that stands for i.
-module _ (π : ℕ → ℕ) where
+-- `π i` is the word that stands for i, `ρ f` the number that stands for f.
+module _ (π ρ : ℕ → ℕ) where
   unfoldable mutual
     pub renamed : Expression → Expression
     renamed (constant v) = constant v
@@ -19,10 +20,15 @@ module _ (π : ℕ → ℕ) where
     renamed (compound operator p e) = compound operator (renamedPlace p) (renamed e)
     renamed (prefix operator p) = prefix operator (renamedPlace p)
     renamed (postfix operator p) = postfix operator (renamedPlace p)
+    renamed (call f arguments) = call (ρ f) (renamedArguments arguments)
 
     pub renamedPlace : Place → Place
     renamedPlace (variable i) = variable (π i)
     renamedPlace (element array e) = element array (renamed e)
+
+    pub renamedArguments : Arguments → Arguments
+    renamedArguments noMore = noMore
+    renamedArguments (e also arguments) = renamed e also renamedArguments arguments
 
   abbrev pub renamedPart : Part → Part
   renamedPart absent = absent
@@ -46,6 +52,7 @@ module _ (π : ℕ → ℕ) where
     renamedStatement (guardedDo arms) = guardedDo (renamedArms arms)
     renamedStatement abort = abort
     renamedStatement (declare word e) = declare (π word) (renamed e)
+    renamedStatement (giveBack value) = giveBack (renamedPart value)
 
     pub renamedArms : Arms → Arms
     renamedArms noArm = noArm
@@ -55,3 +62,4 @@ module _ (π : ℕ → ℕ) where
     renamedItems none = none
     renamedItems (s then is) = renamedStatement s then renamedItems is
     renamedItems (m here is) = m here renamedItems is
+    renamedItems (define f words body is) = define (ρ f) (map π words) (renamedItems body) (renamedItems is)

@@ -2,7 +2,7 @@
 use mathlib.Core.Option.{Option, none as nothing, some}
 use Prim.Native.Nat.{ℕ}
 use Rattle.computation.specs.Agreement.{Words}
-use Rattle.language.specs.Trees.{Statement, empty, express, block, ifThen, ifElse, while, doWhile, for, switch, break, continue, goto, guardedIf, guardedDo, abort, declare, Arms, noArm, arm, Items, none, _then_, _here_}
+use Rattle.language.specs.Trees.{Statement, empty, express, block, ifThen, ifElse, while, doWhile, for, switch, break, continue, goto, guardedIf, guardedDo, abort, declare, giveBack, Arms, noArm, arm, Items, none, _then_, _here_, define}
 use Rattle.language.specs.WellFormed.{NamedExpression, NamedPart}
 use Rattle.renaming.specs.Twin.{_with_}
 
@@ -24,6 +24,7 @@ declared (guardedIf arms) = nothing
 declared (guardedDo arms) = nothing
 declared abort = nothing
 declared (declare word e) = some word
+declared (giveBack value) = nothing
 
 -- "From its next item to the block's end": what is known behind a statement.
 unfoldable pub behind : Words → Option ℕ → Words
@@ -34,6 +35,7 @@ unfoldable pub Unmarked : Items → Type 0
 Unmarked none = Unit {0}
 Unmarked (s then is) = Unmarked is
 Unmarked (m here is) = ⊥
+Unmarked (define f words body is) = Unmarked is
 
 -- Behind a declaration stands no mark, so that a run that passes it over enters no item behind it.
 unfoldable pub Unreached : Option ℕ → Items → Type 0
@@ -60,6 +62,7 @@ module _ (All : Words) (arrays : ℕ) where
     Scoped P (guardedDo arms) = ScopedArms P arms
     Scoped P abort = Unit {0}
     Scoped P (declare word e) = All word × NamedExpression P arrays e
+    Scoped P (giveBack value) = NamedPart P arrays value
 
     pub ScopedArms : Words → Arms → Type 0
     ScopedArms P noArm = Unit {0}
@@ -69,3 +72,5 @@ module _ (All : Words) (arrays : ℕ) where
     ScopedItems P none = Unit {0}
     ScopedItems P (s then is) = Scoped P s × Unreached (declared s) is × ScopedItems (behind P (declared s)) is
     ScopedItems P (m here is) = ScopedItems P is
+    -- the block of a function is scoped by itself (RenamedFunctions)
+    ScopedItems P (define f words body is) = ScopedItems P is

@@ -1,9 +1,9 @@
 -- Twins: two states, two results and two computations that are the same but for where the words stand.
 use mathlib.Core.Path.{_≡_}
 use mathlib.Core.Logic.{_⊎_}
-use mathlib.Core.List.{map}
+use mathlib.Core.List.{List, map}
 use Prim.Native.Nat.{ℕ, _+_, _<_, _≤_}
-use lib.IntN.{pos}
+use lib.IntN.{ℤ, pos}
 use lib.ListN.{length, getD}
 use Rattle.words.specs.Layout.{Layout, arrayBase, arrayLength}
 use Rattle.computation.specs.Computation.{Turn, again, leave, Computation}
@@ -62,3 +62,9 @@ pub record Renames (L : Layout) (arrays : ℕ) (All : Words) (π : ℕ → ℕ) 
   pub known : P within All
   pub visible : Visible within P
   pub elements : (array : ℕ) → array < arrays → (i : ℕ) → arrayBase L array ≤ i → i < arrayBase L array + arrayLength L array → P i × (i ≡ π i)
+
+-- ---- calls
+
+-- Two contexts whose calls go alike from twin states, whatever more is known: `ρ f` is the number that stands for f.
+pub record Callings (L : Layout) (arrays : ℕ) (All : Words) (π ρ : ℕ → ℕ) (Visible : Words) (c d : ℕ → List ℤ → Computation ℤ) : Type 1 where
+  pub calls : {P : Words} → Renames L arrays All π Visible P → (f : ℕ) (values : List ℤ) → Alike All π Visible P P Equal (c f values) (d (ρ f) values)

@@ -1,5 +1,7 @@
 // The causes that lie in one field of a row: 3, 4 and 6. Each test is true where the field breaks the cause.
 use super::Bounds;
+use grammar::ABSENT;
+use grammar::ARGUMENT;
 use grammar::ARM;
 use grammar::ARRAY;
 use grammar::BODY_BLOCK;
@@ -10,9 +12,11 @@ use grammar::LABEL;
 use grammar::NONE;
 use grammar::OPERAND;
 use grammar::OPTIONAL;
+use grammar::PARAMETER;
 use grammar::PLACE;
 use grammar::VARIABLE;
 use grammar::in_language;
+use grammar::is_argument;
 use grammar::is_arm;
 use grammar::is_block;
 use grammar::is_expression;
@@ -22,6 +26,7 @@ use grammar::is_required;
 use grammar::is_statement;
 use grammar::sort_at;
 use words::Form;
+use words::declarations::is_declaration;
 use words::layout::header_store;
 use words::layout::leading;
 use words::layout::store_size;
@@ -36,7 +41,7 @@ ghost use Rattle.words.specs.Word.{pick};
 ghost use Rattle.words.specs.Layout.{headerFits};
 ghost use Rattle.words.specs.Kinds.{bodyBlock};
 ghost use Rattle.grammar.specs.Grammar.{grammar};
-ghost use Rattle.words.specs.Links.{isStatement, isBlock, fits as fitsOf};
+ghost use Rattle.words.specs.Links.{isStatement, isBlock, fitsPart, fits as fitsOf};
 ghost use Rattle.row_fields.specs.Fields.{foreign, leadsRight, mislinked, boundsOf, variableFits, numberFits, outside};
 
 // Cause 3.
@@ -65,6 +70,29 @@ fn is_body(kinds: &KindTable, rows: &[i32], sort: u8, row: usize) -> bool
     is_statement(kinds, rows, row)
 }
 
+// The row is of the sort that a link to a member, a branch or a body asks for.
+fn fits_part(kinds: &KindTable, rows: &[i32], sort: u8, row: usize) -> bool
+    requires { ⌜ (6 * row + 5 < length (now rows)) × (now kinds ≡ grammar) ⌝ }
+    ensures { λ r. ⌜ r ≡ fitsPart (now (rows .entry)) sort row ⌝ }
+{
+    if sort == ARM {
+        return is_arm(kinds, rows, row);
+    }
+    if sort == ARGUMENT {
+        return is_argument(kinds, rows, row);
+    }
+    if sort == PARAMETER {
+        return is_declaration(rows, row);
+    }
+    if sort == ABSENT {
+        return false;
+    }
+    if is_body(kinds, rows, sort, row) {
+        return number_at(rows, row, 5) == 0;
+    }
+    false
+}
+
 // The row is of the sort that a link asks for.
 fn fits(kinds: &KindTable, rows: &[i32], sort: u8, row: usize) -> bool
     requires { ⌜ (6 * row + 5 < length (now rows)) × (now kinds ≡ grammar) ⌝ }
@@ -82,13 +110,7 @@ fn fits(kinds: &KindTable, rows: &[i32], sort: u8, row: usize) -> bool
     if sort == ITEM {
         return is_statement(kinds, rows, row);
     }
-    if sort == ARM {
-        return is_arm(kinds, rows, row);
-    }
-    if is_body(kinds, rows, sort, row) {
-        return number_at(rows, row, 5) == 0;
-    }
-    false
+    fits_part(kinds, rows, sort, row)
 }
 
 fn leads_right(kinds: &KindTable, rows: &[i32], row: usize, sort: u8, link: usize) -> bool

@@ -9,12 +9,13 @@ use Rattle.words.specs.Kinds.{between}
 use Rattle.words.specs.Links.{note}
 use Rattle.list_items.specs.Items.{itemOf, earlierOf}
 use Rattle.row_notes.specs.declared.Note.{Note}
-use Rattle.row_notes.specs.declared.Note.the-variants.{Inside, ItemOf, Before}
+use Rattle.row_notes.specs.declared.Note.the-variants.{Inside, Around, ItemOf, Before}
 
 -- What a row hands to the row that its field links. Next hands on to the next item of the same list; a row of the kinds has its parts inside
 -- it, and is before all that follow it in its list.
 unfoldable pub handed : Note → List ℤ → ℕ → ℕ → ℕ → ℕ
 handed (Inside first last) rows owner field own = pick (eqb field 5) own (pick (between first last (numberAt rows owner 0)) 1 own)
+handed (Around kind) rows owner field own = pick (eqb field 5) own (pick (eqb (numberAt rows owner 0) kind) owner own)
 handed (ItemOf kind part) rows owner field own = itemOf rows kind part owner field own
 handed (Before first last) rows owner field own = earlierOf (λ row. between first last (numberAt rows row 0)) owner field own
 

@@ -4,6 +4,7 @@ use grammar::between;
 use grammar::link;
 use list_items::hand_earlier;
 use list_items::hand_item;
+use structure::row_number::narrow;
 use words::table::number_at;
 ghost use mathlib.Core.Path.{_≡_};
 ghost use Prim.Native.Nat.{_+_, _*_, _/_, _<_, _≤_};
@@ -20,21 +21,23 @@ ghost use Rattle.row_notes.specs.RowNotes.{handed, noteAt};
 pub enum Note {
     // 1 inside a row of the kinds from the first to the last
     Inside(usize, usize),
+    // the innermost row of this kind that the row stands inside, or 0
+    Around(usize),
     // 1 for an item of the list that this field of a row of this kind begins
     ItemOf(usize, usize),
     // the nearest row of the kinds from the first to the last before the row in its own list, or 0
     Before(usize, usize),
 }
 
-// Inside a row: as its part, or where the row stands inside already.
-fn inside(around: bool, field: usize, own: u16) -> u16
-    ensures { λ r. ⌜ r ≡ pick (eqb field 5) own (pick around 1 own) ⌝ }
+// Inside a row: as its part, or where the row stands inside already. `mark` is the note of what stands inside.
+fn inside(around: bool, mark: u16, field: usize, own: u16) -> u16
+    ensures { λ r. ⌜ r ≡ pick (eqb field 5) own (pick around mark own) ⌝ }
 {
     if field == 5 {
         return own;
     }
     if around {
-        return 1;
+        return mark;
     }
     own
 }
@@ -47,9 +50,11 @@ fn hand(which: Note, rows: &[i32], owner: usize, field: usize, own: u16) -> u16
     match which {
         Note::Inside(first, last) => inside(
             between(first, last, number_at(rows, owner, 0)),
+            1,
             field,
             own,
         ),
+        Note::Around(kind) => inside(number_at(rows, owner, 0) == kind, narrow(owner), field, own),
         Note::ItemOf(kind, part) => hand_item(rows, kind, part, owner, field, own),
         Note::Before(first, last) => hand_earlier(
             between(first, last, number_at(rows, owner, 0)),

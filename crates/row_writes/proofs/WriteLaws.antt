@@ -16,8 +16,8 @@ use Rattle.words.specs.Laws.{by-cases}
 use Rattle.words.specs.Table.{rowCount}
 use Rattle.words.specs.declared.Operator.{Operator}
 use Rattle.language.specs.Trees.{Expression, Place, variable, element, Part, absent, present}
-use Rattle.language.specs.Writes.{isVariable, writes, indexWrites}
-use Rattle.language.specs.Decode.{placeOf, expressionAt, partAt}
+use Rattle.language.specs.Writes.{isVariable, writes, indexWrites, argumentsWrite}
+use Rattle.language.specs.Decode.{placeOf, expressionAt, partAt, argumentListAt}
 use Rattle.language.specs.DecodeLaws.{part-some}
 use Rattle.translation.specs.Translate.{Atom, number, word, top, atomOf}
 use Rattle.translation.specs.TranslateSize.{copied}
@@ -28,12 +28,13 @@ use Rattle.shapes.specs.declared.OperationShape.the-variants.{Minus, Not, Binar
 use Rattle.shapes.specs.declared.ChoiceShape.{ChoiceShape}
 use Rattle.shapes.specs.declared.ChoiceShape.the-variants.{And, Or, Conditional}
 use Rattle.shapes.specs.declared.ExpressionShape.{ExpressionShape}
-use Rattle.shapes.specs.declared.ExpressionShape.the-variants.{Number, Read, Operation, Choice}
+use Rattle.shapes.specs.declared.ExpressionShape.the-variants.{Number, Read, Operation, Choice, Call}
 use Rattle.write_sets.specs.Named.{Named}
 use Rattle.write_sets.specs.Sets.{member, variableBit, declaredBit, nothing, join, single}
 use Rattle.write_sets.specs.SetLaws.{member-variable, member-declared, variable-join, declared-join, variable-nothing, declared-nothing, variable-single, declared-single}
 use Rattle.write_sets.specs.declared.WriteSet.{WriteSet}
-use Rattle.measure_table.specs.Parts.{indexOf, firstCopied, Operand}
+use Rattle.measure_table.specs.Parts.{calledIn, indexOf, firstCopied, Operand}
+use Rattle.measure_table.specs.PlainRows.{none-called}
 use Rattle.row_writes.specs.WriteSets.{SetIs, placeWrites, partWrites, setWidth, setOf, setAt, SetHeld, setWords, SetsFrom, Sets}
 use Rattle.measure_table.proofs.RowWords.{stored-length, own-words, other-words}
 
@@ -51,7 +52,7 @@ or-and : (a b c : Bool) → ((a && b) || (a && c)) ≡ (a && (b || c))
 or-and true b c = refl
 or-and false b c = refl
 
-set-as : {S : ℕ} {s : WriteSet} (X W : ℕ → Bool) → SetIs S s X → ((i : ℕ) → X i ≡ W i) → SetIs S s W
+pub set-as : {S : ℕ} {s : WriteSet} (X W : ℕ → Bool) → SetIs S s X → ((i : ℕ) → X i ≡ W i) → SetIs S s W
 set-as {S} X W x e = record { variables = λ i h. x .variables i h ∙ ap (λ (b : Bool). ltb i S && b) (e i); declared = λ i h. x .declared i h ∙ e (S + i) }
 
 pub set-nothing : {S : ℕ} {s : WriteSet} → s ≡ nothing → SetIs S s (λ i. false)
@@ -95,92 +96,97 @@ module _ {S : ℕ} {rows : List ℤ} {sets : List ℕ} {row : ℕ} (m : SetsFrom
   pub link-held : {link : ℕ} → Onward rows row link → SetHeld sets link
   link-held o h = omega (arith, m .room, o .inside)
 
-  link-set : {link : ℕ} {s : WriteSet} → Onward rows row link → s ≡ setAt sets link → SetIs S s (writes (expressionAt rows link))
+  pub link-set : {link : ℕ} {s : WriteSet} → Onward rows row link → s ≡ setAt sets link → SetIs S s (writes (calledIn rows) (expressionAt rows link))
   link-set {link} {s} o e =
-      subst (λ (z : WriteSet). SetIs S z (writes (expressionAt rows link))) (sym (e ∙ set-some sets link (omega (arith, o .later)))) (m .row-set link (omega (arith, o .later)) (o .inside))
+      subst (λ (z : WriteSet). SetIs S z (writes (calledIn rows) (expressionAt rows link))) (sym (e ∙ set-some sets link (omega (arith, o .later)))) (m .row-set link (omega (arith, o .later)) (o .inside))
 
   -- ---- places
 
-  pub variable-writes : {i : ℕ} {s : WriteSet} → PlaceAt rows row (Variable i) → s ≡ single S i → SetIs S s (placeWrites (placeOf (expressionAt rows row)))
+  pub variable-writes : {i : ℕ} {s : WriteSet} → PlaceAt rows row (Variable i) → s ≡ single S i → SetIs S s (placeWrites (calledIn rows) (placeOf (expressionAt rows row)))
   unfolding indexWrites
   variable-writes {i} f e = rw (f .is) (set-as (λ j. eqb i j) _ (set-single i (f .onward .named S (m .names)) e) (λ j. sym (or-none (eqb i j))))
 
-  pub element-writes : {array index : ℕ} {s : WriteSet} → PlaceAt rows row (Element array index) → s ≡ setAt sets index → SetIs S s (placeWrites (placeOf (expressionAt rows row)))
+  pub element-writes : {array index : ℕ} {s : WriteSet} → PlaceAt rows row (Element array index) → s ≡ setAt sets index → SetIs S s (placeWrites (calledIn rows) (placeOf (expressionAt rows row)))
   unfolding indexWrites
-  element-writes {array} {index} f e = rw (f .is) (set-as (writes (expressionAt rows index)) _ (link-set (f .onward .1) e) (λ j. refl))
+  element-writes {array} {index} f e = rw (f .is) (set-as (writes (calledIn rows) (expressionAt rows index)) _ (link-set (f .onward .1) e) (λ j. refl))
 
   -- ---- expressions, a clause of `writes` each
 
-  shaped : {sh : ExpressionShape} {s : WriteSet} → ExpressionAt rows row sh → SetIs S s (writes (expressionTree rows sh)) → SetIs S s (writes (expressionAt rows row))
-  shaped {sh} {s} f x = subst (λ (e : Expression). SetIs S s (writes e)) (sym (f .is)) x
+  shaped : {sh : ExpressionShape} {s : WriteSet} → ExpressionAt rows row sh → SetIs S s (writes (calledIn rows) (expressionTree rows sh)) → SetIs S s (writes (calledIn rows) (expressionAt rows row))
+  shaped {sh} {s} f x = subst (λ (e : Expression). SetIs S s (writes (calledIn rows) e)) (sym (f .is)) x
 
-  pub number-set : {v : ℤ} {s : WriteSet} → ExpressionAt rows row (Number v) → s ≡ nothing → SetIs S s (writes (expressionAt rows row))
+  pub number-set : {v : ℤ} {s : WriteSet} → ExpressionAt rows row (Number v) → s ≡ nothing → SetIs S s (writes (calledIn rows) (expressionAt rows row))
   unfolding writes
   number-set f e = shaped f (set-as (λ i. false) _ (set-nothing e) (λ i. refl))
 
-  pub variable-set : {j : ℕ} {s : WriteSet} → ExpressionAt rows row (Read (Variable j)) → s ≡ nothing → SetIs S s (writes (expressionAt rows row))
+  pub variable-set : {j : ℕ} {s : WriteSet} → ExpressionAt rows row (Read (Variable j)) → s ≡ nothing → SetIs S s (writes (calledIn rows) (expressionAt rows row))
   unfolding writes indexWrites
   variable-set f e = shaped f (set-as (λ i. false) _ (set-nothing e) (λ i. refl))
 
-  pub element-set : {array index : ℕ} {s : WriteSet} → ExpressionAt rows row (Read (Element array index)) → s ≡ setAt sets index → SetIs S s (writes (expressionAt rows row))
+  pub element-set : {array index : ℕ} {s : WriteSet} → ExpressionAt rows row (Read (Element array index)) → s ≡ setAt sets index → SetIs S s (writes (calledIn rows) (expressionAt rows row))
   unfolding writes indexWrites
-  element-set {array} {index} f e = shaped f (set-as (writes (expressionAt rows index)) _ (link-set (f .onward .1) e) (λ i. refl))
+  element-set {array} {index} f e = shaped f (set-as (writes (calledIn rows) (expressionAt rows index)) _ (link-set (f .onward .1) e) (λ i. refl))
 
-  pub minus-set : {a : ℕ} {s : WriteSet} → ExpressionAt rows row (Operation (Minus a)) → s ≡ setAt sets a → SetIs S s (writes (expressionAt rows row))
+  pub minus-set : {a : ℕ} {s : WriteSet} → ExpressionAt rows row (Operation (Minus a)) → s ≡ setAt sets a → SetIs S s (writes (calledIn rows) (expressionAt rows row))
   unfolding writes
-  minus-set {a} f e = shaped f (set-as (writes (expressionAt rows a)) _ (link-set (f .onward) e) (λ i. refl))
+  minus-set {a} f e = shaped f (set-as (writes (calledIn rows) (expressionAt rows a)) _ (link-set (f .onward) e) (λ i. refl))
 
-  pub not-set : {a : ℕ} {s : WriteSet} → ExpressionAt rows row (Operation (Not a)) → s ≡ setAt sets a → SetIs S s (writes (expressionAt rows row))
+  pub not-set : {a : ℕ} {s : WriteSet} → ExpressionAt rows row (Operation (Not a)) → s ≡ setAt sets a → SetIs S s (writes (calledIn rows) (expressionAt rows row))
   unfolding writes
-  not-set {a} f e = shaped f (set-as (writes (expressionAt rows a)) _ (link-set (f .onward) e) (λ i. refl))
+  not-set {a} f e = shaped f (set-as (writes (calledIn rows) (expressionAt rows a)) _ (link-set (f .onward) e) (λ i. refl))
 
   -- the sets of two operands joined
-  two-sets : {a b : ℕ} {x y s : WriteSet} → Onward rows row a → Onward rows row b → x ≡ setAt sets a → y ≡ setAt sets b → s ≡ join x y → SetIs S s (λ i. writes (expressionAt rows a) i || writes (expressionAt rows b) i)
-  two-sets {a} {b} {x} {y} oa ob ex ey e = set-join x y (writes (expressionAt rows a)) (writes (expressionAt rows b)) (link-set oa ex) (link-set ob ey) e
+  two-sets : {a b : ℕ} {x y s : WriteSet} → Onward rows row a → Onward rows row b → x ≡ setAt sets a → y ≡ setAt sets b → s ≡ join x y → SetIs S s (λ i. writes (calledIn rows) (expressionAt rows a) i || writes (calledIn rows) (expressionAt rows b) i)
+  two-sets {a} {b} {x} {y} oa ob ex ey e = set-join x y (writes (calledIn rows) (expressionAt rows a)) (writes (calledIn rows) (expressionAt rows b)) (link-set oa ex) (link-set ob ey) e
 
-  pub binary-set : {operator : Operator} {a b : ℕ} {x y s : WriteSet} → ExpressionAt rows row (Operation (Binary operator a b)) → x ≡ setAt sets a → y ≡ setAt sets b → s ≡ join x y → SetIs S s (writes (expressionAt rows row))
+  pub binary-set : {operator : Operator} {a b : ℕ} {x y s : WriteSet} → ExpressionAt rows row (Operation (Binary operator a b)) → x ≡ setAt sets a → y ≡ setAt sets b → s ≡ join x y → SetIs S s (writes (calledIn rows) (expressionAt rows row))
   unfolding writes
   binary-set f ex ey e = shaped f (set-as _ _ (two-sets (f .onward .0) (f .onward .1) ex ey e) (λ i. refl))
 
-  pub comma-set : {a b : ℕ} {x y s : WriteSet} → ExpressionAt rows row (Operation (Comma a b)) → x ≡ setAt sets a → y ≡ setAt sets b → s ≡ join x y → SetIs S s (writes (expressionAt rows row))
+  pub comma-set : {a b : ℕ} {x y s : WriteSet} → ExpressionAt rows row (Operation (Comma a b)) → x ≡ setAt sets a → y ≡ setAt sets b → s ≡ join x y → SetIs S s (writes (calledIn rows) (expressionAt rows row))
   unfolding writes
   comma-set f ex ey e = shaped f (set-as _ _ (two-sets (f .onward .0) (f .onward .1) ex ey e) (λ i. refl))
 
-  pub and-set : {a b : ℕ} {x y s : WriteSet} → ExpressionAt rows row (Choice (And a b)) → x ≡ setAt sets a → y ≡ setAt sets b → s ≡ join x y → SetIs S s (writes (expressionAt rows row))
+  pub and-set : {a b : ℕ} {x y s : WriteSet} → ExpressionAt rows row (Choice (And a b)) → x ≡ setAt sets a → y ≡ setAt sets b → s ≡ join x y → SetIs S s (writes (calledIn rows) (expressionAt rows row))
   unfolding writes
   and-set f ex ey e = shaped f (set-as _ _ (two-sets (f .onward .0) (f .onward .1) ex ey e) (λ i. refl))
 
-  pub or-set : {a b : ℕ} {x y s : WriteSet} → ExpressionAt rows row (Choice (Or a b)) → x ≡ setAt sets a → y ≡ setAt sets b → s ≡ join x y → SetIs S s (writes (expressionAt rows row))
+  pub or-set : {a b : ℕ} {x y s : WriteSet} → ExpressionAt rows row (Choice (Or a b)) → x ≡ setAt sets a → y ≡ setAt sets b → s ≡ join x y → SetIs S s (writes (calledIn rows) (expressionAt rows row))
   unfolding writes
   or-set f ex ey e = shaped f (set-as _ _ (two-sets (f .onward .0) (f .onward .1) ex ey e) (λ i. refl))
 
-  pub conditional-set : {c a b : ℕ} {z x y branches s : WriteSet} → ExpressionAt rows row (Choice (Conditional c a b)) → x ≡ setAt sets a → y ≡ setAt sets b → branches ≡ join x y → z ≡ setAt sets c → s ≡ join z branches → SetIs S s (writes (expressionAt rows row))
+  pub conditional-set : {c a b : ℕ} {z x y branches s : WriteSet} → ExpressionAt rows row (Choice (Conditional c a b)) → x ≡ setAt sets a → y ≡ setAt sets b → branches ≡ join x y → z ≡ setAt sets c → s ≡ join z branches → SetIs S s (writes (calledIn rows) (expressionAt rows row))
   unfolding writes
   conditional-set {c} {a} {b} {z} {x} {y} {branches} f ex ey eb ez e =
-      shaped f (set-as _ _ (set-join z branches (writes (expressionAt rows c)) _ (link-set (f .onward .0) ez) (two-sets (f .onward .1) (f .onward .2) ex ey eb) e) (λ i. refl))
+      shaped f (set-as _ _ (set-join z branches (writes (calledIn rows) (expressionAt rows c)) _ (link-set (f .onward .0) ez) (two-sets (f .onward .1) (f .onward .2) ex ey eb) e) (λ i. refl))
 
   -- the set of a place and that of a value joined
-  update-set : (place : ℕ) {v : ℕ} {x y s : WriteSet} → Onward rows row v → SetIs S x (placeWrites (placeOf (expressionAt rows place))) → y ≡ setAt sets v → s ≡ join x y
-      → SetIs S s (λ i. isVariable (placeOf (expressionAt rows place)) i || (indexWrites (placeOf (expressionAt rows place)) i || writes (expressionAt rows v) i))
+  update-set : (place : ℕ) {v : ℕ} {x y s : WriteSet} → Onward rows row v → SetIs S x (placeWrites (calledIn rows) (placeOf (expressionAt rows place))) → y ≡ setAt sets v → s ≡ join x y
+      → SetIs S s (λ i. isVariable (placeOf (expressionAt rows place)) i || (indexWrites (calledIn rows) (placeOf (expressionAt rows place)) i || writes (calledIn rows) (expressionAt rows v) i))
   update-set place {v} {x} {y} o p ey e =
       let q = placeOf (expressionAt rows place) in
-      set-as _ _ (set-join x y (placeWrites q) (writes (expressionAt rows v)) p (link-set o ey) e) (λ i. or-assoc (isVariable q i) (indexWrites q i) (writes (expressionAt rows v) i))
+      set-as _ _ (set-join x y (placeWrites (calledIn rows) q) (writes (calledIn rows) (expressionAt rows v)) p (link-set o ey) e) (λ i. or-assoc (isVariable q i) (indexWrites (calledIn rows) q i) (writes (calledIn rows) (expressionAt rows v) i))
 
-  pub assign-set : {place v : ℕ} {x y s : WriteSet} → ExpressionAt rows row (Operation (Assign place v)) → SetIs S x (placeWrites (placeOf (expressionAt rows place))) → y ≡ setAt sets v → s ≡ join x y → SetIs S s (writes (expressionAt rows row))
+  pub assign-set : {place v : ℕ} {x y s : WriteSet} → ExpressionAt rows row (Operation (Assign place v)) → SetIs S x (placeWrites (calledIn rows) (placeOf (expressionAt rows place))) → y ≡ setAt sets v → s ≡ join x y → SetIs S s (writes (calledIn rows) (expressionAt rows row))
   unfolding writes
   assign-set {place} f p ey e = shaped f (set-as _ _ (update-set place (f .onward .1) p ey e) (λ i. refl))
 
-  pub compound-set : {operator : Operator} {place v : ℕ} {x y s : WriteSet} → ExpressionAt rows row (Operation (Compound operator place v)) → SetIs S x (placeWrites (placeOf (expressionAt rows place))) → y ≡ setAt sets v → s ≡ join x y → SetIs S s (writes (expressionAt rows row))
+  pub compound-set : {operator : Operator} {place v : ℕ} {x y s : WriteSet} → ExpressionAt rows row (Operation (Compound operator place v)) → SetIs S x (placeWrites (calledIn rows) (placeOf (expressionAt rows place))) → y ≡ setAt sets v → s ≡ join x y → SetIs S s (writes (calledIn rows) (expressionAt rows row))
   unfolding writes
   compound-set {operator} {place} f p ey e = shaped f (set-as _ _ (update-set place (f .onward .1) p ey e) (λ i. refl))
 
-  pub prefix-set : {operator : Operator} {place : ℕ} {s : WriteSet} → ExpressionAt rows row (Operation (Prefix operator place)) → SetIs S s (placeWrites (placeOf (expressionAt rows place))) → SetIs S s (writes (expressionAt rows row))
+  pub prefix-set : {operator : Operator} {place : ℕ} {s : WriteSet} → ExpressionAt rows row (Operation (Prefix operator place)) → SetIs S s (placeWrites (calledIn rows) (placeOf (expressionAt rows place))) → SetIs S s (writes (calledIn rows) (expressionAt rows row))
   unfolding writes
   prefix-set f p = shaped f (set-as _ _ p (λ i. refl))
 
-  pub postfix-set : {operator : Operator} {place : ℕ} {s : WriteSet} → ExpressionAt rows row (Operation (Postfix operator place)) → SetIs S s (placeWrites (placeOf (expressionAt rows place))) → SetIs S s (writes (expressionAt rows row))
+  pub postfix-set : {operator : Operator} {place : ℕ} {s : WriteSet} → ExpressionAt rows row (Operation (Postfix operator place)) → SetIs S s (placeWrites (calledIn rows) (placeOf (expressionAt rows place))) → SetIs S s (writes (calledIn rows) (expressionAt rows row))
   unfolding writes
   postfix-set f p = shaped f (set-as _ _ p (λ i. refl))
+
+  -- no form has functions yet
+  pub call-set : {f first : ℕ} {s : WriteSet} → ExpressionAt rows row (Call f first) → SetIs S s (argumentsWrite (calledIn rows) (argumentListAt rows first)) → SetIs S s (writes (calledIn rows) (expressionAt rows row))
+  unfolding writes
+  call-set {f} {first} g x = shaped g (set-as (argumentsWrite (calledIn rows) (argumentListAt rows first)) _ x (λ i. ap (λ (b : Bool). b || argumentsWrite (calledIn rows) (argumentListAt rows first) i) (sym (none-called (m .source) f i))))
 
 -- ---- the table
 
@@ -202,7 +208,7 @@ module _ (rows : List ℤ) (t u : List ℕ) (row : ℕ) (s : WriteSet) (fits : s
   others other k h = other-words setWidth t u (setWords s) row refl fits is (setWidth * other + k) (omega arith)
 
   -- with the row's words in, one more row has its set
-  pub one-set-more : {S : ℕ} → SetIs S s (writes (expressionAt rows row)) → SetsFrom S rows t (row + 1) → SetsFrom S rows u row
+  pub one-set-more : {S : ℕ} → SetIs S s (writes (calledIn rows) (expressionAt rows row)) → SetsFrom S rows t (row + 1) → SetsFrom S rows u row
   one-set-more {S} x m = record {
     source = m .source;
     names = m .names;
@@ -219,11 +225,11 @@ module _ (rows : List ℤ) (t u : List ℕ) (row : ℕ) (s : WriteSet) (fits : s
       other-set : (other : ℕ) → row < other → setOf u other ≡ setOf t other
       other-set other h = rw (ap (λ (n : ℕ). getD u n 0) (zero-more (setWidth * other)) ∙ others other 0 h ∙ sym (ap (λ (n : ℕ). getD t n 0) (zero-more (setWidth * other))), others other 1 h, others other 2 h, others other 3 h, others other 4 h)
 
-      by : (r : ℕ) → row ≤ r → r < rowCount rows → Dec (r ≡ row) → SetIs S (setOf u r) (writes (expressionAt rows r))
-      by r h b (yes q) = subst (λ (r : ℕ). SetIs S (setOf u r) (writes (expressionAt rows r))) (sym q) (subst (λ (z : WriteSet). SetIs S z (writes (expressionAt rows row))) (sym own-set) x)
+      by : (r : ℕ) → row ≤ r → r < rowCount rows → Dec (r ≡ row) → SetIs S (setOf u r) (writes (calledIn rows) (expressionAt rows r))
+      by r h b (yes q) = subst (λ (r : ℕ). SetIs S (setOf u r) (writes (calledIn rows) (expressionAt rows r))) (sym q) (subst (λ (z : WriteSet). SetIs S z (writes (calledIn rows) (expressionAt rows row))) (sym own-set) x)
       by r h b (no q) =
           let k = lt-of-le-ne h (λ x. q (sym x)) in
-          subst (λ (z : WriteSet). SetIs S z (writes (expressionAt rows r))) (sym (other-set r k)) (m .row-set r (omega arith) b)
+          subst (λ (z : WriteSet). SetIs S z (writes (calledIn rows) (expressionAt rows r))) (sym (other-set r k)) (m .row-set r (omega arith) b)
 
 pub sets-none : {S : ℕ} {rows : List ℤ} {sets : List ℕ} → Source rows → NamesFrom S rows → setWidth * rowCount rows ≤ length sets → SetsFrom S rows sets (rowCount rows)
 sets-none s n h = record { source = s; names = n; room = h; row-set = λ row l b. absurd (omega arith) }
@@ -246,47 +252,47 @@ copied-word : (i : ℕ) (W : ℕ → Bool) → pick (W i) 1 0 ≡ copied (word i
 copied-word i W = by-cases (W i) (λ e. rw e) (λ e. rw e)
 
 -- the set at a link, as what the expression there writes
-pub part-set : {S : ℕ} {rows : List ℤ} {sets : List ℕ} (link i : ℕ) → Sets S rows sets → link < rowCount rows → Named S i → member S (setAt sets link) i ≡ partWrites (partAt rows link) i
+pub part-set : {S : ℕ} {rows : List ℤ} {sets : List ℕ} (link i : ℕ) → Sets S rows sets → link < rowCount rows → Named S i → member S (setAt sets link) i ≡ partWrites (calledIn rows) (partAt rows link) i
 part-set zero i m h n = set-member (λ j. false) i (set-nothing refl) n
-part-set {rows = rows} (suc link) i m h n = set-member (writes (expressionAt rows (suc link))) i (m .row-set (suc link) (omega arith) h) n
+part-set {rows = rows} (suc link) i m h n = set-member (writes (calledIn rows) (expressionAt rows (suc link))) i (m .row-set (suc link) (omega arith) h) n
 
-pub copied-variable : {S : ℕ} {rows : List ℤ} {sets : List ℕ} {link i r : ℕ} {h : Atom} → Sets S rows sets → link < rowCount rows → Name rows i → word i ≡ h → r ≡ pick (member S (setAt sets link) i) 1 0 → r ≡ copied h (partWrites (partAt rows link))
+pub copied-variable : {S : ℕ} {rows : List ℤ} {sets : List ℕ} {link i r : ℕ} {h : Atom} → Sets S rows sets → link < rowCount rows → Name rows i → word i ≡ h → r ≡ pick (member S (setAt sets link) i) 1 0 → r ≡ copied h (partWrites (calledIn rows) (partAt rows link))
 copied-variable {S} {rows} {sets} {link} {i} m h n e w =
-    let W = partWrites (partAt rows link) in
+    let W = partWrites (calledIn rows) (partAt rows link) in
     w ∙ ap (λ (b : Bool). pick b 1 0) (part-set link i m h (n .named S (m .names))) ∙ copied-word i W ∙ ap (λ (x : Atom). copied x W) e
 
-index-writes : (p : Place) (i : ℕ) → partWrites (indexOf p) i ≡ indexWrites p i
+index-writes : (called : ℕ → ℕ → Bool) (p : Place) (i : ℕ) → partWrites called (indexOf p) i ≡ indexWrites called p i
 unfolding indexWrites
-index-writes (variable j) i = refl
-index-writes (element array e) i = refl
+index-writes called (variable j) i = refl
+index-writes called (element array e) i = refl
 
-choice-copies : (rows : List ℤ) (c : ChoiceShape) → 0 ≡ firstCopied (choiceTree rows c)
+choice-copies : (rows : List ℤ) (c : ChoiceShape) → 0 ≡ firstCopied (calledIn rows) (choiceTree rows c)
 choice-copies rows (And a b) = refl
 choice-copies rows (Or a b) = refl
 choice-copies rows (Conditional c a b) = refl
 
-over-index : {rows : List ℤ} (place v : ℕ) {index r : ℕ} → Operand rows place index (indexOf (placeOf (expressionAt rows place))) → r ≡ copied (atomOf (expressionAt rows v)) (partWrites (partAt rows index)) → r ≡ copied (atomOf (expressionAt rows v)) (indexWrites (placeOf (expressionAt rows place)))
+over-index : {rows : List ℤ} (place v : ℕ) {index r : ℕ} → Operand rows place index (indexOf (placeOf (expressionAt rows place))) → r ≡ copied (atomOf (calledIn rows) (expressionAt rows v)) (partWrites (calledIn rows) (partAt rows index)) → r ≡ copied (atomOf (calledIn rows) (expressionAt rows v)) (indexWrites (calledIn rows) (placeOf (expressionAt rows place)))
 over-index {rows} place v o e =
-    e ∙ copied-same (atomOf (expressionAt rows v)) _ (indexWrites (placeOf (expressionAt rows place))) (λ i. ap (λ (p : Part). partWrites p i) (o .is) ∙ index-writes (placeOf (expressionAt rows place)) i)
+    e ∙ copied-same (atomOf (calledIn rows) (expressionAt rows v)) _ (indexWrites (calledIn rows) (placeOf (expressionAt rows place))) (λ i. ap (λ (p : Part). partWrites (calledIn rows) p i) (o .is) ∙ index-writes (calledIn rows) (placeOf (expressionAt rows place)) i)
 
 module _ {rows : List ℤ} {row : ℕ} where
-  shaped-copies : {sh : ExpressionShape} {r : ℕ} → ExpressionAt rows row sh → r ≡ firstCopied (expressionTree rows sh) → r ≡ firstCopied (expressionAt rows row)
-  shaped-copies f e = e ∙ sym (ap firstCopied (f .is))
+  shaped-copies : {sh : ExpressionShape} {r : ℕ} → ExpressionAt rows row sh → r ≡ firstCopied (calledIn rows) (expressionTree rows sh) → r ≡ firstCopied (calledIn rows) (expressionAt rows row)
+  shaped-copies f e = e ∙ sym (ap (firstCopied (calledIn rows)) (f .is))
 
-  pub copied-none : {sh : ExpressionShape} → ExpressionAt rows row sh → 0 ≡ firstCopied (expressionTree rows sh) → 0 ≡ firstCopied (expressionAt rows row)
+  pub copied-none : {sh : ExpressionShape} → ExpressionAt rows row sh → 0 ≡ firstCopied (calledIn rows) (expressionTree rows sh) → 0 ≡ firstCopied (calledIn rows) (expressionAt rows row)
   copied-none f e = shaped-copies f e
 
-  pub copied-choice : {c : ChoiceShape} → ExpressionAt rows row (Choice c) → 0 ≡ firstCopied (expressionAt rows row)
+  pub copied-choice : {c : ChoiceShape} → ExpressionAt rows row (Choice c) → 0 ≡ firstCopied (calledIn rows) (expressionAt rows row)
   copied-choice {c} f = shaped-copies f (choice-copies rows c)
 
-  pub copied-binary : {operator : Operator} {a b r : ℕ} → ExpressionAt rows row (Operation (Binary operator a b)) → r ≡ copied (atomOf (expressionAt rows b)) (partWrites (partAt rows a)) → r ≡ firstCopied (expressionAt rows row)
+  pub copied-binary : {operator : Operator} {a b r : ℕ} → ExpressionAt rows row (Operation (Binary operator a b)) → r ≡ copied (atomOf (calledIn rows) (expressionAt rows b)) (partWrites (calledIn rows) (partAt rows a)) → r ≡ firstCopied (calledIn rows) (expressionAt rows row)
   copied-binary {operator} {a} {b} f e =
-      shaped-copies f (e ∙ copied-same (atomOf (expressionAt rows b)) _ (writes (expressionAt rows a)) (λ i. ap (λ (p : Part). partWrites p i) (part-some rows a (omega (arith, f .onward .0 .later)))))
+      shaped-copies f (e ∙ copied-same (atomOf (calledIn rows) (expressionAt rows b)) _ (writes (calledIn rows) (expressionAt rows a)) (λ i. ap (λ (p : Part). partWrites (calledIn rows) p i) (part-some rows a (omega (arith, f .onward .0 .later)))))
 
-  pub copied-assign : {place v index r : ℕ} → ExpressionAt rows row (Operation (Assign place v)) → Operand rows place index (indexOf (placeOf (expressionAt rows place))) → r ≡ copied (atomOf (expressionAt rows v)) (partWrites (partAt rows index)) → r ≡ firstCopied (expressionAt rows row)
+  pub copied-assign : {place v index r : ℕ} → ExpressionAt rows row (Operation (Assign place v)) → Operand rows place index (indexOf (placeOf (expressionAt rows place))) → r ≡ copied (atomOf (calledIn rows) (expressionAt rows v)) (partWrites (calledIn rows) (partAt rows index)) → r ≡ firstCopied (calledIn rows) (expressionAt rows row)
   copied-assign {place} {v} f o e = shaped-copies f (over-index place v o e)
 
-  pub copied-compound : {operator : Operator} {place v index r : ℕ} → ExpressionAt rows row (Operation (Compound operator place v)) → Operand rows place index (indexOf (placeOf (expressionAt rows place))) → r ≡ copied (atomOf (expressionAt rows v)) (partWrites (partAt rows index)) → r ≡ firstCopied (expressionAt rows row)
+  pub copied-compound : {operator : Operator} {place v index r : ℕ} → ExpressionAt rows row (Operation (Compound operator place v)) → Operand rows place index (indexOf (placeOf (expressionAt rows place))) → r ≡ copied (atomOf (calledIn rows) (expressionAt rows v)) (partWrites (calledIn rows) (partAt rows index)) → r ≡ firstCopied (calledIn rows) (expressionAt rows row)
   copied-compound {operator} {place} {v} f o e = shaped-copies f (over-index place v o e)
 
 -- a link that is absent or leads on is inside the table

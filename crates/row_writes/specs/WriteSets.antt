@@ -8,10 +8,12 @@ use lib.Dec.{ltb}
 use lib.IntN.{ℤ}
 use lib.ListN.{length, getD}
 use Rattle.words.specs.Table.{rowCount}
-use Rattle.language.specs.Trees.{Place, Part, absent, present}
+use Rattle.language.specs.Trees.{Place, Part, absent, present, Arguments, noMore, _also_}
 use Rattle.language.specs.Writes.{isVariable, writes, indexWrites}
-use Rattle.language.specs.Decode.{expressionAt}
+use Rattle.language.specs.Decode.{expressionAt, argumentsAt, argumentListAt}
+use Rattle.shapes.specs.Shapes.{OptionalOnward}
 use Rattle.shapes.specs.Source.{NamesFrom, Source}
+use Rattle.measure_table.specs.Parts.{calledIn}
 use Rattle.write_sets.specs.Sets.{variableBits, declaredBits, variableBit, declaredBit, nothing}
 use Rattle.write_sets.specs.declared.WriteSet.{WriteSet}
 
@@ -22,14 +24,31 @@ pub record SetIs (S : ℕ) (s : WriteSet) (W : ℕ → Bool) : Type 0 where
   pub variables : (i : ℕ) → i < variableBits → variableBit s i ≡ (ltb i S && W i)
   pub declared : (i : ℕ) → i < declaredBits → declaredBit s i ≡ W (S + i)
 
--- What an update of a place writes: the variable that it is, and what its index writes.
-abbrev pub placeWrites : Place → ℕ → Bool
-placeWrites p i = isVariable p i || indexWrites p i
+-- `called f i`: whether function f can write the variable i.
+module _ (called : ℕ → ℕ → Bool) where
+  -- What an update of a place writes: the variable that it is, and what its index writes.
+  abbrev pub placeWrites : Place → ℕ → Bool
+  placeWrites p i = isVariable p i || indexWrites called p i
 
--- What an expression writes that may be absent.
-abbrev pub partWrites : Part → ℕ → Bool
-partWrites absent i = false
-partWrites (present e) i = writes e i
+  -- What an expression writes that may be absent.
+  abbrev pub partWrites : Part → ℕ → Bool
+  partWrites absent i = false
+  partWrites (present e) i = writes called e i
+
+  -- What the first of the arguments writes.
+  abbrev pub firstWrites : Arguments → ℕ → Bool
+  firstWrites noMore i = false
+  firstWrites (e also arguments) i = writes called e i
+
+-- The arguments behind the first.
+abbrev pub behindFirst : Arguments → Arguments
+behindFirst noMore = noMore
+behindFirst (e also arguments) = arguments
+
+-- The row of the argument behind the one at a row.
+pub record NextArgument (rows : List ℤ) (row next : ℕ) : Type 0 where
+  pub is : argumentListAt rows next ≡ behindFirst (argumentsAt rows row)
+  pub onward : OptionalOnward rows row next
 
 -- ---- the table
 
@@ -59,7 +78,7 @@ pub record SetsFrom (S : ℕ) (rows : List ℤ) (sets : List ℕ) (least : ℕ) 
   pub source : Source rows
   pub names : NamesFrom S rows
   pub room : setWidth * rowCount rows ≤ length sets
-  pub row-set : (row : ℕ) → least ≤ row → row < rowCount rows → SetIs S (setOf sets row) (writes (expressionAt rows row))
+  pub row-set : (row : ℕ) → least ≤ row → row < rowCount rows → SetIs S (setOf sets row) (writes (calledIn rows) (expressionAt rows row))
 
 abbrev pub Sets : ℕ → List ℤ → List ℕ → Type 0
 Sets S rows sets = SetsFrom S rows sets 0

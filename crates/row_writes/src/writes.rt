@@ -1,5 +1,6 @@
 // The write sets of the rows: which variables and declared words the expression at a row can write, found by a pass over the rows from the
 // last to the first. The declared words begin at `store`.
+use super::arguments::arguments_writes;
 use shapes::ChoiceShape;
 use shapes::ExpressionShape;
 use shapes::OperationShape;
@@ -19,6 +20,7 @@ ghost use Rattle.language.specs.Decode.{placeOf, expressionAt};
 ghost use Rattle.language.specs.Writes.{writes};
 ghost use Rattle.shapes.specs.Source.{NamesFrom, Source, ExpressionAt};
 ghost use Rattle.shapes.specs.declared.ExpressionShape.the-variants.{Read, Operation, Choice};
+ghost use Rattle.measure_table.specs.Parts.{calledIn};
 ghost use Rattle.row_writes.specs.WriteSets.{SetIs, placeWrites, setWidth, setAt, SetHeld, setWords, SetsFrom, Sets};
 
 // The words of a row in the table of write sets.
@@ -45,7 +47,7 @@ pub fn set_at(sets: &[u64], link: usize) -> WriteSet
 // What an update of the place at a row writes.
 fn place_writes(store: usize, rows: &[i32], sets: &[u64], row: usize) -> WriteSet
     requires { ⌜ SetsFrom store (now rows) (now sets) (row + 1) × (row < rowCount (now rows)) ⌝ }
-    ensures { λ r. ⌜ SetIs store r (placeWrites (placeOf (expressionAt (now (rows .entry)) row))) ⌝ }
+    ensures { λ r. ⌜ SetIs store r (placeWrites (calledIn (now (rows .entry))) (placeOf (expressionAt (now (rows .entry)) row))) ⌝ }
 {
     let place = place_at(rows, row);
     match place {
@@ -56,7 +58,7 @@ fn place_writes(store: usize, rows: &[i32], sets: &[u64], row: usize) -> WriteSe
 
 fn read_writes(store: usize, rows: &[i32], sets: &[u64], row: usize, place: PlaceShape) -> WriteSet
     requires { ⌜ SetsFrom store (now rows) (now sets) (row + 1) × ExpressionAt (now rows) row (Read place) ⌝ }
-    ensures { λ r. ⌜ SetIs store r (writes (expressionAt (now (rows .entry)) row)) ⌝ }
+    ensures { λ r. ⌜ SetIs store r (writes (calledIn (now (rows .entry))) (expressionAt (now (rows .entry)) row)) ⌝ }
 {
     match place {
         PlaceShape::Variable(_) => nothing(),
@@ -72,7 +74,7 @@ fn operation_writes(
     operation: OperationShape,
 ) -> WriteSet
     requires { ⌜ SetsFrom store (now rows) (now sets) (row + 1) × ExpressionAt (now rows) row (Operation operation) ⌝ }
-    ensures { λ r. ⌜ SetIs store r (writes (expressionAt (now (rows .entry)) row)) ⌝ }
+    ensures { λ r. ⌜ SetIs store r (writes (calledIn (now (rows .entry))) (expressionAt (now (rows .entry)) row)) ⌝ }
 {
     match operation {
         OperationShape::Minus(a) => set_at(sets, a),
@@ -98,7 +100,7 @@ fn choice_writes(
     choice: ChoiceShape,
 ) -> WriteSet
     requires { ⌜ SetsFrom store (now rows) (now sets) (row + 1) × ExpressionAt (now rows) row (Choice choice) ⌝ }
-    ensures { λ r. ⌜ SetIs store r (writes (expressionAt (now (rows .entry)) row)) ⌝ }
+    ensures { λ r. ⌜ SetIs store r (writes (calledIn (now (rows .entry))) (expressionAt (now (rows .entry)) row)) ⌝ }
 {
     match choice {
         ChoiceShape::And(a, b) => join(set_at(sets, a), set_at(sets, b)),
@@ -113,7 +115,7 @@ fn choice_writes(
 // What the expression at a row writes, from what its operands write.
 fn writes_at(store: usize, rows: &[i32], sets: &[u64], row: usize) -> WriteSet
     requires { ⌜ SetsFrom store (now rows) (now sets) (row + 1) × (row < rowCount (now rows)) ⌝ }
-    ensures { λ r. ⌜ SetIs store r (writes (expressionAt (now (rows .entry)) row)) ⌝ }
+    ensures { λ r. ⌜ SetIs store r (writes (calledIn (now (rows .entry))) (expressionAt (now (rows .entry)) row)) ⌝ }
 {
     let shape = expression_at(rows, row);
     match shape {
@@ -123,6 +125,8 @@ fn writes_at(store: usize, rows: &[i32], sets: &[u64], row: usize) -> WriteSet
             operation_writes(store, rows, sets, row, operation)
         }
         ExpressionShape::Choice(choice) => choice_writes(store, rows, sets, row, choice),
+        // no form has functions yet: the arguments alone write
+        ExpressionShape::Call(_, first) => arguments_writes(store, rows, sets, row, first),
     }
 }
 

@@ -21,6 +21,8 @@ use Rattle.repeated_marks.specs.Marks.{sameMark, repeated}
 use Rattle.row_notes.specs.RowNotes.{handed, noteAt}
 use Rattle.statement_places.specs.Places.{outOfPlace, misplaced}
 use Rattle.declaration_causes.specs.Causes.{outsideBlock, namesNumber, namedWithin, namedFrom, namesItself, sameNumber, declaredBefore, oneTooMany, declarationRefusal}
+use Rattle.function_causes.specs.Functions.{isDefinition, isCall, isReturn}
+use Rattle.function_causes.specs.Causes.{returnsOutside, outOfOrder, wrongCall, functionRefusal}
 use Rattle.source_check.specs.Refusal.{wronglyPlaced}
 use Rattle.language.specs.Program.{Finished, runTable}
 use Rattle.language.specs.Rule.{Rule}
@@ -41,7 +43,7 @@ abbrev tested : Rule → Verdict
 tested rule = briefSource (rule .header) (rule .rows)
 
 programs-tested : map tested programs ≡ map accepted programs
-unfolding sameWord natural wordAt numberAt layoutOf sum storeSize headerStore allWithin headerFits countFits foreign fits leadsRight mislinked boundsOf numberFits outside kindOf kindIn kinds sortIn kindRow expressionFields statementFields markFields memberFields sortOf sortAt inLanguage isExpression isPlace isStatement isBlock isArm isLink isRequired link target loneBlock notOnce linker received noteBy note at unless _next_ lowest some lowestRow someField targets times briefCauses briefStructure briefDepth briefSource sameMark itemOf itemAt earlierOf earlierAt someFrom someEarlier repeated handed noteAt outOfPlace misplaced isDeclaration declarationsBefore isName outsideBlock namesNumber namedWithin namedFrom namesItself sameNumber declaredBefore oneTooMany declarationRefusal wronglyPlaced
+unfolding sameWord natural wordAt numberAt layoutOf sum storeSize headerStore allWithin headerFits countFits foreign fits leadsRight mislinked boundsOf numberFits outside kindOf kindIn kinds sortIn kindRow expressionFields statementFields markFields memberFields sortOf sortAt inLanguage isExpression isPlace isStatement isBlock isArm isLink isRequired link target loneBlock notOnce linker received noteBy note at unless _next_ lowest some lowestRow someField targets times briefCauses briefStructure briefDepth briefSource sameMark itemOf itemAt earlierOf earlierAt someFrom someEarlier repeated handed noteAt outOfPlace misplaced isDeclaration declarationsBefore isName outsideBlock namesNumber namedWithin namedFrom namesItself sameNumber declaredBefore oneTooMany declarationRefusal isDefinition isCall isReturn returnsOutside outOfOrder wrongCall functionRefusal wronglyPlaced
 programs-tested = refl
 
 pub declarations-accepted : map checked programs ≡ map accepted programs

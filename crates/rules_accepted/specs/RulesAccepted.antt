@@ -21,6 +21,8 @@ use Rattle.row_notes.specs.RowNotes.{handed, noteAt}
 use Rattle.statement_places.specs.Places.{outOfPlace, misplaced}
 use Rattle.words.specs.Declarations.{isDeclaration}
 use Rattle.declaration_causes.specs.Causes.{outsideBlock, namesItself, declaredBefore, oneTooMany, declarationRefusal}
+use Rattle.function_causes.specs.Functions.{isDefinition, isCall, isReturn}
+use Rattle.function_causes.specs.Causes.{returnsOutside, outOfOrder, wrongCall, functionRefusal}
 use Rattle.source_check.specs.Refusal.{wronglyPlaced, refusal}
 use Rattle.source_check.specs.Legal.{Legal}
 use Rattle.source_check.specs.AcceptsLegal.{accepts-legal}
@@ -39,7 +41,7 @@ abbrev tested : Rule → Verdict
 tested rule = briefSource (rule .header) (rule .rows)
 
 table-tested : map tested table ≡ map accepted table
-unfolding sameWord natural wordAt numberAt layoutOf sum storeSize headerStore allWithin headerFits countFits foreign fits leadsRight mislinked boundsOf numberFits outside kindOf kindIn kinds sortIn kindRow expressionFields statementFields markFields memberFields sortOf sortAt inLanguage isExpression isPlace isStatement isBlock isArm isLink isRequired link target loneBlock notOnce linker received noteBy note at unless _next_ lowest some lowestRow someField targets times briefCauses briefStructure briefDepth briefSource sameMark itemOf earlierOf earlierAt someFrom someEarlier repeated handed noteAt outOfPlace misplaced isDeclaration outsideBlock namesItself declaredBefore oneTooMany declarationRefusal wronglyPlaced
+unfolding sameWord natural wordAt numberAt layoutOf sum storeSize headerStore allWithin headerFits countFits foreign fits leadsRight mislinked boundsOf numberFits outside kindOf kindIn kinds sortIn kindRow expressionFields statementFields markFields memberFields sortOf sortAt inLanguage isExpression isPlace isStatement isBlock isArm isLink isRequired link target loneBlock notOnce linker received noteBy note at unless _next_ lowest some lowestRow someField targets times briefCauses briefStructure briefDepth briefSource sameMark itemOf earlierOf earlierAt someFrom someEarlier repeated handed noteAt outOfPlace misplaced isDeclaration outsideBlock namesItself declaredBefore oneTooMany declarationRefusal isDefinition isCall isReturn returnsOutside outOfOrder wrongCall functionRefusal wronglyPlaced
 table-tested = refl
 
 pub rules-accepted : map checked table ≡ map accepted table

@@ -13,13 +13,16 @@ use Rattle.computation.specs.Agreement.{Words}
 use Rattle.computation.specs.Run.{State, start, Result, Limit, run, final, endingOf}
 use Rattle.language.specs.Decode.{decode}
 use Rattle.language.specs.Meaning.{Signal, exec}
+use Rattle.language.specs.Functions.{contextOf}
+use Rattle.language.specs.Program.{contents}
 use Rattle.renaming.specs.RenamingLaws.{itself}
 use Rattle.renaming.specs.Twin.{Twin, TwinResult, Equal, Renames}
 use Rattle.renaming.specs.TwinLaws.{twin-start, twin-ending, twin-final}
 use Rattle.renaming.specs.Renamed.{independent-runs}
+use Rattle.renaming.specs.RenamedFunctions.{plain-calls}
 use Rattle.names.specs.Names.{resolved}
 use Rattle.scoped_programs.specs.Sources.{SourceRows}
-use Rattle.scoped_programs.specs.Scoped.{program-scoped}
+use Rattle.scoped_programs.specs.Scoped.{plain-program, program-scoped}
 
 module _ (L : Layout) (rows : List ℤ) where
   -- The words of the header's variables and arrays; and all words of the store.
@@ -39,7 +42,7 @@ module _ (L : Layout) (rows : List ℤ) where
       }
 
   abbrev pub runFrom : Limit → List ℤ → Result Signal
-  runFrom limit store = run limit (exec L (decode (resolved (storeSize L) rows))) (start store)
+  runFrom limit store = run limit (exec (contextOf L (contents (resolved (storeSize L) rows))) (decode (resolved (storeSize L) rows))) (start store)
 
   -- stores that begin with the same S words
   same-start : (store first second : List ℤ) → length store ≡ storeSize L → declarationCount rows ≤ length first → declarationCount rows ≤ length second
@@ -55,10 +58,11 @@ module _ (L : Layout) (rows : List ℤ) where
     variables-fit = omega arith
 
     twin-runs : (limit : Limit) (σ τ : State) → Twin Stored itself Outer σ τ
-        → TwinResult Stored itself Outer Outer Equal (run limit (exec L (decode (resolved (storeSize L) rows))) σ) (run limit (exec L (decode (resolved (storeSize L) rows))) τ)
+        → TwinResult Stored itself Outer Outer Equal (run limit (exec (contextOf L (contents (resolved (storeSize L) rows))) (decode (resolved (storeSize L) rows))) σ) (run limit (exec (contextOf L (contents (resolved (storeSize L) rows))) (decode (resolved (storeSize L) rows))) τ)
     twin-runs =
-        independent-runs outer-renames (decode (resolved (storeSize L) rows))
-        (program-scoped L rows source Stored (λ word w. w .most) Outer (λ word h. omega (arith, variables-fit)))
+        rw (plain-program L rows source)
+        (independent-runs plain-calls outer-renames (decode (resolved (storeSize L) rows))
+        (program-scoped L rows source Stored (λ word w. w .most) Outer (λ word h. omega (arith, variables-fit))))
 
     -- The same ending; the same count, the same writes and the same first S words.
     pub independent-start : (limit : Limit) (store first second : List ℤ) → length store ≡ storeSize L → declarationCount rows ≤ length first → declarationCount rows ≤ length second

@@ -8,21 +8,27 @@ use native.Mathlib.Omega.{arith}
 use lib.Dec.{eqb}
 use lib.IntN.{ℤ}
 use lib.ListN.{length}
-use borrow.Author.Tests.{eq-eqb}
+use borrow.Author.Tests.{eq-eqb, eqb-true}
 use Rattle.words.specs.Table.{rowCount, numberAt}
 use Rattle.words.specs.Declarations.{isDeclaration, declarationCount}
 use Rattle.words.specs.KindLaws.{place-cases}
-use Rattle.words.specs.Kinds.{kinds, kindIn, kindOf, kindAt, isPlaceKind, statementRow, armRow, between, standsIn, sortIn, kindRow, expressionFields, statementFields, markFields, memberFields}
+use Rattle.words.specs.Kinds.{kinds, kindIn, kindOf, kindAt, isStatementKind, isPlaceKind, statementRow, armRow, between, standsIn, sortIn, kindRow, expressionFields, statementFields, markFields, definitionFields, memberFields}
 use Rattle.words.specs.Layout.{Layout, storeSize}
 use Rattle.words.specs.Links.{link}
 use Rattle.words.specs.declared.Form.the-variants.{Source}
 use Rattle.words.specs.declared.Kind.{Kind}
-use Rattle.words.specs.declared.Kind.the-variants.{OfExpression, OfStatement}
+use Rattle.words.specs.declared.Kind.the-variants.{OfExpression, OfStatement, OfMember}
 use Rattle.words.specs.declared.ExpressionKind.the-variants.{Variable}
 use Rattle.words.specs.declared.StatementKind.the-variants.{Declare}
+use Rattle.words.specs.declared.MemberKind.{MemberKind}
+use Rattle.words.specs.declared.MemberKind.the-variants.{Argument}
+use Rattle.words.specs.Laws.{by-cases}
 use Rattle.computation.specs.Agreement.{Words, _within_}
 use Rattle.language.specs.Trees.{Items}
 use Rattle.language.specs.Decode.{expressionAt, statementAt, decode, listAt, armListAt, partAt}
+use Rattle.language.specs.Functions.{contextOf, plain}
+use Rattle.language.specs.FunctionLaws.{context-plain}
+use Rattle.language.specs.PlainTables.{no-functions}
 use Rattle.language.specs.Program.{contents}
 use Rattle.language.specs.WellFormed.{NamedExpression, NamedPart}
 use Rattle.renaming.specs.Twin.{_with_}
@@ -37,11 +43,11 @@ use Rattle.names.specs.Names.{isName, wordOf, resolved}
 use Rattle.names.specs.ResolvedLaws.{resolved-kind, resolved-link, resolved-count, resolved-leads, resolved-declaration}
 use Rattle.names.specs.ResolvedNames.{DeclaredWord, declaration-resolved, declaration-word}
 use Rattle.names.specs.ResolvedStructured.{resolved-structured}
-use Rattle.accepted.specs.Sorts.{between-true, statementNumber, number-is, in-language}
+use Rattle.accepted.specs.Sorts.{between-true, statementNumber, number-is, in-language, no-function-number}
 use Rattle.accepted.specs.Fields.{names-variable}
-use Rattle.accepted.specs.Expressions.{ExpressionRow}
+use Rattle.accepted.specs.Expressions.{ExpressionRow, whole-rows}
 use Rattle.accepted.specs.NamedBelow.{named-below, named-part-below}
-use Rattle.accepted.specs.Statements.{PartRow, StatementRow, empty-row, express-row, block-row, ifThen-row, ifElse-row, while-row, doWhile-row, for-row, switch-row, case-row, default-row, break-row, continue-row, goto-row, label-row, guardedIf-row, guardedDo-row, abort-row, declare-row, ArmsRow, no-arms, arm-row, ListRow, no-items, item, case-item, default-item, label-item, root-inside, program-list, program-contents, program-block}
+use Rattle.accepted.specs.Statements.{PartRow, StatementRow, empty-row, express-row, block-row, ifThen-row, ifElse-row, while-row, doWhile-row, for-row, switch-row, case-row, default-row, break-row, continue-row, goto-row, label-row, guardedIf-row, guardedDo-row, abort-row, declare-row, return-row, ArmsRow, no-arms, arm-row, ListRow, no-items, item, case-item, default-item, label-item, root-inside, program-list, program-contents, program-block}
 use Rattle.scoped_programs.specs.Sources.{SourceRows}
 use Rattle.scoped_programs.specs.Known.{Known}
 use Rattle.scoped_programs.specs.KnownLaws.{known-root, known-part, known-next, known-behind, name-known}
@@ -75,6 +81,10 @@ module _ (L : Layout) (rows : List ℤ) (source : SourceRows L rows) where
   part-known : (row field : ℕ) → field < 5 → Leads table row field → KnownAt (link table row field) within KnownAt row
   part-known row field h l = rw (resolved-link S rows row field (omega arith)) (known-part rows t (L .variables) S row field h (resolved-leads S rows (omega arith) .1 l))
 
+  -- no form has functions yet
+  pub plain-program : contextOf L (contents table) ≡ plain L
+  plain-program = context-plain L (contents table) (no-functions table (whole-rows Source bounds table own) (λ row n. no-function-number Source table row (own .known row n)))
+
   -- ---- kinds
 
   -- a row of another kind declares nothing
@@ -83,13 +93,13 @@ module _ (L : Layout) (rows : List ℤ) (source : SourceRows L rows) where
   other-kind {row} n k e f = sym (resolved-declaration S rows row) ∙ rw (number-is table row k e) f
 
   declares : {row : ℕ} → row < rowCount table → kindAt table row ≡ OfStatement Declare → isDeclaration rows row ≡ true
-  unfolding isDeclaration sortIn kindRow expressionFields statementFields markFields memberFields statementNumber
+  unfolding isDeclaration sortIn kindRow expressionFields statementFields markFields definitionFields memberFields statementNumber
   declares {row} n k = sym (resolved-declaration S rows row) ∙ rw (number-is table row k refl)
 
   -- a variable's row
   module _ (row : ℕ) (k : kindAt rows row ≡ OfExpression Variable) where
     variable-number : numberAt rows row 0 ≡ 2
-    unfolding kindAt isPlaceKind sortIn kindRow expressionFields statementFields markFields memberFields kindOf kindIn kinds
+    unfolding kindAt isPlaceKind sortIn kindRow expressionFields statementFields markFields definitionFields memberFields kindOf kindIn kinds
     variable-number =
         place-cases (numberAt rows row 0) (ap isPlaceKind k) (λ e. e)
         (λ e. absurd (let z : _≡_ {A = ℕ} 3 2 = ap (λ kind. sortIn kind 1) (sym (ap kindOf e) ∙ k) in omega arith))
@@ -108,13 +118,22 @@ module _ (L : Layout) (rows : List ℤ) (source : SourceRows L rows) where
 
   -- a variable's row names a known word
   variable-known : (row : ℕ) → row < rowCount table → kindAt table row ≡ OfExpression Variable → KnownAt row (numberAt table row 1)
-  unfolding sortIn kindRow expressionFields statementFields markFields memberFields
+  unfolding sortIn kindRow expressionFields statementFields markFields definitionFields memberFields
   variable-known row n k =
       let here : kindAt rows row ≡ OfExpression Variable = sym (same-kind row) ∙ k in
       let inside : row < rowCount rows = rw (resolved-count S rows) at n in
       let below : numberAt rows row 1 < L .variables =
       ⊎-elim (λ b. b) (λ b. absurd (omega (arith, b .0, b .1))) (names-variable Source (boundsIn L S) rows s row inside here 1 refl) in
       name-known rows t (L .variables) S row inside (declares-none row here) (names-one row here) below
+
+  -- a member declares nothing, so that what stands beside an argument knows what it knows
+  member-declares-none : (row : ℕ) {kind : MemberKind} → kindAt table row ≡ OfMember kind → isDeclaration rows row ≡ false
+  unfolding kindAt isDeclaration kindOf kindIn kinds
+  member-declares-none row k =
+      by-cases (isDeclaration rows row) (λ d. absurd (true≢false (ap isStatementKind (sym (ap kindOf (resolved-kind S rows row ∙ eqb-true _ _ d)) ∙ k)))) (λ d. d)
+
+  argument-known : (row : ℕ) → kindAt table row ≡ OfMember Argument → Leads table row 5 → KnownAt (link table row 5) within KnownAt row
+  argument-known row k l = rw (resolved-link S rows row 5 (omega arith)) (known-next rows t (L .variables) S row (member-declares-none row k) (resolved-leads S rows (omega arith) .1 l))
 
   -- ---- from a row to the rows that it links
 
@@ -166,7 +185,7 @@ module _ (L : Layout) (rows : List ℤ) (source : SourceRows L rows) where
       (l .inside, rw (resolved-link S rows row 5 (omega arith)) (next (resolved-leads S rows {row = row} {field = 5} (omega arith) .1 l) i))
 
   unmarked-list : {l : ℕ} → ListRow table l → (0 < l → (l < rowCount table) × ListItem rows 42 1 l) → Unmarked (listAt table l)
-  unfolding Unmarked sortIn kindRow expressionFields statementFields markFields memberFields statementNumber
+  unfolding Unmarked sortIn kindRow expressionFields statementFields markFields definitionFields memberFields statementNumber
   unmarked-list (no-items z e) i = rw e tt
   unmarked-list (item p e x y) i = rw e (unmarked-list y (next-in-block (i p .0) (i p .1)))
   unmarked-list (case-item p k e x y) i = absurd (marked (i p .0) k refl refl (i p .1))
@@ -177,11 +196,11 @@ module _ (L : Layout) (rows : List ℤ) (source : SourceRows L rows) where
 
   expression-scoped : (P : Words) {row : ℕ} → ExpressionRow table row → row < rowCount table → KnownAt row within P → NamedExpression P arrays (expressionAt table row)
   expression-scoped P x n h =
-      named-below Source bounds table own P (λ row. KnownAt row within P) (λ row n k h. h _ (variable-known row n k)) (λ row field k l h word q. h word (part-known row field k l word q)) x n h
+      named-below Source bounds table own P (λ row. KnownAt row within P) (λ row n k h. h _ (variable-known row n k)) (λ row field k l h word q. h word (part-known row field k l word q)) (λ row k l h word q. h word (argument-known row k l word q)) x n h
 
   part-scoped : (P : Words) {l : ℕ} → PartRow table l → (0 < l → (l < rowCount table) × (KnownAt l within P)) → NamedPart P arrays (partAt table l)
   part-scoped P x at =
-      named-part-below Source bounds table own P (λ row. KnownAt row within P) (λ row n k h. h _ (variable-known row n k)) (λ row field k l h word q. h word (part-known row field k l word q)) x at
+      named-part-below Source bounds table own P (λ row. KnownAt row within P) (λ row n k h. h _ (variable-known row n k)) (λ row field k l h word q. h word (part-known row field k l word q)) (λ row k l h word q. h word (argument-known row k l word q)) x at
 
   -- ---- statements: All holds of the words of declarations
 
@@ -190,7 +209,7 @@ module _ (L : Layout) (rows : List ℤ) (source : SourceRows L rows) where
     behind-item : {l : ℕ} → StatementRow table l → l < rowCount table → (P : Words) → KnownAt l within P → (rest : Items) → (isDeclaration rows l ≡ true → Unmarked rest)
         → ((Q : Words) → (0 < link table l 5 → (link table l 5 < rowCount table) × (KnownAt (link table l 5) within Q)) → ScopedItems All arrays Q rest)
         → Unreached (declared (statementAt table l)) rest × ScopedItems All arrays (behind P (declared (statementAt table l))) rest
-    unfolding declared behind Unreached sortIn kindRow expressionFields statementFields markFields memberFields statementNumber
+    unfolding declared behind Unreached sortIn kindRow expressionFields statementFields markFields definitionFields memberFields statementNumber
     behind-item (empty-row k e) n P h rest u c = rw e (tt, c P (at-next P n h (other-kind n k refl refl)))
     behind-item (express-row k p e x) n P h rest u c = rw e (tt, c P (at-next P n h (other-kind n k refl refl)))
     behind-item (block-row k e x) n P h rest u c = rw e (tt, c P (at-next P n h (other-kind n k refl refl)))
@@ -210,9 +229,10 @@ module _ (L : Layout) (rows : List ℤ) (source : SourceRows L rows) where
     behind-item (guardedDo-row k e x) n P h rest u c = rw e (tt, c P (at-next P n h (other-kind n k refl refl)))
     behind-item (abort-row k e) n P h rest u c = rw e (tt, c P (at-next P n h (other-kind n k refl refl)))
     behind-item (declare-row k p e x) n P h rest u c = rw e (u (declares n k), c _ (at-behind P n h (declares n k)))
+    behind-item (return-row k e x) n P h rest u c = rw e (tt, c P (at-next P n h (other-kind n k refl refl)))
 
     mutual
-      unfolding Scoped ScopedArms ScopedItems sortIn kindRow expressionFields statementFields markFields memberFields statementNumber
+      unfolding Scoped ScopedArms ScopedItems sortIn kindRow expressionFields statementFields markFields definitionFields memberFields statementNumber
 
       scoped-statement : {row : ℕ} → StatementRow table row → row < rowCount table → (P : Words) → KnownAt row within P → Scoped All arrays P (statementAt table row)
       scoped-statement (empty-row k e) n P h = rw e tt
@@ -240,6 +260,7 @@ module _ (L : Layout) (rows : List ℤ) (source : SourceRows L rows) where
       scoped-statement (abort-row k e) n P h = rw e tt
       scoped-statement {row} (declare-row k p e x) n P h =
           rw e (all _ (declaration-word S rows t row (rw (resolved-count S rows) at n) (declares n k)), expression-scoped P x (p .inside) (in-part P n h 2 (omega arith) p))
+      scoped-statement (return-row k e x) n P h = rw e (part-scoped P x (at-part P n h 1 refl))
 
       scoped-arms : {l : ℕ} → ArmsRow table l → (P : Words) → (0 < l → (l < rowCount table) × (KnownAt l within P)) → ScopedArms All arrays P (armListAt table l)
       scoped-arms (no-arms z e) P at = rw e tt

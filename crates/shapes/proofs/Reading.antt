@@ -14,17 +14,16 @@ use Rattle.words.specs.declared.StatementKind.{StatementKind}
 use Rattle.words.specs.declared.StatementKind.the-variants.{Declare}
 use Rattle.words.specs.declared.MarkKind.{MarkKind}
 use Rattle.words.specs.declared.MemberKind.{MemberKind}
-use Rattle.words.specs.declared.MemberKind.the-variants.{Arm}
-use Rattle.shapes.specs.Shapes.{expressionShape, statementShape, markShape, expressionAs, statementAs, markAs, memberAs, shapeAs, shapeAt, expressionIn, placeIn, statementIn, itemIn, armIn, ItemAt, ArmAt}
+use Rattle.shapes.specs.Shapes.{expressionShape, statementShape, markShape, memberShape, expressionAs, statementAs, markAs, memberAs, shapeAs, shapeAt, expressionIn, placeIn, statementIn, itemIn, armIn, argumentIn, ItemAt, ArmAt, ArgumentAt}
 use Rattle.shapes.specs.Source.{Source, Name, PlaceAt, ExpressionAt, StatementAt}
-use Rattle.shapes.specs.ShapeLaws.{expression-found, statement-found, item-found, arm-found, place-in}
+use Rattle.shapes.specs.ShapeLaws.{expression-found, statement-found, item-found, arm-found, argument-found, place-in}
 use Rattle.shapes.specs.declared.PlaceShape.{PlaceShape}
 use Rattle.shapes.specs.declared.ExpressionShape.{ExpressionShape}
 use Rattle.shapes.specs.declared.StatementShape.{StatementShape}
 use Rattle.shapes.specs.declared.Shape.{Shape}
-use Rattle.shapes.specs.declared.Shape.the-variants.{OfArm}
 use Rattle.shapes.specs.declared.Item.{Item}
 use Rattle.shapes.specs.declared.ArmShape.{ArmShape}
+use Rattle.shapes.specs.declared.ArgumentShape.{ArgumentShape}
 
 -- ---- the shape of a row, from the kind and the fields that were read
 
@@ -40,9 +39,9 @@ module _ (rows : List ℤ) (row : ℕ) where
   pub mark-arm : {kind k : MarkKind} (v : ℤ) (a : ℕ) → kind ≡ k → v ≡ wordAt rows row 1 → a ≡ numberAt rows row 1 → markShape k v a ≡ markAs rows row kind
   mark-arm v a e ev ea = rw (ev, ea) (ap (λ (x : MarkKind). markAs rows row x) (sym e))
 
-  pub member-arm : (kind : MemberKind) (a b : ℕ) → a ≡ numberAt rows row 1 → b ≡ numberAt rows row 2 → OfArm a b ≡ memberAs rows row kind
+  pub member-arm : {kind k : MemberKind} (a b : ℕ) → kind ≡ k → a ≡ numberAt rows row 1 → b ≡ numberAt rows row 2 → memberShape k a b ≡ memberAs rows row kind
   unfolding memberAs
-  member-arm Arm a b ea eb = rw (ea, eb)
+  member-arm a b e ea eb = rw (ea, eb) (ap (λ (x : MemberKind). memberAs rows row x) (sym e))
 
   pub shape-arm : {kind k : Kind} → kind ≡ kindAt rows row → kind ≡ k → shapeAs rows row k ≡ shapeAt rows row
   unfolding shapeAt
@@ -66,6 +65,9 @@ module _ {rows : List ℤ} {row : ℕ} (source : Source rows) (inside : row < ro
 
   pub arm-read : {shape : Shape} {i : ArmShape} → shape ≡ shapeAt rows row → i ≡ armIn shape → ArmAt rows row (numberAt rows row 5) i
   arm-read {shape} {i} h g = subst (λ (x : ArmShape). ArmAt rows row (numberAt rows row 5) x) (sym (g ∙ ap armIn h)) (arm-found (source .sound) inside)
+
+  pub argument-read : {shape : Shape} {i : ArgumentShape} → shape ≡ shapeAt rows row → i ≡ argumentIn shape → ArgumentAt rows row (numberAt rows row 5) i
+  argument-read {shape} {i} h g = subst (λ (x : ArgumentShape). ArgumentAt rows row (numberAt rows row 5) x) (sym (g ∙ ap argumentIn h)) (argument-found (source .sound) inside)
 
 -- what a row counts as that is no place
 first-name : {rows : List ℤ} → Name rows 0

@@ -7,36 +7,37 @@ use native.Mathlib.Omega.{arith}
 use lib.IntN.{ℤ, pos}
 use lib.ListN.{length}
 use Rattle.words.specs.Table.{rowCount, Whole, wordAt, numberAt}
-use Rattle.words.specs.Kinds.{kindAt, variable, array, isLink, isRequired, expressionFields, statementFields, memberFields, kindRow, sortIn}
+use Rattle.words.specs.Kinds.{kindAt, variable, array, isLink, isRequired, expressionFields, statementFields, definitionFields, memberFields, kindRow, sortIn}
 use Rattle.words.specs.Layout.{Layout}
 use Rattle.words.specs.declared.Kind.{Kind}
 use Rattle.words.specs.declared.Kind.the-variants as group
 use Rattle.words.specs.declared.ExpressionKind.{ExpressionKind}
-use Rattle.words.specs.declared.ExpressionKind.the-variants.{Constant, Variable, Element, Minus, Not, Binary, And, Or, Conditional, Comma, Assign, Compound, Prefix, Postfix}
+use Rattle.words.specs.declared.ExpressionKind.the-variants.{Constant, Variable, Element, Minus, Not, Binary, And, Or, Conditional, Comma, Assign, Compound, Prefix, Postfix, Call}
 use Rattle.words.specs.declared.StatementKind.{StatementKind}
-use Rattle.words.specs.declared.StatementKind.the-variants.{Empty, Express, Block, If, While, Do, For, Switch, Break, Continue, Goto, GuardedIf, GuardedDo, Abort, Declare}
+use Rattle.words.specs.declared.StatementKind.the-variants.{Empty, Express, Block, If, While, Do, For, Switch, Break, Continue, Goto, GuardedIf, GuardedDo, Abort, Declare, Return}
 use Rattle.words.specs.declared.MarkKind.{MarkKind}
 use Rattle.words.specs.declared.MarkKind.the-variants.{Case, Default, Label}
-use Rattle.words.specs.declared.MemberKind.the-variants.{Arm}
+use Rattle.words.specs.declared.MemberKind.the-variants.{Arm, Argument}
 use Rattle.language.specs.Trees.{variable as variableTree, Statement, _then_}
-use Rattle.language.specs.Decode.{Forward, placeOf, expressionOf, statementOf, itemsOf, armsOf, statementAt}
-use Rattle.language.specs.DecodeLaws.{expression-at, statement-at, at-constant, at-variable, at-element, at-minus, at-not, at-binary, at-and, at-or, at-comma, at-conditional, at-assign, at-compound, at-prefix, at-postfix, at-empty, at-express, at-block, at-ifThen, at-ifElse, at-while, at-doWhile, at-for, at-switch, at-break, at-continue, at-goto, at-guardedIf, at-guardedDo, at-abort, at-declare, at-item, at-case, at-default, at-label, at-arm, items-at, arms-at, later-list}
+use Rattle.language.specs.Decode.{Forward, placeOf, expressionOf, argumentsOf, statementOf, itemsOf, armsOf, statementAt}
+use Rattle.language.specs.DecodeLaws.{expression-at, statement-at, at-constant, at-variable, at-element, at-minus, at-not, at-binary, at-and, at-or, at-comma, at-conditional, at-assign, at-compound, at-prefix, at-postfix, at-call, at-empty, at-express, at-block, at-ifThen, at-ifElse, at-while, at-doWhile, at-for, at-switch, at-break, at-continue, at-goto, at-guardedIf, at-guardedDo, at-abort, at-declare, at-return, at-item, at-case, at-default, at-label, at-definition, at-arm, at-argument, items-at, arms-at, arguments-at, later-list}
 use Rattle.language.specs.Sound.{Link, OptionalLink, Sound}
 use Rattle.language.specs.SoundLaws.{field-of, link-of, optional-link-of, behind}
-use Rattle.shapes.specs.Shapes.{expressionAs, statementAs, markAs, memberAs, shapeAs, shapeAt, expressionIn, placeIn, statementIn, itemIn, armIn, Onward, OptionalOnward, operationTree, choiceTree, statementTree, PlaceWithin, ExpressionWithin, StatementWithin, ItemAt, ArmAt}
+use Rattle.shapes.specs.Shapes.{expressionAs, statementAs, markAs, definitionAs, memberAs, shapeAs, shapeAt, expressionIn, placeIn, statementIn, itemIn, armIn, argumentIn, Onward, OptionalOnward, operationTree, choiceTree, statementTree, PlaceWithin, ExpressionWithin, StatementWithin, ItemAt, ArmAt, ArgumentAt}
 use Rattle.shapes.specs.declared.PlaceShape.{PlaceShape}
 use Rattle.shapes.specs.declared.OperationShape.{OperationShape}
 use Rattle.shapes.specs.declared.OperationShape.the-variants as operation
 use Rattle.shapes.specs.declared.ChoiceShape.{ChoiceShape}
 use Rattle.shapes.specs.declared.ChoiceShape.the-variants as choice
 use Rattle.shapes.specs.declared.ExpressionShape.{ExpressionShape}
-use Rattle.shapes.specs.declared.ExpressionShape.the-variants.{Number, Read, Operation, Choice}
+use Rattle.shapes.specs.declared.ExpressionShape.the-variants.{Number, Read, Operation, Choice, Call as CallShape}
 use Rattle.shapes.specs.declared.StatementShape.{StatementShape}
 use Rattle.shapes.specs.declared.StatementShape.the-variants as statement
 use Rattle.shapes.specs.declared.MarkShape.{MarkShape}
 use Rattle.shapes.specs.declared.Item.{Item}
 use Rattle.shapes.specs.declared.Item.the-variants as item
 use Rattle.shapes.specs.declared.ArmShape.{ArmShape}
+use Rattle.shapes.specs.declared.ArgumentShape.{ArgumentShape}
 
 module _ {rows : List ℤ} {L : Layout} {words : ℕ} (sound : Sound rows L words) {row : ℕ} (inside : row < rowCount rows) where
   whole : Whole rows
@@ -70,7 +71,7 @@ module _ {rows : List ℤ} {L : Layout} {words : ℕ} (sound : Sound rows L word
     E s = ExpressionWithin rows row name arrays s
 
     expression-of : (kind : ExpressionKind) → kindAt rows row ≡ group.OfExpression kind → E (expressionAs rows row kind)
-    unfolding sortIn kindRow expressionFields isRequired
+    unfolding sortIn kindRow expressionFields isRequired isLink
     expression-of Constant k = record { is = at-constant rows whole row k; onward = tt }
     expression-of Variable k = record { is = at-variable rows whole row k; onward = names k }
     expression-of Element k =
@@ -109,10 +110,11 @@ module _ {rows : List ℤ} {L : Layout} {words : ℕ} (sound : Sound rows L word
         record { is = at-compound rows whole row o k (a .later) (b .later); onward = (a, b) }
     expression-of (Prefix o) k = let a = required k 1 (omega arith) (omega arith) refl in record { is = at-prefix rows whole row o k (a .later); onward = a }
     expression-of (Postfix o) k = let a = required k 1 (omega arith) (omega arith) refl in record { is = at-postfix rows whole row o k (a .later); onward = a }
+    expression-of Call k = let b = optional-link k 2 (omega arith) (omega arith) refl in record { is = at-call rows whole row k (forward 2 b); onward = b }
 
     -- What a row is as an expression; the constant 0 where it is none.
     pub expression-found : E (expressionIn (shapeAt rows row))
-    unfolding shapeAt memberAs expressionOf
+    unfolding shapeAt definitionAs memberAs expressionOf
     expression-found = go (kindAt rows row) refl
       where
         go : (kind : Kind) → kindAt rows row ≡ kind → E (expressionIn (shapeAs rows row kind))
@@ -120,6 +122,8 @@ module _ {rows : List ℤ} {L : Layout} {words : ℕ} (sound : Sound rows L word
         go (group.OfStatement kind) k = record { is = rw (expression-at rows whole row, k); onward = tt }
         go (group.OfMark kind) k = record { is = rw (expression-at rows whole row, k); onward = tt }
         go (group.OfMember Arm) k = record { is = rw (expression-at rows whole row, k); onward = tt }
+        go (group.OfMember Argument) k = record { is = rw (expression-at rows whole row, k); onward = tt }
+        go group.Definition k = record { is = rw (expression-at rows whole row, k); onward = tt }
         go group.Other k = record { is = rw (expression-at rows whole row, k); onward = tt }
 
   -- ---- statements: the words of declarations are names
@@ -171,10 +175,11 @@ module _ {rows : List ℤ} {L : Layout} {words : ℕ} (sound : Sound rows L word
     statement-of GuardedDo k = let a = optional-link k 1 (omega arith) (omega arith) refl in record { is = at-guardedDo rows whole row k (forward 1 a); onward = a }
     statement-of Abort k = record { is = at-abort rows whole row k; onward = tt }
     statement-of Declare k = let b = required k 2 (omega arith) (omega arith) refl in record { is = at-declare rows whole row k (b .later); onward = (declares k, b) }
+    statement-of Return k = let a = optional-link k 1 (omega arith) (omega arith) refl in record { is = at-return rows whole row k (forward 1 a); onward = a }
 
     -- What a row is as a statement; empty where it is none.
     pub statement-found : S (statementIn (shapeAt rows row))
-    unfolding shapeAt memberAs statementOf
+    unfolding shapeAt definitionAs memberAs statementOf
     statement-found = go (kindAt rows row) refl
       where
         go : (kind : Kind) → kindAt rows row ≡ kind → S (statementIn (shapeAs rows row kind))
@@ -182,32 +187,43 @@ module _ {rows : List ℤ} {L : Layout} {words : ℕ} (sound : Sound rows L word
         go (group.OfStatement kind) k = statement-of kind k
         go (group.OfMark kind) k = record { is = rw (statement-at rows whole row, k); onward = tt }
         go (group.OfMember Arm) k = record { is = rw (statement-at rows whole row, k); onward = tt }
+        go (group.OfMember Argument) k = record { is = rw (statement-at rows whole row, k); onward = tt }
+        go group.Definition k = record { is = rw (statement-at rows whole row, k); onward = tt }
         go group.Other k = record { is = rw (statement-at rows whole row, k); onward = tt }
 
   -- ---- items
 
   mark-of : (kind : MarkKind) → kindAt rows row ≡ group.OfMark kind → ItemAt rows row (f 5) (item.Mark (markAs rows row kind))
-  mark-of Case k = record { is = at-case rows whole row k (forward 5 next); onward = next }
-  mark-of Default k = record { is = at-default rows whole row k (forward 5 next); onward = next }
-  mark-of Label k = record { is = at-label rows whole row k (forward 5 next); onward = next }
+  mark-of Case k = record { is = at-case rows whole row k (forward 5 next); onward = next; parts = tt }
+  mark-of Default k = record { is = at-default rows whole row k (forward 5 next); onward = next; parts = tt }
+  mark-of Label k = record { is = at-label rows whole row k (forward 5 next); onward = next; parts = tt }
 
-  -- What a row is as an item: a mark, or else its statement.
+  definition-of : kindAt rows row ≡ group.Definition → ItemAt rows row (f 5) (item.Definition (f 1) (f 2) (f 3))
+  unfolding sortIn kindRow definitionFields isRequired isLink
+  definition-of k =
+      let b = optional-link k 2 (omega arith) (omega arith) refl in
+      let c = required k 3 (omega arith) (omega arith) refl in
+      record { is = at-definition rows whole row k (forward 2 b) (c .later) (forward 5 next); onward = next; parts = (b, c) }
+
+  -- What a row is as an item: a mark, a definition, or else its statement.
   pub item-found : ItemAt rows row (f 5) (itemIn (shapeAt rows row))
-  unfolding shapeAt memberAs itemsOf
+  unfolding shapeAt definitionAs memberAs itemsOf
   item-found = go (kindAt rows row) refl
     where
       go : (kind : Kind) → kindAt rows row ≡ kind → ItemAt rows row (f 5) (itemIn (shapeAs rows row kind))
-      go (group.OfExpression kind) k = record { is = rw (items-at rows whole row, k) (ap (λ l. statementAt rows row then l) (later-list rows whole row (f 5) (forward 5 next))); onward = next }
-      go (group.OfStatement kind) k = record { is = at-item rows whole row (rw k) (forward 5 next); onward = next }
+      go (group.OfExpression kind) k = record { is = rw (items-at rows whole row, k) (ap (λ l. statementAt rows row then l) (later-list rows whole row (f 5) (forward 5 next))); onward = next; parts = tt }
+      go (group.OfStatement kind) k = record { is = at-item rows whole row (rw k) (forward 5 next); onward = next; parts = tt }
       go (group.OfMark kind) k = mark-of kind k
-      go (group.OfMember Arm) k = record { is = rw (items-at rows whole row, k) (ap (λ l. statementAt rows row then l) (later-list rows whole row (f 5) (forward 5 next))); onward = next }
+      go (group.OfMember Arm) k = record { is = rw (items-at rows whole row, k) (ap (λ l. statementAt rows row then l) (later-list rows whole row (f 5) (forward 5 next))); onward = next; parts = tt }
+      go (group.OfMember Argument) k = record { is = rw (items-at rows whole row, k) (ap (λ l. statementAt rows row then l) (later-list rows whole row (f 5) (forward 5 next))); onward = next; parts = tt }
+      go group.Definition k = definition-of k
       go group.Other k = absurd (sound .known row inside k)
 
   -- ---- arms
 
   -- What a row is among arms; none where it is no arm.
   pub arm-found : ArmAt rows row (f 5) (armIn (shapeAt rows row))
-  unfolding shapeAt memberAs armsOf sortIn kindRow memberFields isRequired
+  unfolding shapeAt definitionAs memberAs armsOf sortIn kindRow memberFields isRequired
   arm-found = go (kindAt rows row) refl
     where
       go : (kind : Kind) → kindAt rows row ≡ kind → ArmAt rows row (f 5) (armIn (shapeAs rows row kind))
@@ -218,7 +234,27 @@ module _ {rows : List ℤ} {L : Layout} {words : ℕ} (sound : Sound rows L word
           let a = required k 1 (omega arith) (omega arith) refl in
           let b = required k 2 (omega arith) (omega arith) refl in
           record { is = at-arm rows whole row k (a .later) (b .later) (forward 5 next); onward = (a, b); behind = next }
+      go (group.OfMember Argument) k = record { is = rw (arms-at rows whole row, k); onward = tt; behind = next }
+      go group.Definition k = record { is = rw (arms-at rows whole row, k); onward = tt; behind = next }
       go group.Other k = record { is = rw (arms-at rows whole row, k); onward = tt; behind = next }
+
+  -- ---- arguments
+
+  -- What a row is among arguments; none where it is no argument.
+  pub argument-found : ArgumentAt rows row (f 5) (argumentIn (shapeAt rows row))
+  unfolding shapeAt definitionAs memberAs argumentsOf sortIn kindRow memberFields isRequired
+  argument-found = go (kindAt rows row) refl
+    where
+      go : (kind : Kind) → kindAt rows row ≡ kind → ArgumentAt rows row (f 5) (argumentIn (shapeAs rows row kind))
+      go (group.OfExpression kind) k = record { is = rw (arguments-at rows whole row, k); onward = tt; behind = next }
+      go (group.OfStatement kind) k = record { is = rw (arguments-at rows whole row, k); onward = tt; behind = next }
+      go (group.OfMark kind) k = record { is = rw (arguments-at rows whole row, k); onward = tt; behind = next }
+      go (group.OfMember Arm) k = record { is = rw (arguments-at rows whole row, k); onward = tt; behind = next }
+      go (group.OfMember Argument) k =
+          let a = required k 1 (omega arith) (omega arith) refl in
+          record { is = at-argument rows whole row k (a .later) (forward 5 next); onward = a; behind = next }
+      go group.Definition k = record { is = rw (arguments-at rows whole row, k); onward = tt; behind = next }
+      go group.Other k = record { is = rw (arguments-at rows whole row, k); onward = tt; behind = next }
 
 -- ---- places
 
@@ -243,6 +279,7 @@ place-in (Number v) some found = record { is = ap placeOf (found .is); onward = 
 place-in (Read p) some found = record { is = ap placeOf (found .is); onward = found .onward }
 place-in {rows} (Operation o) some found = record { is = ap placeOf (found .is) ∙ no-place rows o; onward = some }
 place-in {rows} (Choice c) some found = record { is = ap placeOf (found .is) ∙ no-place-chosen rows c; onward = some }
+place-in (CallShape f arguments) some found = record { is = ap placeOf (found .is); onward = some }
 
 -- ---- what a match tells
 
@@ -260,6 +297,9 @@ itemed {rows} {row} {next} found e = subst (λ (i : Item). ItemAt rows row next 
 
 pub armed : {rows : List ℤ} {row next : ℕ} {i j : ArmShape} → ArmAt rows row next i → i ≡ j → ArmAt rows row next j
 armed {rows} {row} {next} found e = subst (λ (i : ArmShape). ArmAt rows row next i) e found
+
+pub argued : {rows : List ℤ} {row next : ℕ} {i j : ArgumentShape} → ArgumentAt rows row next i → i ≡ j → ArgumentAt rows row next j
+argued {rows} {row} {next} found e = subst (λ (i : ArgumentShape). ArgumentAt rows row next i) e found
 
 -- the row behind, as the code has it
 pub at-next : {rows : List ℤ} {row next read : ℕ} {i : Item} → read ≡ next → ItemAt rows row next i → ItemAt rows row read i

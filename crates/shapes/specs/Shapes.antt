@@ -16,8 +16,8 @@ use Rattle.words.specs.declared.MarkKind.{MarkKind}
 use Rattle.words.specs.declared.MarkKind.the-variants as mark
 use Rattle.words.specs.declared.MemberKind.{MemberKind}
 use Rattle.words.specs.declared.MemberKind.the-variants as member
-use Rattle.language.specs.Trees.{Expression, constant, read, minus, not, binary, and, or, comma, conditional, assign, compound, prefix, postfix, Place, variable, element, Mark as MarkTree, case, default, label, Statement, empty, express, block, while, doWhile, for, switch, break, continue, goto, guardedIf, guardedDo, abort, declare, Arms, noArm, arm, Items, _then_, _here_}
-use Rattle.language.specs.Decode.{placeOf, expressionAt, ifOf, statementAt, itemsAt, armsAt, listAt, armListAt, partAt}
+use Rattle.language.specs.Trees.{Expression, constant, read, minus, not, binary, and, or, comma, conditional, assign, compound, prefix, postfix, call, Place, variable, element, Arguments, noMore, _also_, Mark as MarkTree, case, default, label, Statement, empty, express, block, while, doWhile, for, switch, break, continue, goto, guardedIf, guardedDo, abort, declare, giveBack, Arms, noArm, arm, Items, _then_, _here_, define}
+use Rattle.language.specs.Decode.{placeOf, expressionAt, argumentsAt, ifOf, blockItems, statementAt, itemsAt, armsAt, listAt, armListAt, partAt, argumentListAt, parameterListAt}
 use Rattle.shapes.specs.declared.PlaceShape.{PlaceShape}
 use Rattle.shapes.specs.declared.PlaceShape.the-variants.{Variable, Element}
 use Rattle.shapes.specs.declared.OperationShape.{OperationShape}
@@ -25,17 +25,19 @@ use Rattle.shapes.specs.declared.OperationShape.the-variants.{Minus, Not
 use Rattle.shapes.specs.declared.ChoiceShape.{ChoiceShape}
 use Rattle.shapes.specs.declared.ChoiceShape.the-variants.{And, Or, Conditional}
 use Rattle.shapes.specs.declared.ExpressionShape.{ExpressionShape}
-use Rattle.shapes.specs.declared.ExpressionShape.the-variants.{Number, Read, Operation, Choice}
+use Rattle.shapes.specs.declared.ExpressionShape.the-variants.{Number, Read, Operation, Choice, Call}
 use Rattle.shapes.specs.declared.StatementShape.{StatementShape}
-use Rattle.shapes.specs.declared.StatementShape.the-variants.{Empty, Express, Block, If, While, Do, For, Switch, Break, Continue, Goto, GuardedIf, GuardedDo, Abort, Declare}
+use Rattle.shapes.specs.declared.StatementShape.the-variants.{Empty, Express, Block, If, While, Do, For, Switch, Break, Continue, Goto, GuardedIf, GuardedDo, Abort, Declare, Return}
 use Rattle.shapes.specs.declared.MarkShape.{MarkShape}
 use Rattle.shapes.specs.declared.MarkShape.the-variants.{Case, Default, Label}
 use Rattle.shapes.specs.declared.Shape.{Shape}
-use Rattle.shapes.specs.declared.Shape.the-variants.{OfExpression, OfStatement, OfMark, OfArm, Other}
+use Rattle.shapes.specs.declared.Shape.the-variants.{OfExpression, OfStatement, OfMark, OfArm, OfArgument, OfDefinition, Other}
 use Rattle.shapes.specs.declared.Item.{Item}
-use Rattle.shapes.specs.declared.Item.the-variants.{Statement as StatementItem, Mark}
+use Rattle.shapes.specs.declared.Item.the-variants.{Statement as StatementItem, Mark, Definition}
 use Rattle.shapes.specs.declared.ArmShape.{ArmShape}
 use Rattle.shapes.specs.declared.ArmShape.the-variants.{Arm, NoArm}
+use Rattle.shapes.specs.declared.ArgumentShape.{ArgumentShape}
+use Rattle.shapes.specs.declared.ArgumentShape.the-variants.{Argument, NoArgument}
 
 -- ---- the shape of a row of a kind; v, a, b, c, d are its fields, v the word of a
 
@@ -54,6 +56,7 @@ expressionShape expression.Assign v a b c = Operation (Assign a b)
 expressionShape (expression.Compound operator) v a b c = Operation (Compound operator a b)
 expressionShape (expression.Prefix operator) v a b c = Operation (Prefix operator a)
 expressionShape (expression.Postfix operator) v a b c = Operation (Postfix operator a)
+expressionShape expression.Call v a b c = Call a b
 
 abbrev pub statementShape : StatementKind → ℕ → ℕ → ℕ → ℕ → StatementShape
 statementShape statement.Empty a b c d = Empty
@@ -71,6 +74,7 @@ statementShape statement.GuardedIf a b c d = GuardedIf a
 statementShape statement.GuardedDo a b c d = GuardedDo a
 statementShape statement.Abort a b c d = Abort
 statementShape statement.Declare a b c d = Declare a b
+statementShape statement.Return a b c d = Return a
 
 abbrev pub markShape : MarkKind → ℤ → ℕ → MarkShape
 markShape mark.Case v a = Case v
@@ -79,6 +83,7 @@ markShape mark.Label v a = Label a
 
 abbrev pub memberShape : MemberKind → ℕ → ℕ → Shape
 memberShape member.Arm a b = OfArm a b
+memberShape member.Argument a b = OfArgument a
 
 -- The same at a row of a table.
 module _ (rows : List ℤ) (row : ℕ) where
@@ -94,23 +99,29 @@ module _ (rows : List ℤ) (row : ℕ) where
   unfoldable pub memberAs : MemberKind → Shape
   memberAs kind = memberShape kind (numberAt rows row 1) (numberAt rows row 2)
 
+  unfoldable pub definitionAs : Shape
+  definitionAs = OfDefinition (numberAt rows row 1) (numberAt rows row 2) (numberAt rows row 3)
+
   abbrev pub shapeAs : Kind → Shape
   shapeAs (group.OfExpression kind) = OfExpression (expressionAs kind)
   shapeAs (group.OfStatement kind) = OfStatement (statementAs kind)
   shapeAs (group.OfMark kind) = OfMark (markAs kind)
   shapeAs (group.OfMember kind) = memberAs kind
+  shapeAs group.Definition = definitionAs
   shapeAs group.Other = Other
 
   unfoldable pub shapeAt : Shape
   shapeAt = shapeAs (kindAt rows row)
 
--- ---- what a shape is as an expression, a place, a statement, an item, an arm
+-- ---- what a shape is as an expression, a place, a statement, an item, an arm, an argument
 
 abbrev pub expressionIn : Shape → ExpressionShape
 expressionIn (OfExpression e) = e
 expressionIn (OfStatement s) = Number (pos 0)
 expressionIn (OfMark m) = Number (pos 0)
 expressionIn (OfArm guard body) = Number (pos 0)
+expressionIn (OfArgument e) = Number (pos 0)
+expressionIn (OfDefinition f words body) = Number (pos 0)
 expressionIn Other = Number (pos 0)
 
 abbrev pub placeIn : ExpressionShape → PlaceShape
@@ -118,12 +129,15 @@ placeIn (Number v) = Variable 0
 placeIn (Read place) = place
 placeIn (Operation o) = Variable 0
 placeIn (Choice c) = Variable 0
+placeIn (Call f arguments) = Variable 0
 
 abbrev pub statementIn : Shape → StatementShape
 statementIn (OfExpression e) = Empty
 statementIn (OfStatement s) = s
 statementIn (OfMark m) = Empty
 statementIn (OfArm guard body) = Empty
+statementIn (OfArgument e) = Empty
+statementIn (OfDefinition f words body) = Empty
 statementIn Other = Empty
 
 abbrev pub itemIn : Shape → Item
@@ -131,6 +145,8 @@ itemIn (OfExpression e) = StatementItem
 itemIn (OfStatement s) = StatementItem
 itemIn (OfMark m) = Mark m
 itemIn (OfArm guard body) = StatementItem
+itemIn (OfArgument e) = StatementItem
+itemIn (OfDefinition f words body) = Definition f words body
 itemIn Other = StatementItem
 
 abbrev pub armIn : Shape → ArmShape
@@ -138,7 +154,18 @@ armIn (OfExpression e) = NoArm
 armIn (OfStatement s) = NoArm
 armIn (OfMark m) = NoArm
 armIn (OfArm guard body) = Arm guard body
+armIn (OfArgument e) = NoArm
+armIn (OfDefinition f words body) = NoArm
 armIn Other = NoArm
+
+abbrev pub argumentIn : Shape → ArgumentShape
+argumentIn (OfExpression e) = NoArgument
+argumentIn (OfStatement s) = NoArgument
+argumentIn (OfMark m) = NoArgument
+argumentIn (OfArm guard body) = NoArgument
+argumentIn (OfArgument e) = Argument e
+argumentIn (OfDefinition f words body) = NoArgument
+argumentIn Other = NoArgument
 
 -- ---- links
 
@@ -178,6 +205,7 @@ module _ (rows : List ℤ) where
   expressionTree (Read p) = read (placeTree p)
   expressionTree (Operation o) = operationTree o
   expressionTree (Choice c) = choiceTree c
+  expressionTree (Call f arguments) = call f (argumentListAt rows arguments)
 
   abbrev pub statementTree : StatementShape → Statement
   statementTree Empty = empty
@@ -195,6 +223,7 @@ module _ (rows : List ℤ) where
   statementTree (GuardedDo arms) = guardedDo (armListAt rows arms)
   statementTree Abort = abort
   statementTree (Declare i e) = declare i (expressionAt rows e)
+  statementTree (Return value) = giveBack (partAt rows value)
 
   abbrev pub markTree : MarkShape → MarkTree
   markTree (Case v) = case v
@@ -205,11 +234,17 @@ module _ (rows : List ℤ) where
   abbrev pub itemTree : Item → Statement → Items → Items
   itemTree StatementItem own behind = own then behind
   itemTree (Mark m) own behind = markTree m here behind
+  itemTree (Definition f words body) own behind = define f (parameterListAt rows words) (blockItems (statementAt rows body)) behind
 
   -- The arms from an arm on, with the arms behind it.
   abbrev pub armTree : ArmShape → Arms → Arms
   armTree (Arm guard body) behind = arm (expressionAt rows guard) (statementAt rows body) behind
   armTree NoArm behind = noArm
+
+  -- The arguments from an argument on, with the arguments behind it.
+  abbrev pub argumentTree : ArgumentShape → Arguments → Arguments
+  argumentTree (Argument e) behind = expressionAt rows e also behind
+  argumentTree NoArgument behind = noMore
 
   module _ (row : ℕ) where
     -- ---- the links lead on
@@ -239,6 +274,7 @@ module _ (rows : List ℤ) where
     ExpressionOnward name arrays (Read p) = PlaceOnward name arrays p
     ExpressionOnward name arrays (Operation o) = OperationOnward o
     ExpressionOnward name arrays (Choice c) = ChoiceOnward c
+    ExpressionOnward name arrays (Call f arguments) = OptionalOnward rows row arguments
 
     abbrev pub StatementOnward : (ℕ → Type 0) → StatementShape → Type 0
     StatementOnward name Empty = Unit {0}
@@ -256,10 +292,21 @@ module _ (rows : List ℤ) where
     StatementOnward name (GuardedDo arms) = OptionalOnward rows row arms
     StatementOnward name Abort = Unit {0}
     StatementOnward name (Declare i e) = name i × Onward rows row e
+    StatementOnward name (Return value) = OptionalOnward rows row value
 
     abbrev pub ArmOnward : ArmShape → Type 0
     ArmOnward (Arm guard body) = Onward rows row guard × Onward rows row body
     ArmOnward NoArm = Unit {0}
+
+    -- The number of a function is no link.
+    abbrev pub ItemOnward : Item → Type 0
+    ItemOnward StatementItem = Unit {0}
+    ItemOnward (Mark m) = Unit {0}
+    ItemOnward (Definition f words body) = OptionalOnward rows row words × Onward rows row body
+
+    abbrev pub ArgumentOnward : ArgumentShape → Type 0
+    ArgumentOnward (Argument e) = Onward rows row e
+    ArgumentOnward NoArgument = Unit {0}
 
     -- ---- what stands at a row
 
@@ -279,8 +326,14 @@ module _ (rows : List ℤ) where
     pub record ItemAt (next : ℕ) (item : Item) : Type 0 where
       pub is : itemsAt rows row ≡ itemTree item (statementAt rows row) (listAt rows next)
       pub onward : OptionalOnward rows row next
+      pub parts : ItemOnward item
 
     pub record ArmAt (next : ℕ) (shape : ArmShape) : Type 0 where
       pub is : armsAt rows row ≡ armTree shape (armListAt rows next)
       pub onward : ArmOnward shape
+      pub behind : OptionalOnward rows row next
+
+    pub record ArgumentAt (next : ℕ) (shape : ArgumentShape) : Type 0 where
+      pub is : argumentsAt rows row ≡ argumentTree shape (argumentListAt rows next)
+      pub onward : ArgumentOnward shape
       pub behind : OptionalOnward rows row next

@@ -15,7 +15,7 @@ use words::table::word_at;
 ghost use mathlib.Core.Path.{_≡_};
 ghost use Prim.Native.Nat.{_+_, _*_, _<_};
 ghost use lib.ListN.{length};
-ghost use Rattle.shapes.specs.Shapes.{expressionAs, statementAs, markAs, memberAs};
+ghost use Rattle.shapes.specs.Shapes.{expressionAs, statementAs, markAs, definitionAs, memberAs};
 
 pub fn expression_shape(rows: &[i32], row: usize, kind: ExpressionKind) -> ExpressionShape
     requires { ⌜ 6 * row + 5 < length (now rows) ⌝ }
@@ -47,6 +47,7 @@ pub fn expression_shape(rows: &[i32], row: usize, kind: ExpressionKind) -> Expre
         ExpressionKind::Postfix(operator) => {
             ExpressionShape::Operation(OperationShape::Postfix(operator, a))
         }
+        ExpressionKind::Call => ExpressionShape::Call(a, b),
     }
 }
 
@@ -74,6 +75,7 @@ pub fn statement_shape(rows: &[i32], row: usize, kind: StatementKind) -> Stateme
         StatementKind::GuardedDo => StatementShape::GuardedDo(a),
         StatementKind::Abort => StatementShape::Abort,
         StatementKind::Declare => StatementShape::Declare(a, b),
+        StatementKind::Return => StatementShape::Return(a),
     }
 }
 
@@ -89,6 +91,16 @@ pub fn mark_shape(rows: &[i32], row: usize, kind: MarkKind) -> MarkShape
     }
 }
 
+pub fn definition_shape(rows: &[i32], row: usize) -> Shape
+    requires { ⌜ 6 * row + 5 < length (now rows) ⌝ }
+    ensures { λ r. ⌜ r ≡ definitionAs (now (rows .entry)) row ⌝ }
+{
+    let number = number_at(rows, row, 1);
+    let parameters = number_at(rows, row, 2);
+    let body = number_at(rows, row, 3);
+    Shape::OfDefinition(number, parameters, body)
+}
+
 pub fn member_shape(rows: &[i32], row: usize, kind: MemberKind) -> Shape
     requires { ⌜ 6 * row + 5 < length (now rows) ⌝ }
     ensures { λ r. ⌜ r ≡ memberAs (now (rows .entry)) row kind ⌝ }
@@ -97,5 +109,6 @@ pub fn member_shape(rows: &[i32], row: usize, kind: MemberKind) -> Shape
     let b = number_at(rows, row, 2);
     match kind {
         MemberKind::Arm => Shape::OfArm(a, b),
+        MemberKind::Argument => Shape::OfArgument(a),
     }
 }

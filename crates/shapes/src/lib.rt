@@ -3,7 +3,7 @@
 use words::Operator;
 
 pub mod kinds; // kinds.rt: the shape of a row of a kind
-pub mod rows; // rows.rt: the shape of the row, as an expression, a place, a statement, an item or an arm
+pub mod rows; // rows.rt: the shape of the row, as an expression, a place, a statement, an item, an arm or an argument
 
 // A place: the number of a variable; or the number of an array and the row of the index.
 pub enum PlaceShape {
@@ -30,11 +30,13 @@ pub enum ChoiceShape {
     Conditional(usize, usize, usize),
 }
 
+// A call with the number of its function and the row of its first argument.
 pub enum ExpressionShape {
     Number(i32),
     Read(PlaceShape),
     Operation(OperationShape),
     Choice(ChoiceShape),
+    Call(usize, usize),
 }
 
 // A statement with its links; 0 is absent. A declaration with the store word of its object.
@@ -54,6 +56,7 @@ pub enum StatementShape {
     GuardedDo(usize),
     Abort,
     Declare(usize, usize),
+    Return(usize),
 }
 
 pub enum MarkShape {
@@ -62,12 +65,15 @@ pub enum MarkShape {
     Label(usize),
 }
 
-// What stands at a row, by the group of its kind; an arm with the rows of its guard and of its block.
+// What stands at a row, by the group of its kind; an arm with the rows of its guard and of its block, an argument with that of its expression,
+// a definition with its number and the rows of its first parameter and of its block.
 pub enum Shape {
     OfExpression(ExpressionShape),
     OfStatement(StatementShape),
     OfMark(MarkShape),
     OfArm(usize, usize),
+    OfArgument(usize),
+    OfDefinition(usize, usize, usize),
     Other,
 }
 
@@ -75,10 +81,17 @@ pub enum Shape {
 pub enum Item {
     Statement,
     Mark(MarkShape),
+    Definition(usize, usize, usize),
 }
 
 // What a row is among arms: the rows of its guard and of its block.
 pub enum ArmShape {
     Arm(usize, usize),
     NoArm,
+}
+
+// What a row is among arguments: the row of its expression.
+pub enum ArgumentShape {
+    Argument(usize),
+    NoArgument,
 }

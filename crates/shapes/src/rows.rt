@@ -1,11 +1,13 @@
 // What stands at a row. A row of another group counts as the constant 0, as an empty statement, as a statement among the items, and ends
-// the arms.
+// the arms and the arguments.
+use super::ArgumentShape;
 use super::ArmShape;
 use super::ExpressionShape;
 use super::Item;
 use super::PlaceShape;
 use super::Shape;
 use super::StatementShape;
+use super::kinds::definition_shape;
 use super::kinds::expression_shape;
 use super::kinds::mark_shape;
 use super::kinds::member_shape;
@@ -17,7 +19,7 @@ ghost use Prim.Native.Nat.{_+_, _*_, _<_};
 ghost use lib.ListN.{length};
 ghost use Rattle.words.specs.Table.{rowCount, numberAt};
 ghost use Rattle.shapes.specs.Source.{Source, PlaceAt, ExpressionAt, StatementAt};
-ghost use Rattle.shapes.specs.Shapes.{shapeAt, expressionIn, placeIn, statementIn, itemIn, armIn, ItemAt, ArmAt};
+ghost use Rattle.shapes.specs.Shapes.{shapeAt, expressionIn, placeIn, statementIn, itemIn, armIn, argumentIn, ItemAt, ArmAt, ArgumentAt};
 
 pub fn shape_at(rows: &[i32], row: usize) -> Shape
     requires { ⌜ 6 * row + 5 < length (now rows) ⌝ }
@@ -29,6 +31,7 @@ pub fn shape_at(rows: &[i32], row: usize) -> Shape
         Kind::OfStatement(kind) => Shape::OfStatement(statement_shape(rows, row, kind)),
         Kind::OfMark(kind) => Shape::OfMark(mark_shape(rows, row, kind)),
         Kind::OfMember(kind) => member_shape(rows, row, kind),
+        Kind::Definition => definition_shape(rows, row),
         Kind::Other => Shape::Other,
     }
 }
@@ -41,6 +44,8 @@ fn expression_of(shape: Shape) -> ExpressionShape
         Shape::OfStatement(_) => ExpressionShape::Number(0),
         Shape::OfMark(_) => ExpressionShape::Number(0),
         Shape::OfArm(_, _) => ExpressionShape::Number(0),
+        Shape::OfArgument(_) => ExpressionShape::Number(0),
+        Shape::OfDefinition(_, _, _) => ExpressionShape::Number(0),
         Shape::Other => ExpressionShape::Number(0),
     }
 }
@@ -54,6 +59,7 @@ fn place_of(expression: ExpressionShape) -> PlaceShape
         ExpressionShape::Read(place) => place,
         ExpressionShape::Operation(_) => PlaceShape::Variable(0),
         ExpressionShape::Choice(_) => PlaceShape::Variable(0),
+        ExpressionShape::Call(_, _) => PlaceShape::Variable(0),
     }
 }
 
@@ -65,6 +71,8 @@ fn statement_of(shape: Shape) -> StatementShape
         Shape::OfStatement(statement) => statement,
         Shape::OfMark(_) => StatementShape::Empty,
         Shape::OfArm(_, _) => StatementShape::Empty,
+        Shape::OfArgument(_) => StatementShape::Empty,
+        Shape::OfDefinition(_, _, _) => StatementShape::Empty,
         Shape::Other => StatementShape::Empty,
     }
 }
@@ -77,6 +85,8 @@ fn item_of(shape: Shape) -> Item
         Shape::OfStatement(_) => Item::Statement,
         Shape::OfMark(mark) => Item::Mark(mark),
         Shape::OfArm(_, _) => Item::Statement,
+        Shape::OfArgument(_) => Item::Statement,
+        Shape::OfDefinition(number, parameters, body) => Item::Definition(number, parameters, body),
         Shape::Other => Item::Statement,
     }
 }
@@ -89,7 +99,23 @@ fn arm_of(shape: Shape) -> ArmShape
         Shape::OfStatement(_) => ArmShape::NoArm,
         Shape::OfMark(_) => ArmShape::NoArm,
         Shape::OfArm(guard, body) => ArmShape::Arm(guard, body),
+        Shape::OfArgument(_) => ArmShape::NoArm,
+        Shape::OfDefinition(_, _, _) => ArmShape::NoArm,
         Shape::Other => ArmShape::NoArm,
+    }
+}
+
+fn argument_of(shape: Shape) -> ArgumentShape
+    ensures { λ r. ⌜ r ≡ argumentIn shape ⌝ }
+{
+    match shape {
+        Shape::OfExpression(_) => ArgumentShape::NoArgument,
+        Shape::OfStatement(_) => ArgumentShape::NoArgument,
+        Shape::OfMark(_) => ArgumentShape::NoArgument,
+        Shape::OfArm(_, _) => ArgumentShape::NoArgument,
+        Shape::OfArgument(expression) => ArgumentShape::Argument(expression),
+        Shape::OfDefinition(_, _, _) => ArgumentShape::NoArgument,
+        Shape::Other => ArgumentShape::NoArgument,
     }
 }
 
@@ -126,4 +152,11 @@ pub fn arm_at(rows: &[i32], row: usize) -> ArmShape
     ensures { λ r. ⌜ ArmAt (now (rows .entry)) row (numberAt (now (rows .entry)) row 5) r ⌝ }
 {
     arm_of(shape_at(rows, row))
+}
+
+pub fn argument_at(rows: &[i32], row: usize) -> ArgumentShape
+    requires { ⌜ Source (now rows) × (row < rowCount (now rows)) ⌝ }
+    ensures { λ r. ⌜ ArgumentAt (now (rows .entry)) row (numberAt (now (rows .entry)) row 5) r ⌝ }
+{
+    argument_of(shape_at(rows, row))
 }

@@ -24,8 +24,11 @@ use Rattle.structure.specs.Lists.{before-later}
 use Rattle.structure.specs.StructuredLaws.{accepted-structured, structured-accepted, structured-tree}
 use Rattle.statement_places.specs.Places.{isMark}
 use Rattle.repeated_marks.specs.Marks.{repeated}
+use Rattle.declaration_causes.specs.Causes.{declarationRefusal}
 use Rattle.declaration_causes.specs.DeclarationLaws.{block-undeclared}
 use Rattle.declaration_causes.specs.AcceptsDeclared.{accepts-declared}
+use Rattle.function_causes.specs.FrontLaws.{block-undefined}
+use Rattle.function_causes.specs.AcceptsFunctions.{accepts-functions}
 use Rattle.source_check.specs.Refusal.{wronglyPlaced, laterRefusal, refusal}
 use Rattle.source_check.specs.Legal.{Distinct, Legal}
 use Rattle.source_check.specs.PlaceLaws.{none-wrong-placed, placed-none-wrong}
@@ -87,15 +90,17 @@ module _ (header rows : List ℤ) where
       let c7 = next-accepts (at 7 _) _ (parts .1) in
       let c8 = next-accepts (at 8 _) _ (c7 .1) in
       let c9 = next-accepts (at 9 _) _ (c8 .1) in
+      let c20 = next-accepts (declarationRefusal rows) _ (c9 .1) in
       let places = lowestRow-all rows (wronglyPlaced rows) (at-accepts 7 _ (c7 .0)) in
       let marks = lowestRow-all rows (repeated rows) (at-accepts 8 _ (c8 .0)) in
       record {
         header-fits = sound .0;
         structured = s;
-        placed = λ row n. none-wrong-placed rows t row n (places row n);
+        placed = λ row n. none-wrong-placed rows t (block-undefined rows 0 (s .block)) row n (places row n);
         distinct = λ row n. once-distinct _ rows s row n (marks row n);
         shallow = none-deep-shallow rows t Source (at-accepts 9 _ (c9 .0));
-        well-declared = accepts-declared rows t (block-undeclared rows 0 (s .block)) .0 (c9 .1);
+        well-declared = accepts-declared rows t (block-undeclared rows 0 (s .block)) .0 (c20 .0);
+        well-called = accepts-functions rows t (block-undefined rows 0 (s .block)) .0 (c20 .1);
       }
 
   legal-accepted : Legal header rows → refusal header rows ≡ Accepted
@@ -103,10 +108,11 @@ module _ (header rows : List ℤ) where
   legal-accepted l =
       let t = structured-tree Source _ rows (l .structured) in
       accepts-next (structuralRefusal Source header rows) _ (structured-accepted Source header rows (l .header-fits) (l .structured))
-      (accepts-next (at 7 _) _ (accepts-at 7 _ (all-lowestRow rows (wronglyPlaced rows) (λ row n. placed-none-wrong rows t row (l .placed row n))))
+      (accepts-next (at 7 _) _ (accepts-at 7 _ (all-lowestRow rows (wronglyPlaced rows) (λ row n. placed-none-wrong rows t (block-undefined rows 0 (l .structured .block)) row (l .placed row n))))
       (accepts-next (at 8 _) _ (accepts-at 8 _ (all-lowestRow rows (repeated rows) (λ row n. distinct-once _ rows (l .structured) row n (l .distinct row n))))
       (accepts-next (at 9 _) _ (accepts-at 9 _ (shallow-none-deep rows t Source (l .shallow)))
-      (accepts-declared rows t (block-undeclared rows 0 (l .structured .block)) .1 (l .well-declared)))))
+      (accepts-next (declarationRefusal rows) _ (accepts-declared rows t (block-undeclared rows 0 (l .structured .block)) .1 (l .well-declared))
+      (accepts-functions rows t (block-undefined rows 0 (l .structured .block)) .1 (l .well-called))))))
 
   pub accepts-legal : refusal header rows ≡ Accepted ↔ Legal header rows
   accepts-legal = (accepted-legal, legal-accepted)

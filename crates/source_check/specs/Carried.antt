@@ -13,6 +13,8 @@ use Rattle.words.specs.Declarations.{isDeclaration}
 use Rattle.names.specs.Names.{resolved}
 use Rattle.names.specs.ResolvedLaws.{resolved-kind, resolved-link, resolved-count, resolved-leads}
 use Rattle.list_items.specs.Items.{ListItem, first, next}
+use Rattle.function_causes.specs.Functions.{isDefinition, isReturn}
+use Rattle.function_causes.specs.Demands.{Within, functionPart, functionAlong}
 use Rattle.source_check.specs.Legal.{Inside, part, along, Placed}
 
 -- Row r of the table `rows` is row ρ r of the table `other`, and so are the rows that it links.
@@ -37,13 +39,22 @@ module _ {other rows : List ℤ} {ρ : ℕ → ℕ} (c : Carries other rows ρ) 
   item-carried kind start f (next {row} leads i) =
       subst (ListItem other kind start) (c .to row 5 (omega arith) leads) (next (c .leads row 5 (omega arith) leads) (item-carried kind start f i))
 
+  within-carried : {definition : ℕ} {row : ℕ} → Within rows definition row → Within other (ρ definition) (ρ row)
+  unfolding isDefinition
+  within-carried {definition} (functionPart {field} f d leads) =
+      let later = leads .later in
+      let below = leads .inside in
+      subst (Within other (ρ definition)) (c .to definition field (omega arith) leads) (functionPart f (rw (c .kind definition (omega arith)) d) (c .leads definition field (omega arith) leads))
+  within-carried {definition} (functionAlong {row} {field} f leads w) = subst (Within other (ρ definition)) (c .to row field f leads) (functionAlong f (c .leads row field f leads) (within-carried w))
+
   pub placed-carried : (row : ℕ) → row < rowCount rows → Placed rows row → Placed other (ρ row)
-  unfolding isDeclaration
+  unfolding isDeclaration isReturn
   placed-carried row n p = record {
     break-inside = λ k. inside-carried _ (p .break-inside (sym (c .kind row n) ∙ k));
     continue-inside = λ k. inside-carried _ (p .continue-inside (sym (c .kind row n) ∙ k));
     mark-inside = λ k. item-carried 47 2 (omega arith) (p .mark-inside (rw (c .kind row n) at k));
     declaration-inside = λ d. item-carried 42 1 (omega arith) (p .declaration-inside (rw (c .kind row n) at d));
+    return-inside = λ r. let inside = p .return-inside (rw (c .kind row n) at r) in record { definition = ρ (inside .definition); within = within-carried (inside .within) };
   }
 
 -- ---- the resolved table

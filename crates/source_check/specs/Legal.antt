@@ -1,4 +1,4 @@
--- Legal: what document 01 demands of a source program, and Change 11 of its declarations.
+-- Legal: what document 01 demands of a source program, Change 11 of its declarations and Change 13 of its functions.
 use mathlib.Core.Path.{_≡_}
 use mathlib.Core.Bool.{Bool, true}
 use mathlib.Core.List.{List}
@@ -13,6 +13,7 @@ use Rattle.structure.specs.Structured.{Leads, Structured, Shallow}
 use Rattle.structure.specs.Lists.{Before}
 use Rattle.list_items.specs.Items.{ListItem}
 use Rattle.declaration_causes.specs.Demands.{BlockItem, WellDeclared}
+use Rattle.function_causes.specs.Demands.{ReturnInside, WellCalled}
 use Rattle.statement_places.specs.Places.{isLoop, isLoopOrSwitch, isMark}
 
 -- A row stands inside a row of such a kind: as one of its parts, or linked by a row that does.
@@ -25,12 +26,13 @@ abbrev pub SwitchItem : List ℤ → ℕ → Type 0
 SwitchItem rows row = ListItem rows 47 2 row
 
 -- "A case or default is an item of a switch's own list. Break stands inside a loop or switch, continue inside a loop." A declaration
--- "is an item of a block".
+-- "is an item of a block". No "return outside a function".
 pub record Placed (rows : List ℤ) (row : ℕ) : Type 0 where
   pub break-inside : numberAt rows row 0 ≡ 50 → Inside rows isLoopOrSwitch row
   pub continue-inside : numberAt rows row 0 ≡ 51 → Inside rows isLoop row
   pub mark-inside : isMark (numberAt rows row 0) ≡ true → SwitchItem rows row
   pub declaration-inside : BlockItem rows row
+  pub return-inside : ReturnInside rows row
 
 -- No "second equal case, or second default, in one switch".
 pub record Distinct (rows : List ℤ) (row : ℕ) : Type 0 where
@@ -48,3 +50,6 @@ pub record Legal (header rows : List ℤ) : Type 0 where
   pub shallow : Shallow Source rows
   -- No "initial expression naming its own number", no "number declared twice in one block", and of declarations "at most 64".
   pub well-declared : WellDeclared rows
+  -- No "definition out of order or not at the front", and no "call to no function, to its own or a higher one, or with the wrong number of
+  -- arguments".
+  pub well-called : WellCalled rows

@@ -1,5 +1,5 @@
 -- Laws of places: the notes say what a row stands inside, so cause 7 is document 01's sentence on break, continue, case and default, and
--- Change 11's on declarations.
+-- Change 11's on declarations and Change 13's on returns.
 -- Notes and relations both go along the links: each row by the row that links it.
 use mathlib.Core.Path.{_≡_, refl, sym, ap, _∙_}
 use mathlib.Core.Bool.{Bool, true, false, true≢false}
@@ -22,7 +22,10 @@ use Rattle.row_notes.specs.RowNoteLaws.{noteAt-root, noteAt-link}
 use Rattle.row_notes.specs.declared.Note.{Note}
 use Rattle.statement_places.specs.NoteLaws.{Around, loop-around, loop-or-switch-around, switch-item-note}
 use Rattle.statement_places.specs.Places.{isLoop, isLoopOrSwitch, isMark, inLoop, inLoopOrSwitch, outOfPlace, misplaced}
+use Rattle.declaration_causes.specs.Causes.{outsideBlock}
 use Rattle.declaration_causes.specs.DeclarationLaws.{inside-block, block-inside}
+use Rattle.function_causes.specs.Functions.{isDefinition}
+use Rattle.function_causes.specs.AroundLaws.{inside-function, function-inside}
 use Rattle.source_check.specs.Refusal.{wronglyPlaced}
 use Rattle.source_check.specs.Legal.{Inside, part, along, Placed}
 
@@ -56,15 +59,16 @@ module _ (rows : List ℤ) (t : Tree rows) where
 
   -- ---- cause 7
 
-  pub none-wrong-placed : (row : ℕ) → row < rowCount rows → wronglyPlaced rows row ≡ false → Placed rows row
+  pub none-wrong-placed : isDefinition rows 0 ≡ false → (row : ℕ) → row < rowCount rows → wronglyPlaced rows row ≡ false → Placed rows row
   unfolding wronglyPlaced misplaced outOfPlace
-  none-wrong-placed row n e =
+  none-wrong-placed root row n e =
       let well = neither (misplaced rows row) _ e in
       record {
         break-inside = λ k. noted-inside inLoopOrSwitch isLoopOrSwitch (loop-or-switch-around rows) row n (rw k at (well .0));
         continue-inside = λ k. noted-inside inLoop isLoop (loop-around rows) row n (rw k at (well .0));
         mark-inside = λ k. noted-item rows t 47 2 row n (rw (mark-other row k 50 refl, mark-other row k 51 refl, k, switch-item-note rows row) at (well .0));
-        declaration-inside = inside-block rows t row n (well .1);
+        declaration-inside = inside-block rows t row n (neither (outsideBlock rows row) _ (well .1) .0);
+        return-inside = inside-function rows t root row n (neither (outsideBlock rows row) _ (well .1) .1);
       }
     where
       mark-other : (row : ℕ) → isMark (numberAt rows row 0) ≡ true → (kind : ℕ) → isMark kind ≡ false → eqb (numberAt rows row 0) kind ≡ false
@@ -81,6 +85,6 @@ module _ (rows : List ℤ) (t : Tree rows) where
       (λ k. rw (a, b, k, switch-item-note rows row, item-noted rows t 47 2 (omega arith) (p .mark-inside k)))
       (λ c. rw (a, b, c))))
 
-  pub placed-none-wrong : (row : ℕ) → Placed rows row → wronglyPlaced rows row ≡ false
+  pub placed-none-wrong : isDefinition rows 0 ≡ false → (row : ℕ) → Placed rows row → wronglyPlaced rows row ≡ false
   unfolding wronglyPlaced
-  placed-none-wrong row p = rw (not-misplaced row p) (block-inside rows t row (p .declaration-inside))
+  placed-none-wrong root row p = rw (not-misplaced row p, block-inside rows t row (p .declaration-inside)) (function-inside rows t root row (p .return-inside))

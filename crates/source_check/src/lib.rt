@@ -1,6 +1,8 @@
-// The check of source programs: the causes that both forms share, then 7, 8 and 9, then those of declarations.
+// The check of source programs: the causes that both forms share, then 7, 8 and 9, then those of declarations and of functions.
 use declaration_check::declaration_refusal;
 use declaration_check::lowest_outside_block;
+use functions::functions_refusal;
+use functions::lowest_return_outside;
 use grammar::KindTable;
 use grammar::kinds::kind_table;
 use repeated_marks::marks::lowest_repeated;
@@ -13,13 +15,20 @@ use words::Found;
 use words::Refusal;
 use words::Verdict;
 use words::declarations::declaration_count;
+
+pub mod functions; // functions.rt: the causes of functions, with room for what is known of the rows
+
 ghost use mathlib.Core.Path.{_≡_};
+ghost use mathlib.Core.Bool.{false};
 ghost use Prim.Native.Nat.{_/_, _≤_};
 ghost use lib.ListN.{length};
 ghost use Rattle.structure.specs.Structured.{Tree};
 ghost use Rattle.grammar.specs.Grammar.{grammar};
-ghost use Rattle.structure.specs.Refusal.{structuralRefusal};
+ghost use Rattle.structure.specs.Refusal.{_next_, structuralRefusal};
 ghost use Rattle.words.specs.declared.Form.the-variants.{Source};
+ghost use Rattle.declaration_causes.specs.Causes.{declarationRefusal};
+ghost use Rattle.function_causes.specs.Functions.{isDefinition};
+ghost use Rattle.function_causes.specs.Causes.{functionRefusal};
 ghost use Rattle.source_check.specs.Refusal.{wronglyPlaced, laterRefusal, refusal};
 ghost use Rattle.source_check.specs.Lower.{lower as lowerOf};
 ghost use Rattle.statement_places.specs.Passes.{AllNotes};
@@ -64,15 +73,28 @@ fn lowest_wrongly_placed(
     items: &[u16],
     declared: usize,
 ) -> Found
-    requires { ⌜ Tree (now rows) × (length (now rows) / 6 ≤ 2048) × Notes (now rows) (noteAt inLoop (now rows)) (now loops) × Notes (now rows) (noteAt inLoopOrSwitch (now rows)) (now breakable) × Notes (now rows) (noteAt switchItem (now rows)) (now items) × (now kinds ≡ grammar) × (declared ≡ declarationCount (now rows)) ⌝ }
+    requires { ⌜ Tree (now rows) × (isDefinition (now rows) 0 ≡ false) × (length (now rows) / 6 ≤ 2048) × Notes (now rows) (noteAt inLoop (now rows)) (now loops) × Notes (now rows) (noteAt inLoopOrSwitch (now rows)) (now breakable) × Notes (now rows) (noteAt switchItem (now rows)) (now items) × (now kinds ≡ grammar) × (declared ≡ declarationCount (now rows)) ⌝ }
     ensures { λ r. ⌜ r ≡ lowestRow (now (rows .entry)) (wronglyPlaced (now (rows .entry))) ⌝ }
 {
     let misplaced = lowest_misplaced(rows, loops, breakable, items);
     let outside = lowest_outside_block(kinds, rows, declared);
-    lower(misplaced, outside)
+    let returned = lowest_return_outside(kinds, rows);
+    lower(misplaced, lower(outside, returned))
 }
 
-// Causes 7 to 9 and 18 to 20, in a tree of rows, with the notes of its rows.
+// Causes 18 to 20, then 23 and 24, in a tree of rows, with the number of its declarations.
+fn last_refusal(kinds: &KindTable, rows: &[i32], declared: usize) -> Verdict
+    requires { ⌜ Tree (now rows) × (isDefinition (now rows) 0 ≡ false) × (length (now rows) / 6 ≤ 2048) × (now kinds ≡ grammar) × (declared ≡ declarationCount (now rows)) ⌝ }
+    ensures { λ r. ⌜ r ≡ declarationRefusal (now (rows .entry)) next functionRefusal (now (rows .entry)) ⌝ }
+{
+    let verdict = declaration_refusal(kinds, rows, declared);
+    match verdict {
+        Verdict::Refused(found) => Verdict::Refused(found),
+        Verdict::Accepted => functions_refusal(kinds, rows),
+    }
+}
+
+// Causes 7 to 9 and those after 18, in a tree of rows, with the notes of its rows.
 fn noted_refusal(
     kinds: &KindTable,
     rows: &[i32],
@@ -81,7 +103,7 @@ fn noted_refusal(
     items: &[u16],
     before: &[u16],
 ) -> Verdict
-    requires { ⌜ Tree (now rows) × (length (now rows) / 6 ≤ 2048) × AllNotes (now rows) (now loops) (now breakable) (now items) (now before) × (now kinds ≡ grammar) ⌝ }
+    requires { ⌜ Tree (now rows) × (isDefinition (now rows) 0 ≡ false) × (length (now rows) / 6 ≤ 2048) × AllNotes (now rows) (now loops) (now breakable) (now items) (now before) × (now kinds ≡ grammar) ⌝ }
     ensures { λ r. ⌜ r ≡ laterRefusal (now (rows .entry)) ⌝ }
 {
     let declared = declaration_count(rows);
@@ -106,12 +128,12 @@ fn noted_refusal(
             place: row,
         });
     }
-    declaration_refusal(kinds, rows, declared)
+    last_refusal(kinds, rows, declared)
 }
 
-// Causes 7 to 9 and 18 to 20, in a tree of rows.
+// Causes 7 to 9 and those after 18, in a tree of rows.
 fn later_refusal_by(kinds: &KindTable, rows: &[i32]) -> Verdict
-    requires { ⌜ Tree (now rows) × (length (now rows) / 6 ≤ 2048) × (now kinds ≡ grammar) ⌝ }
+    requires { ⌜ Tree (now rows) × (isDefinition (now rows) 0 ≡ false) × (length (now rows) / 6 ≤ 2048) × (now kinds ≡ grammar) ⌝ }
     ensures { λ r. ⌜ r ≡ laterRefusal (now (rows .entry)) ⌝ }
 {
     let mut loops = [0u16; 2048];
@@ -131,7 +153,7 @@ fn later_refusal_by(kinds: &KindTable, rows: &[i32]) -> Verdict
 
 // The same, with the table of kinds: it is built here, once, and lent on.
 fn later_refusal(rows: &[i32]) -> Verdict
-    requires { ⌜ Tree (now rows) × (length (now rows) / 6 ≤ 2048) ⌝ }
+    requires { ⌜ Tree (now rows) × (isDefinition (now rows) 0 ≡ false) × (length (now rows) / 6 ≤ 2048) ⌝ }
     ensures { λ r. ⌜ r ≡ laterRefusal (now (rows .entry)) ⌝ }
 {
     let kinds = kind_table();

@@ -12,7 +12,7 @@ use Rattle.translation.specs.declared.Use.{Use}
 use Rattle.translation.specs.Translate.{atomOf, atom, targetWord, kernelPlace}
 use Rattle.translation.specs.TranslateSize.{indexRows as indexRowsOf, storeRows, copied}
 use Rattle.translation.specs.HeldCode.{heldBy}
-use Rattle.measure_table.specs.Parts.{UseFits}
+use Rattle.measure_table.specs.Parts.{calledIn, UseFits}
 use Rattle.measure_table.specs.Measures.{Measured}
 use Rattle.shapes.specs.Source.{mostWords, mostArrays}
 use Rattle.shapes.specs.Shapes.{placeTree as placeShapeTree}
@@ -34,7 +34,7 @@ pub record LastAsks (rows : List ℤ) (row : ℕ) (u : Use) (level base words : 
   pub inside : row < rowCount rows
   pub level-low : level ≤ row
   pub use-fits : UseFits u
-  pub room : Room (lastSize (expressionAt rows row) u) base words
+  pub room : Room (lastSize (calledIn rows) (expressionAt rows row) u) base words
 
 -- The word where an element's value or an operation's result goes.
 pub record TargetIs (S : ℕ) (u : Use) (t r : ℕ) : Type 0 where
@@ -45,12 +45,12 @@ pub record TargetIs (S : ℕ) (u : Use) (t r : ℕ) : Type 0 where
 
 -- The atom of the expression at a row, worked out at level t.
 pub record AtomAt (S : ℕ) (rows : List ℤ) (row t : ℕ) (x : Atom) : Type 0 where
-  pub is : atomTree x ≡ atom S t (atomOf (expressionAt rows row))
+  pub is : atomTree x ≡ atom S t (atomOf (calledIn rows) (expressionAt rows row))
   pub fits : AtomFits x
 
 -- The atom of a value that waits, which was copied where `copies` is 1.
 pub record HeldAt (S : ℕ) (rows : List ℤ) (row copies t : ℕ) (x : Atom) : Type 0 where
-  pub is : atomTree x ≡ atom S t (heldBy copies (atomOf (expressionAt rows row)))
+  pub is : atomTree x ≡ atom S t (heldBy copies (atomOf (calledIn rows) (expressionAt rows row)))
   pub fits : AtomFits x
 
 -- The numbers and the index row of a place are inside.
@@ -60,12 +60,12 @@ PlaceInside rows (ElementShape array index) = (array < mostArrays) × (index < r
 
 -- A place whose index is held at level t.
 pub record HeldPlace (S : ℕ) (rows : List ℤ) (place : PlaceShape) (t : ℕ) (p : KernelPlace) : Type 0 where
-  pub is : placeTree p ≡ kernelPlace S (placeShapeTree rows place) t
+  pub is : placeTree p ≡ kernelPlace (calledIn rows) S (placeShapeTree rows place) t
   pub fits : PlaceFits p
 
 -- The place at a row, its index held at level t.
 pub record PlaceAt (S : ℕ) (rows : List ℤ) (row t : ℕ) (p : KernelPlace) : Type 0 where
-  pub is : placeTree p ≡ kernelPlace S (placeOf (expressionAt rows row)) t
+  pub is : placeTree p ≡ kernelPlace (calledIn rows) S (placeOf (expressionAt rows row)) t
   pub fits : PlaceFits p
 
 -- ---- what ends the code of an expression
@@ -82,7 +82,7 @@ pub record AssignmentAsks (rows : List ℤ) (table : List ℕ) (S place value co
   pub writing : Writing rows table S
   pub place-inside : place < rowCount rows
   pub value-inside : value < rowCount rows
-  pub copies-are : copies ≡ copied (atomOf (expressionAt rows value)) (indexWrites (placeOf (expressionAt rows place)))
+  pub copies-are : copies ≡ copied (atomOf (calledIn rows) (expressionAt rows value)) (indexWrites (calledIn rows) (placeOf (expressionAt rows place)))
   pub level-low : level ≤ 2048
   pub room : Room (storeRows (placeOf (expressionAt rows place)) (direct (expressionAt rows value))) base words
 
@@ -98,7 +98,7 @@ pub record ElementAsks (rows : List ℤ) (table : List ℕ) (S array index value
   pub low : array < mostArrays
   pub index-inside : index < rowCount rows
   pub value-inside : value < rowCount rows
-  pub copies-are : copies ≡ copied (atomOf (expressionAt rows value)) (indexWrites (element array (expressionAt rows index)))
+  pub copies-are : copies ≡ copied (atomOf (calledIn rows) (expressionAt rows value)) (indexWrites (calledIn rows) (element array (expressionAt rows index)))
   pub level-low : level ≤ 2048
   pub room : Room 5 base words
 
@@ -113,7 +113,7 @@ pub record OperatorAsks (rows : List ℤ) (table : List ℕ) (S left right copie
   pub writing : Writing rows table S
   pub left-inside : left < rowCount rows
   pub right-inside : right < rowCount rows
-  pub copies-are : copies ≡ copied (atomOf (expressionAt rows right)) (writes (expressionAt rows left))
+  pub copies-are : copies ≡ copied (atomOf (calledIn rows) (expressionAt rows right)) (writes (calledIn rows) (expressionAt rows left))
   pub use-fits : UseFits u
   pub level-low : level ≤ 2048
   pub room : Room 6 base words

@@ -18,15 +18,16 @@ use Rattle.translation.specs.Translate.{Atom as Held, held, atomOf, taken, temp
 use Rattle.translation.specs.TranslateSize.{updateRows, postfixRows, copied}
 use Rattle.translation.specs.HeldCode.{taken-held, held-variable as held-no-index, heldBy, held-by, holdBy}
 use Rattle.shapes.specs.Shapes.{choiceTree, expressionTree, PlaceOnward}
-use Rattle.shapes.specs.Source.{Name, mostArrays, ExpressionAt, PlaceAt as ShapePlaceAt}
-use Rattle.measure_table.specs.Parts.{UseFits, Holding}
+use Rattle.shapes.specs.Source.{Source, Name, mostArrays, ExpressionAt, PlaceAt as ShapePlaceAt}
+use Rattle.measure_table.specs.Parts.{calledIn, UseFits, Holding}
+use Rattle.measure_table.specs.PlainRows.{no-call}
 use Rattle.measure_table.specs.declared.Holder.the-variants.{Number as NumberHolder, Variable as VariableHolder, Temporary}
 use Rattle.shapes.specs.declared.PlaceShape.{PlaceShape}
 use Rattle.shapes.specs.declared.PlaceShape.the-variants.{Variable as VariableShape, Element as ElementShape}
 use Rattle.shapes.specs.declared.ChoiceShape.{ChoiceShape}
 use Rattle.shapes.specs.declared.ChoiceShape.the-variants.{And, Or, Conditional}
 use Rattle.shapes.specs.declared.ExpressionShape.{ExpressionShape}
-use Rattle.shapes.specs.declared.ExpressionShape.the-variants.{Choice}
+use Rattle.shapes.specs.declared.ExpressionShape.the-variants.{Choice, Call}
 use Rattle.leaves.specs.Room.{Room}
 use Rattle.leaves.specs.Straight.{straightCode, lastSize}
 use Rattle.leaves.specs.Atoms.{atomTree}
@@ -38,13 +39,13 @@ use Rattle.leaves.specs.declared.KernelPlace.the-variants.{Variable as Variable
 
 -- The atom of a value, by what holds it.
 module _ {S t : ℕ} {rows : List ℤ} {row : ℕ} where
-  pub atom-number : {z v : ℤ} → Holding rows (atomOf (expressionAt rows row)) (NumberHolder v) → z ≡ v → AtomAt S rows row t (Constant z)
+  pub atom-number : {z v : ℤ} → Holding rows (atomOf (calledIn rows) (expressionAt rows row)) (NumberHolder v) → z ≡ v → AtomAt S rows row t (Constant z)
   atom-number a e = record { is = ap constant e ∙ ap (atom S t) (a .is); fits = tt }
 
-  pub atom-variable : {i : ℕ} → Holding rows (atomOf (expressionAt rows row)) (VariableHolder i) → AtomAt S rows row t (Variable i)
+  pub atom-variable : {i : ℕ} → Holding rows (atomOf (calledIn rows) (expressionAt rows row)) (VariableHolder i) → AtomAt S rows row t (Variable i)
   atom-variable a = record { is = ap (atom S t) (a .is); fits = omega (arith, a .fits .low) }
 
-  pub atom-temporary : Holding rows (atomOf (expressionAt rows row)) Temporary → S + t < 65536 → AtomAt S rows row t (Variable (S + t))
+  pub atom-temporary : Holding rows (atomOf (calledIn rows) (expressionAt rows row)) Temporary → S + t < 65536 → AtomAt S rows row t (Variable (S + t))
   atom-temporary a h = record { is = ap (atom S t) (a .is); fits = h }
 
 -- The word where a value goes, by its use.
@@ -66,9 +67,9 @@ pub held-own : {rows : List ℤ} {row : ℕ} {S t k : ℕ} {x : Atom} → (k ≡
 held-own {k = k} n a = record { is = rw (ne-eqb k 1 n) (a .is); fits = a .fits }
 
 -- what holds a value that waits while W may be written
-pub held-is : {S : ℕ} {rows : List ℤ} {row k t : ℕ} {x : Atom} (W : ℕ → Bool) → k ≡ copied (atomOf (expressionAt rows row)) W → HeldAt S rows row k t x → atomTree x ≡ atom S t (held (atomOf (expressionAt rows row)) W)
+pub held-is : {S : ℕ} {rows : List ℤ} {row k t : ℕ} {x : Atom} (W : ℕ → Bool) → k ≡ copied (atomOf (calledIn rows) (expressionAt rows row)) W → HeldAt S rows row k t x → atomTree x ≡ atom S t (held (atomOf (calledIn rows) (expressionAt rows row)) W)
 held-is {S} {rows} {row} {k} {t} W e a =
-    let h = atomOf (expressionAt rows row) in
+    let h = atomOf (calledIn rows) (expressionAt rows row) in
     a .is ∙ ap (λ (n : ℕ). atom S t (heldBy n h)) e ∙ ap (atom S t) (sym (held-by h W))
 
 -- what is worked out meanwhile stands above it
@@ -76,7 +77,7 @@ pub above-held : {n k : ℕ} (t : ℕ) (h : Held) (W : ℕ → Bool) → n ≡ t
 above-held t h W e f = omega (arith, taken-held h W)
 
 -- the copy of a value that waits, or nothing
-pub hold-copied : (S t k : ℕ) {rows : List ℤ} {row : ℕ} {x : Atom} → k ≡ 1 → AtomAt S rows row t x → assigning S (temporary S t) (atomTree x) none ≡ holdBy S t k (atomOf (expressionAt rows row))
+pub hold-copied : (S t k : ℕ) {rows : List ℤ} {row : ℕ} {x : Atom} → k ≡ 1 → AtomAt S rows row t x → assigning S (temporary S t) (atomTree x) none ≡ holdBy S t k (atomOf (calledIn rows) (expressionAt rows row))
 hold-copied S t k e a = rw (eq-eqb k 1 e, a .is)
 
 pub hold-nothing : (S t k : ℕ) (h : Held) → (k ≡ 1 → ⊥) → none ≡ holdBy S t k h
@@ -111,48 +112,55 @@ held-element S rows t {place} {array} {index} {x} f e a =
 
 pub place-found : {S : ℕ} {rows : List ℤ} {row t : ℕ} {place : PlaceShape} {p : KernelPlace} → ShapePlaceAt rows row place → HeldPlace S rows place t p → PlaceAt S rows row t p
 place-found {S} {rows} {row} {t} f h =
-    record { is = h .is ∙ ap (λ (q : Place). kernelPlace S q t) (sym (f .is)); fits = h .fits }
+    record { is = h .is ∙ ap (λ (q : Place). kernelPlace (calledIn rows) S q t) (sym (f .is)); fits = h .fits }
 
 pub place-index : (rows : List ℤ) {place : PlaceShape} {array index : ℕ} → PlaceInside rows place → place ≡ ElementShape array index → index < rowCount rows
 place-index rows f e = (subst (λ (p : PlaceShape). PlaceInside rows p) e f) .1
 
--- the rows of an operation on a kernel place are those of one on the source's
-pub update-rows : (S : ℕ) (p : Place) (t : ℕ) → updateRows (kernelPlace S p t) ≡ updateRows p
-unfolding kernelPlace
-update-rows S (variable i) t = refl
-update-rows S (element array e) t = refl
+-- `called f i`: whether function f can write the variable i.
+module _ (called : ℕ → ℕ → Bool) where
+  -- the rows of an operation on a kernel place are those of one on the source's
+  pub update-rows : (S : ℕ) (p : Place) (t : ℕ) → updateRows (kernelPlace called S p t) ≡ updateRows p
+  unfolding kernelPlace
+  update-rows S (variable i) t = refl
+  update-rows S (element array e) t = refl
 
-pub postfix-rows : (S : ℕ) (p : Place) (u : Use) (t : ℕ) → postfixRows (kernelPlace S p t) u ≡ postfixRows p u
-unfolding kernelPlace
-postfix-rows S (variable i) u t = refl
-postfix-rows S (element array e) u t = refl
+  pub postfix-rows : (S : ℕ) (p : Place) (u : Use) (t : ℕ) → postfixRows (kernelPlace called S p t) u ≡ postfixRows p u
+  unfolding kernelPlace
+  postfix-rows S (variable i) u t = refl
+  postfix-rows S (element array e) u t = refl
 
--- ---- an assignment, by its place and by whether the value went straight there
+  -- ---- an assignment, by its place and by whether the value went straight there
 
-pub stored-straight : (S i : ℕ) (e : Expression) (u : Use) (t : ℕ) → direct e ≡ true → none ≡ straightCode S (assign (variable i) e) u t
-unfolding kernelPlace
-stored-straight S i e u t d = rw d
+  pub stored-straight : (S i : ℕ) (e : Expression) (u : Use) (t : ℕ) → direct e ≡ true → none ≡ straightCode called S (assign (variable i) e) u t
+  unfolding kernelPlace
+  stored-straight S i e u t d = rw d
 
-pub stored-copy : (S i : ℕ) (e : Expression) (u : Use) (t : ℕ) {x : Expression} → direct e ≡ false → x ≡ atom S t (atomOf e) → assigning S (variable i) x none ≡ straightCode S (assign (variable i) e) u t
-unfolding kernelPlace
-stored-copy S i e u t d h = rw (h, d, held-no-index (atomOf e) i)
+  pub stored-copy : (S i : ℕ) (e : Expression) (u : Use) (t : ℕ) {x : Expression} → direct e ≡ false → x ≡ atom S t (atomOf called e) → assigning S (variable i) x none ≡ straightCode called S (assign (variable i) e) u t
+  unfolding kernelPlace
+  stored-copy S i e u t d h = rw (h, d, held-no-index called (atomOf called e) i)
 
-pub stored-element : (S array : ℕ) (index e : Expression) (u : Use) (t above : ℕ) {x y : Expression} → above ≡ t + taken (held (atomOf e) (indexWrites (element array index))) → x ≡ atom S above (atomOf index) → y ≡ atom S t (held (atomOf e) (indexWrites (element array index)))
-    → assigning S (element array x) y none ≡ straightCode S (assign (element array index) e) u t
-unfolding kernelPlace
-stored-element S array index e u t above a h k = rw (h, k, a)
+  pub stored-element : (S array : ℕ) (index e : Expression) (u : Use) (t above : ℕ) {x y : Expression} → above ≡ t + taken (held (atomOf called e) (indexWrites called (element array index))) → x ≡ atom S above (atomOf called index) → y ≡ atom S t (held (atomOf called e) (indexWrites called (element array index)))
+      → assigning S (element array x) y none ≡ straightCode called S (assign (element array index) e) u t
+  unfolding kernelPlace
+  stored-element S array index e u t above a h k = rw (h, k, a)
 
 -- ---- room, by the shape
 
-pub room-by-shape : {rows : List ℤ} {row base words : ℕ} {s : ExpressionShape} (u : Use) → ExpressionAt rows row s → Room (lastSize (expressionAt rows row) u) base words → Room (lastSize (expressionTree rows s) u) base words
-room-by-shape {rows} {row} {base} {words} u f r = subst (λ (e : Expression). Room (lastSize e u) base words) (f .is) r
+pub room-by-shape : {rows : List ℤ} {row base words : ℕ} {s : ExpressionShape} (u : Use) → ExpressionAt rows row s → Room (lastSize (calledIn rows) (expressionAt rows row) u) base words → Room (lastSize (calledIn rows) (expressionTree rows s) u) base words
+room-by-shape {rows} {row} {base} {words} u f r = subst (λ (e : Expression). Room (lastSize (calledIn rows) e u) base words) (f .is) r
 
 -- ---- a choice does nothing with values by itself
 
-no-code : (S : ℕ) (rows : List ℤ) (c : ChoiceShape) (u : Use) (t : ℕ) → straightCode S (choiceTree rows c) u t ≡ none
+no-code : (S : ℕ) (rows : List ℤ) (c : ChoiceShape) (u : Use) (t : ℕ) → straightCode (calledIn rows) S (choiceTree rows c) u t ≡ none
 no-code S rows (And a b) u t = refl
 no-code S rows (Or a b) u t = refl
 no-code S rows (Conditional c a b) u t = refl
 
-pub choice-none : {rows : List ℤ} {row : ℕ} {c : ChoiceShape} (S : ℕ) (u : Use) (t : ℕ) → ExpressionAt rows row (Choice c) → none ≡ straightCode S (expressionAt rows row) u t
-choice-none {rows} {row} {c} S u t f = sym (no-code S rows c u t) ∙ ap (λ (e : Expression). straightCode S e u t) (sym (f .is))
+pub choice-none : {rows : List ℤ} {row : ℕ} {c : ChoiceShape} (S : ℕ) (u : Use) (t : ℕ) → ExpressionAt rows row (Choice c) → none ≡ straightCode (calledIn rows) S (expressionAt rows row) u t
+choice-none {rows} {row} {c} S u t f = sym (no-code S rows c u t) ∙ ap (λ (e : Expression). straightCode (calledIn rows) S e u t) (sym (f .is))
+
+-- ---- a call: no form has functions yet
+
+pub call-none : {rows : List ℤ} {row f link : ℕ} (S : ℕ) (u : Use) (t : ℕ) → Source rows → row < rowCount rows → ExpressionAt rows row (Call f link) → none ≡ straightCode (calledIn rows) S (expressionAt rows row) u t
+call-none {rows} {row} S u t s inside f = absurd (no-call s row inside (f .is))

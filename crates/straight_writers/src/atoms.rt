@@ -17,7 +17,7 @@ ghost use Rattle.words.specs.Table.{rowCount};
 ghost use Rattle.language.specs.Decode.{placeOf, expressionAt, partAt};
 ghost use Rattle.translation.specs.Translate.{placeTaken};
 ghost use Rattle.translation.specs.TranslateSize.{operandSize};
-ghost use Rattle.measure_table.specs.Parts.{firstCopied, UseFits};
+ghost use Rattle.measure_table.specs.Parts.{calledIn, firstCopied, UseFits};
 ghost use Rattle.measure_table.specs.Measures.{Measured};
 ghost use Rattle.straight_writers.specs.Asks.{Writing, AtomAt, TargetIs, HeldAt, PlaceInside, HeldPlace, PlaceAt};
 
@@ -49,7 +49,7 @@ pub fn target_word(store: usize, level: usize, usage: Use) -> usize
 // 1 where the expression at a row copies the value of its first operand, else 0.
 pub fn operand_copied(rows: &[i32], table: &[usize], row: usize) -> usize
     requires { ⌜ Measured (now rows) (now table) × (row < rowCount (now rows)) ⌝ }
-    ensures { λ r. ⌜ r ≡ firstCopied (expressionAt (now (rows .entry)) row) ⌝ }
+    ensures { λ r. ⌜ r ≡ firstCopied (calledIn (now (rows .entry))) (expressionAt (now (rows .entry)) row) ⌝ }
 {
     table[WIDTH * row + COPIED]
 }
@@ -110,7 +110,7 @@ pub fn kernel_place(
 // How many temporaries the index of the place at a row takes.
 pub fn place_taken(rows: &[i32], table: &[usize], row: usize) -> usize
     requires { ⌜ Measured (now rows) (now table) × (row < rowCount (now rows)) ⌝ }
-    ensures { λ r. ⌜ r ≡ placeTaken (placeOf (expressionAt (now (rows .entry)) row)) ⌝ }
+    ensures { λ r. ⌜ r ≡ placeTaken (calledIn (now (rows .entry))) (placeOf (expressionAt (now (rows .entry)) row)) ⌝ }
 {
     let place = place_at(rows, row);
     match place {
@@ -121,8 +121,8 @@ pub fn place_taken(rows: &[i32], table: &[usize], row: usize) -> usize
 
 // The kernel rows of the expression at a link, where its value has this use.
 pub fn operand_size(rows: &[i32], table: &[usize], row: usize, usage: Use) -> usize
-    requires { ⌜ Measured (now rows) (now table) × (row < rowCount (now rows)) × (operandSize (partAt (now rows) row) usage ≤ 40980) ⌝ }
-    ensures { λ r. ⌜ r ≡ operandSize (partAt (now (rows .entry)) row) usage ⌝ }
+    requires { ⌜ Measured (now rows) (now table) × (row < rowCount (now rows)) × (operandSize (calledIn (now rows)) (partAt (now rows) row) usage ≤ 40980) ⌝ }
+    ensures { λ r. ⌜ r ≡ operandSize (calledIn (now (rows .entry))) (partAt (now (rows .entry)) row) usage ⌝ }
 {
     measure_at(table, row, rows_for(usage))
 }

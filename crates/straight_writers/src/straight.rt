@@ -33,6 +33,7 @@ ghost use Rattle.translation.specs.TranslateSize.{updateRows, stepRows, postfix
 ghost use Rattle.translation.specs.HeldCode.{holdBy};
 ghost use Rattle.shapes.specs.Shapes.{placeTree as placeShapeTree};
 ghost use Rattle.emission.specs.Emission.{emitItems};
+ghost use Rattle.measure_table.specs.Parts.{calledIn};
 ghost use Rattle.words.specs.Over.{over};
 ghost use Rattle.leaves.specs.Room.{Room};
 ghost use Rattle.leaves.specs.Atoms.{atomTree, placeTree, AtomFits, PlaceFits};
@@ -52,7 +53,7 @@ pub fn put_hold(
     out: &mut [i32],
 )
     requires { ⌜ Writing (now rows) (now table) store × (value < rowCount (now rows)) × (level ≤ 4096) × Room (4 * copied) base (length (now out)) ⌝ }
-    ensures { λ _. ⌜ now (out .exit) ≡ over (emitItems follows (holdBy store level copied (atomOf (expressionAt (now (rows .entry)) value))) base) (now (out .entry)) ⌝ }
+    ensures { λ _. ⌜ now (out .exit) ≡ over (emitItems follows (holdBy store level copied (atomOf (calledIn (now (rows .entry))) (expressionAt (now (rows .entry)) value))) base) (now (out .entry)) ⌝ }
 {
     if copied == 1 {
         let source = atom_at(rows, table, store, value, level);
@@ -70,7 +71,7 @@ fn put_read(
     out: &mut [i32],
 )
     requires { ⌜ ReadAsks (now rows) (now table) (at .store) place usage (at .level) (at .base) (length (now out)) ⌝ }
-    ensures { λ _. ⌜ now (out .exit) ≡ over (emitItems (at .follows) (readCode (at .store) (placeShapeTree (now (rows .entry)) place) usage (at .level)) (at .base)) (now (out .entry)) ⌝ }
+    ensures { λ _. ⌜ now (out .exit) ≡ over (emitItems (at .follows) (readCode (calledIn (now (rows .entry))) (at .store) (placeShapeTree (now (rows .entry)) place) usage (at .level)) (at .base)) (now (out .entry)) ⌝ }
 {
     match place {
         PlaceShape::Variable(_) => {}
@@ -237,7 +238,7 @@ pub fn put_variable(
     out: &mut [i32],
 )
     requires { ⌜ VariableAsks (now rows) (now table) (at .store) number value (at .level) (at .base) (length (now out)) ⌝ }
-    ensures { λ _. ⌜ now (out .exit) ≡ over (emitItems (at .follows) (straightCode (at .store) (assign (variable number) (expressionAt (now (rows .entry)) value)) usage (at .level)) (at .base)) (now (out .entry)) ⌝ }
+    ensures { λ _. ⌜ now (out .exit) ≡ over (emitItems (at .follows) (straightCode (calledIn (now (rows .entry))) (at .store) (assign (variable number) (expressionAt (now (rows .entry)) value)) usage (at .level)) (at .base)) (now (out .entry)) ⌝ }
 {
     if direct_at(rows, value) {
         return;
@@ -259,7 +260,7 @@ fn put_element(
     out: &mut [i32],
 )
     requires { ⌜ ElementAsks (now rows) (now table) (at .store) array index value copied (at .level) (at .base) (length (now out)) ⌝ }
-    ensures { λ _. ⌜ now (out .exit) ≡ over (emitItems (at .follows) (straightCode (at .store) (assign (element array (expressionAt (now (rows .entry)) index)) (expressionAt (now (rows .entry)) value)) usage (at .level)) (at .base)) (now (out .entry)) ⌝ }
+    ensures { λ _. ⌜ now (out .exit) ≡ over (emitItems (at .follows) (straightCode (calledIn (now (rows .entry))) (at .store) (assign (element array (expressionAt (now (rows .entry)) index)) (expressionAt (now (rows .entry)) value)) usage (at .level)) (at .base)) (now (out .entry)) ⌝ }
 {
     let source = held_atom(rows, table, at.store, value, copied, at.level);
     let above = at.level + taken_at(rows, table, value) + copied;
@@ -279,7 +280,7 @@ fn put_assignment(
     out: &mut [i32],
 )
     requires { ⌜ AssignmentAsks (now rows) (now table) (at .store) place value copied (at .level) (at .base) (length (now out)) ⌝ }
-    ensures { λ _. ⌜ now (out .exit) ≡ over (emitItems (at .follows) (straightCode (at .store) (assign (placeOf (expressionAt (now (rows .entry)) place)) (expressionAt (now (rows .entry)) value)) usage (at .level)) (at .base)) (now (out .entry)) ⌝ }
+    ensures { λ _. ⌜ now (out .exit) ≡ over (emitItems (at .follows) (straightCode (calledIn (now (rows .entry))) (at .store) (assign (placeOf (expressionAt (now (rows .entry)) place)) (expressionAt (now (rows .entry)) value)) usage (at .level)) (at .base)) (now (out .entry)) ⌝ }
 {
     let shape = place_at(rows, place);
     match shape {
@@ -301,7 +302,7 @@ fn put_operation(
     out: &mut [i32],
 )
     requires { ⌜ OperationAsks (now rows) (now table) (at .store) place (updateRows (placeOf (expressionAt (now rows) place))) (at .level) (at .base) (length (now out)) × AtomFits operand ⌝ }
-    ensures { λ _. ⌜ now (out .exit) ≡ over (emitItems (at .follows) (updateCode (at .store) operator (kernelPlace (at .store) (placeOf (expressionAt (now (rows .entry)) place)) (at .level + 1)) (atomTree operand) (at .level) (at .level + 1 + placeTaken (placeOf (expressionAt (now (rows .entry)) place)))) (at .base)) (now (out .entry)) ⌝ }
+    ensures { λ _. ⌜ now (out .exit) ≡ over (emitItems (at .follows) (updateCode (at .store) operator (kernelPlace (calledIn (now (rows .entry))) (at .store) (placeOf (expressionAt (now (rows .entry)) place)) (at .level + 1)) (atomTree operand) (at .level) (at .level + 1 + placeTaken (calledIn (now (rows .entry))) (placeOf (expressionAt (now (rows .entry)) place)))) (at .base)) (now (out .entry)) ⌝ }
 {
     let target = kernel_place(rows, table, at.store, place, at.level + 1);
     let above = at.level + 1 + place_taken(rows, table, place);
@@ -329,7 +330,7 @@ fn put_step(
     out: &mut [i32],
 )
     requires { ⌜ OperationAsks (now rows) (now table) (at .store) place (postfixRows (placeOf (expressionAt (now rows) place)) usage) (at .level) (at .base) (length (now out)) ⌝ }
-    ensures { λ _. ⌜ now (out .exit) ≡ over (emitItems (at .follows) (postfixCode (at .store) operator (kernelPlace (at .store) (placeOf (expressionAt (now (rows .entry)) place)) (at .level + 1)) usage (at .level) (at .level + 1 + placeTaken (placeOf (expressionAt (now (rows .entry)) place)))) (at .base)) (now (out .entry)) ⌝ }
+    ensures { λ _. ⌜ now (out .exit) ≡ over (emitItems (at .follows) (postfixCode (at .store) operator (kernelPlace (calledIn (now (rows .entry))) (at .store) (placeOf (expressionAt (now (rows .entry)) place)) (at .level + 1)) usage (at .level) (at .level + 1 + placeTaken (calledIn (now (rows .entry))) (placeOf (expressionAt (now (rows .entry)) place)))) (at .base)) (now (out .entry)) ⌝ }
 {
     let target = kernel_place(rows, table, at.store, place, at.level + 1);
     let above = at.level + 1 + place_taken(rows, table, place);
@@ -359,7 +360,7 @@ fn put_operator(
     out: &mut [i32],
 )
     requires { ⌜ OperatorAsks (now rows) (now table) (at .store) left right copied usage (at .level) (at .base) (length (now out)) ⌝ }
-    ensures { λ _. ⌜ now (out .exit) ≡ over (emitItems (at .follows) (straightCode (at .store) (binary operator (expressionAt (now (rows .entry)) left) (expressionAt (now (rows .entry)) right)) usage (at .level)) (at .base)) (now (out .entry)) ⌝ }
+    ensures { λ _. ⌜ now (out .exit) ≡ over (emitItems (at .follows) (straightCode (calledIn (now (rows .entry))) (at .store) (binary operator (expressionAt (now (rows .entry)) left) (expressionAt (now (rows .entry)) right)) usage (at .level)) (at .base)) (now (out .entry)) ⌝ }
 {
     let right_atom = held_atom(rows, table, at.store, right, copied, at.level);
     let above = at.level + taken_at(rows, table, right) + copied;
@@ -389,7 +390,7 @@ pub fn put_straight(
     out: &mut [i32],
 )
     requires { ⌜ Writing (now rows) (now table) store × LastAsks (now rows) row usage level base (length (now out)) ⌝ }
-    ensures { λ _. ⌜ now (out .exit) ≡ over (emitItems follows (straightCode store (expressionAt (now (rows .entry)) row) usage level) base) (now (out .entry)) ⌝ }
+    ensures { λ _. ⌜ now (out .exit) ≡ over (emitItems follows (straightCode (calledIn (now (rows .entry))) store (expressionAt (now (rows .entry)) row) usage level) base) (now (out .entry)) ⌝ }
 {
     let number = target_word(store, level, usage);
     let at = Position {
@@ -432,5 +433,7 @@ pub fn put_straight(
             }
         },
         ExpressionShape::Choice(_) => {}
+        // no form has functions yet
+        ExpressionShape::Call(_, _) => {}
     }
 }

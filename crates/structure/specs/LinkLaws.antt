@@ -133,6 +133,14 @@ module _ (rows : List ℤ) (t : Tree rows) where
       go zero row h n = absurd (omega arith)
       go (suc most) row h n = step row (ℕ-discrete row 0) n (λ owner l. go most owner (omega arith) (omega arith))
 
+  -- what a field links, or 0, is in the table
+  pub part-inside : (row field part : ℕ) → row < rowCount rows → field < 6 → part ≡ link rows row field → part < rowCount rows
+  part-inside row field part n h e = go (ℕ-discrete part 0)
+    where
+      go : Dec (part ≡ 0) → part < rowCount rows
+      go (yes z) = omega arith
+      go (no z) = rw e (t .forward row field n h (rw (← e) (lt-of-le-ne (omega arith) (λ (q : 0 ≡ part). z (sym q)))) .inside)
+
   pub linker-of : (row field : ℕ) → field < 6 → Leads rows row field → row < rowCount rows → linker rows (link rows row field) ≡ At (6 * row + field)
   unfolding target
   linker-of row field h leads n =

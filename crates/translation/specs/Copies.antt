@@ -4,8 +4,9 @@ use mathlib.Core.Bool.{Bool, true, not, _&&_}
 use Prim.Native.Nat.{ℕ, _+_, _*_}
 use lib.Dec.{leb}
 use Rattle.words.specs.Word.{pick}
-use Rattle.language.specs.Trees.{Expression, constant, read, minus, not as notTrue, binary, and, or, comma, conditional, assign, compound, prefix, postfix, Place, variable, element, Part, absent, present, Statement, empty, express, block, ifThen, ifElse, while, doWhile, for, switch, break, continue, goto, guardedIf, guardedDo, abort, declare, Arms, noArm, arm, Items, none, _then_, _here_}
+use Rattle.language.specs.Trees.{Expression, constant, read, minus, not as notTrue, binary, and, or, comma, conditional, assign, compound, prefix, postfix, call, Place, variable, element, Arguments, noMore, _also_, Part, absent, present, Statement, empty, express, block, ifThen, ifElse, while, doWhile, for, switch, break, continue, goto, guardedIf, guardedDo, abort, declare, giveBack, Arms, noArm, arm, Items, none, _then_, _here_, define}
 use Rattle.language.specs.Writes.{writes, indexWrites}
+use Rattle.translation.specs.Translate.{together, nothing}
 use Rattle.translation.specs.Uses.{useFor, passedOn, direct}
 use Rattle.translation.specs.declared.Use.{Use}
 use Rattle.translation.specs.declared.Use.the-variants.{Dropped as dropped, Wanted as wanted, Stored as stored}
@@ -31,6 +32,7 @@ readsVariable (assign p e) = 0
 readsVariable (compound operator p e) = 0
 readsVariable (prefix operator p) = 0
 readsVariable (postfix operator p) = 0
+readsVariable (call f arguments) = 0
 
 -- The temporaries begin at store word S.
 module _ (S : ℕ) where
@@ -53,6 +55,7 @@ module _ (S : ℕ) where
   isCopy (compound operator p e) = 0
   isCopy (prefix operator p) = 0
   isCopy (postfix operator p) = 0
+  isCopy (call f arguments) = 0
 
   -- How many statements of kernel code copy a variable into a temporary.
   unfoldable mutual
@@ -73,6 +76,7 @@ module _ (S : ℕ) where
     statementCopies (guardedDo arms) = armsCopies arms
     statementCopies abort = 0
     statementCopies (declare i e) = 0
+    statementCopies (giveBack value) = 0
 
     pub armsCopies : Arms → ℕ
     armsCopies noArm = 0
@@ -82,6 +86,7 @@ module _ (S : ℕ) where
     copies none = 0
     copies (s then is) = statementCopies s + copies is
     copies (m here is) = copies is
+    copies (define f words body is) = copies body + copies is
 
 -- ---- in the source
 
@@ -90,66 +95,77 @@ abbrev pub rewritten : Place → (ℕ → Bool) → ℕ
 rewritten (variable i) W = pick (W i) 1 0
 rewritten (element array e) W = 0
 
--- 1 where the value of an expression is that of a variable, which can be written (W) before the value is used; else 0.
-unfoldable pub waiting : Expression → (ℕ → Bool) → ℕ
-waiting (constant v) W = 0
-waiting (read (variable i)) W = pick (W i) 1 0
-waiting (read (element array e)) W = 0
-waiting (minus e) W = 0
-waiting (notTrue e) W = 0
-waiting (binary operator a b) W = 0
-waiting (and a b) W = 0
-waiting (or a b) W = 0
--- "the result is the right's"
-waiting (comma a b) W = waiting b W
-waiting (conditional c a b) W = 0
--- "The result is the value stored": the variable's own, where the value went straight there; else the right side's, unless the assignment has
--- copied it already
-waiting (assign (variable i) e) W = pick (direct e) (pick (W i) 1 0) (waiting e W)
-waiting (assign (element array d) e) W = waiting e (λ i. W i && not (writes d i))
-waiting (compound operator p e) W = rewritten p W
-waiting (prefix operator p) W = rewritten p W
-waiting (postfix operator p) W = 0
-
--- The copies that the sentence allows for an expression's own row. A value waits for its use in three places: the right operand, while the
--- left one is worked out; the value of an assignment or compound, while the index of its place is. Every other value is used at once.
-abbrev pub ownCopies : Expression → Use → ℕ
-ownCopies (constant v) u = 0
-ownCopies (read p) u = 0
-ownCopies (minus e) u = 0
-ownCopies (notTrue e) u = 0
-ownCopies (binary operator a b) u = waiting b (writes a)
-ownCopies (and a b) u = 0
-ownCopies (or a b) u = 0
-ownCopies (comma a b) u = 0
-ownCopies (conditional c a b) u = 0
-ownCopies (assign p e) u = waiting e (indexWrites p)
-ownCopies (compound operator p e) u = waiting e (indexWrites p)
-ownCopies (prefix operator p) u = 0
-ownCopies (postfix operator p) u = 0
-
 -- 1 where the old value is used.
 abbrev pub oldUsed : Use → ℕ
 oldUsed dropped = 0
 oldUsed wanted = 1
 oldUsed (stored i) = 1
 
--- A variable's value that is a result and no operand, and so goes into the result's temporary: that of a branch of a conditional, and the
--- old value that e++ and e−− give, where it is used.
-abbrev pub ownResults : Expression → Use → ℕ
-ownResults (constant v) u = 0
-ownResults (read p) u = 0
-ownResults (minus e) u = 0
-ownResults (notTrue e) u = 0
-ownResults (binary operator a b) u = 0
-ownResults (and a b) u = 0
-ownResults (or a b) u = 0
-ownResults (comma a b) u = 0
-ownResults (conditional c a b) u = waiting a (λ i. true) + waiting b (λ i. true)
-ownResults (assign p e) u = 0
-ownResults (compound operator p e) u = 0
-ownResults (prefix operator p) u = 0
-ownResults (postfix operator p) u = isVariable p * oldUsed u
+-- `called f i`: whether function f can write the variable i.
+module _ (called : ℕ → ℕ → Bool) where
+  -- 1 where the value of an expression is that of a variable, which can be written (W) before the value is used; else 0.
+  unfoldable pub waiting : Expression → (ℕ → Bool) → ℕ
+  waiting (constant v) W = 0
+  waiting (read (variable i)) W = pick (W i) 1 0
+  waiting (read (element array e)) W = 0
+  waiting (minus e) W = 0
+  waiting (notTrue e) W = 0
+  waiting (binary operator a b) W = 0
+  waiting (and a b) W = 0
+  waiting (or a b) W = 0
+  -- "the result is the right's"
+  waiting (comma a b) W = waiting b W
+  waiting (conditional c a b) W = 0
+  -- "The result is the value stored": the variable's own, where the value went straight there; else the right side's, unless the assignment has
+  -- copied it already
+  waiting (assign (variable i) e) W = pick (direct e) (pick (W i) 1 0) (waiting e W)
+  waiting (assign (element array d) e) W = waiting e (λ i. W i && not (writes called d i))
+  waiting (compound operator p e) W = rewritten p W
+  waiting (prefix operator p) W = rewritten p W
+  waiting (postfix operator p) W = 0
+  waiting (call f arguments) W = 0
+
+  -- The same of the arguments from one on, where those before it can write the variables W.
+  unfoldable pub argumentsWaiting : Arguments → (ℕ → Bool) → ℕ
+  argumentsWaiting noMore W = 0
+  argumentsWaiting (e also arguments) W = waiting e W + argumentsWaiting arguments (together (writes called e) W)
+
+  -- The copies that the sentence allows for an expression's own row. A value waits for its use in four places: the right operand, while the
+  -- left one is worked out; the value of an assignment or compound, while the index of its place is; an argument, while those before it are. Every other value
+  -- is used at once.
+  abbrev pub ownCopies : Expression → Use → ℕ
+  ownCopies (constant v) u = 0
+  ownCopies (read p) u = 0
+  ownCopies (minus e) u = 0
+  ownCopies (notTrue e) u = 0
+  ownCopies (binary operator a b) u = waiting b (writes called a)
+  ownCopies (and a b) u = 0
+  ownCopies (or a b) u = 0
+  ownCopies (comma a b) u = 0
+  ownCopies (conditional c a b) u = 0
+  ownCopies (assign p e) u = waiting e (indexWrites called p)
+  ownCopies (compound operator p e) u = waiting e (indexWrites called p)
+  ownCopies (prefix operator p) u = 0
+  ownCopies (postfix operator p) u = 0
+  ownCopies (call f arguments) u = argumentsWaiting arguments nothing
+
+  -- A variable's value that is a result and no operand, and so goes into the result's temporary: that of a branch of a conditional, and the
+  -- old value that e++ and e−− give, where it is used.
+  abbrev pub ownResults : Expression → Use → ℕ
+  ownResults (constant v) u = 0
+  ownResults (read p) u = 0
+  ownResults (minus e) u = 0
+  ownResults (notTrue e) u = 0
+  ownResults (binary operator a b) u = 0
+  ownResults (and a b) u = 0
+  ownResults (or a b) u = 0
+  ownResults (comma a b) u = 0
+  ownResults (conditional c a b) u = waiting a (λ i. true) + waiting b (λ i. true)
+  ownResults (assign p e) u = 0
+  ownResults (compound operator p e) u = 0
+  ownResults (prefix operator p) u = 0
+  ownResults (postfix operator p) u = isVariable p * oldUsed u
+  ownResults (call f arguments) u = 0
 
 -- The sum of a number over all expressions of a tree, each with its use.
 module _ (own : Expression → Use → ℕ) where
@@ -168,12 +184,17 @@ module _ (own : Expression → Use → ℕ) where
     expressionTotal (compound operator p e) u = own (compound operator p e) u + indexTotal p + expressionTotal e wanted
     expressionTotal (prefix operator p) u = own (prefix operator p) u + indexTotal p
     expressionTotal (postfix operator p) u = own (postfix operator p) u + indexTotal p
+    expressionTotal (call f arguments) u = own (call f arguments) u + argumentsTotal arguments
 
     pub indexTotal : Place → ℕ
     indexTotal (variable i) = 0
     indexTotal (element array e) = expressionTotal e wanted
 
-  -- A part of a for whose value is dropped, and a test.
+    pub argumentsTotal : Arguments → ℕ
+    argumentsTotal noMore = 0
+    argumentsTotal (e also arguments) = expressionTotal e wanted + argumentsTotal arguments
+
+  -- A part of a for whose value is dropped, and a test or a value that is returned.
   abbrev pub partTotal : Part → ℕ
   partTotal absent = 0
   partTotal (present e) = expressionTotal e dropped
@@ -200,6 +221,7 @@ module _ (own : Expression → Use → ℕ) where
     statementTotal (guardedDo arms) = armsTotal arms
     statementTotal abort = 0
     statementTotal (declare i e) = expressionTotal e (stored i)
+    statementTotal (giveBack value) = testTotal value
 
     pub armsTotal : Arms → ℕ
     armsTotal noArm = 0
@@ -209,3 +231,11 @@ module _ (own : Expression → Use → ℕ) where
     total none = 0
     total (s then is) = statementTotal s + total is
     total (m here is) = total is
+    total (define f words body is) = total is
+
+  -- With the functions, which stand at the front.
+  unfoldable pub programTotal : Items → ℕ
+  programTotal none = total none
+  programTotal (s then is) = total (s then is)
+  programTotal (m here is) = total (m here is)
+  programTotal (define f words body is) = total body + programTotal is

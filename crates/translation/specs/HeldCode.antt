@@ -52,11 +52,11 @@ store-either S P (variable i) false x p q = p
 store-either S P (element array e) straight x p q = p
 
 -- A variable has no index: nothing is copied for it.
-pub held-variable : (h : Atom) (i : ℕ) → held h (indexWrites (variable i)) ≡ h
+pub held-variable : (called : ℕ → ℕ → Bool) (h : Atom) (i : ℕ) → held h (indexWrites called (variable i)) ≡ h
 unfolding writes
-held-variable (number v) i = refl
-held-variable (word j) i = refl
-held-variable top i = refl
+held-variable called (number v) i = refl
+held-variable called (word j) i = refl
+held-variable called top i = refl
 
 -- ---- by whether it is copied, as 1 or 0
 

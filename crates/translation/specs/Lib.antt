@@ -9,6 +9,8 @@ pub mod Translate
 pub mod TranslateSize
 -- Kernel form, as a predicate on trees.
 pub mod KernelForm
+-- Plain kernel programs: without functions.
+pub mod PlainKernel
 -- Copies of variables in a code, and those that the rule allows.
 pub mod Copies
 -- ---- laws: preservation
@@ -24,6 +26,8 @@ pub mod Related
 pub mod Held
 -- An expression and its code go alike: a rule a kind.
 pub mod ExpressionRules
+-- A call and its code go alike.
+pub mod CallRules
 -- Every expression and its code go alike.
 pub mod ExpressionPreserves
 -- Which labels stand in the code of a tree, and what a jump passes.
@@ -34,6 +38,10 @@ pub mod StatementRules
 pub mod GuardedRules
 -- Every statement and its code go alike.
 pub mod StatementPreserves
+-- The functions of a program and of its code: where the temporaries of each begin.
+pub mod FunctionCode
+-- Every call and the kernel's go alike.
+pub mod FunctionPreserves
 -- The rows of the code are those that the sizes count.
 pub mod TranslateRows
 -- The translation preserves runs: demand 3 on trees.

@@ -16,12 +16,11 @@ use Rattle.computation.specs.RunLaws.{Timed, timed-none, timed-more, timed-wide
 use Rattle.computation.specs.WritesMade.{visible, made, FirstOf}
 use Rattle.computation.specs.WritesMadeLaws.{visible-append, first-trans}
 use Rattle.language.specs.Trees.{block, Items}
-use Rattle.language.specs.Meaning.{exec}
 use Rattle.language.specs.Sizes.{statementRows}
 use Rattle.language.specs.WellFormed.{SourceTree}
 use Rattle.translation.specs.Translate.{translate, temporaries}
-use Rattle.translation.specs.Related.{Logs, logs-none, logs-both, logs-kernel, Frame}
-use Rattle.translation.specs.TranslatePreserves.{sourceRun, kernelRun, runs-logged}
+use Rattle.translation.specs.Related.{Measure, Logs, logs-none, logs-both, logs-kernel}
+use Rattle.translation.specs.TranslatePreserves.{sourceProgram, kernelProgram, sourceRun, kernelRun, runs-logged}
 
 -- ---- what is shown
 
@@ -39,19 +38,19 @@ pub record SameWrites (L : Layout) (first : ℕ) (program : Items) (store tempor
 -- ---- logs
 
 -- `S` words are shown, all of them before the temporaries.
-module _ {fr : Frame} (S : ℕ) (shown : S ≤ fr .words) where
-  logs-visible : {ws vs : List Write} → Logs fr ws vs → visible S vs ≡ visible S ws
+module _ {μ : Measure} (S : ℕ) (shown : S ≤ μ .words) where
+  logs-visible : {ws vs : List Write} → Logs μ ws vs → visible S vs ≡ visible S ws
   unfolding visible
   logs-visible logs-none = refl
   logs-visible (logs-both {i = i} {v = v} h b l) = ap (λ l. l ++ pick (ltb i S) (record { place = i; value = v } ∷ []) []) (logs-visible l)
   logs-visible (logs-kernel {i = i} h l) = rw (le-ltb i S (omega arith)) (append-nil _ ∙ logs-visible l)
 
   -- The kernel's writes up to b, where those of the source up to n are made by then.
-  first-made : (n b : ℕ) {most : ℕ} (ls ws lk vs : List Write) → fr .rate * n ≤ b → Logs fr (ls ++ ws) (lk ++ vs) → Timed (suc b) most lk → Timed 0 n ws → FirstOf (visible S ws) (visible S vs)
+  first-made : (n b : ℕ) {most : ℕ} (ls ws lk vs : List Write) → μ .rate * n ≤ b → Logs μ (ls ++ ws) (lk ++ vs) → Timed (suc b) most lk → Timed 0 n ws → FirstOf (visible S ws) (visible S vs)
   unfolding visible
   first-made n b ls ws [] vs r g late early = record { later = visible S ls; are = logs-visible g ∙ visible-append S ls ws }
   first-made n b [] [] (k ∷ lk) vs r g late early = record { later = visible S vs; are = refl }
-  first-made n b [] (w ∷ ws) (k ∷ lk) vs r (logs-both h t g) (timed-more p q late) (timed-more e f early) = absurd (omega (arith, mul-le-mul-left (fr .rate) f))
+  first-made n b [] (w ∷ ws) (k ∷ lk) vs r (logs-both h t g) (timed-more p q late) (timed-more e f early) = absurd (omega (arith, mul-le-mul-left (μ .rate) f))
   first-made n b [] (w ∷ ws) (k ∷ lk) vs r (logs-kernel h g) (timed-more p q late) early = first-made n b [] (w ∷ ws) lk vs r g late early
   first-made n b (l ∷ ls) ws (k ∷ lk) vs r (logs-both h t g) (timed-more p q late) early = first-made n b ls ws lk vs r g late early
   first-made n b (l ∷ ls) ws (k ∷ lk) vs r (logs-kernel h g) (timed-more p q late) early = first-made n b (l ∷ ls) ws lk vs r g late early
@@ -78,11 +77,11 @@ module _ (L : Layout) (first : ℕ) (inside : storeSize L ≤ first) (program : 
   kernel-first N =
       let c = suc (N + kernelSteps first program N) in
       let g = runs-logged L first inside program store temporaryWords tree all-words enough c in
-      let s = writes-later (exec L (block program)) (start store) N (rounds c) (enough-rounds N c (omega arith)) (omega arith) in
-      let k = writes-later (exec L (block (translate first program))) (start (store ++ temporaryWords)) (kernelSteps first program N) (rounds c) (enough-rounds (kernelSteps first program N) c (omega arith)) (omega arith) in
-      let early = started (writes-in-time (exec L (block program)) (start store) (steps N)) (count-never-passes N (exec L (block program)) (start store) (omega arith)) in
-      let logs : Logs (g .frame-of) (s .added ++ (final (sourceRun L program store (steps N))) .writes) (k .added ++ (final (kernelRun L first program store temporaryWords (steps (kernelSteps first program N)))) .writes) = rw (← s .writes-are, ← k .writes-are) (g .logs) in
-      first-made {fr = g .frame-of} S (rw (g .words-are) inside) N (kernelSteps first program N) (s .added) _ (k .added) _ (rw (g .rate-is) (omega arith)) logs (k .in-time) early
+      let s = writes-later (sourceProgram L program) (start store) N (rounds c) (enough-rounds N c (omega arith)) (omega arith) in
+      let k = writes-later (kernelProgram L first program) (start (store ++ temporaryWords)) (kernelSteps first program N) (rounds c) (enough-rounds (kernelSteps first program N) c (omega arith)) (omega arith) in
+      let early = started (writes-in-time (sourceProgram L program) (start store) (steps N)) (count-never-passes N (sourceProgram L program) (start store) (omega arith)) in
+      let logs : Logs (g .measured) (s .added ++ (final (sourceRun L program store (steps N))) .writes) (k .added ++ (final (kernelRun L first program store temporaryWords (steps (kernelSteps first program N)))) .writes) = rw (← s .writes-are, ← k .writes-are) (g .logs) in
+      first-made {μ = g .measured} S (rw (g .words-are) inside) N (kernelSteps first program N) (s .added) _ (k .added) _ (rw (g .rate-is) (omega arith)) logs (k .in-time) early
 
   -- As many steps as the source makes while each of its loops goes round at most N + 1 times.
   abbrev enoughSteps : ℕ → ℕ
@@ -92,13 +91,13 @@ module _ (L : Layout) (first : ℕ) (inside : storeSize L ≤ first) (program : 
   source-first N =
       let c = suc N in
       let g = runs-logged L first inside program store temporaryWords tree all-words enough c in
-      let k = writes-later (exec L (block (translate first program))) (start (store ++ temporaryWords)) N (rounds c) (enough-rounds N c (omega arith)) (omega arith) in
+      let k = writes-later (kernelProgram L first program) (start (store ++ temporaryWords)) N (rounds c) (enough-rounds N c (omega arith)) (omega arith) in
       let M = enoughSteps N in
       let d = suc (M + c) in
-      let w = writes-wider (exec L (block program)) (start store) (rounds c) (rounds d) (wider-rounds c d (omega arith)) in
-      let u = writes-later (exec L (block program)) (start store) M (rounds d) (enough-rounds M d (omega arith)) (omega arith) in
-      let early = started (writes-in-time (exec L (block program)) (start store) (rounds c)) (le-refl M) in
-      let same : visible S ((final (kernelRun L first program store temporaryWords (rounds c))) .writes) ≡ visible S ((final (sourceRun L program store (rounds c))) .writes) = logs-visible {fr = g .frame-of} S (rw (g .words-are) inside) (g .logs) in
+      let w = writes-wider (sourceProgram L program) (start store) (rounds c) (rounds d) (wider-rounds c d (omega arith)) in
+      let u = writes-later (sourceProgram L program) (start store) M (rounds d) (enough-rounds M d (omega arith)) (omega arith) in
+      let early = started (writes-in-time (sourceProgram L program) (start store) (rounds c)) (le-refl M) in
+      let same : visible S ((final (kernelRun L first program store temporaryWords (rounds c))) .writes) ≡ visible S ((final (sourceRun L program store (rounds c))) .writes) = logs-visible {μ = g .measured} S (rw (g .words-are) inside) (g .logs) in
       let of-kernel : FirstOf (made S (kernelRun L first program store temporaryWords (steps N))) (made S (sourceRun L program store (rounds c))) =
       record { later = visible S (k .added); are = sym same ∙ ap (visible S) (k .writes-are) ∙ visible-append S (k .added) _ } in
       first-trans of-kernel (within-log M (w .0) _ (u .added) _ (sym (u .writes-are) ∙ w .1) (u .in-time) early S)

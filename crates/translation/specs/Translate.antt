@@ -1,6 +1,6 @@
 -- The translation: source trees to kernel trees, a clause a kind. docs/REWRITING.md shows each clause in C, and says which rule of
 -- Preprint 97, part 3, it replaces.
-use mathlib.Core.Bool.{Bool}
+use mathlib.Core.Bool.{Bool, false, _||_}
 use mathlib.Core.List.{List, _∷_, map}
 use Prim.Native.Nat.{ℕ, _+_, max}
 use lib.IntN.{ℤ, pos}
@@ -8,8 +8,9 @@ use Rattle.words.specs.Word.{pick}
 use Rattle.words.specs.Layout.{Layout}
 use Rattle.words.specs.declared.Operator.{Operator}
 use Rattle.words.specs.declared.Operator.the-variants.{Equal, NotEqual}
-use Rattle.language.specs.Trees.{Expression, constant, read, minus, not, binary, and, or, comma, conditional, assign, compound, prefix, postfix, Place, variable, element, Part, absent, present, Mark, case, default, label, sameMark, Statement, empty, express, block, ifThen, ifElse, while, doWhile, for, switch, break, continue, goto, guardedIf, guardedDo, abort, declare, Arms, noArm, arm, Items, none, _then_, _here_, _⧺_}
+use Rattle.language.specs.Trees.{Expression, constant, read, minus, not, binary, and, or, comma, conditional, assign, compound, prefix, postfix, call, Place, variable, element, Arguments, noMore, _also_, Part, absent, present, Mark, case, default, label, sameMark, Statement, empty, express, block, ifThen, ifElse, while, doWhile, for, switch, break, continue, goto, guardedIf, guardedDo, abort, declare, giveBack, Arms, noArm, arm, Items, none, _then_, _here_, define, _⧺_}
 use Rattle.language.specs.Writes.{writes, indexWrites}
+use Rattle.language.specs.FunctionWrites.{functionsWrite}
 use Rattle.translation.specs.Uses.{useFor, passedOn, direct}
 use Rattle.translation.specs.declared.Use.{Use}
 use Rattle.translation.specs.declared.Use.the-variants.{Dropped as dropped, Wanted as wanted, Stored as stored}
@@ -30,6 +31,13 @@ held (number v) W = number v
 held (word i) W = pick (W i) top (word i)
 held top W = top
 
+-- What one or another can write; and what nothing can.
+abbrev pub together : (ℕ → Bool) → (ℕ → Bool) → ℕ → Bool
+together A B i = A i || B i
+
+abbrev pub nothing : ℕ → Bool
+nothing i = false
+
 -- What holds a value that is stored in a place: the variable, where it goes straight there; else its own atom.
 abbrev pub landed : Place → Bool → Atom → Atom
 landed (variable i) straight h = pick straight (word i) h
@@ -40,31 +48,39 @@ abbrev pub updated : Place → Atom
 updated (variable i) = word i
 updated (element array e) = top
 
-unfoldable pub atomOf : Expression → Atom
-atomOf (constant v) = number v
-atomOf (read (variable i)) = word i
-atomOf (read (element array e)) = top
-atomOf (minus e) = top
-atomOf (not e) = top
-atomOf (binary operator a b) = top
-atomOf (and a b) = top
-atomOf (or a b) = top
-atomOf (comma a b) = atomOf b
-atomOf (conditional c a b) = top
-atomOf (assign p e) = held (landed p (direct e) (atomOf e)) (indexWrites p)
-atomOf (compound operator p e) = updated p
-atomOf (prefix operator p) = updated p
-atomOf (postfix operator p) = top
-
 -- How many temporaries an atom takes, and the index of a place. What is worked out while it is held stands that much higher.
 abbrev pub taken : Atom → ℕ
 taken (number v) = 0
 taken (word i) = 0
 taken top = 1
 
-unfoldable pub placeTaken : Place → ℕ
-placeTaken (variable i) = 0
-placeTaken (element array e) = taken (atomOf e)
+-- `called f i`: whether function f can write the variable i.
+module _ (called : ℕ → ℕ → Bool) where
+  unfoldable pub atomOf : Expression → Atom
+  atomOf (constant v) = number v
+  atomOf (read (variable i)) = word i
+  atomOf (read (element array e)) = top
+  atomOf (minus e) = top
+  atomOf (not e) = top
+  atomOf (binary operator a b) = top
+  atomOf (and a b) = top
+  atomOf (or a b) = top
+  atomOf (comma a b) = atomOf b
+  atomOf (conditional c a b) = top
+  atomOf (assign p e) = held (landed p (direct e) (atomOf e)) (indexWrites called p)
+  atomOf (compound operator p e) = updated p
+  atomOf (prefix operator p) = updated p
+  atomOf (postfix operator p) = top
+  atomOf (call f arguments) = top
+
+  unfoldable pub placeTaken : Place → ℕ
+  placeTaken (variable i) = 0
+  placeTaken (element array e) = taken (atomOf e)
+
+  -- How many temporaries the arguments from one on take: each waits while those before it are worked out, which can write the variables W.
+  unfoldable pub argumentsTaken : Arguments → (ℕ → Bool) → ℕ
+  argumentsTaken noMore W = 0
+  argumentsTaken (e also arguments) W = argumentsTaken arguments (together (writes called e) W) + taken (held (atomOf e) W)
 
 -- ---- labels
 
@@ -93,6 +109,7 @@ unfoldable mutual
   labels (guardedDo arms) = roundsLabels arms + armsLabels arms
   labels abort = 0
   labels (declare i e) = 0
+  labels (giveBack value) = 0
 
   pub armsLabels : Arms → ℕ
   armsLabels noArm = 0
@@ -102,12 +119,14 @@ unfoldable mutual
   itemsLabels none = 0
   itemsLabels (s then is) = labels s + itemsLabels is
   itemsLabels (m here is) = 1 + itemsLabels is
+  itemsLabels (define f words body is) = itemsLabels is
 
 -- The label of the mark m in a list whose labels begin at l; `other` where the list does not have the mark.
 unfoldable pub labelOf : Mark → Items → ℕ → ℕ → ℕ
 labelOf m none l other = other
 labelOf m (s then is) l other = labelOf m is (l + labels s) other
 labelOf m (n here is) l other = pick (sameMark m n) l (labelOf m is (l + 1) other)
+labelOf m (define f words body is) l other = labelOf m is l other
 
 -- The labels to which break and continue go: behind the nearest loop or switch, and to the nearest loop's test or step.
 pub record Exits : Type 0 where
@@ -150,11 +169,6 @@ module _ (S : ℕ) where
   moveCode t h (word i) = none
   moveCode t h top = copyCode t h
 
-  -- A place in the kernel, its index held at level t.
-  unfoldable pub kernelPlace : Place → ℕ → Place
-  kernelPlace (variable i) t = variable i
-  kernelPlace (element array e) t = element array (atom t (atomOf e))
-
   -- Where an element's value or an operation's result goes: into temporary t, or straight into the variable that stores it.
   abbrev pub targetWord : Use → ℕ → ℕ
   targetWord dropped t = S + t
@@ -163,11 +177,6 @@ module _ (S : ℕ) where
 
   abbrev pub target : Use → ℕ → Place
   target u t = variable (targetWord u t)
-
-  -- An element's value into its target; a variable stands for its own.
-  abbrev pub readCode : Place → Use → ℕ → Items
-  readCode (variable i) u t = none
-  readCode (element array e) u t = assigning (target u t) (read (element array (atom t (atomOf e)))) none
 
   -- A value into a place; one that went straight into its variable is there already.
   abbrev pub storeCode : Place → Bool → Expression → Items
@@ -192,60 +201,12 @@ module _ (S : ℕ) where
   postfixCode operator (element array index) u t n =
       assigning (temporary t) (read (element array index)) (assigning (temporary n) (binary operator (read (temporary t)) (constant (pos 1))) (assigning (element array index) (read (temporary n)) none))
 
-  unfoldable mutual
-    -- An expression at level t, for a use of its value: its code writes no temporary below t. After it, if the value is wanted, `atom t (atomOf e)`
-    -- holds it; so does, if it is stored, the variable or that atom (`landed`).
-    pub expressionCode : Expression → Use → ℕ → Items
-    expressionCode (constant v) u t = none
-    expressionCode (read p) u t = indexCode p t ⧺ readCode p u t
-    expressionCode (minus e) u t = expressionCode e wanted t ⧺ assigning (target u t) (minus (atom t (atomOf e))) none
-    expressionCode (not e) u t = expressionCode e wanted t ⧺ assigning (target u t) (binary Equal (atom t (atomOf e)) (constant (pos 0))) none
-    -- the right operand first, held while the left one is worked out above it
-    expressionCode (binary operator a b) u t =
-        let right = held (atomOf b) (writes a) in
-        expressionCode b wanted t ⧺ moveCode t (atomOf b) right ⧺ expressionCode a wanted (t + taken right) ⧺ assigning (target u t) (binary operator (atom (t + taken right) (atomOf a)) (atom t right)) none
-    -- the right operand inside the branch that needs it, and its truth by != 0
-    expressionCode (and a b) u t =
-        expressionCode a wanted t ⧺ choosing (atom t (atomOf a)) (expressionCode b wanted t ⧺ assigning (temporary t) (binary NotEqual (atom t (atomOf b)) (constant (pos 0))) none) (assigning (temporary t) (constant (pos 0)) none) none
-    expressionCode (or a b) u t =
-        expressionCode a wanted t ⧺ choosing (atom t (atomOf a)) (assigning (temporary t) (constant (pos 1)) none) (expressionCode b wanted t ⧺ assigning (temporary t) (binary NotEqual (atom t (atomOf b)) (constant (pos 0))) none) none
-    expressionCode (comma a b) u t = expressionCode a dropped t ⧺ expressionCode b (passedOn u) t
-    expressionCode (conditional c a b) u t =
-        expressionCode c wanted t ⧺ choosing (atom t (atomOf c)) (expressionCode a wanted t ⧺ copyCode t (atomOf a)) (expressionCode b wanted t ⧺ copyCode t (atomOf b)) none
-    -- the value first; into an element, it is held while the index is worked out above it
-    expressionCode (assign p e) u t =
-        let value = held (landed p (direct e) (atomOf e)) (indexWrites p) in
-        expressionCode e (useFor p) t ⧺ moveCode t (landed p (direct e) (atomOf e)) value ⧺ indexCode p (t + taken value) ⧺ storeCode (kernelPlace p (t + taken value)) (direct e) (atom t value)
-    -- for an element, t is kept for the result, so the index stands above it
-    expressionCode (compound operator p e) u t =
-        let value = held (atomOf e) (indexWrites p) in
-        expressionCode e wanted t ⧺ moveCode t (atomOf e) value ⧺ indexCode p (t + 1) ⧺ updateCode operator (kernelPlace p (t + 1)) (atom t value) t (t + 1 + placeTaken p)
-    expressionCode (prefix operator p) u t = indexCode p (t + 1) ⧺ updateCode operator (kernelPlace p (t + 1)) (constant (pos 1)) t (t + 1 + placeTaken p)
-    expressionCode (postfix operator p) u t = indexCode p (t + 1) ⧺ postfixCode operator (kernelPlace p (t + 1)) u t (t + 1 + placeTaken p)
-
-    -- The index of a place.
-    pub indexCode : Place → ℕ → Items
-    indexCode (variable i) t = none
-    indexCode (element array e) t = expressionCode e wanted t
-
-  -- An expression that may be absent; and a part of a for, whose value is dropped.
-  abbrev pub operandCode : Part → Use → ℕ → Items
-  operandCode absent u t = none
-  operandCode (present e) u t = expressionCode e u t
-
-  abbrev pub partCode : Part → Items
-  partCode part = operandCode part dropped 0
-
   -- Every statement has code: one that leaves nothing to do leaves an empty statement.
   abbrev pub orEmpty : Items → Items
   orEmpty none = empty then none
   orEmpty (s then is) = s then is
   orEmpty (m here is) = m here is
-
-  -- A loop's test: where it is 0, leave the loop for the label l; else the rest.
-  abbrev pub testCode : Part → ℕ → Items → Items
-  testCode absent l rest = rest
-  testCode (present e) l rest = expressionCode e wanted 0 ⧺ choosing (atom 0 (atomOf e)) none (goto l then none) rest
+  orEmpty (define f words body is) = define f words body is
 
   -- A loop and the label l behind it.
   abbrev pub loopCode : Items → ℕ → Items
@@ -258,43 +219,124 @@ module _ (S : ℕ) where
   caseTests x u (case v here is) l = assigning (temporary u) (binary Equal x (constant v)) (choosing (read (temporary u)) (goto l then none) none (caseTests x u is (l + 1)))
   caseTests x u (default here is) l = caseTests x u is (l + 1)
   caseTests x u (label k here is) l = caseTests x u is (l + 1)
-
-  -- An arm: its guard; where that is true its block, and on to the label `out`; else the rest.
-  abbrev pub armCode : Expression → Items → ℕ → Items → Items
-  armCode e body out rest = expressionCode e wanted 0 ⧺ choosing (atom 0 (atomOf e)) (body ⧺ goto out then none) none rest
+  caseTests x u (define f words body is) l = caseTests x u is l
 
   -- The rounds of a guarded do, around the code of its arms: label l behind the loop, label l + 1 at the end of a round, where arms go on.
   abbrev pub roundsCode : Arms → Items → ℕ → Items
   roundsCode noArm code l = empty then none
   roundsCode (arm e s arms) code l = loopCode (code ⧺ goto l then label (l + 1) here none) l
 
+-- `called` as above.
+module _ (called : ℕ → ℕ → Bool) (S : ℕ) where
+  -- A place in the kernel, its index held at level t.
+  unfoldable pub kernelPlace : Place → ℕ → Place
+  kernelPlace (variable i) t = variable i
+  kernelPlace (element array e) t = element array (atom S t (atomOf called e))
+
+  -- An element's value into its target; a variable stands for its own.
+  abbrev pub readCode : Place → Use → ℕ → Items
+  readCode (variable i) u t = none
+  readCode (element array e) u t = assigning S (target S u t) (read (element array (atom S t (atomOf called e)))) none
+
+  -- What holds the arguments from one on.
+  unfoldable pub argumentAtoms : Arguments → (ℕ → Bool) → ℕ → Arguments
+  argumentAtoms noMore W t = noMore
+  argumentAtoms (e also arguments) W t =
+      atom S (t + argumentsTaken called arguments (together (writes called e) W)) (held (atomOf called e) W) also argumentAtoms arguments (together (writes called e) W) t
+
+  unfoldable mutual
+    -- An expression at level t, for a use of its value: its code writes no temporary below t. After it, if the value is wanted, `atom t (atomOf e)`
+    -- holds it; so does, if it is stored, the variable or that atom (`landed`).
+    pub expressionCode : Expression → Use → ℕ → Items
+    expressionCode (constant v) u t = none
+    expressionCode (read p) u t = indexCode p t ⧺ readCode p u t
+    expressionCode (minus e) u t = expressionCode e wanted t ⧺ assigning S (target S u t) (minus (atom S t (atomOf called e))) none
+    expressionCode (not e) u t = expressionCode e wanted t ⧺ assigning S (target S u t) (binary Equal (atom S t (atomOf called e)) (constant (pos 0))) none
+    -- the right operand first, held while the left one is worked out above it
+    expressionCode (binary operator a b) u t =
+        let right = held (atomOf called b) (writes called a) in
+        expressionCode b wanted t ⧺ moveCode S t (atomOf called b) right ⧺ expressionCode a wanted (t + taken right) ⧺ assigning S (target S u t) (binary operator (atom S (t + taken right) (atomOf called a)) (atom S t right)) none
+    -- the right operand inside the branch that needs it, and its truth by != 0
+    expressionCode (and a b) u t =
+        expressionCode a wanted t ⧺ choosing S (atom S t (atomOf called a)) (expressionCode b wanted t ⧺ assigning S (temporary S t) (binary NotEqual (atom S t (atomOf called b)) (constant (pos 0))) none) (assigning S (temporary S t) (constant (pos 0)) none) none
+    expressionCode (or a b) u t =
+        expressionCode a wanted t ⧺ choosing S (atom S t (atomOf called a)) (assigning S (temporary S t) (constant (pos 1)) none) (expressionCode b wanted t ⧺ assigning S (temporary S t) (binary NotEqual (atom S t (atomOf called b)) (constant (pos 0))) none) none
+    expressionCode (comma a b) u t = expressionCode a dropped t ⧺ expressionCode b (passedOn u) t
+    expressionCode (conditional c a b) u t =
+        expressionCode c wanted t ⧺ choosing S (atom S t (atomOf called c)) (expressionCode a wanted t ⧺ copyCode S t (atomOf called a)) (expressionCode b wanted t ⧺ copyCode S t (atomOf called b)) none
+    -- the value first; into an element, it is held while the index is worked out above it
+    expressionCode (assign p e) u t =
+        let value = held (landed p (direct e) (atomOf called e)) (indexWrites called p) in
+        expressionCode e (useFor p) t ⧺ moveCode S t (landed p (direct e) (atomOf called e)) value ⧺ indexCode p (t + taken value) ⧺ storeCode S (kernelPlace p (t + taken value)) (direct e) (atom S t value)
+    -- for an element, t is kept for the result, so the index stands above it
+    expressionCode (compound operator p e) u t =
+        let value = held (atomOf called e) (indexWrites called p) in
+        expressionCode e wanted t ⧺ moveCode S t (atomOf called e) value ⧺ indexCode p (t + 1) ⧺ updateCode S operator (kernelPlace p (t + 1)) (atom S t value) t (t + 1 + placeTaken called p)
+    expressionCode (prefix operator p) u t = indexCode p (t + 1) ⧺ updateCode S operator (kernelPlace p (t + 1)) (constant (pos 1)) t (t + 1 + placeTaken called p)
+    expressionCode (postfix operator p) u t = indexCode p (t + 1) ⧺ postfixCode S operator (kernelPlace p (t + 1)) u t (t + 1 + placeTaken called p)
+    -- the arguments from the last on, and the call on what holds their values
+    expressionCode (call f arguments) u t = argumentsCode arguments nothing t ⧺ assigning S (target S u t) (call f (argumentAtoms arguments nothing t)) none
+
+    -- The index of a place.
+    pub indexCode : Place → ℕ → Items
+    indexCode (variable i) t = none
+    indexCode (element array e) t = expressionCode e wanted t
+
+    -- The arguments from one on, each above those behind it in the list, and held while those before it are worked out, which can write the
+    -- variables W.
+    pub argumentsCode : Arguments → (ℕ → Bool) → ℕ → Items
+    argumentsCode noMore W t = none
+    argumentsCode (e also arguments) W t =
+        let level = t + argumentsTaken called arguments (together (writes called e) W) in
+        argumentsCode arguments (together (writes called e) W) t ⧺ expressionCode e wanted level ⧺ moveCode S level (atomOf called e) (held (atomOf called e) W)
+
+  -- An expression that may be absent; and a part of a for, whose value is dropped.
+  abbrev pub operandCode : Part → Use → ℕ → Items
+  operandCode absent u t = none
+  operandCode (present e) u t = expressionCode e u t
+
+  abbrev pub partCode : Part → Items
+  partCode part = operandCode part dropped 0
+
+  -- A loop's test: where it is 0, leave the loop for the label l; else the rest.
+  abbrev pub testCode : Part → ℕ → Items → Items
+  testCode absent l rest = rest
+  testCode (present e) l rest = expressionCode e wanted 0 ⧺ choosing S (atom S 0 (atomOf called e)) none (goto l then none) rest
+
+  -- An arm: its guard; where that is true its block, and on to the label `out`; else the rest.
+  abbrev pub armCode : Expression → Items → ℕ → Items → Items
+  armCode e body out rest = expressionCode e wanted 0 ⧺ choosing S (atom S 0 (atomOf called e)) (body ⧺ goto out then none) none rest
+
   unfoldable mutual
     -- A statement whose labels begin at l.
     pub statementCode : Statement → Exits → ℕ → Items
     statementCode empty x l = empty then none
-    statementCode (express e) x l = orEmpty (expressionCode e dropped 0)
+    statementCode (express e) x l = orEmpty S (expressionCode e dropped 0)
     statementCode (block is) x l = block (itemsCode is x l) then none
-    statementCode (ifThen e onTrue) x l = expressionCode e wanted 0 ⧺ choosing (atom 0 (atomOf e)) (statementCode onTrue x l) none none
-    statementCode (ifElse e onTrue onFalse) x l = expressionCode e wanted 0 ⧺ choosing (atom 0 (atomOf e)) (statementCode onTrue x l) (statementCode onFalse x (l + labels onTrue)) none
+    statementCode (ifThen e onTrue) x l = expressionCode e wanted 0 ⧺ choosing S (atom S 0 (atomOf called e)) (statementCode onTrue x l) none none
+    statementCode (ifElse e onTrue onFalse) x l = expressionCode e wanted 0 ⧺ choosing S (atom S 0 (atomOf called e)) (statementCode onTrue x l) (statementCode onFalse x (l + labels onTrue)) none
     -- label l behind the loop, label l + 1 where continue goes: to the end of the round, the test or the step
-    statementCode (while e body) x l = loopCode (testCode (present e) l (statementCode body (exits l (l + 1)) (l + 2) ⧺ label (l + 1) here none)) l
-    statementCode (doWhile body e) x l = loopCode (statementCode body (exits l (l + 1)) (l + 2) ⧺ label (l + 1) here testCode (present e) l none) l
+    statementCode (while e body) x l = loopCode S (testCode (present e) l (statementCode body (exits l (l + 1)) (l + 2) ⧺ label (l + 1) here none)) l
+    statementCode (doWhile body e) x l = loopCode S (statementCode body (exits l (l + 1)) (l + 2) ⧺ label (l + 1) here testCode (present e) l none) l
     statementCode (for first test action body) x l =
-        partCode first ⧺ loopCode (testCode test l (statementCode body (exits l (l + 1)) (l + 2) ⧺ label (l + 1) here partCode action)) l
+        partCode first ⧺ loopCode S (testCode test l (statementCode body (exits l (l + 1)) (l + 2) ⧺ label (l + 1) here partCode action)) l
     -- all tests first; then the items in their order, each mark a label
     statementCode (switch e is) x l =
-        expressionCode e wanted 0 ⧺ caseTests (atom 0 (atomOf e)) (taken (atomOf e)) is (l + 1) ⧺ goto (labelOf default is (l + 1) l) then itemsCode is (exits l (x .onContinue)) (l + 1) ⧺ label l here none
+        expressionCode e wanted 0 ⧺ caseTests S (atom S 0 (atomOf called e)) (taken (atomOf called e)) is (l + 1) ⧺ goto (labelOf default is (l + 1) l) then itemsCode is (exits l (x .onContinue)) (l + 1) ⧺ label l here none
     statementCode break x l = goto (x .onBreak) then none
     statementCode continue x l = goto (x .onContinue) then none
     -- the source has no goto
     statementCode (goto k) x l = empty then none
     -- label l behind the arms, which end in abort: no guard was true
     statementCode (guardedIf arms) x l = armsCode arms x l (l + 1) ⧺ abort then label l here none
-    statementCode (guardedDo arms) x l = roundsCode arms (armsCode arms x (l + 1) (l + 2)) l
+    statementCode (guardedDo arms) x l = roundsCode S arms (armsCode arms x (l + 1) (l + 2)) l
     -- nor abort
     statementCode abort x l = empty then none
     -- the assignment of the initial value, straight where an assignment's value goes straight
-    statementCode (declare i e) x l = expressionCode e (stored i) 0 ⧺ storeCode (variable i) (direct e) (atom 0 (atomOf e))
+    statementCode (declare i e) x l = expressionCode e (stored i) 0 ⧺ storeCode S (variable i) (direct e) (atom S 0 (atomOf called e))
+    -- "a kernel return takes an atom"
+    statementCode (giveBack absent) x l = giveBack (present (constant (pos 0))) then none
+    statementCode (giveBack (present e)) x l = expressionCode e wanted 0 ⧺ giveBack (present (atom S 0 (atomOf called e))) then none
 
     -- Arms whose labels begin at l, one behind the other, so that the code of many is no deeper than that of one; after its block an arm goes to
     -- the label `out`.
@@ -306,13 +348,8 @@ module _ (S : ℕ) where
     itemsCode none x l = none
     itemsCode (s then is) x l = statementCode s x l ⧺ itemsCode is x (l + labels s)
     itemsCode (m here is) x l = label l here itemsCode is x (l + 1)
-
--- ---- the program
-
--- The translation of a program, which is the items of its block; so is what it gives. `first` is the store word where the temporaries
--- begin. Its labels begin at 1; no break or continue stands outside a loop or switch, so label 0 is not used.
-unfoldable pub translate : ℕ → Items → Items
-translate first program = itemsCode first program (exits 0 0) 1
+    -- a definition stands at the front of the program's list alone (`programCode`)
+    itemsCode (define f words body is) x l = itemsCode is x l
 
 -- ---- temporaries
 
@@ -332,77 +369,118 @@ oldLevels dropped = 0
 oldLevels wanted = 1
 oldLevels (stored i) = 1
 
--- How many temporaries, from its level on, the code of an expression names.
-unfoldable mutual
-  pub expressionLevels : Expression → Use → ℕ
-  expressionLevels (constant v) u = 0
-  expressionLevels (read p) u = max (readLevels p u) (indexLevels p)
-  expressionLevels (minus e) u = max (resultLevels u) (expressionLevels e wanted)
-  expressionLevels (not e) u = max (resultLevels u) (expressionLevels e wanted)
-  expressionLevels (binary operator a b) u = max (resultLevels u) (max (expressionLevels b wanted) (taken (held (atomOf b) (writes a)) + expressionLevels a wanted))
-  expressionLevels (and a b) u = max 1 (max (expressionLevels a wanted) (expressionLevels b wanted))
-  expressionLevels (or a b) u = max 1 (max (expressionLevels a wanted) (expressionLevels b wanted))
-  expressionLevels (comma a b) u = max (expressionLevels a dropped) (expressionLevels b (passedOn u))
-  expressionLevels (conditional c a b) u = max 1 (max (expressionLevels c wanted) (max (expressionLevels a wanted) (expressionLevels b wanted)))
-  expressionLevels (assign p e) u = max (expressionLevels e (useFor p)) (taken (held (landed p (direct e) (atomOf e)) (indexWrites p)) + indexLevels p)
-  expressionLevels (compound operator p e) u = max (expressionLevels e wanted) (updateLevels p)
-  expressionLevels (prefix operator p) u = updateLevels p
-  expressionLevels (postfix operator p) u = postfixLevels p u
+module _ (called : ℕ → ℕ → Bool) where
+  -- How many temporaries, from its level on, the code of an expression names.
+  unfoldable mutual
+    pub expressionLevels : Expression → Use → ℕ
+    expressionLevels (constant v) u = 0
+    expressionLevels (read p) u = max (readLevels p u) (indexLevels p)
+    expressionLevels (minus e) u = max (resultLevels u) (expressionLevels e wanted)
+    expressionLevels (not e) u = max (resultLevels u) (expressionLevels e wanted)
+    expressionLevels (binary operator a b) u = max (resultLevels u) (max (expressionLevels b wanted) (taken (held (atomOf called b) (writes called a)) + expressionLevels a wanted))
+    expressionLevels (and a b) u = max 1 (max (expressionLevels a wanted) (expressionLevels b wanted))
+    expressionLevels (or a b) u = max 1 (max (expressionLevels a wanted) (expressionLevels b wanted))
+    expressionLevels (comma a b) u = max (expressionLevels a dropped) (expressionLevels b (passedOn u))
+    expressionLevels (conditional c a b) u = max 1 (max (expressionLevels c wanted) (max (expressionLevels a wanted) (expressionLevels b wanted)))
+    expressionLevels (assign p e) u = max (expressionLevels e (useFor p)) (taken (held (landed p (direct e) (atomOf called e)) (indexWrites called p)) + indexLevels p)
+    expressionLevels (compound operator p e) u = max (expressionLevels e wanted) (updateLevels p)
+    expressionLevels (prefix operator p) u = updateLevels p
+    expressionLevels (postfix operator p) u = postfixLevels p u
+    expressionLevels (call f arguments) u = max (resultLevels u) (argumentsLevels arguments nothing)
 
-  pub indexLevels : Place → ℕ
-  indexLevels (variable i) = 0
-  indexLevels (element array e) = expressionLevels e wanted
+    pub indexLevels : Place → ℕ
+    indexLevels (variable i) = 0
+    indexLevels (element array e) = expressionLevels e wanted
 
-  -- The result of an element's update, its index, and the temporary above it.
-  pub updateLevels : Place → ℕ
-  updateLevels (variable i) = 0
-  updateLevels (element array e) = 1 + max (expressionLevels e wanted) (taken (atomOf e) + 1)
+    -- The result of an element's update, its index, and the temporary above it.
+    pub updateLevels : Place → ℕ
+    updateLevels (variable i) = 0
+    updateLevels (element array e) = 1 + max (expressionLevels e wanted) (taken (atomOf called e) + 1)
 
-  pub postfixLevels : Place → Use → ℕ
-  postfixLevels (variable i) u = oldLevels u
-  postfixLevels (element array e) u = 1 + max (expressionLevels e wanted) (taken (atomOf e) + 1)
+    pub postfixLevels : Place → Use → ℕ
+    postfixLevels (variable i) u = oldLevels u
+    postfixLevels (element array e) u = 1 + max (expressionLevels e wanted) (taken (atomOf called e) + 1)
 
-abbrev pub operandLevels : Part → Use → ℕ
-operandLevels absent u = 0
-operandLevels (present e) u = expressionLevels e u
+    -- The arguments behind one, and above what they take its own code and its copy.
+    pub argumentsLevels : Arguments → (ℕ → Bool) → ℕ
+    argumentsLevels noMore W = 0
+    argumentsLevels (e also arguments) W =
+        max (argumentsLevels arguments (together (writes called e) W)) (argumentsTaken called arguments (together (writes called e) W) + max (expressionLevels e wanted) (taken (held (atomOf called e) W)))
 
-abbrev pub partLevels : Part → ℕ
-partLevels part = operandLevels part dropped
+  abbrev pub operandLevels : Part → Use → ℕ
+  operandLevels absent u = 0
+  operandLevels (present e) u = expressionLevels e u
 
-abbrev pub testLevels : Part → ℕ
-testLevels part = operandLevels part wanted
+  abbrev pub partLevels : Part → ℕ
+  partLevels part = operandLevels part dropped
 
-unfoldable mutual
-  pub statementLevels : Statement → ℕ
-  statementLevels empty = 0
-  statementLevels (express e) = expressionLevels e dropped
-  statementLevels (block is) = itemsLevels is
-  statementLevels (ifThen e onTrue) = max (expressionLevels e wanted) (statementLevels onTrue)
-  statementLevels (ifElse e onTrue onFalse) = max (expressionLevels e wanted) (max (statementLevels onTrue) (statementLevels onFalse))
-  statementLevels (while e body) = max (expressionLevels e wanted) (statementLevels body)
-  statementLevels (doWhile body e) = max (expressionLevels e wanted) (statementLevels body)
-  statementLevels (for first test action body) = max (max (partLevels first) (testLevels test)) (max (partLevels action) (statementLevels body))
-  statementLevels (switch e is) = max (taken (atomOf e) + 1) (max (expressionLevels e wanted) (itemsLevels is))
-  statementLevels break = 0
-  statementLevels continue = 0
-  statementLevels (goto l) = 0
-  statementLevels (guardedIf arms) = armsLevels arms
-  statementLevels (guardedDo arms) = armsLevels arms
-  statementLevels abort = 0
-  statementLevels (declare i e) = expressionLevels e (stored i)
+  abbrev pub testLevels : Part → ℕ
+  testLevels part = operandLevels part wanted
 
-  pub armsLevels : Arms → ℕ
-  armsLevels noArm = 0
-  armsLevels (arm e s arms) = max (expressionLevels e wanted) (max (statementLevels s) (armsLevels arms))
+  unfoldable mutual
+    pub statementLevels : Statement → ℕ
+    statementLevels empty = 0
+    statementLevels (express e) = expressionLevels e dropped
+    statementLevels (block is) = itemsLevels is
+    statementLevels (ifThen e onTrue) = max (expressionLevels e wanted) (statementLevels onTrue)
+    statementLevels (ifElse e onTrue onFalse) = max (expressionLevels e wanted) (max (statementLevels onTrue) (statementLevels onFalse))
+    statementLevels (while e body) = max (expressionLevels e wanted) (statementLevels body)
+    statementLevels (doWhile body e) = max (expressionLevels e wanted) (statementLevels body)
+    statementLevels (for first test action body) = max (max (partLevels first) (testLevels test)) (max (partLevels action) (statementLevels body))
+    statementLevels (switch e is) = max (taken (atomOf called e) + 1) (max (expressionLevels e wanted) (itemsLevels is))
+    statementLevels break = 0
+    statementLevels continue = 0
+    statementLevels (goto l) = 0
+    statementLevels (guardedIf arms) = armsLevels arms
+    statementLevels (guardedDo arms) = armsLevels arms
+    statementLevels abort = 0
+    statementLevels (declare i e) = expressionLevels e (stored i)
+    statementLevels (giveBack value) = operandLevels value wanted
 
-  pub itemsLevels : Items → ℕ
-  itemsLevels none = 0
-  itemsLevels (s then is) = max (statementLevels s) (itemsLevels is)
-  itemsLevels (m here is) = itemsLevels is
+    pub armsLevels : Arms → ℕ
+    armsLevels noArm = 0
+    armsLevels (arm e s arms) = max (expressionLevels e wanted) (max (statementLevels s) (armsLevels arms))
 
--- T: the deepest level of the program, counted from 1.
+    pub itemsLevels : Items → ℕ
+    itemsLevels none = 0
+    itemsLevels (s then is) = max (statementLevels s) (itemsLevels is)
+    itemsLevels (m here is) = itemsLevels is
+    itemsLevels (define f words body is) = itemsLevels is
+
+  -- The levels of a program: those of its main part, and above them those of each function, so that a function's temporaries lie above those of all
+  -- that may call it.
+  unfoldable pub programLevels : Items → ℕ
+  programLevels none = itemsLevels none
+  programLevels (s then is) = itemsLevels (s then is)
+  programLevels (m here is) = itemsLevels (m here is)
+  programLevels (define f words body is) = itemsLevels body + programLevels is
+
+-- T: the levels of a program.
 unfoldable pub temporaries : Items → ℕ
-temporaries program = itemsLevels program
+temporaries program = programLevels (functionsWrite program) program
+
+-- ---- the program
+
+-- The labels of a program, those of its functions among them.
+unfoldable pub programLabels : Items → ℕ
+programLabels none = itemsLabels none
+programLabels (s then is) = itemsLabels (s then is)
+programLabels (m here is) = itemsLabels (m here is)
+programLabels (define f words body is) = itemsLabels body + programLabels is
+
+-- A program whose labels begin at l. Definitions stay where they are, at its front; the temporaries of each function begin above those of the
+-- functions behind it and of the main part. No break or continue stands outside a loop or switch, so label 0 is not used.
+module _ (called : ℕ → ℕ → Bool) (first : ℕ) where
+  unfoldable pub programCode : Items → ℕ → Items
+  programCode none l = none
+  programCode (s then is) l = itemsCode called first (s then is) (exits 0 0) l
+  programCode (m here is) l = itemsCode called first (m here is) (exits 0 0) l
+  programCode (define f words body is) l = define f words (itemsCode called (first + programLevels called is) body (exits 0 0) l) (programCode is (l + itemsLabels body))
+
+-- The translation of a program, which is the items of its block; so is what it gives. `first` is the store word where the temporaries
+-- begin. Its labels begin at 1.
+unfoldable pub translate : ℕ → Items → Items
+translate first program = programCode (functionsWrite program) first program 1
 
 -- "The kernel header adds T temporaries", and "gains D after V": V, D, T, the array lengths.
 unfoldable pub kernelHeader : Layout → ℕ → ℕ → List ℤ

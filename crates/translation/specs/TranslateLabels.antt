@@ -10,12 +10,13 @@ use lib.IntN.{pos}
 use Rattle.words.specs.Word.{pick}
 use Rattle.words.specs.Laws.{by-cases}
 use Rattle.words.specs.declared.Operator.{Operator}
-use Rattle.language.specs.Trees.{Expression, constant, read, minus, not, binary, and, or, comma, conditional, assign, compound, prefix, postfix, Place, variable, element, Part, absent, present, case, default, label, Statement, empty, express, block, ifThen, ifElse, while, doWhile, for, switch, break, continue, goto, guardedIf, guardedDo, abort, declare, Arms, noArm, arm, Items, none, _then_, _here_, _⧺_}
+use Rattle.language.specs.Trees.{Expression, constant, read, minus, not, binary, and, or, comma, conditional, assign, compound, prefix, postfix, call, Place, variable, element, Arguments, noMore, _also_, Part, absent, present, case, default, label, Statement, empty, express, block, ifThen, ifElse, while, doWhile, for, switch, break, continue, goto, guardedIf, guardedDo, abort, declare, giveBack, Arms, noArm, arm, Items, none, _then_, _here_, define, _⧺_}
 use Rattle.language.specs.Writes.{writes, indexWrites}
+use Rattle.language.specs.FunctionWrites.{functionsWrite}
 use Rattle.translation.specs.Uses.{useFor, passedOn, direct}
 use Rattle.translation.specs.declared.Use.{Use}
 use Rattle.translation.specs.declared.Use.the-variants.{Dropped as dropped, Wanted as wanted, Stored as stored}
-use Rattle.translation.specs.Translate.{Atom, number, word, top, held, landed, taken, placeTaken, atomOf, atom, copyCode, readCode, storeCode, kernelPlace, updateCode, stepCode, postfixCode, expressionCode, indexCode, partCode, orEmpty, testCode, caseTests, labels, itemsLabels, Exits, exits, roundsLabels, armsLabels, roundsCode, statementCode, armsCode, itemsCode}
+use Rattle.translation.specs.Translate.{Atom, number, word, top, held, together, nothing, landed, taken, placeTaken, argumentsTaken, atomOf, atom, copyCode, readCode, storeCode, kernelPlace, updateCode, stepCode, postfixCode, expressionCode, indexCode, argumentsCode, partCode, orEmpty, testCode, caseTests, labels, itemsLabels, Exits, exits, roundsLabels, armsLabels, roundsCode, statementCode, armsCode, itemsCode, programLevels, programLabels, programCode, translate}
 use Rattle.translation.specs.HeldCode.{holdCode, hold-either, store-either}
 use Rattle.translation.specs.KernelForm.{markTimes, itemsTimes}
 
@@ -44,8 +45,9 @@ unfolding itemsTimes _⧺_
 times-append j none ys = omega arith
 times-append j (s then xs) ys = omega (arith, times-append j xs ys)
 times-append j (m here xs) ys = omega (arith, times-append j xs ys)
+times-append j (define f words body xs) ys = omega (arith, times-append j xs ys)
 
-module _ (S j : ℕ) where
+module _ (called : ℕ → ℕ → Bool) (S j : ℕ) where
   times-copy : (t : ℕ) (h : Atom) → itemsTimes j (copyCode S t h) ≡ 0
   unfolding itemsTimes
   times-copy t (number v) = refl
@@ -56,7 +58,7 @@ module _ (S j : ℕ) where
   unfolding itemsTimes
   times-hold t h W = hold-either S (λ (xs : Items). itemsTimes j xs ≡ 0) t h W (times-copy t h) refl
 
-  times-read : (p : Place) (u : Use) (t : ℕ) → itemsTimes j (readCode S p u t) ≡ 0
+  times-read : (p : Place) (u : Use) (t : ℕ) → itemsTimes j (readCode called S p u t) ≡ 0
   unfolding itemsTimes
   times-read (variable i) u t = refl
   times-read (element array e) u t = refl
@@ -65,7 +67,7 @@ module _ (S j : ℕ) where
   unfolding itemsTimes
   times-store q straight x = store-either S (λ (xs : Items). itemsTimes j xs ≡ 0) q straight x refl refl
 
-  times-update : (operator : Operator) (p : Place) (x : Expression) (i t u : ℕ) → itemsTimes j (updateCode S operator (kernelPlace S p i) x t u) ≡ 0
+  times-update : (operator : Operator) (p : Place) (x : Expression) (i t u : ℕ) → itemsTimes j (updateCode S operator (kernelPlace called S p i) x t u) ≡ 0
   unfolding itemsTimes kernelPlace
   times-update operator (variable k) x i t u = refl
   times-update operator (element array e) x i t u = refl
@@ -76,7 +78,7 @@ module _ (S j : ℕ) where
   times-step operator i wanted t = refl
   times-step operator i (stored k) t = refl
 
-  times-postfix : (operator : Operator) (p : Place) (u : Use) (i t n : ℕ) → itemsTimes j (postfixCode S operator (kernelPlace S p i) u t n) ≡ 0
+  times-postfix : (operator : Operator) (p : Place) (u : Use) (i t n : ℕ) → itemsTimes j (postfixCode S operator (kernelPlace called S p i) u t n) ≡ 0
   unfolding itemsTimes kernelPlace
   times-postfix operator (variable k) u i t n = times-step operator k u t
   times-postfix operator (element array e) u i t n = refl
@@ -86,35 +88,44 @@ module _ (S j : ℕ) where
   times-empty none = refl
   times-empty (s then xs) = refl
   times-empty (m here xs) = refl
+  times-empty (define f words body xs) = refl
 
   mutual
     unfolding itemsTimes expressionCode
 
-    times-expression : (e : Expression) (u : Use) (t : ℕ) → itemsTimes j (expressionCode S e u t) ≡ 0
+    times-expression : (e : Expression) (u : Use) (t : ℕ) → itemsTimes j (expressionCode called S e u t) ≡ 0
     times-expression (constant v) u t = refl
     times-expression (read p) u t = simp (times-append, times-read) (omega (arith, times-index p t))
     times-expression (minus e) u t = simp times-append (omega (arith, times-expression e wanted t))
     times-expression (not e) u t = simp times-append (omega (arith, times-expression e wanted t))
-    times-expression (binary operator a b) u t = simp (times-append, times-hold) (omega (arith, times-expression b wanted t, times-expression a wanted (t + taken (held (atomOf b) (writes a)))))
+    times-expression (binary operator a b) u t = simp (times-append, times-hold) (omega (arith, times-expression b wanted t, times-expression a wanted (t + taken (held (atomOf called b) (writes called a)))))
     times-expression (and a b) u t = simp times-append (omega (arith, times-expression a wanted t, times-expression b wanted t))
     times-expression (or a b) u t = simp times-append (omega (arith, times-expression a wanted t, times-expression b wanted t))
     times-expression (comma a b) u t = simp times-append (omega (arith, times-expression a dropped t, times-expression b (passedOn u) t))
     times-expression (conditional c a b) u t = simp (times-append, times-copy) (omega (arith, times-expression c wanted t, times-expression a wanted t, times-expression b wanted t))
-    times-expression (assign p e) u t = simp (times-append, times-hold, times-store) (omega (arith, times-expression e (useFor p) t, times-index p (t + taken (held (landed p (direct e) (atomOf e)) (indexWrites p)))))
-    times-expression (compound operator p e) u t = simp (times-append, times-hold) (omega (arith, times-expression e wanted t, times-index p (t + 1), times-update operator p (atom S t (held (atomOf e) (indexWrites p))) (t + 1) t (t + 1 + placeTaken p)))
-    times-expression (prefix operator p) u t = simp times-append (omega (arith, times-index p (t + 1), times-update operator p (constant (pos 1)) (t + 1) t (t + 1 + placeTaken p)))
-    times-expression (postfix operator p) u t = simp times-append (omega (arith, times-index p (t + 1), times-postfix operator p u (t + 1) t (t + 1 + placeTaken p)))
+    times-expression (assign p e) u t = simp (times-append, times-hold, times-store) (omega (arith, times-expression e (useFor p) t, times-index p (t + taken (held (landed p (direct e) (atomOf called e)) (indexWrites called p)))))
+    times-expression (compound operator p e) u t = simp (times-append, times-hold) (omega (arith, times-expression e wanted t, times-index p (t + 1), times-update operator p (atom S t (held (atomOf called e) (indexWrites called p))) (t + 1) t (t + 1 + placeTaken called p)))
+    times-expression (prefix operator p) u t = simp times-append (omega (arith, times-index p (t + 1), times-update operator p (constant (pos 1)) (t + 1) t (t + 1 + placeTaken called p)))
+    times-expression (postfix operator p) u t = simp times-append (omega (arith, times-index p (t + 1), times-postfix operator p u (t + 1) t (t + 1 + placeTaken called p)))
+    times-expression (call f arguments) u t = simp times-append (omega (arith, times-arguments arguments nothing t))
 
-    times-index : (p : Place) (t : ℕ) → itemsTimes j (indexCode S p t) ≡ 0
+    times-index : (p : Place) (t : ℕ) → itemsTimes j (indexCode called S p t) ≡ 0
     times-index (variable i) t = refl
     times-index (element array e) t = times-expression e wanted t
 
-  times-part : (p : Part) → itemsTimes j (partCode S p) ≡ 0
+    times-arguments : (arguments : Arguments) (W : ℕ → Bool) (t : ℕ) → itemsTimes j (argumentsCode called S arguments W t) ≡ 0
+    times-arguments noMore W t = refl
+    times-arguments (e also arguments) W t =
+        let after = together (writes called e) W in
+        let level = t + argumentsTaken called arguments after in
+        simp (times-append, times-hold) (omega (arith, times-arguments arguments after t, times-expression e wanted level))
+
+  times-part : (p : Part) → itemsTimes j (partCode called S p) ≡ 0
   unfolding itemsTimes
   times-part absent = refl
   times-part (present e) = times-expression e dropped 0
 
-  times-test : (p : Part) (l : ℕ) (xs : Items) → itemsTimes j (testCode S p l xs) ≡ itemsTimes j xs
+  times-test : (p : Part) (l : ℕ) (xs : Items) → itemsTimes j (testCode called S p l xs) ≡ itemsTimes j xs
   unfolding itemsTimes
   times-test absent l xs = refl
   times-test (present e) l xs = simp times-append (omega (arith, times-expression e wanted 0))
@@ -126,6 +137,7 @@ module _ (S j : ℕ) where
   times-cases x u (case v here is) l = omega (arith, times-cases x u is (l + 1))
   times-cases x u (default here is) l = times-cases x u is (l + 1)
   times-cases x u (label k here is) l = times-cases x u is (l + 1)
+  times-cases x u (define f words body is) l = times-cases x u is l
 
   once-rounds : (arms : Arms) (xs : Items) (l e : ℕ) → l + (roundsLabels arms + armsLabels arms) ≡ e → (l + 2 + armsLabels arms ≡ e → itemsTimes j xs + under j (l + 2) ≡ under j e)
       → itemsTimes j (roundsCode S arms xs l) + under j l ≡ under j e
@@ -137,7 +149,7 @@ module _ (S j : ℕ) where
     unfolding itemsTimes statementCode labels
 
     -- The labels of a statement's code are those from l to e, each once.
-    once : (s : Statement) (x : Exits) (l e : ℕ) → l + labels s ≡ e → itemsTimes j (statementCode S s x l) + under j l ≡ under j e
+    once : (s : Statement) (x : Exits) (l e : ℕ) → l + labels s ≡ e → itemsTimes j (statementCode called S s x l) + under j l ≡ under j e
     once empty x l e q = let z : l ≡ e = omega arith in rw z (omega arith)
     once (express d) x l e q = let z : l ≡ e = omega arith in rw z (simp times-empty (omega (arith, times-expression d dropped 0)))
     once (block is) x l e q = omega (arith, once-items is x l e q)
@@ -151,18 +163,31 @@ module _ (S j : ℕ) where
     once continue x l e q = let z : l ≡ e = omega arith in rw z (omega arith)
     once (goto k) x l e q = let z : l ≡ e = omega arith in rw z (omega arith)
     once (guardedIf arms) x l e q = simp times-append (omega (arith, under-next j l, once-arms arms x l (l + 1) e (omega arith)))
-    once (guardedDo arms) x l e q = once-rounds arms (armsCode S arms x (l + 1) (l + 2)) l e q (λ m. once-arms arms x (l + 1) (l + 2) e m)
+    once (guardedDo arms) x l e q = once-rounds arms (armsCode called S arms x (l + 1) (l + 2)) l e q (λ m. once-arms arms x (l + 1) (l + 2) e m)
     once abort x l e q = let z : l ≡ e = omega arith in rw z (omega arith)
     once (declare i d) x l e q = let z : l ≡ e = omega arith in rw z (simp (times-append, times-store) (omega (arith, times-expression d (stored i) 0)))
+    once (giveBack absent) x l e q = let z : l ≡ e = omega arith in rw z (omega arith)
+    once (giveBack (present d)) x l e q = let z : l ≡ e = omega arith in rw z (simp times-append (omega (arith, times-expression d wanted 0)))
 
-    once-arms : (arms : Arms) (x : Exits) (out l e : ℕ) → l + armsLabels arms ≡ e → itemsTimes j (armsCode S arms x out l) + under j l ≡ under j e
+    once-arms : (arms : Arms) (x : Exits) (out l e : ℕ) → l + armsLabels arms ≡ e → itemsTimes j (armsCode called S arms x out l) + under j l ≡ under j e
     once-arms noArm x out l e q = let z : l ≡ e = omega arith in rw z (omega arith)
     once-arms (arm d s arms) x out l e q = simp times-append (omega (arith, times-expression d wanted 0, once s x l (l + labels s) refl, once-arms arms x out (l + labels s) e (omega arith)))
 
-    once-items : (is : Items) (x : Exits) (l e : ℕ) → l + itemsLabels is ≡ e → itemsTimes j (itemsCode S is x l) + under j l ≡ under j e
+    once-items : (is : Items) (x : Exits) (l e : ℕ) → l + itemsLabels is ≡ e → itemsTimes j (itemsCode called S is x l) + under j l ≡ under j e
     once-items none x l e q = let z : l ≡ e = omega arith in rw z (omega arith)
     once-items (s then is) x l e q = simp times-append (omega (arith, once s x l (l + labels s) refl, once-items is x (l + labels s) e (omega arith)))
     once-items (m here is) x l e q = omega (arith, under-next j l, once-items is x (l + 1) e (omega arith))
+    once-items (define f words body is) x l e q = once-items is x l e q
 
-  pub labels-distinct : (is : Items) (x : Exits) (l : ℕ) → itemsTimes j (itemsCode S is x l) ≤ 1
-  labels-distinct is x l = omega (arith, once-items is x l (l + itemsLabels is) refl, under-most j (l + itemsLabels is))
+-- The labels of a program's code are those from l to e, each once.
+once-program : (called : ℕ → ℕ → Bool) (first j : ℕ) (program : Items) (l e : ℕ) → l + programLabels program ≡ e → itemsTimes j (programCode called first program l) + under j l ≡ under j e
+unfolding itemsTimes programCode programLabels labels
+once-program called first j none l e q = let z : l ≡ e = omega arith in rw z (omega arith)
+once-program called first j (s then is) l e q = once-items called first j (s then is) (exits 0 0) l e q
+once-program called first j (m here is) l e q = once-items called first j (m here is) (exits 0 0) l e q
+once-program called first j (define f words body is) l e q =
+    omega (arith, once-items called (first + programLevels called is) j body (exits 0 0) l (l + itemsLabels body) refl, once-program called first j is (l + itemsLabels body) e (omega arith))
+
+pub labels-distinct : (first j : ℕ) (program : Items) → itemsTimes j (translate first program) ≤ 1
+unfolding translate
+labels-distinct first j program = omega (arith, once-program (functionsWrite program) first j program 1 (1 + programLabels program) refl, under-most j (1 + programLabels program))

@@ -1,6 +1,6 @@
 -- Uses: what becomes of the value of an expression, by the text around it.
 use mathlib.Core.Bool.{Bool, true, false}
-use Rattle.language.specs.Trees.{Expression, constant, read, minus, not, binary, and, or, comma, conditional, assign, compound, prefix, postfix, Place, variable, element}
+use Rattle.language.specs.Trees.{Expression, constant, read, minus, not, binary, and, or, comma, conditional, assign, compound, prefix, postfix, call, Place, variable, element}
 use Rattle.translation.specs.declared.Use.{Use}
 use Rattle.translation.specs.declared.Use.the-variants.{Dropped as dropped, Wanted as wanted, Stored as stored}
 
@@ -19,7 +19,7 @@ abbrev pub isElement : Place → Bool
 isElement (variable i) = false
 isElement (element array e) = true
 
--- Whether the value of an expression is an element or the result of an operation, kinds 3 to 16. The kernel assigns these to any variable, so
+-- Whether the value of an expression is an element or the result of an operation, kinds 3 to 16, or of a call. The kernel assigns these to any variable, so
 -- one that is stored in a variable goes straight there.
 unfoldable pub direct : Expression → Bool
 direct (constant v) = false
@@ -35,3 +35,4 @@ direct (assign p e) = false
 direct (compound operator p e) = false
 direct (prefix operator p) = false
 direct (postfix operator p) = false
+direct (call f arguments) = true

@@ -11,9 +11,11 @@ use Rattle.words.specs.declared.Operator.the-variants.{Add, Subtract, Greater, 
 use Rattle.computation.specs.Run.{start, rounds, run, final}
 use Rattle.language.specs.Trees.{Expression, constant, read, minus, not, binary, comma, conditional, assign, compound, prefix, postfix, Place, variable, element, case, default, label, Statement, empty, express, block, ifElse, while, switch, goto, guardedIf, guardedDo, abort, Arms, noArm, arm, Items, none, _then_, _here_, _⧺_, sameMark}
 use Rattle.language.specs.Meaning.{evaluate, perform, exec}
+use Rattle.language.specs.Functions.{functionCount, plain}
 use Rattle.language.specs.Writes.{writes}
+use Rattle.language.specs.FunctionWrites.{writtenBy, functionsWrite}
 use Rattle.translation.specs.Uses.{direct}
-use Rattle.translation.specs.Translate.{atomOf, placeTaken, labels, labelOf, kernelPlace, expressionCode, caseTests, statementCode, translate, expressionLevels, statementLevels, temporaries}
+use Rattle.translation.specs.Translate.{atomOf, placeTaken, labels, labelOf, kernelPlace, expressionCode, caseTests, statementCode, translate, expressionLevels, statementLevels, programLevels, programCode, temporaries}
 
 -- One variable and one array of 3, so S = 4: temporary 0 is variable 4.
 abbrev layout : Layout
@@ -34,16 +36,16 @@ pub worked-translation : translate (storeSize layout) worked
     then set (variable 0) (binary Subtract (read (variable 0)) (constant (pos 1)))
     then set (element 0 (read (variable 0))) (read (variable 4))
     then none
-unfolding translate statementCode expressionCode direct atomOf placeTaken kernelPlace labels storeSize sum _⧺_
+unfolding translate programCode functionsWrite writtenBy functionCount statementCode expressionCode direct atomOf placeTaken kernelPlace labels storeSize sum _⧺_
 worked-translation = refl
 
 pub worked-temporaries : temporaries worked ≡ 1
-unfolding temporaries statementLevels expressionLevels direct atomOf writes
+unfolding temporaries programLevels functionsWrite writtenBy functionCount statementLevels expressionLevels direct atomOf writes
 worked-temporaries = refl
 
 -- From zeros, and 7 in the temporary, the kernel leaves 2, 0, 0, 2, as the source does.
-pub worked-kernel : (final (run (rounds 0) (exec layout (block (translate (storeSize layout) worked))) (start (pos 0 ∷ pos 0 ∷ pos 0 ∷ pos 0 ∷ pos 7 ∷ [])))) .store ≡ pos 2 ∷ pos 0 ∷ pos 0 ∷ pos 2 ∷ pos 2 ∷ []
-unfolding translate statementCode expressionCode direct atomOf placeTaken kernelPlace labels storeSize sum _⧺_ run perform evaluate apply inWord isWord arrayBase arrayLength elementWord natural
+pub worked-kernel : (final (run (rounds 0) (exec (plain layout) (block (translate (storeSize layout) worked))) (start (pos 0 ∷ pos 0 ∷ pos 0 ∷ pos 0 ∷ pos 7 ∷ [])))) .store ≡ pos 2 ∷ pos 0 ∷ pos 0 ∷ pos 2 ∷ pos 2 ∷ []
+unfolding translate programCode functionsWrite writtenBy functionCount statementCode expressionCode direct atomOf placeTaken kernelPlace labels storeSize sum _⧺_ run perform evaluate apply inWord isWord arrayBase arrayLength elementWord natural
 worked-kernel = refl
 
 -- switch (v0) { default: a[0] = 1; case 2: a[1] = 1; }
@@ -58,7 +60,7 @@ pub choice-translation : translate (storeSize layout) choice
     then label 2 here set (element 0 (constant (pos 0))) (constant (pos 1))
     then label 3 here set (element 0 (constant (pos 1))) (constant (pos 1))
     then label 1 here none
-unfolding translate statementCode expressionCode caseTests direct atomOf placeTaken kernelPlace labels labelOf sameMark storeSize sum _⧺_
+unfolding translate programCode functionsWrite writtenBy functionCount statementCode expressionCode caseTests direct atomOf placeTaken kernelPlace labels labelOf sameMark storeSize sum _⧺_
 choice-translation = refl
 
 -- Two variables: S = 2.
@@ -70,13 +72,13 @@ sum-of a b = set (variable 1) (binary Add a b) then none
 
 -- v1 = v1 + v0: no copy, and straight into v1
 pub plain-operands : translate (storeSize pair) (sum-of (read (variable 1)) (read (variable 0))) ≡ set (variable 1) (binary Add (read (variable 1)) (read (variable 0))) then none
-unfolding translate statementCode expressionCode direct atomOf writes placeTaken kernelPlace labels storeSize sum _⧺_
+unfolding translate programCode functionsWrite writtenBy functionCount statementCode expressionCode direct atomOf writes placeTaken kernelPlace labels storeSize sum _⧺_
 plain-operands = refl
 
 -- v1 = (v0 = 5) + v0: the left operand writes v0; t0 = v0; v0 = 5; v1 = 5 + t0
 pub copied-operand : translate (storeSize pair) (sum-of (assign (variable 0) (constant (pos 5))) (read (variable 0)))
     ≡ set (variable 2) (read (variable 0)) then set (variable 0) (constant (pos 5)) then set (variable 1) (binary Add (constant (pos 5)) (read (variable 2))) then none
-unfolding translate statementCode expressionCode direct atomOf writes placeTaken kernelPlace labels storeSize sum _⧺_
+unfolding translate programCode functionsWrite writtenBy functionCount statementCode expressionCode direct atomOf writes placeTaken kernelPlace labels storeSize sum _⧺_
 copied-operand = refl
 
 -- v1 = (v0 = 3) + (v0 = v0 + v1): so does it write the value that stands in v0; v0 = v0 + v1; t0 = v0; v0 = 3; v1 = 3 + t0
@@ -86,7 +88,7 @@ pub copied-result : translate (storeSize pair) (sum-of (assign (variable 0) (con
     then set (variable 0) (constant (pos 3))
     then set (variable 1) (binary Add (constant (pos 3)) (read (variable 2)))
     then none
-unfolding translate statementCode expressionCode direct atomOf writes placeTaken kernelPlace labels storeSize sum _⧺_
+unfolding translate programCode functionsWrite writtenBy functionCount statementCode expressionCode direct atomOf writes placeTaken kernelPlace labels storeSize sum _⧺_
 copied-result = refl
 
 -- ---- values straight to their place
@@ -113,11 +115,11 @@ pub straight-translation : translate (storeSize places) straight
     then set (variable 0) (constant (pos 5))
     then set (variable 0) (binary Add (read (variable 0)) (constant (pos 5)))
     then none
-unfolding translate statementCode expressionCode direct atomOf writes placeTaken kernelPlace labels storeSize sum _⧺_
+unfolding translate programCode functionsWrite writtenBy functionCount statementCode expressionCode direct atomOf writes placeTaken kernelPlace labels storeSize sum _⧺_
 straight-translation = refl
 
 pub straight-temporaries : temporaries straight ≡ 0
-unfolding temporaries statementLevels expressionLevels direct atomOf writes
+unfolding temporaries programLevels functionsWrite writtenBy functionCount statementLevels expressionLevels direct atomOf writes
 straight-temporaries = refl
 
 -- v0 += 2; --v0; v0++, v1--; a[v0] = v0 += 1; v1 = v0++;
@@ -141,7 +143,7 @@ pub updates-translation : translate (storeSize places) updates
     then set (variable 0) (binary Add (read (variable 5)) (constant (pos 1)))
     then set (variable 1) (read (variable 5))
     then none
-unfolding translate statementCode expressionCode direct atomOf writes placeTaken kernelPlace labels storeSize sum _⧺_
+unfolding translate programCode functionsWrite writtenBy functionCount statementCode expressionCode direct atomOf writes placeTaken kernelPlace labels storeSize sum _⧺_
 updates-translation = refl
 
 -- v0 = (v0 = 1, v0 + 2); v0 = v1 ? 1 : 2;
@@ -158,7 +160,7 @@ pub indirect-translation : translate (storeSize places) indirect
     then ifElse (read (variable 1)) (block (set (variable 5) (constant (pos 1)) then none)) (block (set (variable 5) (constant (pos 2)) then none))
     then set (variable 0) (read (variable 5))
     then none
-unfolding translate statementCode expressionCode direct atomOf writes placeTaken kernelPlace labels storeSize sum _⧺_
+unfolding translate programCode functionsWrite writtenBy functionCount statementCode expressionCode direct atomOf writes placeTaken kernelPlace labels storeSize sum _⧺_
 indirect-translation = refl
 
 -- ---- guarded statements
@@ -178,7 +180,7 @@ divisor = guardedDo (reduces 0 1 (reduces 1 0 noArm)) then none
 
 -- while (1) { t0 = v0 > v1; if (t0) { { v0 = v0 - v1; } goto L2; } else { } .. goto L1; L2: } L1:
 pub divisor-translation : translate (storeSize pair) divisor ≡ while (constant (pos 1)) (block (reduced 0 1 (reduced 1 0 (goto 1 then label 2 here none)))) then label 1 here none
-unfolding translate statementCode expressionCode direct atomOf writes placeTaken kernelPlace labels storeSize sum _⧺_
+unfolding translate programCode functionsWrite writtenBy functionCount statementCode expressionCode direct atomOf writes placeTaken kernelPlace labels storeSize sum _⧺_
 divisor-translation = refl
 
 -- if v0 -> { v1 = 1; } fi: if (v0) { { v1 = 1; } goto L1; } else { } abort; L1:
@@ -186,10 +188,10 @@ pub guarded-translation : translate (storeSize pair) (guardedIf (arm (read (vari
     ≡ ifElse (read (variable 0)) (block (block (set (variable 1) (constant (pos 1)) then none) then goto 1 then none)) (block none)
     then abort
     then label 1 here none
-unfolding translate statementCode expressionCode direct atomOf writes placeTaken kernelPlace labels storeSize sum _⧺_
+unfolding translate programCode functionsWrite writtenBy functionCount statementCode expressionCode direct atomOf writes placeTaken kernelPlace labels storeSize sum _⧺_
 guarded-translation = refl
 
 -- Without arms there is nothing to go round.
 pub no-arms-translation : translate (storeSize pair) (guardedDo noArm then guardedIf noArm then none) ≡ empty then abort then label 1 here none
-unfolding translate statementCode labels storeSize sum _⧺_
+unfolding translate programCode functionsWrite writtenBy functionCount statementCode labels storeSize sum _⧺_
 no-arms-translation = refl

@@ -15,13 +15,16 @@ use Rattle.words.specs.declared.Form.the-variants.{Source, Kernel}
 use Rattle.language.specs.Trees.{block, Items, none}
 use Rattle.language.specs.Sizes.{statementRows, statementDepth}
 use Rattle.language.specs.WellFormed.{SourceName, SourceTree}
+use Rattle.language.specs.FunctionWrites.{functionsWrite}
 use Rattle.translation.specs.Translate.{exits, translate, temporaries, kernelHeader}
 use Rattle.translation.specs.KernelForm.{KernelTree, KernelName, name-variable, name-temporary}
-use Rattle.translation_form.specs.TranslateForm.{form-items}
+use Rattle.translation_form.specs.TranslateForm.{form-program}
 use Rattle.translation.specs.TranslateLabels.{labels-distinct}
-use Rattle.translation_form.specs.TranslateNames.{named-items, more-names}
+use Rattle.translation_form.specs.TranslateNames.{named-program}
+use Rattle.translation_form.specs.MoreNames.{more-names}
 use Rattle.translation.specs.TranslateBounds.{rows-bound, temporaries-bound, labels-bound}
 use Rattle.translation_form.specs.TranslateDepth.{depth-bound}
+use Rattle.translation_form.specs.TranslateCalls.{calls-in-order}
 
 -- Every translation is a kernel program, its temporaries behind D declared words.
 pub translation-is-kernel : (L : Layout) (D : ℕ) → D ≤ 64 → (program : Items) → SourceTree L (storeSize L + D) program → statementRows (block program) ≤ 2048 → statementDepth (block program) ≤ 64 → KernelTree L (D + temporaries program) (translate (storeSize L + D) program)
@@ -29,10 +32,11 @@ unfolding translate temporaries
 translation-is-kernel L D declared program tree few shallow =
     let few-labels = labels-bound program in
     record {
-      form = form-items (storeSize L + D) program (exits 0 0) 1 none false false false (tree .placed) (omega arith) (omega arith) (λ e. absurd (let z : _≡_ {A = ℕ} 0 1 = cc in omega arith)) (λ e. absurd (let z : _≡_ {A = ℕ} 0 1 = cc in omega arith));
-      labels-once = λ l. labels-distinct (storeSize L + D) l program (exits 0 0) 1;
-      named = named-items (KernelName L (D + temporaries program)) (length (L .lengths)) (storeSize L + D) (temporaries program) behind-declared program (exits 0 0) 1
+      form = form-program (functionsWrite program) (storeSize L + D) program 1 (tree .placed) (omega arith) (omega arith);
+      labels-once = λ l. labels-distinct (storeSize L + D) l program;
+      named = named-program (KernelName L (D + temporaries program)) (length (L .lengths)) (functionsWrite program) (storeSize L + D) (temporaries program) behind-declared program 1
           (more-names (SourceName L (storeSize L + D)) (KernelName L (D + temporaries program)) (length (L .lengths)) (λ i n. kernel-name i n (n .apart)) program (tree .named)) (omega arith);
+      calls = calls-in-order L (storeSize L + D) program tree;
       few-temporaries = omega (arith, temporaries-bound program);
       few-rows = omega (arith, rows-bound (storeSize L + D) program);
       shallow = omega (arith, depth-bound (storeSize L + D) program);

@@ -25,7 +25,7 @@ use Rattle.row_fields.specs.Fields.{boundsIn}
 use Rattle.names.specs.ResolvedLaws.{resolved-length}
 use Rattle.program_meaning.specs.Program.{resolvedRows}
 use Rattle.translation.specs.Translate.{temporaries, translate, kernelHeader}
-use Rattle.translation.specs.TranslateSize.{itemsSize}
+use Rattle.translation.specs.TranslateSize.{programSize}
 use Rattle.translation.specs.TranslateRows.{translation-rows}
 use Rattle.translation.specs.TranslateBounds.{rows-bound, temporaries-bound}
 use Rattle.emission.specs.Emission.{emit}
@@ -40,9 +40,10 @@ use Rattle.accepted.specs.Resolved.{table-structured, table-sound, table-rows}
 use Rattle.accepted.specs.Statements.{root-kind}
 use Rattle.write_sets.specs.Named.{Named}
 use Rattle.shapes.specs.Source.{NamesFrom, Source}
+use Rattle.measure_table.specs.Parts.{calledIn}
 use Rattle.measure_table.specs.Measures.{statementRowsSlot, statementLevelsSlot, slot, Measured}
 use Rattle.writers.specs.Program.{ProgramAsks, kernelProgram}
-use Rattle.writers.specs.WholeProgram.{is-translation, program-rows, program-levels}
+use Rattle.writers.specs.WholeProgram.{program-rows, program-levels}
 use Rattle.fate.specs.KernelForms.{kernelHeaderOf, kernelRowsOf}
 use Rattle.translator.specs.HeaderLaws.{kernel-header-length}
 
@@ -121,14 +122,14 @@ module _ (header rows : List ℤ) (accepted : sourceRefusal header rows ≡ Acce
   first-low = omega (arith, source-small header rows accepted-header, few-declarations)
 
   -- "At most 20×n+20 kernel rows and at most 4×n temporaries."
-  size-low : 1 + itemsSize (contents resolved) ≤ 40980
+  size-low : 1 + programSize (calledIn resolved) (contents resolved) ≤ 40980
   size-low = omega (arith, rows-bound first (contents resolved), translation-rows first (contents resolved), table-rows header rows legal, few-rows, resolved-length S rows)
 
   levels-low : temporaries (contents resolved) ≤ 2048
   levels-low = omega (arith, temporaries-bound (contents resolved), table-rows header rows legal, few-rows, resolved-length S rows)
 
   module _ {table : List ℕ} (m : Measured resolved table) where
-    size-is : slot table 0 statementRowsSlot ≡ 1 + itemsSize (contents resolved)
+    size-is : slot table 0 statementRowsSlot ≡ 1 + programSize (calledIn resolved) (contents resolved)
     size-is = program-rows m root (omega (arith, size-low))
 
     levels-is : slot table 0 statementLevelsSlot ≡ temporaries (contents resolved)
@@ -159,7 +160,7 @@ module _ (header rows : List ℤ) (accepted : sourceRefusal header rows ≡ Acce
 
   pub rows-are : (begin : ℕ) → begin ≡ first → emit (kernelProgram begin (contents resolved)) ≡ kernelRowsOf header rows
   unfolding kernelRowsOf
-  rows-are begin e = ap emit (ap (λ (n : ℕ). kernelProgram n (contents resolved)) e ∙ is-translation first (contents resolved))
+  rows-are begin e = ap emit (ap (λ (n : ℕ). kernelProgram n (contents resolved)) e)
 
   pub header-words : length header + 2 ≡ length (kernelHeaderOf header rows)
   unfolding kernelHeaderOf

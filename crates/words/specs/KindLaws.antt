@@ -1,23 +1,26 @@
 -- Laws of the table of kinds: what holds of every kind is tested over the table.
 use mathlib.Core.Path.{_≡_, refl, sym, ap, _∙_}
-use mathlib.Core.Bool.{Bool, true, false, _&&_, _||_}
+use mathlib.Core.Bool.{Bool, true, false, not, _&&_, _||_}
 use mathlib.Core.List.{List, [], _∷_}
 use Prim.Native.Nat.{ℕ, zero, suc, _+_, _-_, _≤_}
 use native.Mathlib.Omega.{arith}
 use lib.Dec.{eqb}
 use lib.IntN.{ℤ}
-use borrow.Author.Tests.{eqb-true, eqb-false, leb-true}
+use borrow.Author.Tests.{eqb-true, eqb-false, leb-true, not-true}
 use Rattle.words.specs.Word.{pick}
 use Rattle.words.specs.Table.{numberAt}
-use Rattle.words.specs.Kinds.{kinds, kindIn, kindOf, kindAt, operators, operatorOf, isExpressionKind, isStatementKind, between, expression, place, branch, bodyBlock, armRow, isLink, isRequired, kindRow, expressionFields, statementFields, markFields, memberFields, sortIn, isPlaceKind}
+use Rattle.words.specs.Kinds.{kinds, kindIn, kindOf, kindAt, operators, operatorOf, isExpressionKind, isStatementKind, between, expression, place, branch, bodyBlock, armRow, argumentRow, isLink, isRequired, standsIn, inLanguage, kindRow, expressionFields, statementFields, markFields, definitionFields, memberFields, sortIn, isFunctionNumber, isPlaceKind}
 use Rattle.words.specs.Laws.{both, by-cases}
+use Rattle.words.specs.declared.Form.{Form}
+use Rattle.words.specs.declared.Form.the-variants.{Source, Kernel}
 use Rattle.words.specs.declared.Operator.{Operator}
 use Rattle.words.specs.declared.Kind.{Kind}
-use Rattle.words.specs.declared.Kind.the-variants.{OfExpression, OfStatement, OfMark, OfMember, Other}
+use Rattle.words.specs.declared.Kind.the-variants.{OfExpression, OfStatement, OfMark, OfMember, Definition, Other}
 use Rattle.words.specs.declared.MarkKind.{MarkKind}
 use Rattle.words.specs.declared.MarkKind.the-variants.{Case, Default, Label}
-use Rattle.words.specs.declared.MemberKind.the-variants.{Arm}
-use Rattle.words.specs.declared.ExpressionKind.the-variants.{Binary, Compound, Prefix, Postfix}
+use Rattle.words.specs.declared.MemberKind.the-variants.{Arm, Argument}
+use Rattle.words.specs.declared.ExpressionKind.{ExpressionKind}
+use Rattle.words.specs.declared.ExpressionKind.the-variants.{Constant, Variable, Element, Minus, Not, Binary, And, Or, Conditional, Comma, Assign, Compound, Prefix, Postfix, Call}
 
 -- A test that every line of the table passes.
 unfoldable pub everyLine : (ℕ → Kind → Bool) → List (ℕ × Kind) → Bool
@@ -69,30 +72,31 @@ pub between-both : (least most number : ℕ) → between least most number ≡ t
 between-both least most number e = let parts = both _ _ e in (leb-true least number (parts .0), leb-true number most (parts .1))
 
 -- A number that no expression has, and one that no statement has.
-pub no-expression : (number : ℕ) → ((1 ≤ number) × (number ≤ 30) → ⊥) → isExpressionKind (kindOf number) ≡ false
+pub no-expression : (number : ℕ) → ((1 ≤ number) × (number ≤ 31) → ⊥) → isExpressionKind (kindOf number) ≡ false
 unfolding everyLine kinds
 no-expression number beyond =
-    by-cases (isExpressionKind (kindOf number)) (λ e. absurd (beyond (between-both 1 30 number (numbers-of isExpressionKind (between 1 30) refl refl number e)))) (λ e. e)
+    by-cases (isExpressionKind (kindOf number)) (λ e. absurd (beyond (between-both 1 31 number (numbers-of isExpressionKind (between 1 31) refl refl number e)))) (λ e. e)
 
--- The numbers of statements, marks apart.
+-- The numbers of statements, marks and definitions apart.
 abbrev statementNumbers : ℕ → Bool
-statementNumbers n = between 40 47 n || (between 50 52 n || (between 54 55 n || between 57 58 n))
+statementNumbers n = between 40 47 n || (between 50 52 n || (between 54 55 n || (between 57 58 n || eqb n 60)))
 
-pub no-statement : (number : ℕ) → ((40 ≤ number) × (number ≤ 47) → ⊥) → ((50 ≤ number) × (number ≤ 52) → ⊥) → ((54 ≤ number) × (number ≤ 55) → ⊥) → ((57 ≤ number) × (number ≤ 58) → ⊥)
+pub no-statement : (number : ℕ) → ((40 ≤ number) × (number ≤ 47) → ⊥) → ((50 ≤ number) × (number ≤ 52) → ⊥) → ((54 ≤ number) × (number ≤ 55) → ⊥) → ((57 ≤ number) × (number ≤ 58) → ⊥) → (number ≡ 60 → ⊥)
     → isStatementKind (kindOf number) ≡ false
 unfolding everyLine kinds
-no-statement number plain jumps guarded others =
+no-statement number plain jumps guarded others last =
     by-cases (isStatementKind (kindOf number))
     (λ e. let inside = numbers-of isStatementKind statementNumbers refl refl number e in
     by-cases (between 40 47 number) (λ t. absurd (plain (between-both 40 47 number t)))
     (λ t. by-cases (between 50 52 number) (λ u. absurd (jumps (between-both 50 52 number u)))
     (λ u. by-cases (between 54 55 number) (λ v. absurd (guarded (between-both 54 55 number v)))
-    (λ v. absurd (others (between-both 57 58 number (rw (t, u, v) at inside)))))))
+    (λ v. by-cases (between 57 58 number) (λ w. absurd (others (between-both 57 58 number w)))
+    (λ w. absurd (last (eqb-true number 60 (rw (t, u, v, w) at inside))))))))
     (λ e. e)
 
 -- A place is a variable or an element.
 pub place-cases : {A : Type 0} (number : ℕ) → isPlaceKind (kindOf number) ≡ true → (number ≡ 2 → A) → (number ≡ 3 → A) → A
-unfolding everyLine kinds isPlaceKind sortIn kindRow expressionFields statementFields markFields memberFields
+unfolding everyLine kinds isPlaceKind sortIn kindRow expressionFields statementFields markFields definitionFields memberFields
 place-cases number e f g =
     let inside = between-both 2 3 number (numbers-of isPlaceKind (between 2 3) refl refl number e) in
     by-cases (eqb number 2) (λ t. f (eqb-true number 2 t)) (λ t. g (omega (arith, eqb-false number 2 t, inside .0, inside .1)))
@@ -102,8 +106,16 @@ abbrev ownArm : ℕ → Kind → Bool
 ownArm number kind = pick (eqb (sortIn kind 0) armRow) (eqb number 56) true
 
 pub arm-kind : (number : ℕ) → eqb (sortIn (kindOf number) 0) armRow ≡ true → kindOf number ≡ OfMember Arm
-unfolding everyLine kinds kindOf kindIn sortIn kindRow expressionFields statementFields markFields memberFields
+unfolding everyLine kinds kindOf kindIn sortIn kindRow expressionFields statementFields markFields definitionFields memberFields
 arm-kind number e = rw (eqb-true number 56 (rw e at (every-number ownArm refl (λ n. refl) number)))
+
+-- An argument's row is of the kind of arguments.
+abbrev ownArgument : ℕ → Kind → Bool
+ownArgument number kind = pick (eqb (sortIn kind 0) argumentRow) (eqb number 32) true
+
+pub argument-kind : (number : ℕ) → eqb (sortIn (kindOf number) 0) argumentRow ≡ true → kindOf number ≡ OfMember Argument
+unfolding everyLine kinds kindOf kindIn sortIn kindRow expressionFields statementFields markFields definitionFields memberFields
+argument-kind number e = rw (eqb-true number 32 (rw e at (every-number ownArgument refl (λ n. refl) number)))
 
 -- The number of a mark.
 abbrev pub markNumber : MarkKind → ℕ
@@ -116,6 +128,7 @@ ownNumber number (OfExpression kind) = true
 ownNumber number (OfStatement kind) = true
 ownNumber number (OfMark kind) = eqb number (markNumber kind)
 ownNumber number (OfMember kind) = true
+ownNumber number Definition = true
 ownNumber number Other = true
 
 pub mark-number : (number : ℕ) {kind : MarkKind} → kindOf number ≡ OfMark kind → number ≡ markNumber kind
@@ -168,3 +181,54 @@ passed from zero number known rest = (rest, λ h. omega arith)
 passed from (suc more) number known rest =
     let later = passed (suc from) more number (known × (number ≡ from → ⊥)) rest in
     (later .0 .0, λ h. let beyond : suc from ≤ number = omega (arith, later .0 .1) in omega (arith, later .1 beyond))
+
+-- No form has the kinds of functions yet.
+pub function-foreign : (form : Form) (number : ℕ) → isFunctionNumber number ≡ true → inLanguage form number ≡ false
+unfolding inLanguage isFunctionNumber everyLine kinds kindRow expressionFields statementFields markFields definitionFields memberFields
+function-foreign form number e = not-true _ (rw e at (every-number (foreignIn form) (each-form form) (λ n. none form n) number))
+  where
+    foreignIn : Form → ℕ → Kind → Bool
+    foreignIn form number kind = pick (isFunctionNumber number) (not (standsIn (kindRow kind .forms) form)) true
+
+    each-form : (form : Form) → everyLine (foreignIn form) kinds ≡ true
+    each-form Source = refl
+    each-form Kernel = refl
+
+    none : (form : Form) (number : ℕ) → foreignIn form number Other ≡ true
+    none form number = by-cases (isFunctionNumber number) (λ e. rw e) (λ e. rw e)
+
+-- A definition's number is one of them, and so is a call's.
+abbrev isCall : ExpressionKind → Bool
+isCall Constant = false
+isCall Variable = false
+isCall Element = false
+isCall Minus = false
+isCall Not = false
+isCall (Binary operator) = false
+isCall And = false
+isCall Or = false
+isCall Conditional = false
+isCall Comma = false
+isCall Assign = false
+isCall (Compound operator) = false
+isCall (Prefix operator) = false
+isCall (Postfix operator) = false
+isCall Call = true
+
+abbrev ownFunction : ℕ → Kind → Bool
+ownFunction number (OfExpression kind) = pick (isCall kind) (isFunctionNumber number) true
+ownFunction number (OfStatement kind) = true
+ownFunction number (OfMark kind) = true
+ownFunction number (OfMember kind) = true
+ownFunction number Definition = isFunctionNumber number
+ownFunction number Other = true
+
+own-function : (number : ℕ) → ownFunction number (kindOf number) ≡ true
+unfolding everyLine kinds isFunctionNumber
+own-function number = every-number ownFunction refl (λ n. refl) number
+
+pub definition-number : (number : ℕ) → kindOf number ≡ Definition → isFunctionNumber number ≡ true
+definition-number number k = rw k at (own-function number)
+
+pub call-number : (number : ℕ) → kindOf number ≡ OfExpression Call → isFunctionNumber number ≡ true
+call-number number k = rw k at (own-function number)

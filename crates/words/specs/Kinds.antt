@@ -16,12 +16,12 @@ use Rattle.words.specs.declared.ExpressionKind.{ExpressionKind}
 use Rattle.words.specs.declared.StatementKind.{StatementKind}
 use Rattle.words.specs.declared.MarkKind.{MarkKind}
 use Rattle.words.specs.declared.MemberKind.{MemberKind}
-use Rattle.words.specs.declared.ExpressionKind.the-variants.{Constant, Variable, Element, Minus, Not, Binary, And, Or, Conditional, Comma, Assign, Compound, Prefix, Postfix}
-use Rattle.words.specs.declared.StatementKind.the-variants.{Empty, Express, Block, If, While, Do, For, Switch, Break, Continue, Goto, GuardedIf, GuardedDo, Abort, Declare}
+use Rattle.words.specs.declared.ExpressionKind.the-variants.{Constant, Variable, Element, Minus, Not, Binary, And, Or, Conditional, Comma, Assign, Compound, Prefix, Postfix, Call}
+use Rattle.words.specs.declared.StatementKind.the-variants.{Empty, Express, Block, If, While, Do, For, Switch, Break, Continue, Goto, GuardedIf, GuardedDo, Abort, Declare, Return}
 use Rattle.words.specs.declared.MarkKind.the-variants.{Case, Default, Label}
-use Rattle.words.specs.declared.MemberKind.the-variants.{Arm}
+use Rattle.words.specs.declared.MemberKind.the-variants.{Arm, Argument}
 use Rattle.words.specs.declared.Kind.{Kind}
-use Rattle.words.specs.declared.Kind.the-variants.{OfExpression, OfStatement, OfMark, OfMember, Other}
+use Rattle.words.specs.declared.Kind.the-variants.{OfExpression, OfStatement, OfMark, OfMember, Definition, Other}
 
 -- ---- numbers
 
@@ -57,6 +57,8 @@ kinds =
     (28, OfExpression (Prefix Subtract)) ∷  -- −−e
     (29, OfExpression (Postfix Add)) ∷  -- e++
     (30, OfExpression (Postfix Subtract)) ∷  -- e−−
+    (31, OfExpression Call) ∷  -- call
+    (32, OfMember Argument) ∷  -- argument
     (40, OfStatement Empty) ∷  -- empty
     (41, OfStatement Express) ∷  -- expression statement
     (42, OfStatement Block) ∷  -- block
@@ -76,6 +78,8 @@ kinds =
     (56, OfMember Arm) ∷  -- arm
     (57, OfStatement Abort) ∷  -- abort
     (58, OfStatement Declare) ∷  -- declaration
+    (59, Definition) ∷  -- definition of a function
+    (60, OfStatement Return) ∷  -- return
     []
 
 unfoldable pub kindIn : List (ℕ × Kind) → ℕ → Kind
@@ -103,14 +107,16 @@ isExpressionKind (OfExpression kind) = true
 isExpressionKind (OfStatement kind) = false
 isExpressionKind (OfMark kind) = false
 isExpressionKind (OfMember kind) = false
+isExpressionKind Definition = false
 isExpressionKind Other = false
 
--- The kinds of statements, marks apart.
+-- The kinds of statements, marks and definitions apart.
 abbrev pub isStatementKind : Kind → Bool
 isStatementKind (OfExpression kind) = false
 isStatementKind (OfStatement kind) = true
 isStatementKind (OfMark kind) = false
 isStatementKind (OfMember kind) = false
+isStatementKind Definition = false
 isStatementKind Other = false
 
 -- ---- sorts: what a field holds, and what a row is
@@ -135,44 +141,61 @@ label = 4
 abbrev pub declaredNumber : ℕ
 declaredNumber = 5
 
--- Links. Optional ones "may be 0". A branch or body has next 0, and so has the block of an arm; an item is the first of a list, or the
--- next, and so is an arm.
+-- The number of a function, at its definition and at a call.
+abbrev pub functionNumber : ℕ
+functionNumber = 6
+
+-- Links. Optional ones "may be 0". A branch or body has next 0, and so has the block of an arm or of a function; an item is the first of a
+-- list, or the next, and so are an arm, an argument and a parameter.
 abbrev pub expression : ℕ
-expression = 6
+expression = 7
 
 abbrev pub optionalExpression : ℕ
-optionalExpression = 7
+optionalExpression = 8
 
 abbrev pub place : ℕ
-place = 8
+place = 9
 
 abbrev pub branch : ℕ
-branch = 9
+branch = 10
 
 abbrev pub optionalBranch : ℕ
-optionalBranch = 10
+optionalBranch = 11
 
 abbrev pub optionalItem : ℕ
-optionalItem = 11
+optionalItem = 12
 
 abbrev pub bodyBlock : ℕ
-bodyBlock = 12
+bodyBlock = 13
 
 abbrev pub optionalArm : ℕ
-optionalArm = 13
+optionalArm = 14
+
+abbrev pub optionalArgument : ℕ
+optionalArgument = 15
+
+abbrev pub optionalParameter : ℕ
+optionalParameter = 16
+
+-- A link that must be 0.
+abbrev pub absentLink : ℕ
+absentLink = 17
 
 -- What a row is.
 abbrev pub expressionRow : ℕ
-expressionRow = 14
+expressionRow = 18
 
 abbrev pub placeRow : ℕ
-placeRow = 15
+placeRow = 19
 
 abbrev pub statementRow : ℕ
-statementRow = 16
+statementRow = 20
 
 abbrev pub armRow : ℕ
-armRow = 17
+armRow = 21
+
+abbrev pub argumentRow : ℕ
+argumentRow = 22
 
 abbrev pub noKind : ℕ
 noKind = 0
@@ -181,7 +204,7 @@ abbrev pub between : ℕ → ℕ → ℕ → Bool
 between least most number = leb least number && leb number most
 
 unfoldable pub isLink : ℕ → Bool
-isLink sort = between expression optionalArm sort
+isLink sort = between expression absentLink sort
 
 -- Links that must not be absent.
 unfoldable pub isRequired : ℕ → Bool
@@ -239,7 +262,7 @@ placing a b forms = record { what = placeRow; a = a; b = b; c = unused; forms = 
 abbrev pub stating : ℕ → ℕ → ℕ → ℕ → Forms → StatementRow
 stating a b c d forms = record { a = a; b = b; c = c; d = d; forms = forms }
 
--- Kernel: "Kinds not named in this paragraph are not in the kernel language."
+-- Kernel: "Kinds not named in this paragraph are not in the kernel language." No form has the kinds of functions yet: 31, 32, 59 and 60.
 unfoldable pub expressionFields : ExpressionKind → ExpressionRow
 expressionFields Constant = computing value unused unused inBoth  -- 1 constant: a value
 expressionFields Variable = placing variable unused inBoth  -- 2 variable: a number
@@ -255,9 +278,10 @@ expressionFields Assign = computing place expression unused inBoth  -- 21 assign
 expressionFields (Compound operator) = computing place expression unused inSource  -- 22 to 26: a place, b value
 expressionFields (Prefix operator) = computing place unused unused inSource  -- 27 ++e, 28 −−e: a place
 expressionFields (Postfix operator) = computing place unused unused inSource  -- 29 e++, 30 e−−: a place
+expressionFields Call = computing functionNumber optionalArgument unused inNeither  -- 31 call: a number, b first argument or 0
 
 -- "52 goto, 53 label (kernel only)". "Kind 54 (guarded if) and 55 (guarded do), each with a the first arm or 0"; "the kernel's new kind 57 (abort, no
--- fields)". "Kind 58: a variable number below V, b initial expression".
+-- fields)". "Kind 58: a variable number below V, b initial expression". "Kind 60 returns a, or 0 where a is 0".
 unfoldable pub statementFields : StatementKind → StatementRow
 statementFields Empty = stating unused unused unused unused inBoth  -- 40 empty: none
 statementFields Express = stating expression unused unused unused inBoth  -- 41 expression statement: a
@@ -274,15 +298,26 @@ statementFields GuardedIf = stating optionalArm unused unused unused inSource  -
 statementFields GuardedDo = stating optionalArm unused unused unused inSource  -- 55 guarded do: a first arm or 0
 statementFields Abort = stating unused unused unused unused inKernel  -- 57 abort: none
 statementFields Declare = stating declaredNumber expression unused unused inSource  -- 58 declaration: a number, b initial expression
+statementFields Return = stating optionalExpression unused unused unused inNeither  -- 60 return: a, or 0
 
 unfoldable pub markFields : MarkKind → StatementRow
 markFields Case = stating value unused unused unused inSource  -- 48 case: a value
 markFields Default = stating unused unused unused unused inSource  -- 49 default: none
 markFields Label = stating label unused unused unused inKernel  -- 53 label: a label number
 
--- "Kind 56 (arm): a guard, b block, next the next arm."
+-- "Kind 59 defines a function: a its number, b first parameter or 0 (kind 58, else 4 ..), c a block."
+unfoldable pub definitionFields : StatementRow
+definitionFields = stating functionNumber optionalParameter bodyBlock unused inNeither  -- 59 definition: a number, b first parameter or 0, c block
+
+-- "Kind 56 (arm): a guard, b block, next the next arm." "Kind 32 is an argument with a an expression and next".
 unfoldable pub memberFields : MemberKind → KindRow
 memberFields Arm = record { what = armRow; a = expression; b = bodyBlock; c = unused; d = unused; next = optionalArm; forms = inSource }  -- 56 arm: a guard, b block, next arm or 0
+memberFields Argument = record { what = argumentRow; a = expression; b = unused; c = unused; d = unused; next = optionalArgument; forms = inNeither }  -- 32 argument: a expression, next argument or 0
+
+-- Kind 58 has two roles: a row that a definition's b links, or a parameter's next, is a parameter, and has these fields in place of a
+-- declaration's: "its b 0, else 4 with its own row".
+unfoldable pub parameterFields : KindRow
+parameterFields = record { what = statementRow; a = declaredNumber; b = absentLink; c = unused; d = unused; next = optionalParameter; forms = inNeither }
 
 abbrev pub itemRow : StatementRow → KindRow
 itemRow r = record { what = statementRow; a = r .a; b = r .b; c = r .c; d = r .d; next = optionalItem; forms = r .forms }
@@ -295,6 +330,7 @@ kindRow (OfExpression kind) = operandRow (expressionFields kind)
 kindRow (OfStatement kind) = itemRow (statementFields kind)
 kindRow (OfMark kind) = itemRow (markFields kind)
 kindRow (OfMember kind) = memberFields kind
+kindRow Definition = itemRow definitionFields
 kindRow Other = record { what = noKind; a = unused; b = unused; c = unused; d = unused; next = unused; forms = inNeither }
 
 -- ---- what the table says of a kind
@@ -311,6 +347,10 @@ sortAt rows row field = sortOf (numberAt rows row 0) field
 
 unfoldable pub inLanguage : Form → ℕ → Bool
 inLanguage form number = standsIn (kindRow (kindOf number) .forms) form
+
+-- The kinds of functions: call, argument, definition, return.
+unfoldable pub isFunctionNumber : ℕ → Bool
+isFunctionNumber number = between 31 32 number || between 59 60 number
 
 -- "'Place' means a row of kind 2 or 3."
 unfoldable pub isPlaceKind : Kind → Bool

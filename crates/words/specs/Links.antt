@@ -1,18 +1,19 @@
 -- Links: what a row is, which row a field links and which rows fit there; and what is handed along the links, from each row to those that
 -- it links.
-use mathlib.Core.Bool.{Bool, _&&_, _||_}
+use mathlib.Core.Bool.{Bool, false, _&&_, _||_}
 use mathlib.Core.List.{List}
 use Prim.Native.Nat.{ℕ, zero, suc, _*_, _/_, _%_}
 use lib.Dec.{eqb}
 use lib.IntN.{ℤ}
 use Rattle.words.specs.Word.{pick}
 use Rattle.words.specs.Table.{numberAt}
-use Rattle.words.specs.Kinds.{expression, optionalExpression, place, optionalItem, bodyBlock, optionalArm, expressionRow, placeRow, statementRow, armRow, between, isLink, sortAt}
+use Rattle.words.specs.Declarations.{isDeclaration}
+use Rattle.words.specs.Kinds.{expression, optionalExpression, place, optionalItem, bodyBlock, optionalArm, optionalArgument, optionalParameter, absentLink, expressionRow, placeRow, statementRow, armRow, argumentRow, between, isLink, sortAt}
 use Rattle.words.specs.Search.{lowest}
 use Rattle.words.specs.declared.Found.{Found}
 use Rattle.words.specs.declared.Found.the-variants.{At, Nothing}
 
--- "Kinds 1 to 30 are expressions", places among them; "the rest statements".
+-- "Kinds 1 to 30 are expressions", places among them, and so is a call; "the rest statements".
 unfoldable pub isExpression : List ℤ → ℕ → Bool
 isExpression rows row = between expressionRow placeRow (sortAt rows row 0)
 
@@ -29,18 +30,29 @@ isBlock rows row = eqb (numberAt rows row 0) 42
 unfoldable pub isArm : List ℤ → ℕ → Bool
 isArm rows row = eqb (sortAt rows row 0) armRow
 
+unfoldable pub isArgument : List ℤ → ℕ → Bool
+isArgument rows row = eqb (sortAt rows row 0) argumentRow
+
 -- The row that a field links; "0 means absent".
 unfoldable pub link : List ℤ → ℕ → ℕ → ℕ
 link rows row field = pick (isLink (sortAt rows row field)) (numberAt rows row field) 0
 
--- A row is of the sort that a link asks for; "a branch or body" has next 0. "An arm elsewhere, or another kind among arms, gets 4."
+-- The same for links to members, and to branches and bodies: "a branch or body" has next 0. "An arm elsewhere, or another kind among arms,
+-- gets 4." Arguments likewise: "elsewhere, or another kind among arguments, 4". A parameter is of kind 58, "else 4".
+abbrev pub fitsPart : List ℤ → ℕ → ℕ → Bool
+fitsPart rows sort row =
+    pick (eqb sort optionalArm) (isArm rows row)
+    (pick (eqb sort optionalArgument) (isArgument rows row)
+    (pick (eqb sort optionalParameter) (isDeclaration rows row)
+    (pick (eqb sort absentLink) false
+    (pick (eqb sort bodyBlock) (isBlock rows row) (isStatement rows row) && eqb (numberAt rows row 5) 0))))
+
+-- A row is of the sort that a link asks for.
 unfoldable pub fits : List ℤ → ℕ → ℕ → Bool
 fits rows sort row =
     pick (eqb sort expression || eqb sort optionalExpression) (isExpression rows row)
     (pick (eqb sort place) (isPlace rows row)
-    (pick (eqb sort optionalItem) (isStatement rows row)
-    (pick (eqb sort optionalArm) (isArm rows row)
-    (pick (eqb sort bodyBlock) (isBlock rows row) (isStatement rows row) && eqb (numberAt rows row 5) 0))))
+    (pick (eqb sort optionalItem) (isStatement rows row) (fitsPart rows sort row)))
 
 -- ---- along the links
 

@@ -46,6 +46,8 @@ pub fn kind_of(number: usize) -> Kind
         28 => Kind::OfExpression(ExpressionKind::Prefix(Operator::Subtract)),
         29 => Kind::OfExpression(ExpressionKind::Postfix(Operator::Add)),
         30 => Kind::OfExpression(ExpressionKind::Postfix(Operator::Subtract)),
+        31 => Kind::OfExpression(ExpressionKind::Call),
+        32 => Kind::OfMember(MemberKind::Argument),
         40 => Kind::OfStatement(StatementKind::Empty),
         41 => Kind::OfStatement(StatementKind::Express),
         42 => Kind::OfStatement(StatementKind::Block),
@@ -65,6 +67,8 @@ pub fn kind_of(number: usize) -> Kind
         56 => Kind::OfMember(MemberKind::Arm),
         57 => Kind::OfStatement(StatementKind::Abort),
         58 => Kind::OfStatement(StatementKind::Declare),
+        59 => Kind::Definition,
+        60 => Kind::OfStatement(StatementKind::Return),
         _ => Kind::Other,
     }
 }

@@ -71,7 +71,7 @@ pub enum Operator {
     NotEqual,
 }
 
-// Kinds 1 to 30. Kinds that differ in an operator are one variant.
+// Kinds 1 to 31. Kinds that differ in an operator are one variant.
 pub enum ExpressionKind {
     Constant,
     Variable,
@@ -87,6 +87,7 @@ pub enum ExpressionKind {
     Compound(Operator),
     Prefix(Operator),
     Postfix(Operator),
+    Call,
 }
 
 // Statements that are no marks.
@@ -106,6 +107,7 @@ pub enum StatementKind {
     GuardedDo,
     Abort,
     Declare,
+    Return,
 }
 
 // Statements that a jump can go to.
@@ -118,14 +120,17 @@ pub enum MarkKind {
 // Rows of a list that is no list of items: they are neither expressions nor statements.
 pub enum MemberKind {
     Arm,
+    Argument,
 }
 
-// The kinds of rows, in groups: a function that says something of one group has one case for each other group.
+// The kinds of rows, in groups: a function that says something of one group has one case for each other group. The definition of a function is a
+// group by itself: an item that a run passes over.
 pub enum Kind {
     OfExpression(ExpressionKind),
     OfStatement(StatementKind),
     OfMark(MarkKind),
     OfMember(MemberKind),
+    Definition,
     Other,
 }
 

@@ -23,6 +23,7 @@ use Rattle.shapes.specs.Source.{Source}
 use Rattle.shapes.specs.ShapeLaws.{arm-found}
 use Rattle.shapes.specs.declared.ArmShape.{ArmShape}
 use Rattle.shapes.specs.declared.ArmShape.the-variants.{Arm, NoArm}
+use Rattle.measure_table.specs.Parts.{calledIn}
 use Rattle.leaves.specs.Atoms.{atomTree}
 use Rattle.straight_writers.specs.AtomLaws.{atom-rows}
 use Rattle.straight_writers.specs.Asks.{AtomAt}
@@ -40,7 +41,7 @@ use Rattle.writers.proofs.LoopLaws.{loop-words}
 pub data First : Arms → Arms → Type 0 where
   first : {e : Expression} {s : Statement} {rest : Arms} → First (arm e s rest) rest
 
-tree-first : (rows : List ℤ) (shape : ArmShape) (rest : Arms) → 0 < armsSize (armTree rows shape rest) → First (armTree rows shape rest) rest
+tree-first : (rows : List ℤ) (shape : ArmShape) (rest : Arms) → 0 < armsSize (calledIn rows) (armTree rows shape rest) → First (armTree rows shape rest) rest
 unfolding armsSize
 tree-first rows (Arm guard body) rest h = first
 tree-first rows NoArm rest h = absurd (omega arith)
@@ -50,7 +51,7 @@ some-arms rows zero h = absurd (omega arith)
 some-arms rows (suc row) h = refl
 
 -- Arms that take rows stand at a link that is there.
-pub arms-some : (rows : List ℤ) (row : ℕ) → 0 < armsSize (armListAt rows row) → 0 < row
+pub arms-some : (rows : List ℤ) (row : ℕ) → 0 < armsSize (calledIn rows) (armListAt rows row) → 0 < row
 unfolding armsSize
 arms-some rows zero h = h
 arms-some rows (suc row) h = omega arith
@@ -62,85 +63,85 @@ arm-at rows row source inside = (_, arm-found (source .sound) inside)
 pub arm-is : {rows : List ℤ} {row next : ℕ} {shape told : ArmShape} → ArmAt rows row next shape → shape ≡ told → armsAt rows row ≡ armTree rows told (armListAt rows next)
 arm-is {rows} {row} {next} i e = i .is ∙ ap (λ (t : ArmShape). armTree rows t (armListAt rows next)) e
 
-first-of : (rows : List ℤ) (row : ℕ) → Source rows → row < rowCount rows → 0 < armsSize (armListAt rows row) → First (armListAt rows row) (armListAt rows (numberAt rows row 5))
+first-of : (rows : List ℤ) (row : ℕ) → Source rows → row < rowCount rows → 0 < armsSize (calledIn rows) (armListAt rows row) → First (armListAt rows row) (armListAt rows (numberAt rows row 5))
 first-of rows row source inside some =
     let i = arm-at rows row source inside in
     let rest = armListAt rows (numberAt rows row 5) in
     let is : armListAt rows row ≡ armTree rows (i .0) rest = some-arms rows row (arms-some rows row some) ∙ i .1 .is in
-    subst (λ (a : Arms). First a rest) (sym is) (tree-first rows (i .0) rest (subst (λ (a : Arms). 0 < armsSize a) is some))
+    subst (λ (a : Arms). First a rest) (sym is) (tree-first rows (i .0) rest (subst (λ (a : Arms). 0 < armsSize (calledIn rows) a) is some))
 
 behind-arm : (rows : List ℤ) (row : ℕ) → Source rows → row < rowCount rows → OptionalOnward rows row (numberAt rows row 5)
 behind-arm rows row source inside = arm-at rows row source inside .1 .behind
 
-first-size : {a rest : Arms} → First a rest → armsSize a ≡ armsSize (firstOnly a) + armsSize rest
+first-size : (called : ℕ → ℕ → Bool) {a rest : Arms} → First a rest → armsSize called a ≡ armsSize called (firstOnly a) + armsSize called rest
 unfolding armsSize
-first-size first = omega arith
+first-size called first = omega arith
 
 first-labels : {a rest : Arms} → First a rest → armsLabels a ≡ armsLabels (firstOnly a) + armsLabels rest
 unfolding armsLabels
 first-labels first = omega arith
 
-first-some : {a rest : Arms} → First a rest → 0 < armsSize (firstOnly a)
+first-some : (called : ℕ → ℕ → Bool) {a rest : Arms} → First a rest → 0 < armsSize called (firstOnly a)
 unfolding armsSize
-first-some first = omega arith
+first-some called first = omega arith
 
-first-code : (S : ℕ) {a rest : Arms} → First a rest → (x : Exits) (target l : ℕ) → armsCode S a x target l ≡ armsCode S (firstOnly a) x target l ⧺ armsCode S rest x target (l + armsLabels (firstOnly a))
+first-code : (called : ℕ → ℕ → Bool) (S : ℕ) {a rest : Arms} → First a rest → (x : Exits) (target l : ℕ) → armsCode called S a x target l ≡ armsCode called S (firstOnly a) x target l ⧺ armsCode called S rest x target (l + armsLabels (firstOnly a))
 unfolding armsCode armsLabels _⧺_
-first-code S (first {e = e} {s = s} {rest = rest}) x target l =
-    let B = statementCode S s x l in
+first-code called S (first {e = e} {s = s} {rest = rest}) x target l =
+    let B = statementCode called S s x l in
     let from : l + labels s ≡ l + (labels s + 0) = omega arith in
-    first-append S e B target (armsCode S rest x target (l + labels s)) ∙ ap (λ (n : ℕ). armCode S e B target none ⧺ armsCode S rest x target n) from
+    first-append S e B target (armsCode called S rest x target (l + labels s)) ∙ ap (λ (n : ℕ). armCode called S e B target none ⧺ armsCode called S rest x target n) from
   where
-    first-append : (S : ℕ) (e : Expression) (body : Items) (target : ℕ) (rest : Items) → armCode S e body target rest ≡ armCode S e body target none ⧺ rest
-    first-append S e body target rest = sym (append-append (expressionCode S e wanted 0) (choosing S (atom S 0 (atomOf e)) (body ⧺ goto target then none) none none) rest)
+    first-append : (S : ℕ) (e : Expression) (body : Items) (target : ℕ) (rest : Items) → armCode called S e body target rest ≡ armCode called S e body target none ⧺ rest
+    first-append S e body target rest = sym (append-append (expressionCode called S e wanted 0) (choosing S (atom S 0 (atomOf called e)) (body ⧺ goto target then none) none none) rest)
 
 -- What an arm takes of the arms from it on, where `next` is the row behind it.
-module _ (rows : List ℤ) (row next : ℕ) (source : Source rows) (inside : row < rowCount rows) (some : 0 < armsSize (armListAt rows row)) (e : next ≡ numberAt rows row 5) where
+module _ (rows : List ℤ) (row next : ℕ) (source : Source rows) (inside : row < rowCount rows) (some : 0 < armsSize (calledIn rows) (armListAt rows row)) (e : next ≡ numberAt rows row 5) where
   pub behind-inside : next < rowCount rows
   behind-inside = rw e (optional-inside rows row (numberAt rows row 5) inside (behind-arm rows row source inside))
 
-  pub behind-size : armsSize (armListAt rows row) ≡ armsSize (firstOnly (armsAt rows row)) + armsSize (armListAt rows next)
-  behind-size = rw (e, ← some-arms rows row (arms-some rows row some)) (first-size (first-of rows row source inside some))
+  pub behind-size : armsSize (calledIn rows) (armListAt rows row) ≡ armsSize (calledIn rows) (firstOnly (armsAt rows row)) + armsSize (calledIn rows) (armListAt rows next)
+  behind-size = rw (e, ← some-arms rows row (arms-some rows row some)) (first-size (calledIn rows) (first-of rows row source inside some))
 
   pub behind-labels : armsLabels (armListAt rows row) ≡ armsLabels (firstOnly (armsAt rows row)) + armsLabels (armListAt rows next)
   behind-labels = rw (e, ← some-arms rows row (arms-some rows row some)) (first-labels (first-of rows row source inside some))
 
-  pub behind-less : armsSize (armListAt rows next) < armsSize (armListAt rows row)
+  pub behind-less : armsSize (calledIn rows) (armListAt rows next) < armsSize (calledIn rows) (armListAt rows row)
   behind-less =
-      let own : 0 < armsSize (firstOnly (armsAt rows row)) = rw (← some-arms rows row (arms-some rows row some)) (first-some (first-of rows row source inside some)) in
+      let own : 0 < armsSize (calledIn rows) (firstOnly (armsAt rows row)) = rw (← some-arms rows row (arms-some rows row some)) (first-some (calledIn rows) (first-of rows row source inside some)) in
       omega (arith, behind-size, own)
 
 -- One arm more is passed; `from2` and `n2` are where the next one begins.
-module _ (S : ℕ) (x : Exits) (target : ℕ) (rows : List ℤ) (arms label base : ℕ) (out₀ : List ℤ) {out : List ℤ} {row from n : ℕ} (source : Source rows) (some : 0 < armsSize (armListAt rows row)) where
-  pub arms-step : Progress (armListAt rows) armsLabels true (λ a. armsCode S a x target) armsSize rows arms label base out₀ out row from n
-      → (next from2 n2 : ℕ) (out2 : List ℤ) → next ≡ numberAt rows row 5 → label + armsLabels (armListAt rows arms) ≡ from2 + armsLabels (armListAt rows next) → armsSize (armListAt rows arms) ≡ n2 + armsSize (armListAt rows next)
-      → out2 ≡ over (emitItems true (armsCode S (firstOnly (armsAt rows row)) x target from) (base + n)) (part n out) → length out2 ≡ length (part n out)
-      → Progress (armListAt rows) armsLabels true (λ a. armsCode S a x target) armsSize rows arms label base out₀ (back-in n out out2) next from2 n2
+module _ (S : ℕ) (x : Exits) (target : ℕ) (rows : List ℤ) (arms label base : ℕ) (out₀ : List ℤ) {out : List ℤ} {row from n : ℕ} (source : Source rows) (some : 0 < armsSize (calledIn rows) (armListAt rows row)) where
+  pub arms-step : Progress (armListAt rows) armsLabels true (λ a. armsCode (calledIn rows) S a x target) (armsSize (calledIn rows)) rows arms label base out₀ out row from n
+      → (next from2 n2 : ℕ) (out2 : List ℤ) → next ≡ numberAt rows row 5 → label + armsLabels (armListAt rows arms) ≡ from2 + armsLabels (armListAt rows next) → armsSize (calledIn rows) (armListAt rows arms) ≡ n2 + armsSize (calledIn rows) (armListAt rows next)
+      → out2 ≡ over (emitItems true (armsCode (calledIn rows) S (firstOnly (armsAt rows row)) x target from) (base + n)) (part n out) → length out2 ≡ length (part n out)
+      → Progress (armListAt rows) armsLabels true (λ a. armsCode (calledIn rows) S a x target) (armsSize (calledIn rows)) rows arms label base out₀ (back-in n out out2) next from2 n2
   arms-step p next from2 n2 out2 e el es t h =
       let inside = p .inside in
       let same : armListAt rows row ≡ armsAt rows row = some-arms rows row (arms-some rows row some) in
       let size = behind-size rows row next source inside some e in
       let marks = behind-labels rows row next source inside some e in
       let own = firstOnly (armsAt rows row) in
-      let code : armsCode S (armListAt rows row) x target from ≡ armsCode S own x target from ⧺ armsCode S (armListAt rows next) x target (from + armsLabels own) =
-      rw (e, ← same) (first-code S (first-of rows row source inside some) x target from) in
+      let code : armsCode (calledIn rows) S (armListAt rows row) x target from ≡ armsCode (calledIn rows) S own x target from ⧺ armsCode (calledIn rows) S (armListAt rows next) x target (from + armsLabels own) =
+      rw (e, ← same) (first-code (calledIn rows) S (first-of rows row source inside some) x target from) in
       let less : above rows next ≤ above rows row =
       rw (e, above-some rows row (arms-some rows row some)) (le-of-lt (above-less rows row (numberAt rows row 5) inside (behind-arm rows row source inside))) in
       let at-from : from2 ≡ from + armsLabels own = omega (arith, el, marks, p .labels-are) in
-      let at-n : n2 ≡ n + armsSize own = omega (arith, es, size, p .size-is) in
+      let at-n : n2 ≡ n + armsSize (calledIn rows) own = omega (arith, es, size, p .size-is) in
       rw (at-from, at-n) (
-      step (armListAt rows) armsLabels true (λ a. armsCode S a x target) armsSize rows arms label base out₀ p next (armsLabels own) (armsSize own)
-      (armsCode S own x target from) out2
+      step (armListAt rows) armsLabels true (λ a. armsCode (calledIn rows) S a x target) (armsSize (calledIn rows)) rows arms label base out₀ p next (armsLabels own) (armsSize (calledIn rows) own)
+      (armsCode (calledIn rows) S own x target from) out2
       (behind-inside rows row next source inside some e) less code marks size
-      (record { table = rw (more-true (armsCode S (armListAt rows next) x target (from + armsLabels own))) t; size = rows-arms S own x target from })
+      (record { table = rw (more-true (armsCode (calledIn rows) S (armListAt rows next) x target (from + armsLabels own))) t; size = rows-arms (calledIn rows) S own x target from })
       h
       )
 
 -- No arms are left.
-pub no-arms : (S : ℕ) (a : Arms) (x : Exits) (target l : ℕ) → armsSize a ≡ 0 → armsCode S a x target l ≡ none
+pub no-arms : (called : ℕ → ℕ → Bool) (S : ℕ) (a : Arms) (x : Exits) (target l : ℕ) → armsSize called a ≡ 0 → armsCode called S a x target l ≡ none
 unfolding armsSize armsCode
-no-arms S noArm x target l h = refl
-no-arms S (arm e s a) x target l h = absurd (omega arith)
+no-arms called S noArm x target l h = refl
+no-arms called S (arm e s a) x target l h = absurd (omega arith)
 
 -- ---- an arm
 
@@ -172,21 +173,21 @@ arm-words x B target base n one size =
 module _ (S : ℕ) (rows : List ℤ) where
   -- An arm: its guard, its head, its body, its end.
   pub arm-done : (guard : ℕ) (s : Statement) (x : Exits) (target number base : ℕ) (l : List ℤ) {k size : ℕ} {a : Atom} {l1 l2 l3 l4 : List ℤ}
-      → 0 < guard → AtomAt S rows guard 0 a → k ≡ operandSize (partAt rows guard) wanted → size ≡ statementSize s
-      → l1 ≡ over (emitItems true (operandCode S (partAt rows guard) wanted 0) base) l
+      → 0 < guard → AtomAt S rows guard 0 a → k ≡ operandSize (calledIn rows) (partAt rows guard) wanted → size ≡ statementSize (calledIn rows) s
+      → l1 ≡ over (emitItems true (operandCode (calledIn rows) S (partAt rows guard) wanted 0) base) l
       → l2 ≡ over (armHead (atomTree a) (base + k) size) (part k l1)
-      → l3 ≡ over (emitItems true (statementCode S s x number) (base + (k + 3))) (part (k + 3) (back-in k l1 l2))
+      → l3 ≡ over (emitItems true (statementCode (calledIn rows) S s x number) (base + (k + 3))) (part (k + 3) (back-in k l1 l2))
       → l4 ≡ over (armEnd target) (part (k + 3 + size) (back-in (k + 3) (back-in k l1 l2) l3))
-      → back-in (k + 3 + size) (back-in (k + 3) (back-in k l1 l2) l3) l4 ≡ over (emitItems true (armsCode S (arm (expressionAt rows guard) s noArm) x target number) base) l
+      → back-in (k + 3 + size) (back-in (k + 3) (back-in k l1 l2) l3) l4 ≡ over (emitItems true (armsCode (calledIn rows) S (arm (expressionAt rows guard) s noArm) x target number) base) l
   unfolding armsCode
   arm-done zero s x target number base l some at ek es t1 t2 t3 t4 = absurd (omega arith)
   arm-done (suc guard) s x target number base l {k} {size} {a} some at ek es t1 t2 t3 t4 =
       let e = expressionAt rows (suc guard) in
-      let E = expressionCode S e wanted 0 in
-      let B = statementCode S s x number in
-      let guarded : Wrote true E base k l _ = record { table = t1; size = rows-expression S e wanted 0 ∙ sym ek } in
+      let E = expressionCode (calledIn rows) S e wanted 0 in
+      let B = statementCode (calledIn rows) S s x number in
+      let guarded : Wrote true E base k l _ = record { table = t1; size = rows-expression (calledIn rows) S e wanted 0 ∙ sym ek } in
       let head : Put (armHead (atomTree a) (base + k) size) 3 _ _ = record { table = t2; size = head-length a (base + k) size } in
-      let body : Wrote true B _ size _ _ = record { table = t3; size = rows-statement S s x number ∙ sym es } in
+      let body : Wrote true B _ size _ _ = record { table = t3; size = rows-statement (calledIn rows) S s x number ∙ sym es } in
       let end : Put (armEnd target) 2 _ _ = record { table = t4; size = refl } in
       let put = put-behind (k + 3 + size + 2) refl (put-behind (k + 3 + size) refl (put-behind (k + 3) refl (wrote-put guarded) head) (wrote-put body)) end in
       let A = emitItems true E base in
@@ -206,41 +207,41 @@ module _ (S : ℕ) (rows : List ℤ) where
 
 -- ---- the guarded forms
 
-module _ (S : ℕ) where
+module _ (called : ℕ → ℕ → Bool) (S : ℕ) where
   -- A guarded if: its arms, and what stands behind them.
-  pub choice-done : (a : Arms) (x : Exits) (number base : ℕ) (follows : Bool) (l : List ℤ) {n : ℕ} {l1 l2 : List ℤ} → n ≡ armsSize a
-      → l1 ≡ over (emitItems true (armsCode S a x number (number + 1)) base) l
+  pub choice-done : (a : Arms) (x : Exits) (number base : ℕ) (follows : Bool) (l : List ℤ) {n : ℕ} {l1 l2 : List ℤ} → n ≡ armsSize called a
+      → l1 ≡ over (emitItems true (armsCode called S a x number (number + 1)) base) l
       → l2 ≡ over (emitItems follows (abort then label number here none) (base + n)) (part n l1)
-      → back-in n l1 l2 ≡ over (emitItems follows (statementCode S (guardedIf a) x number) base) l
+      → back-in n l1 l2 ≡ over (emitItems follows (statementCode called S (guardedIf a) x number) base) l
   unfolding statementCode itemsRows
   choice-done a x number base follows l {n} en t1 t2 =
-      let arms : Wrote true (armsCode S a x number (number + 1)) base n _ _ = record { table = t1; size = rows-arms S a x number (number + 1) ∙ sym en } in
+      let arms : Wrote true (armsCode called S a x number (number + 1)) base n _ _ = record { table = t1; size = rows-arms called S a x number (number + 1) ∙ sym en } in
       let behind : Wrote follows (abort then label number here none) (base + n) 2 _ _ = record { table = t2; size = refl } in
       wrote-behind (n + 2) refl refl refl arms behind .table
 
-  rounds-code : (a : Arms) (x : Exits) (number : ℕ) → (armsSize a ≡ 0 → ⊥) → statementCode S (guardedDo a) x number ≡ loopCode S (armsCode S a x (number + 1) (number + 2) ⧺ roundOver number) number
+  rounds-code : (a : Arms) (x : Exits) (number : ℕ) → (armsSize called a ≡ 0 → ⊥) → statementCode called S (guardedDo a) x number ≡ loopCode S (armsCode called S a x (number + 1) (number + 2) ⧺ roundOver number) number
   unfolding statementCode armsSize
   rounds-code noArm x number h = absurd (h refl)
   rounds-code (arm e s a) x number h = refl
 
   -- A guarded do without arms, and one with arms: the head of a loop, the arms, and what stands behind them.
-  pub rounds-none : (a : Arms) (x : Exits) (number base : ℕ) (follows : Bool) (l : List ℤ) {n : ℕ} {m : List ℤ} → n ≡ armsSize a → n ≡ 0
-      → m ≡ over (emitItems follows (empty then none) base) l → m ≡ over (emitItems follows (statementCode S (guardedDo a) x number) base) l
+  pub rounds-none : (a : Arms) (x : Exits) (number base : ℕ) (follows : Bool) (l : List ℤ) {n : ℕ} {m : List ℤ} → n ≡ armsSize called a → n ≡ 0
+      → m ≡ over (emitItems follows (empty then none) base) l → m ≡ over (emitItems follows (statementCode called S (guardedDo a) x number) base) l
   unfolding statementCode armsSize
   rounds-none noArm x number base follows l en z t = t
   rounds-none (arm e s a) x number base follows l en z t = absurd (omega arith)
 
-  pub rounds-done : (a : Arms) (x : Exits) (number base : ℕ) (follows : Bool) (l : List ℤ) {n : ℕ} {l1 l2 l3 : List ℤ} → n ≡ armsSize a → (n ≡ 0 → ⊥)
+  pub rounds-done : (a : Arms) (x : Exits) (number base : ℕ) (follows : Bool) (l : List ℤ) {n : ℕ} {l1 l2 l3 : List ℤ} → n ≡ armsSize called a → (n ≡ 0 → ⊥)
       → l1 ≡ over (loopHead base (n + 2)) l
-      → l2 ≡ over (emitItems true (armsCode S a x (number + 1) (number + 2)) (base + 3)) (part 3 l1)
+      → l2 ≡ over (emitItems true (armsCode called S a x (number + 1) (number + 2)) (base + 3)) (part 3 l1)
       → l3 ≡ over (roundsEnd number (base + (3 + n)) follows) (part (3 + n) (back-in 3 l1 l2))
-      → back-in (3 + n) (back-in 3 l1 l2) l3 ≡ over (emitItems follows (statementCode S (guardedDo a) x number) base) l
+      → back-in (3 + n) (back-in 3 l1 l2) l3 ≡ over (emitItems follows (statementCode called S (guardedDo a) x number) base) l
   unfolding itemsRows
   rounds-done a x number base follows l {n} en some t1 t2 t3 =
-      let A = armsCode S a x (number + 1) (number + 2) in
+      let A = armsCode called S a x (number + 1) (number + 2) in
       let R = A ⧺ roundOver number in
       let head : Put (loopHead base (n + 2)) 3 _ _ = record { table = t1; size = refl } in
-      let arms : Wrote true A (base + 3) n _ _ = record { table = t2; size = rows-arms S a x (number + 1) (number + 2) ∙ sym en } in
+      let arms : Wrote true A (base + 3) n _ _ = record { table = t2; size = rows-arms called S a x (number + 1) (number + 2) ∙ sym en } in
       let end : Put (roundsEnd number (base + (3 + n)) follows) 3 _ _ = record { table = t3; size = end-length number (base + (3 + n)) follows } in
       let put = put-behind (3 + n + 3) refl (put-behind (3 + n) refl head (wrote-put arms)) end in
       let size : itemsRows R ≡ n + 2 = rows-append A (roundOver number) ∙ omega (arith, arms .size) in
@@ -264,15 +265,15 @@ module _ (S : ℕ) where
       end-length number base follows = length-append (emitItems false (roundOver number) base) (emitItems follows (label number here none) (base + 2)) ∙ omega (arith, length-items false (roundOver number) base, length-items follows (label number here none) (base + 2))
 
 -- What a guarded do with arms takes beside them; every one takes a row.
-pub rounds-rows : (a : Arms) → (armsSize a ≡ 0 → ⊥) → roundsRows a ≡ 6
+pub rounds-rows : (called : ℕ → ℕ → Bool) (a : Arms) → (armsSize called a ≡ 0 → ⊥) → roundsRows a ≡ 6
 unfolding armsSize
-rounds-rows noArm h = absurd (h refl)
-rounds-rows (arm e s a) h = refl
+rounds-rows called noArm h = absurd (h refl)
+rounds-rows called (arm e s a) h = refl
 
-pub rounds-labels : (a : Arms) → (armsSize a ≡ 0 → ⊥) → roundsLabels a ≡ 2
+pub rounds-labels : (called : ℕ → ℕ → Bool) (a : Arms) → (armsSize called a ≡ 0 → ⊥) → roundsLabels a ≡ 2
 unfolding armsSize
-rounds-labels noArm h = absurd (h refl)
-rounds-labels (arm e s a) h = refl
+rounds-labels called noArm h = absurd (h refl)
+rounds-labels called (arm e s a) h = refl
 
 pub rounds-own : (a : Arms) → 1 ≤ roundsRows a
 rounds-own noArm = omega arith

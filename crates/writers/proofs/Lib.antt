@@ -13,5 +13,7 @@ pub mod LoopLaws
 pub mod StatementLaws
 -- Declarations: the code of a declaration, one part behind another.
 pub mod DeclarationLaws
+-- Returns: the code of a return, one part behind another.
+pub mod ReturnLaws
 -- Programs: the block at row 0, and the labels of its code.
 pub mod ProgramLaws

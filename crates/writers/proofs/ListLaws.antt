@@ -8,7 +8,7 @@ use native.Mathlib.Omega.{arith}
 use lib.IntN.{ℤ}
 use lib.ListN.{length}
 use Rattle.words.specs.Table.{rowCount, numberAt}
-use Rattle.language.specs.Trees.{Expression, Mark, case, default, label, Statement, Items, none, _then_, _here_, _⧺_}
+use Rattle.language.specs.Trees.{Expression, Mark, case, default, label, Statement, Items, none, _then_, _here_, define, _⧺_}
 use Rattle.language.specs.Sizes.{expressionRows, itemsRows}
 use Rattle.language.specs.TreeLaws.{append-none, append-append}
 use Rattle.language.specs.Decode.{statementAt, itemsAt, listAt}
@@ -21,8 +21,9 @@ use Rattle.shapes.specs.Shapes.{itemTree, OptionalOnward, ItemAt}
 use Rattle.shapes.specs.Source.{Source}
 use Rattle.shapes.specs.ShapeLaws.{item-found}
 use Rattle.shapes.specs.declared.Item.{Item}
-use Rattle.shapes.specs.declared.Item.the-variants.{Statement as StatementItem, Mark as MarkItem}
+use Rattle.shapes.specs.declared.Item.the-variants.{Statement as StatementItem, Mark as MarkItem, Definition as DefinitionItem}
 use Rattle.words.specs.Over.{over}
+use Rattle.measure_table.specs.Parts.{calledIn}
 use Rattle.leaves.specs.Room.{Room, moreRows}
 use Rattle.writers.specs.Items.{itemSize, itemLabels, itemCases, itemTest, itemCode}
 use Rattle.leaves.specs.Chain.{part, back-in, Wrote}
@@ -33,10 +34,12 @@ use Rattle.writers.proofs.Sequence.{back-length, wrote-behind, wrote-no
 pub data First : Items → Items → Type 0 where
   statement : {s : Statement} {rest : Items} → First (s then rest) rest
   mark : {m : Mark} {rest : Items} → First (m here rest) rest
+  definition : {f : ℕ} {words : List ℕ} {body rest : Items} → First (define f words body rest) rest
 
 tree-first : (rows : List ℤ) (item : Item) (s : Statement) (rest : Items) → First (itemTree rows item s rest) rest
 tree-first rows StatementItem s rest = statement
 tree-first rows (MarkItem m) s rest = mark
+tree-first rows (DefinitionItem f parameters body) s rest = definition
 
 pub some-list : (rows : List ℤ) (row : ℕ) → 0 < row → listAt rows row ≡ itemsAt rows row
 some-list rows zero h = absurd (omega arith)
@@ -57,15 +60,17 @@ first-of rows row source inside =
 pub next-onward : (rows : List ℤ) (row : ℕ) → Source rows → row < rowCount rows → OptionalOnward rows row (numberAt rows row 5)
 next-onward rows row source inside = item-at rows row source inside .1 .onward
 
-pub first-size : {is rest : Items} → First is rest → itemsSize is ≡ itemSize is + itemsSize rest
+pub first-size : (called : ℕ → ℕ → Bool) {is rest : Items} → First is rest → itemsSize called is ≡ itemSize called is + itemsSize called rest
 unfolding itemsSize
-first-size statement = refl
-first-size mark = refl
+first-size called statement = refl
+first-size called mark = refl
+first-size called definition = omega arith
 
 pub first-labels : {is rest : Items} → First is rest → itemsLabels is ≡ itemLabels is + itemsLabels rest
 unfolding itemsLabels
 first-labels statement = refl
 first-labels mark = refl
+first-labels definition = omega arith
 
 mark-cases : (m : Mark) (rest : Items) → cases (m here rest) ≡ itemCases (m here rest) + cases rest
 mark-cases (case v) rest = refl
@@ -75,18 +80,27 @@ mark-cases (label l) rest = omega arith
 pub first-cases : {is rest : Items} → First is rest → cases is ≡ itemCases is + cases rest
 first-cases statement = omega arith
 first-cases {rest = rest} (mark {m = m}) = mark-cases m rest
+first-cases definition = omega arith
 
-module _ (S : ℕ) where
-  pub first-code : {is rest : Items} → First is rest → (x : Exits) (l : ℕ) → itemsCode S is x l ≡ itemCode S is x l ⧺ itemsCode S rest x (l + itemLabels is)
+-- A definition has no labels where it stands.
+no-more : (l : ℕ) → l ≡ l + 0
+no-more l = omega arith
+
+-- `called f i`: whether function f can write the variable i.
+module _ (called : ℕ → ℕ → Bool) (S : ℕ) where
+  pub first-code : {is rest : Items} → First is rest → (x : Exits) (l : ℕ) → itemsCode called S is x l ≡ itemCode called S is x l ⧺ itemsCode called S rest x (l + itemLabels is)
   unfolding itemsCode _⧺_
   first-code statement x l = refl
   first-code mark x l = refl
+  first-code (definition {rest = rest}) x l = ap (itemsCode called S rest x) (no-more l)
 
-  pub item-rows : {is rest : Items} → First is rest → (x : Exits) (l : ℕ) → itemsRows (itemCode S is x l) ≡ itemSize is
+  pub item-rows : {is rest : Items} → First is rest → (x : Exits) (l : ℕ) → itemsRows (itemCode called S is x l) ≡ itemSize called is
   unfolding itemsRows
-  item-rows (statement {s = s}) x l = rows-statement S s x l
+  item-rows (statement {s = s}) x l = rows-statement called S s x l
   item-rows mark x l = refl
+  item-rows definition x l = refl
 
+module _ (S : ℕ) where
   mark-tests : (x : Expression) (u : ℕ) (m : Mark) (rest : Items) (l : ℕ) → caseTests S x u (m here rest) l ≡ itemTest S x u (m here rest) l ⧺ caseTests S x u rest (l + 1)
   unfolding caseTests _⧺_
   mark-tests x u (case v) rest l = refl
@@ -97,6 +111,7 @@ module _ (S : ℕ) where
   unfolding caseTests _⧺_
   first-tests statement x u l = refl
   first-tests {rest = rest} (mark {m = m}) x u l = mark-tests x u m rest l
+  first-tests (definition {rest = rest}) x u l = ap (caseTests S x u rest) (no-more l)
 
   mark-test-rows : (x : Expression) → expressionRows x ≡ 1 → (u : ℕ) (m : Mark) (rest : Items) (l : ℕ) → itemsRows (itemTest S x u (m here rest) l) ≡ 11 * itemCases (m here rest)
   unfolding itemsRows expressionRows
@@ -108,6 +123,7 @@ module _ (S : ℕ) where
   unfolding itemsRows
   test-rows statement x h u l = refl
   test-rows {rest = rest} (mark {m = m}) x h u l = mark-test-rows x h u m rest l
+  test-rows definition x h u l = refl
 
 -- ---- the rows from a link on
 
@@ -145,8 +161,8 @@ module _ (rows : List ℤ) (item next : ℕ) (source : Source rows) (inside : it
   pub behind-inside : next < rowCount rows
   behind-inside = rw e (next-inside rows item source inside)
 
-  pub behind-size : itemsSize (listAt rows item) ≡ itemSize (itemsAt rows item) + itemsSize (listAt rows next)
-  behind-size = rw e (ap itemsSize (some-list rows item (omega arith)) ∙ first-size (first-of rows item source inside))
+  pub behind-size : itemsSize (calledIn rows) (listAt rows item) ≡ itemSize (calledIn rows) (itemsAt rows item) + itemsSize (calledIn rows) (listAt rows next)
+  behind-size = rw e (ap (itemsSize (calledIn rows)) (some-list rows item (omega arith)) ∙ first-size (calledIn rows) (first-of rows item source inside))
 
   pub behind-labels : itemsLabels (listAt rows item) ≡ itemLabels (itemsAt rows item) + itemsLabels (listAt rows next)
   behind-labels = rw e (ap itemsLabels (some-list rows item (omega arith)) ∙ first-labels (first-of rows item source inside))
@@ -225,26 +241,26 @@ module _ (S : ℕ) (rows : List ℤ) (list label base : ℕ) (out₀ : List ℤ)
       h
       )
 
-  pub items-step : (follows : Bool) (x : Exits) → Progress (listAt rows) itemsLabels follows (λ is. itemsCode S is x) itemsSize rows list label base out₀ out item from n
-      → (next k m : ℕ) (f : Bool) (out2 : List ℤ) → next ≡ numberAt rows item 5 → k ≡ itemLabels (itemsAt rows item) → m ≡ itemSize (itemsAt rows item)
-      → f ≡ moreRows follows (itemsSize (listAt rows next))
-      → out2 ≡ over (emitItems f (itemCode S (itemsAt rows item) x from) (base + n)) (part n out) → length out2 ≡ length (part n out)
-      → Progress (listAt rows) itemsLabels follows (λ is. itemsCode S is x) itemsSize rows list label base out₀ (back-in n out out2) next (from + k) (n + m)
+  pub items-step : (follows : Bool) (x : Exits) → Progress (listAt rows) itemsLabels follows (λ is. itemsCode (calledIn rows) S is x) (itemsSize (calledIn rows)) rows list label base out₀ out item from n
+      → (next k m : ℕ) (f : Bool) (out2 : List ℤ) → next ≡ numberAt rows item 5 → k ≡ itemLabels (itemsAt rows item) → m ≡ itemSize (calledIn rows) (itemsAt rows item)
+      → f ≡ moreRows follows (itemsSize (calledIn rows) (listAt rows next))
+      → out2 ≡ over (emitItems f (itemCode (calledIn rows) S (itemsAt rows item) x from) (base + n)) (part n out) → length out2 ≡ length (part n out)
+      → Progress (listAt rows) itemsLabels follows (λ is. itemsCode (calledIn rows) S is x) (itemsSize (calledIn rows)) rows list label base out₀ (back-in n out out2) next (from + k) (n + m)
   items-step follows x p next k m f out2 e ek em ef t h =
       let inside = p .inside in
       let first = first-of rows item source inside in
       let same : listAt rows item ≡ itemsAt rows item = some-list rows item (omega arith) in
       let rest = listAt rows (numberAt rows item 5) in
-      let more : f ≡ orMore follows (itemsCode S rest x (from + itemLabels (itemsAt rows item))) =
-      ef ∙ ap (λ i. moreRows follows (itemsSize (listAt rows i))) e ∙ more-rows follows (itemsCode S rest x (from + itemLabels (itemsAt rows item))) (itemsSize rest) (rows-items S rest x (from + itemLabels (itemsAt rows item))) in
+      let more : f ≡ orMore follows (itemsCode (calledIn rows) S rest x (from + itemLabels (itemsAt rows item))) =
+      ef ∙ ap (λ i. moreRows follows (itemsSize (calledIn rows) (listAt rows i))) e ∙ more-rows follows (itemsCode (calledIn rows) S rest x (from + itemLabels (itemsAt rows item))) (itemsSize (calledIn rows) rest) (rows-items (calledIn rows) S rest x (from + itemLabels (itemsAt rows item))) in
       rw (e, ek, em) (
-      step (listAt rows) itemsLabels follows (λ is. itemsCode S is x) itemsSize rows list label base out₀ p (numberAt rows item 5) (itemLabels (itemsAt rows item)) (itemSize (itemsAt rows item))
-      (itemCode S (itemsAt rows item) x from) out2
+      step (listAt rows) itemsLabels follows (λ is. itemsCode (calledIn rows) S is x) (itemsSize (calledIn rows)) rows list label base out₀ p (numberAt rows item 5) (itemLabels (itemsAt rows item)) (itemSize (calledIn rows) (itemsAt rows item))
+      (itemCode (calledIn rows) S (itemsAt rows item) x from) out2
       (next-inside rows item source inside) (le-of-lt (next-less rows item (numberAt rows item 5) source inside some refl))
-      (ap (λ is. itemsCode S is x from) same ∙ first-code S first x from)
+      (ap (λ is. itemsCode (calledIn rows) S is x from) same ∙ first-code (calledIn rows) S first x from)
       (ap itemsLabels same ∙ first-labels first)
-      (ap itemsSize same ∙ first-size first)
-      (record { table = rw (← more) t; size = item-rows S first x from })
+      (ap (itemsSize (calledIn rows)) same ∙ first-size (calledIn rows) first)
+      (record { table = rw (← more) t; size = item-rows (calledIn rows) S first x from })
       h
       )
 

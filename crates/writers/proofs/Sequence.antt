@@ -9,7 +9,7 @@ use lib.IntN.{ℤ}
 use lib.ListN.{length, length-drop, drop}
 use lib.Seq.{take-all}
 use borrow.Rule.Slice.PartMut.{same-len-mid}
-use Rattle.language.specs.Trees.{Items, none, _then_, _here_, _⧺_}
+use Rattle.language.specs.Trees.{Items, none, _then_, _here_, define, _⧺_}
 use Rattle.language.specs.Sizes.{itemsRows}
 use Rattle.emission.specs.Emission.{emitItems}
 use Rattle.emission.specs.EmissionLaws.{orMore}
@@ -61,8 +61,10 @@ unfolding _⧺_
 more-append follows none ys = refl
 more-append follows (s then xs) ys = refl
 more-append follows (m here xs) ys = refl
+more-append follows (define f words body xs) ys = refl
 
 pub more-true : (xs : Items) → orMore true xs ≡ true
 more-true none = refl
 more-true (s then is) = refl
 more-true (m here is) = refl
+more-true (define f words body is) = refl

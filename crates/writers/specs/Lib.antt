@@ -10,5 +10,7 @@ pub mod Asks
 -- Program: what the writer of a program asks and writes.
 pub mod Program
 -- ---- laws
--- Laws of a whole program: what is written is its translation; its kernel rows and temporaries are measured at row 0.
+-- A program without functions: its code, its rows and its levels are those of its list.
+pub mod PlainProgram
+-- Laws of a whole program: its kernel rows and temporaries are measured at row 0.
 pub mod WholeProgram

@@ -11,6 +11,7 @@ ghost use lib.ListN.{length};
 ghost use Rattle.emission.specs.Emission.{emitItems};
 ghost use Rattle.language.specs.Decode.{expressionAt};
 ghost use Rattle.straight_writers.specs.Asks.{Writing};
+ghost use Rattle.measure_table.specs.Parts.{calledIn};
 ghost use Rattle.words.specs.Over.{over};
 ghost use Rattle.writers.specs.Asks.{DeclareAsks};
 ghost use Rattle.writers.specs.Code.{declaredCode};
@@ -27,7 +28,7 @@ pub fn write_declare(
     out: &mut [i32],
 )
     requires { ⌜ Writing (now rows) (now table) store × DeclareAsks (now rows) number value base (length (now out)) ⌝ }
-    ensures { λ _. ⌜ now (out .exit) ≡ over (emitItems follows (declaredCode store number (expressionAt (now (rows .entry)) value)) base) (now (out .entry)) ⌝ }
+    ensures { λ _. ⌜ now (out .exit) ≡ over (emitItems follows (declaredCode (calledIn (now (rows .entry))) store number (expressionAt (now (rows .entry)) value)) base) (now (out .entry)) ⌝ }
 {
     let n = operand_size(rows, table, value, Use::Stored(number));
     let then = more(follows, store_rows(rows, value));

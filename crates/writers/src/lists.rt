@@ -17,14 +17,15 @@ ghost use Rattle.language.specs.Trees.{default};
 ghost use Rattle.language.specs.Decode.{statementAt, itemsAt, listAt, armListAt};
 ghost use Rattle.translation.specs.Translate.{labels, armsLabels, labelOf};
 ghost use Rattle.translation.specs.TranslateSize.{statementSize, armsSize, itemsSize, cases};
+ghost use Rattle.measure_table.specs.Parts.{calledIn};
 ghost use Rattle.measure_table.specs.Measures.{Measured};
 ghost use Rattle.writers.specs.Items.{itemSize, itemLabels};
 ghost use Rattle.writers.specs.Asks.{bodySize, ListInside};
 
 // The kernel rows of the statement at a row.
 pub fn statement_size(rows: &[i32], table: &[usize], row: usize) -> usize
-    requires { ⌜ Measured (now rows) (now table) × (row < rowCount (now rows)) × (statementSize (statementAt (now rows) row) ≤ 40980) ⌝ }
-    ensures { λ r. ⌜ r ≡ statementSize (statementAt (now (rows .entry)) row) ⌝ }
+    requires { ⌜ Measured (now rows) (now table) × (row < rowCount (now rows)) × (statementSize (calledIn (now rows)) (statementAt (now rows) row) ≤ 40980) ⌝ }
+    ensures { λ r. ⌜ r ≡ statementSize (calledIn (now (rows .entry))) (statementAt (now (rows .entry)) row) ⌝ }
 {
     table[WIDTH * row + STATEMENT_ROWS]
 }
@@ -50,8 +51,8 @@ pub fn body_size(rows: &[i32], table: &[usize], row: usize) -> usize
 
 // The kernel rows of the list at a link.
 pub fn list_size(rows: &[i32], table: &[usize], list: usize) -> usize
-    requires { ⌜ Measured (now rows) (now table) × (list < rowCount (now rows)) × (itemsSize (listAt (now rows) list) ≤ 40980) ⌝ }
-    ensures { λ r. ⌜ r ≡ itemsSize (listAt (now (rows .entry)) list) ⌝ }
+    requires { ⌜ Measured (now rows) (now table) × (list < rowCount (now rows)) × (itemsSize (calledIn (now rows)) (listAt (now rows) list) ≤ 40980) ⌝ }
+    ensures { λ r. ⌜ r ≡ itemsSize (calledIn (now (rows .entry))) (listAt (now (rows .entry)) list) ⌝ }
 {
     measure_at(table, list, LIST_ROWS)
 }
@@ -66,8 +67,8 @@ pub fn list_cases(rows: &[i32], table: &[usize], list: usize) -> usize
 
 // The kernel rows of the arms at a link.
 pub fn arms_size(rows: &[i32], table: &[usize], arms: usize) -> usize
-    requires { ⌜ Measured (now rows) (now table) × (arms < rowCount (now rows)) × (armsSize (armListAt (now rows) arms) ≤ 40980) ⌝ }
-    ensures { λ r. ⌜ r ≡ armsSize (armListAt (now (rows .entry)) arms) ⌝ }
+    requires { ⌜ Measured (now rows) (now table) × (arms < rowCount (now rows)) × (armsSize (calledIn (now rows)) (armListAt (now rows) arms) ≤ 40980) ⌝ }
+    ensures { λ r. ⌜ r ≡ armsSize (calledIn (now (rows .entry))) (armListAt (now (rows .entry)) arms) ⌝ }
 {
     measure_at(table, arms, ARMS_ROWS)
 }
@@ -100,13 +101,14 @@ pub fn default_label(
 
 // The kernel rows of the item at a row.
 pub fn item_size(rows: &[i32], table: &[usize], row: usize) -> usize
-    requires { ⌜ Measured (now rows) (now table) × (row < rowCount (now rows)) × (itemSize (itemsAt (now rows) row) ≤ 40980) ⌝ }
-    ensures { λ r. ⌜ r ≡ itemSize (itemsAt (now (rows .entry)) row) ⌝ }
+    requires { ⌜ Measured (now rows) (now table) × (row < rowCount (now rows)) × (itemSize (calledIn (now rows)) (itemsAt (now rows) row) ≤ 40980) ⌝ }
+    ensures { λ r. ⌜ r ≡ itemSize (calledIn (now (rows .entry))) (itemsAt (now (rows .entry)) row) ⌝ }
 {
     let item = item_at(rows, row);
     match item {
         Item::Statement => statement_size(rows, table, row),
         Item::Mark(_) => 1,
+        Item::Definition(_, _, _) => 0,
     }
 }
 
@@ -119,5 +121,6 @@ pub fn item_labels(rows: &[i32], table: &[usize], row: usize) -> usize
     match item {
         Item::Statement => statement_labels(rows, table, row),
         Item::Mark(_) => 1,
+        Item::Definition(_, _, _) => 0,
     }
 }

@@ -18,6 +18,7 @@ ghost use Rattle.language.specs.Decode.{partAt};
 ghost use Rattle.translation.specs.Translate.{testCode};
 ghost use Rattle.translation.specs.TranslateSize.{testSize as testSizeOf};
 ghost use Rattle.emission.specs.Emission.{emitItems};
+ghost use Rattle.measure_table.specs.Parts.{calledIn};
 ghost use Rattle.measure_table.specs.Measures.{Measured};
 ghost use Rattle.words.specs.Over.{over};
 ghost use Rattle.straight_writers.specs.Asks.{Writing};
@@ -26,8 +27,8 @@ ghost use Rattle.writers.specs.Asks.{roundSize, LoopFits, TestAsks, Roun
 
 // The rows of a loop's test; an absent one takes none.
 pub fn test_size(rows: &[i32], table: &[usize], test: usize) -> usize
-    requires { ⌜ Measured (now rows) (now table) × (test < rowCount (now rows)) × (testSizeOf (partAt (now rows) test) ≤ 40980) ⌝ }
-    ensures { λ r. ⌜ r ≡ testSizeOf (partAt (now (rows .entry)) test) ⌝ }
+    requires { ⌜ Measured (now rows) (now table) × (test < rowCount (now rows)) × (testSizeOf (calledIn (now rows)) (partAt (now rows) test) ≤ 40980) ⌝ }
+    ensures { λ r. ⌜ r ≡ testSizeOf (calledIn (now (rows .entry))) (partAt (now (rows .entry)) test) ⌝ }
 {
     if test == 0 {
         return 0;
@@ -47,7 +48,7 @@ pub fn write_test(
     out: &mut [i32],
 )
     requires { ⌜ Writing (now rows) (now table) store × TestAsks (now rows) test label base (length (now out)) ⌝ }
-    ensures { λ _. ⌜ now (out .exit) ≡ over (emitItems follows (testCode store (partAt (now (rows .entry)) test) label none) base) (now (out .entry)) ⌝ }
+    ensures { λ _. ⌜ now (out .exit) ≡ over (emitItems follows (testCode (calledIn (now (rows .entry))) store (partAt (now (rows .entry)) test) label none) base) (now (out .entry)) ⌝ }
 {
     if test == 0 {
         return;

@@ -16,6 +16,7 @@ use super::loops::round_size;
 use super::loops::test_size;
 use super::loops::write_round_end;
 use super::loops::write_test;
+use super::returns::write_return;
 use super::switches::write_cases;
 use expression_measures::holders::taken_at;
 use expression_writers::expressions::write_expression;
@@ -51,6 +52,7 @@ ghost use Rattle.straight_writers.specs.Asks.{Writing};
 ghost use Rattle.leaves.specs.Room.{Room};
 ghost use Rattle.translation.specs.declared.Use.the-variants.{Dropped as dropped};
 ghost use Rattle.translation.specs.Translate.{expressionCode, orEmpty, statementCode, armsCode, itemsCode};
+ghost use Rattle.measure_table.specs.Parts.{calledIn};
 ghost use Rattle.words.specs.Over.{over};
 ghost use Rattle.writers.specs.Asks.{BodyAsks, IfAsks, StatementAsks, ListAsks, BlockAsks, ItemAsks, ExpressAsks, SwitchAsks, ArmsAsk, ArmAsks, GuardedAsks, ChoiceAsks, RoundsAsk, roundSize, loopSize, LoopFits};
 ghost use Rattle.writers.specs.Code.{exitsOf, bodyCode, roundCode, wholeLoop};
@@ -67,7 +69,7 @@ fn write_express(
     out: &mut [i32],
 )
     requires { ⌜ Writing (now rows) (now table) store × ExpressAsks (now rows) expression base (length (now out)) ⌝ }
-    ensures { λ _. ⌜ now (out .exit) ≡ over (emitItems follows (orEmpty store (expressionCode store (expressionAt (now (rows .entry)) expression) dropped 0)) base) (now (out .entry)) ⌝ }
+    ensures { λ _. ⌜ now (out .exit) ≡ over (emitItems follows (orEmpty store (expressionCode (calledIn (now (rows .entry))) store (expressionAt (now (rows .entry)) expression) dropped 0)) base) (now (out .entry)) ⌝ }
 {
     let n = operand_size(rows, table, expression, Use::Dropped);
     if n == 0 {
@@ -100,7 +102,7 @@ pub fn write_statement(
     out: &mut [i32],
 )
     requires { ⌜ Writing (now rows) (now table) store × StatementAsks (now rows) row exits label base (length (now out)) ⌝ }
-    ensures { λ _. ⌜ now (out .exit) ≡ over (emitItems follows (statementCode store (statementAt (now (rows .entry)) row) (exitsOf exits) label) base) (now (out .entry)) ⌝ }
+    ensures { λ _. ⌜ now (out .exit) ≡ over (emitItems follows (statementCode (calledIn (now (rows .entry))) store (statementAt (now (rows .entry)) row) (exitsOf exits) label) base) (now (out .entry)) ⌝ }
 {
     let line = statement_at(rows, row);
     match line {
@@ -226,6 +228,9 @@ pub fn write_statement(
             follows,
             out,
         ),
+        StatementShape::Return(value) => {
+            write_return(rows, table, store, value, base, follows, out)
+        }
     }
 }
 
@@ -246,7 +251,7 @@ fn write_if(
     out: &mut [i32],
 )
     requires { ⌜ Writing (now rows) (now table) store × IfAsks (now rows) test yes no exits label base (length (now out)) ⌝ }
-    ensures { λ _. ⌜ now (out .exit) ≡ over (emitItems follows (statementCode store (ifOf no (expressionAt (now (rows .entry)) test) (statementAt (now (rows .entry)) yes) (statementAt (now (rows .entry)) no)) (exitsOf exits) label) base) (now (out .entry)) ⌝ }
+    ensures { λ _. ⌜ now (out .exit) ≡ over (emitItems follows (statementCode (calledIn (now (rows .entry))) store (ifOf no (expressionAt (now (rows .entry)) test) (statementAt (now (rows .entry)) yes) (statementAt (now (rows .entry)) no)) (exitsOf exits) label) base) (now (out .entry)) ⌝ }
 {
     let k = operand_size(rows, table, test, Use::Wanted);
     let n = k + 2;
@@ -412,7 +417,7 @@ fn write_switch(
     out: &mut [i32],
 )
     requires { ⌜ Writing (now rows) (now table) store × SwitchAsks (now rows) selector list exits label base (length (now out)) ⌝ }
-    ensures { λ _. ⌜ now (out .exit) ≡ over (emitItems follows (statementCode store (switch (expressionAt (now (rows .entry)) selector) (listAt (now (rows .entry)) list)) (exitsOf exits) label) base) (now (out .entry)) ⌝ }
+    ensures { λ _. ⌜ now (out .exit) ≡ over (emitItems follows (statementCode (calledIn (now (rows .entry))) store (switch (expressionAt (now (rows .entry)) selector) (listAt (now (rows .entry)) list)) (exitsOf exits) label) base) (now (out .entry)) ⌝ }
 {
     let k = operand_size(rows, table, selector, Use::Wanted);
     let n = k + 11 * list_cases(rows, table, list);
@@ -481,7 +486,7 @@ fn write_choice(
     out: &mut [i32],
 )
     requires { ⌜ Writing (now rows) (now table) store × ChoiceAsks (now rows) arms exits label base (length (now out)) ⌝ }
-    ensures { λ _. ⌜ now (out .exit) ≡ over (emitItems follows (statementCode store (guardedIf (armListAt (now (rows .entry)) arms)) (exitsOf exits) label) base) (now (out .entry)) ⌝ }
+    ensures { λ _. ⌜ now (out .exit) ≡ over (emitItems follows (statementCode (calledIn (now (rows .entry))) store (guardedIf (armListAt (now (rows .entry)) arms)) (exitsOf exits) label) base) (now (out .entry)) ⌝ }
 {
     let n = arms_size(rows, table, arms);
     write_arms(rows, table, store, arms, exits, label, label + 1, base, out);
@@ -501,7 +506,7 @@ fn write_rounds(
     out: &mut [i32],
 )
     requires { ⌜ Writing (now rows) (now table) store × RoundsAsk (now rows) arms exits label base (length (now out)) ⌝ }
-    ensures { λ _. ⌜ now (out .exit) ≡ over (emitItems follows (statementCode store (guardedDo (armListAt (now (rows .entry)) arms)) (exitsOf exits) label) base) (now (out .entry)) ⌝ }
+    ensures { λ _. ⌜ now (out .exit) ≡ over (emitItems follows (statementCode (calledIn (now (rows .entry))) store (guardedDo (armListAt (now (rows .entry)) arms)) (exitsOf exits) label) base) (now (out .entry)) ⌝ }
 {
     let n = arms_size(rows, table, arms);
     if n == 0 {
@@ -537,7 +542,7 @@ fn write_arms(
     out: &mut [i32],
 )
     requires { ⌜ Writing (now rows) (now table) store × ArmsAsk (now rows) arms exits target label base (length (now out)) ⌝ }
-    ensures { λ _. ⌜ now (out .exit) ≡ over (emitItems true (armsCode store (armListAt (now (rows .entry)) arms) (exitsOf exits) target label) base) (now (out .entry)) ⌝ }
+    ensures { λ _. ⌜ now (out .exit) ≡ over (emitItems true (armsCode (calledIn (now (rows .entry))) store (armListAt (now (rows .entry)) arms) (exitsOf exits) target label) base) (now (out .entry)) ⌝ }
 {
     let size = arms_size(rows, table, arms);
     let last = label + arms_labels(rows, table, arms);
@@ -576,7 +581,7 @@ fn write_arm(
     out: &mut [i32],
 )
     requires { ⌜ Writing (now rows) (now table) store × ArmAsks (now rows) row exits target label base (length (now out)) ⌝ }
-    ensures { λ _. ⌜ now (out .exit) ≡ over (emitItems true (armsCode store (firstOnly (armsAt (now (rows .entry)) row)) (exitsOf exits) target label) base) (now (out .entry)) ⌝ }
+    ensures { λ _. ⌜ now (out .exit) ≡ over (emitItems true (armsCode (calledIn (now (rows .entry))) store (firstOnly (armsAt (now (rows .entry)) row)) (exitsOf exits) target label) base) (now (out .entry)) ⌝ }
 {
     let shape = arm_at(rows, row);
     match shape {
@@ -610,7 +615,7 @@ fn write_guarded(
     out: &mut [i32],
 )
     requires { ⌜ Writing (now rows) (now table) store × GuardedAsks (now rows) guard body exits target label base (length (now out)) ⌝ }
-    ensures { λ _. ⌜ now (out .exit) ≡ over (emitItems true (armsCode store (arm (expressionAt (now (rows .entry)) guard) (statementAt (now (rows .entry)) body) noArm) (exitsOf exits) target label) base) (now (out .entry)) ⌝ }
+    ensures { λ _. ⌜ now (out .exit) ≡ over (emitItems true (armsCode (calledIn (now (rows .entry))) store (arm (expressionAt (now (rows .entry)) guard) (statementAt (now (rows .entry)) body) noArm) (exitsOf exits) target label) base) (now (out .entry)) ⌝ }
 {
     let k = operand_size(rows, table, guard, Use::Wanted);
     let n = k + 3;
@@ -648,7 +653,7 @@ pub fn write_block(
     out: &mut [i32],
 )
     requires { ⌜ Writing (now rows) (now table) store × BlockAsks (now rows) list exits label base (length (now out)) ⌝ }
-    ensures { λ _. ⌜ now (out .exit) ≡ over (emitItems follows (block (itemsCode store (listAt (now (rows .entry)) list) (exitsOf exits) label) then none) base) (now (out .entry)) ⌝ }
+    ensures { λ _. ⌜ now (out .exit) ≡ over (emitItems follows (block (itemsCode (calledIn (now (rows .entry))) store (listAt (now (rows .entry)) list) (exitsOf exits) label) then none) base) (now (out .entry)) ⌝ }
 {
     let n = list_size(rows, table, list);
     put_block(
@@ -682,7 +687,7 @@ fn write_list(
     out: &mut [i32],
 )
     requires { ⌜ Writing (now rows) (now table) store × ListAsks (now rows) list exits label base (length (now out)) ⌝ }
-    ensures { λ _. ⌜ now (out .exit) ≡ over (emitItems follows (itemsCode store (listAt (now (rows .entry)) list) (exitsOf exits) label) base) (now (out .entry)) ⌝ }
+    ensures { λ _. ⌜ now (out .exit) ≡ over (emitItems follows (itemsCode (calledIn (now (rows .entry))) store (listAt (now (rows .entry)) list) (exitsOf exits) label) base) (now (out .entry)) ⌝ }
 {
     let mut item = list;
     let mut from = label;
@@ -707,7 +712,7 @@ fn write_list(
     }
 }
 
-// The item at a row: a statement's code, or a mark's label.
+// The item at a row: a statement's code, or a mark's label; a definition brings nothing where it stands.
 fn write_item(
     rows: &[i32],
     table: &[usize],
@@ -720,7 +725,7 @@ fn write_item(
     out: &mut [i32],
 )
     requires { ⌜ Writing (now rows) (now table) store × ItemAsks (now rows) row exits label base (length (now out)) ⌝ }
-    ensures { λ _. ⌜ now (out .exit) ≡ over (emitItems follows (itemCode store (itemsAt (now (rows .entry)) row) (exitsOf exits) label) base) (now (out .entry)) ⌝ }
+    ensures { λ _. ⌜ now (out .exit) ≡ over (emitItems follows (itemCode (calledIn (now (rows .entry))) store (itemsAt (now (rows .entry)) row) (exitsOf exits) label) base) (now (out .entry)) ⌝ }
 {
     let item = item_at(rows, row);
     match item {
@@ -736,5 +741,6 @@ fn write_item(
             out,
         ),
         Item::Mark(_) => put_label(label, base, follows, out),
+        Item::Definition(_, _, _) => {}
     }
 }

@@ -37,6 +37,7 @@ fn case_size(rows: &[i32], row: usize) -> usize
             MarkShape::Default => 0,
             MarkShape::Label(_) => 0,
         },
+        Item::Definition(_, _, _) => 0,
     }
 }
 
@@ -88,6 +89,7 @@ fn put_item_test(
             MarkShape::Default => {}
             MarkShape::Label(_) => {}
         },
+        Item::Definition(_, _, _) => {}
     }
 }
 

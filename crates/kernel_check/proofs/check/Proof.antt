@@ -4,6 +4,7 @@ use borrow.Author.Needs.{needs}
 use Rattle.words.specs.declared.Form.the-variants.{Kernel}
 use Rattle.structure.specs.Refusal.{_next_}
 use Rattle.structure.specs.StructuredLaws.{accepted-structured, structured-tree}
+use Rattle.function_causes.specs.FrontLaws.{block-undefined}
 use Rattle.kernel_check.specs.Accepts.{structured-lone, structured-labels}
 use Rattle.kernel_check.specs.Refusal.{refusal}
 use borrow.Author.Needs.{needs}
@@ -26,7 +27,7 @@ enum-told c = search needs
 kernel-causes-requires : tie.Need-kernel-causes-requires
 kernel-causes-requires c κs =
     let s = accepted-structured Kernel _ _ (sym (c .before .before .shared-refusal .ensures) ∙ c .enum-told .given .1) .1 in
-    (structured-tree Kernel _ _ s, structured-lone _ _ s, structured-labels _ _ s)
+    (structured-tree Kernel _ _ s, structured-lone _ _ s, structured-labels _ _ s, block-undefined _ 0 (s .block))
 
 returns-2 : tie.Need-returns-2
 unfolding refusal _next_

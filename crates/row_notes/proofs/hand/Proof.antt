@@ -20,14 +20,26 @@ inside-requires c κs = search needs
 enum-known-which-2 : tie.Need-enum-known-which-2
 enum-known-which-2 c = search needs
 
-hand-item-requires : tie.Need-hand-item-requires
-hand-item-requires c κs = search needs
+number-at-requires-2 : tie.Need-number-at-requires-2
+number-at-requires-2 c κs = search needs
+
+narrow-requires : tie.Need-narrow-requires
+narrow-requires c κs = search needs
+
+inside-requires-2 : tie.Need-inside-requires-2
+inside-requires-2 c κs = search needs
 
 enum-known-which-3 : tie.Need-enum-known-which-3
 enum-known-which-3 c = search needs
 
-number-at-requires-2 : tie.Need-number-at-requires-2
-number-at-requires-2 c κs = search needs
+hand-item-requires : tie.Need-hand-item-requires
+hand-item-requires c κs = search needs
+
+enum-known-which-4 : tie.Need-enum-known-which-4
+enum-known-which-4 c = search needs
+
+number-at-requires-3 : tie.Need-number-at-requires-3
+number-at-requires-3 c κs = search needs
 
 between-requires-2 : tie.Need-between-requires-2
 between-requires-2 c κs = search needs
@@ -43,12 +55,17 @@ returns c =
 returns-2 : tie.Need-returns-2
 unfolding handed
 returns-2 c =
-    rw (c .before .before .which2 .given .1) (c .hand-item .ensures)
+    rw (c .before .before .before .before .which2 .given .1, ← c .before .before .number-at2 .ensures, ← c .before .narrow .ensures) (c .inside2 .ensures)
 
 returns-3 : tie.Need-returns-3
-unfolding handed earlierOf
+unfolding handed
 returns-3 c =
-    rw (c .before .before .before .before .which3 .given .1, ← c .before .before .number-at2 .ensures, ← c .before .between2 .ensures) (c .hand-earlier .ensures)
+    rw (c .before .before .which3 .given .1) (c .hand-item .ensures)
+
+returns-4 : tie.Need-returns-4
+unfolding handed earlierOf
+returns-4 c =
+    rw (c .before .before .before .before .which4 .given .1, ← c .before .before .number-at3 .ensures, ← c .before .between2 .ensures) (c .hand-earlier .ensures)
 
 pub hand-spec : {M : Type 1} → statement M
 hand-spec =
@@ -59,11 +76,16 @@ hand-spec =
     between-requires
     inside-requires
     enum-known-which-2
-    hand-item-requires
-    enum-known-which-3
     number-at-requires-2
+    narrow-requires
+    inside-requires-2
+    enum-known-which-3
+    hand-item-requires
+    enum-known-which-4
+    number-at-requires-3
     between-requires-2
     hand-earlier-requires
     returns
     returns-2
-    returns-3)
+    returns-3
+    returns-4)

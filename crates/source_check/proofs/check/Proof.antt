@@ -5,6 +5,7 @@ use Rattle.words.specs.Laws.{countFits-facts}
 use Rattle.words.specs.declared.Form.the-variants.{Source}
 use Rattle.structure.specs.Refusal.{_next_}
 use Rattle.structure.specs.StructuredLaws.{accepted-structured, structured-tree}
+use Rattle.function_causes.specs.FrontLaws.{block-undefined}
 use Rattle.source_check.specs.Refusal.{refusal}
 use borrow.Author.Needs.{needs}
 use Rattle.source_check.proofs.check.Statement.{statement}
@@ -23,7 +24,7 @@ later-refusal-requires : tie.Need-later-refusal-requires
 later-refusal-requires c κs =
     let structured = accepted-structured Source (c .before .before .before .args .header .now) (c .before .before .before .args .rows .now) (sym (c .before .before .shared-refusal .ensures) ∙ c .enum-told .given .1) .1 in
     let fit = countFits-facts Source _ (structured .count-fits) in
-    (structured-tree Source _ _ structured, (let most = fit .most in omega arith))
+    (structured-tree Source _ _ structured, block-undefined _ 0 (structured .block), (let most = fit .most in omega arith))
 
 returns : tie.Need-returns
 unfolding refusal _next_

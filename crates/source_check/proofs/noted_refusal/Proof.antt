@@ -1,4 +1,4 @@
--- `noted_refusal` takes the causes 7 to 9 in order, then those of declarations; each search ends the chain or hands on.
+-- `noted_refusal` takes the causes 7 to 9 in order, then those after 18; each search ends the chain or hands on.
 use mathlib.Core.Path.{sym, _∙_}
 use Rattle.structure.specs.RefusalLaws.{ends, goes-on}
 use Rattle.source_check.specs.Refusal.{laterRefusal}
@@ -54,13 +54,13 @@ returns-3 c =
 enum-told-3 : tie.Need-enum-told-3
 enum-told-3 c = search needs
 
-declaration-refusal-requires : tie.Need-declaration-refusal-requires
-declaration-refusal-requires c κs = search needs
+last-refusal-requires : tie.Need-last-refusal-requires
+last-refusal-requires c κs = search needs
 
 returns-4 : tie.Need-returns-4
 unfolding laterRefusal
 returns-4 c =
-    c .declaration-refusal .ensures
+    c .last-refusal .ensures
     ∙ sym (goes-on _ _ _ _ (c .before .enum-told3 .given .1) (c .before .before .before .lowest-deep-by .ensures))
     ∙ sym (goes-on _ _ _ _ (c .before .before .before .before .enum-told2 .given .1) (c .before .before .before .before .before .before .lowest-repeated .ensures))
     ∙ sym (goes-on _ _ _ _ (c .before .before .before .before .before .before .before .enum-told .given .1) (c .before .before .before .before .before .before .before .before .before .lowest-wrongly-placed .ensures))
@@ -82,5 +82,5 @@ noted-refusal-spec =
     enum-known-deep
     returns-3
     enum-told-3
-    declaration-refusal-requires
+    last-refusal-requires
     returns-4)

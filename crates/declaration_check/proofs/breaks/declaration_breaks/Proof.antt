@@ -3,7 +3,7 @@ use Prim.Native.Nat.{_<_}
 use native.Mathlib.Omega.{arith}
 use Rattle.declaration_causes.specs.Causes.{outsideBlock, namesItself, declaredBefore, oneTooMany}
 use Rattle.declaration_check.specs.Passes.{breaks, lookedUp}
-use Rattle.declaration_check.specs.WalkLaws.{part-inside}
+use Rattle.structure.specs.LinkLaws.{part-inside}
 use borrow.Author.Needs.{needs}
 use Rattle.declaration_check.proofs.breaks.declaration_breaks.Statement.{statement}
 use Rattle.declaration_check.proofs.breaks.declaration_breaks.Tie as tie

@@ -7,7 +7,8 @@ use Rattle.words.specs.SearchLaws.{Tried, tried-start, tried-on, tried-hit, tri
 use Rattle.structure.specs.NoteLaws.{above-zero}
 use Rattle.declaration_causes.specs.Causes.{namedFrom}
 use Rattle.declaration_causes.specs.InitialLaws.{named-none, named-step}
-use Rattle.declaration_check.specs.WalkLaws.{left, part-inside, part-falls, below-only}
+use Rattle.structure.specs.LinkLaws.{part-inside}
+use Rattle.declaration_check.specs.WalkLaws.{left, part-falls, below-only}
 use Prim.Native.Nat.{ℕ, _<_}
 use borrow.Fn.Kinds.{In}
 use borrow.Fn.PlainCycle.{Measures, is, falls, and}

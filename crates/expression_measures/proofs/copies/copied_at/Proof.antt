@@ -26,6 +26,9 @@ copied-operation-requires c κs = (c .before .before .before .before .before .be
 enum-told-3 : tie.Need-enum-told-3
 enum-told-3 c = search needs
 
+enum-told-4 : tie.Need-enum-told-4
+enum-told-4 c = search needs
+
 returns : tie.Need-returns
 returns c = copied-none (expressed (c .before .before .expression-at .ensures) (c .enum-told .given .1)) refl
 
@@ -38,6 +41,9 @@ returns-3 c = search needs
 returns-4 : tie.Need-returns-4
 returns-4 c = copied-choice (expressed (c .before .before .expression-at .ensures) (c .enum-told3 .given .1))
 
+returns-5 : tie.Need-returns-5
+returns-5 c = copied-none (expressed (c .before .before .expression-at .ensures) (c .enum-told4 .given .1)) refl
+
 pub copied-at-spec : {M : Type 1} → statement M
 copied-at-spec =
     tie.close
@@ -48,7 +54,9 @@ copied-at-spec =
     enum-known-shape
     copied-operation-requires
     enum-told-3
+    enum-told-4
     returns
     returns-2
     returns-3
-    returns-4)
+    returns-4
+    returns-5)

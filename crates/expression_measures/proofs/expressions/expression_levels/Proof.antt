@@ -3,6 +3,7 @@ use mathlib.Core.Path.{ap, ap₂, _∙_}
 use Prim.Native.Nat.{max}
 use native.Mathlib.Omega.{arith}
 use Rattle.language.specs.Decode.{expressionAt}
+use Rattle.measure_table.specs.Parts.{calledIn}
 use Rattle.measure_table.specs.Measures.{limited, levelsSlot}
 use Rattle.measure_table.specs.MeasureLaws.{slot-asks}
 use Rattle.expression_measures.proofs.ExpressionLaws.{levels-of, above-most}
@@ -35,7 +36,7 @@ measure-at-requires-2 c κs =
 
 add-second : tie.Need-add-second
 add-second c =
-    omega (arith, c .before .measure-at2 .ensures .small, c .before .before .before .before .before .before .before .pre .2 .above-is, above-most (expressionAt (c .before .before .before .before .before .before .before .args .rows .now) (c .before .before .before .before .before .before .before .args .row)))
+    omega (arith, c .before .measure-at2 .ensures .small, c .before .before .before .before .before .before .before .pre .2 .above-is, above-most (calledIn (c .before .before .before .before .before .before .before .args .rows .now)) (expressionAt (c .before .before .before .before .before .before .before .args .rows .now) (c .before .before .before .before .before .before .before .args .row)))
 
 measure-at-requires-3 : tie.Need-measure-at-requires-3
 measure-at-requires-3 c κs =

@@ -34,6 +34,9 @@ direct-operation-requires c κs = search needs
 enum-told-4 : tie.Need-enum-told-4
 enum-told-4 c = search needs
 
+enum-told-5 : tie.Need-enum-told-5
+enum-told-5 c = search needs
+
 returns : tie.Need-returns
 unfolding direct
 returns c =
@@ -57,6 +60,11 @@ returns-5 : tie.Need-returns-5
 returns-5 c =
     direct-shape (expressed (c .before .before .expression-at .ensures) (c .enum-told4 .given .1)) (choice-direct (c .before .before .before .args .rows .now) (c .enum-told4 .given .0 .0))
 
+returns-6 : tie.Need-returns-6
+unfolding direct
+returns-6 c =
+    direct-shape (expressed (c .before .before .expression-at .ensures) (c .enum-told5 .given .1)) refl
+
 pub direct-at-spec : {M : Type 1} → statement M
 direct-at-spec =
     tie.close
@@ -69,8 +77,10 @@ direct-at-spec =
     enum-known-shape-2
     direct-operation-requires
     enum-told-4
+    enum-told-5
     returns
     returns-2
     returns-3
     returns-4
-    returns-5)
+    returns-5
+    returns-6)

@@ -1,8 +1,9 @@
 -- What holds the value that comes from a row, by its shape.
+use mathlib.Core.Path.{refl}
 use mir.Facts.{toZ-ofZ}
 use mir.Syntax.{w32}
 use Rattle.shapes.specs.ShapeLaws.{expressed}
-use Rattle.expression_measures.proofs.HolderLaws.{plain-holds, place-holds, choice-holds, number-holds}
+use Rattle.expression_measures.proofs.HolderLaws.{plain-holds, place-holds, choice-holds, number-holds, top-holds}
 use borrow.Author.Needs.{needs}
 use Rattle.expression_measures.proofs.holders.plain_holder.Statement.{statement}
 use Rattle.expression_measures.proofs.holders.plain_holder.Tie as tie
@@ -32,6 +33,9 @@ operation-holder-requires c κs =
 enum-told : tie.Need-enum-told
 enum-told c = search needs
 
+enum-told-2 : tie.Need-enum-told-2
+enum-told-2 c = search needs
+
 returns : tie.Need-returns
 returns c =
     plain-holds (expressed (c .before .before .before .expression-at .ensures) (c .before .shape .given .1)) (number-holds (toZ-ofZ {w = w32} (search needs)))
@@ -47,6 +51,10 @@ returns-4 : tie.Need-returns-4
 returns-4 c =
     choice-holds (expressed (c .before .before .expression-at .ensures) (c .enum-told .given .1))
 
+returns-5 : tie.Need-returns-5
+returns-5 c =
+    plain-holds (expressed (c .before .before .expression-at .ensures) (c .enum-told2 .given .1)) (top-holds refl)
+
 pub plain-holder-spec : {M : Type 1} → statement M
 plain-holder-spec =
     tie.close
@@ -58,7 +66,9 @@ plain-holder-spec =
     enum-known-shape-3
     operation-holder-requires
     enum-told
+    enum-told-2
     returns
     returns-2
     returns-3
-    returns-4)
+    returns-4
+    returns-5)

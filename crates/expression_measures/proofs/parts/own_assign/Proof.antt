@@ -6,6 +6,7 @@ use Rattle.translation.specs.TranslateBounds.{taken-most}
 use Rattle.shapes.specs.ShapeLaws.{optional, placed}
 use Rattle.measure_table.specs.MeasureLaws.{link-asks, slot-asks, first-copied-most}
 use Rattle.expression_measures.proofs.OwnLaws.{own-assign, store-asks}
+use Rattle.measure_table.specs.Parts.{calledIn}
 use borrow.Author.Needs.{needs}
 use Rattle.expression_measures.proofs.parts.own_assign.Statement.{statement}
 use Rattle.expression_measures.proofs.parts.own_assign.Tie as tie
@@ -34,7 +35,7 @@ taken-at-requires c κs =
 
 add-above : tie.Need-add-above
 add-above c =
-    omega (arith, c .before .before .before .before .before .before .pre .3, first-copied-most (expressionAt (c .before .before .before .before .before .before .args .rows .now) (c .before .before .before .before .before .before .args .row)), c .taken-at .ensures, taken-most (atomOf (expressionAt (c .before .before .before .before .before .before .args .rows .now) (c .before .before .before .before .before .before .args .e))))
+    omega (arith, c .before .before .before .before .before .before .pre .3, first-copied-most (calledIn (c .before .before .before .before .before .before .args .rows .now)) (expressionAt (c .before .before .before .before .before .before .args .rows .now) (c .before .before .before .before .before .before .args .row)), c .taken-at .ensures, taken-most (atomOf (calledIn (c .before .before .before .before .before .before .args .rows .now)) (expressionAt (c .before .before .before .before .before .before .args .rows .now) (c .before .before .before .before .before .before .args .e))))
 
 value-at-requires : tie.Need-value-at-requires
 value-at-requires c κs =
@@ -42,11 +43,11 @@ value-at-requires c κs =
 
 mul-own : tie.Need-mul-own
 mul-own c =
-    omega (arith, c .before .before .before .before .before .before .before .pre .3, first-copied-most (expressionAt (c .before .before .before .before .before .before .before .args .rows .now) (c .before .before .before .before .before .before .before .args .row)))
+    omega (arith, c .before .before .before .before .before .before .before .pre .3, first-copied-most (calledIn (c .before .before .before .before .before .before .before .args .rows .now)) (expressionAt (c .before .before .before .before .before .before .before .args .rows .now) (c .before .before .before .before .before .before .before .args .row)))
 
 add-own : tie.Need-add-own
 add-own c =
-    omega (arith, c .before .before .before .before .before .before .before .pre .3, first-copied-most (expressionAt (c .before .before .before .before .before .before .before .args .rows .now) (c .before .before .before .before .before .before .before .args .row)))
+    omega (arith, c .before .before .before .before .before .before .before .pre .3, first-copied-most (calledIn (c .before .before .before .before .before .before .before .args .rows .now)) (expressionAt (c .before .before .before .before .before .before .before .args .rows .now) (c .before .before .before .before .before .before .before .args .row)))
 
 own-requires : tie.Need-own-requires
 own-requires c κs = search needs

@@ -1,6 +1,6 @@
 -- What an expression's own row brings, by its shape.
 use Rattle.shapes.specs.ShapeLaws.{expressed}
-use Rattle.expression_measures.proofs.OwnLaws.{own-number}
+use Rattle.expression_measures.proofs.OwnLaws.{own-number, own-call}
 use borrow.Author.Needs.{needs}
 use Rattle.expression_measures.proofs.parts.own_at.Statement.{statement}
 use Rattle.expression_measures.proofs.parts.own_at.Tie as tie
@@ -37,6 +37,12 @@ enum-known-shape-3 c = search needs
 own-choice-requires : tie.Need-own-choice-requires
 own-choice-requires c κs = (c .before .before .before .before .before .pre .0, c .before .before .before .before .before .pre .1, expressed (c .before .before .before .expression-at .ensures) (c .before .shape3 .given .1))
 
+enum-told-2 : tie.Need-enum-told-2
+enum-told-2 c = search needs
+
+own-requires-2 : tie.Need-own-requires-2
+own-requires-2 c κs = search needs
+
 returns : tie.Need-returns
 returns c = own-number (c .before .before .before .before .before .pre .1) (expressed (c .before .before .before .expression-at .ensures) (c .before .enum-told .given .1)) (c .own .ensures)
 
@@ -48,6 +54,9 @@ returns-3 c = c .own-operation .ensures
 
 returns-4 : tie.Need-returns-4
 returns-4 c = c .own-choice .ensures
+
+returns-5 : tie.Need-returns-5
+returns-5 c = own-call (c .before .before .before .before .before .pre .0) (c .before .before .before .before .before .pre .1) (expressed (c .before .before .before .expression-at .ensures) (c .before .enum-told2 .given .1))
 
 pub own-at-spec : {M : Type 1} → statement M
 own-at-spec =
@@ -62,7 +71,10 @@ own-at-spec =
     own-operation-requires
     enum-known-shape-3
     own-choice-requires
+    enum-told-2
+    own-requires-2
     returns
     returns-2
     returns-3
-    returns-4)
+    returns-4
+    returns-5)

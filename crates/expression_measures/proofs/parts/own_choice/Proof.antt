@@ -8,6 +8,7 @@ use Rattle.translation.specs.Translate.{atomOf}
 use Rattle.translation.specs.TranslateBounds.{taken-most}
 use Rattle.measure_table.specs.MeasureLaws.{link-asks}
 use Rattle.expression_measures.proofs.OwnLaws.{own-and, own-or, own-conditional}
+use Rattle.measure_table.specs.Parts.{calledIn}
 use borrow.Author.Needs.{needs}
 use Rattle.expression_measures.proofs.parts.own_choice.Statement.{statement}
 use Rattle.expression_measures.proofs.parts.own_choice.Tie as tie
@@ -33,19 +34,19 @@ taken-at-requires : tie.Need-taken-at-requires
 taken-at-requires c κs = link-asks (c .before .before .before .before .pre .0) ((expressed (c .before .before .before .before .pre .2) (ap Choice (c .before .choice3 .given .1))) .onward .1)
 
 mul-own-rows : tie.Need-mul-own-rows
-mul-own-rows c = omega (arith, c .taken-at .ensures, taken-most (atomOf (expressionAt (c .before .before .before .before .before .args .rows .now) (c .before .before .choice3 .given .0 .1 .0))))
+mul-own-rows c = omega (arith, c .taken-at .ensures, taken-most (atomOf (calledIn (c .before .before .before .before .before .args .rows .now)) (expressionAt (c .before .before .before .before .before .args .rows .now) (c .before .before .choice3 .given .0 .1 .0))))
 
 sub-own-rows : tie.Need-sub-own-rows
-sub-own-rows c = omega (arith, c .taken-at .ensures, taken-most (atomOf (expressionAt (c .before .before .before .before .before .args .rows .now) (c .before .before .choice3 .given .0 .1 .0))))
+sub-own-rows c = omega (arith, c .taken-at .ensures, taken-most (atomOf (calledIn (c .before .before .before .before .before .args .rows .now)) (expressionAt (c .before .before .before .before .before .args .rows .now) (c .before .before .choice3 .given .0 .1 .0))))
 
 taken-at-requires-2 : tie.Need-taken-at-requires-2
 taken-at-requires-2 c κs = link-asks (c .before .before .before .before .before .pre .0) ((expressed (c .before .before .before .before .before .pre .2) (ap Choice (c .before .before .choice3 .given .1))) .onward .2)
 
 mul-own-rows-2 : tie.Need-mul-own-rows-2
-mul-own-rows-2 c = omega (arith, c .taken-at2 .ensures, taken-most (atomOf (expressionAt (c .before .before .before .before .before .before .args .rows .now) (c .before .before .before .choice3 .given .0 .1 .1 .0))))
+mul-own-rows-2 c = omega (arith, c .taken-at2 .ensures, taken-most (atomOf (calledIn (c .before .before .before .before .before .before .args .rows .now)) (expressionAt (c .before .before .before .before .before .before .args .rows .now) (c .before .before .before .choice3 .given .0 .1 .1 .0))))
 
 sub-own-rows-2 : tie.Need-sub-own-rows-2
-sub-own-rows-2 c = omega (arith, c .before .taken-at .ensures, taken-most (atomOf (expressionAt (c .before .before .before .before .before .before .args .rows .now) (c .before .before .before .choice3 .given .0 .1 .0))), c .taken-at2 .ensures, taken-most (atomOf (expressionAt (c .before .before .before .before .before .before .args .rows .now) (c .before .before .before .choice3 .given .0 .1 .1 .0))))
+sub-own-rows-2 c = omega (arith, c .before .taken-at .ensures, taken-most (atomOf (calledIn (c .before .before .before .before .before .before .args .rows .now)) (expressionAt (c .before .before .before .before .before .before .args .rows .now) (c .before .before .before .choice3 .given .0 .1 .0))), c .taken-at2 .ensures, taken-most (atomOf (calledIn (c .before .before .before .before .before .before .args .rows .now)) (expressionAt (c .before .before .before .before .before .before .args .rows .now) (c .before .before .before .choice3 .given .0 .1 .1 .0))))
 
 own-requires-3 : tie.Need-own-requires-3
 own-requires-3 c κs = search needs

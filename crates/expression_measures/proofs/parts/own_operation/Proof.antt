@@ -8,6 +8,7 @@ use Rattle.shapes.specs.ShapeLaws.{optional, expressed}
 use Rattle.shapes.specs.declared.ExpressionShape.the-variants.{Operation}
 use Rattle.measure_table.specs.MeasureLaws.{link-asks, slot-asks, measured-less, first-copied-most}
 use Rattle.expression_measures.proofs.OwnLaws.{own-minus, own-not, own-binary, own-comma, own-compound, own-prefix}
+use Rattle.measure_table.specs.Parts.{calledIn}
 use borrow.Author.Needs.{needs}
 use Rattle.expression_measures.proofs.parts.own_operation.Statement.{statement}
 use Rattle.expression_measures.proofs.parts.own_operation.Tie as tie
@@ -40,15 +41,15 @@ taken-at-requires c κs =
 
 add-above : tie.Need-add-above
 add-above c =
-    omega (arith, c .before .before .before .before .before .pre .3, first-copied-most (expressionAt (c .before .before .before .before .before .args .rows .now) (c .before .before .before .before .before .args .row)), c .taken-at .ensures, taken-most (atomOf (expressionAt (c .before .before .before .before .before .args .rows .now) (c .before .before .operation3 .given .0 .1 .1 .0))))
+    omega (arith, c .before .before .before .before .before .pre .3, first-copied-most (calledIn (c .before .before .before .before .before .args .rows .now)) (expressionAt (c .before .before .before .before .before .args .rows .now) (c .before .before .before .before .before .args .row)), c .taken-at .ensures, taken-most (atomOf (calledIn (c .before .before .before .before .before .args .rows .now)) (expressionAt (c .before .before .before .before .before .args .rows .now) (c .before .before .operation3 .given .0 .1 .1 .0))))
 
 mul-result : tie.Need-mul-result
 mul-result c =
-    omega (arith, c .before .before .before .before .before .pre .3, first-copied-most (expressionAt (c .before .before .before .before .before .args .rows .now) (c .before .before .before .before .before .args .row)))
+    omega (arith, c .before .before .before .before .before .pre .3, first-copied-most (calledIn (c .before .before .before .before .before .args .rows .now)) (expressionAt (c .before .before .before .before .before .args .rows .now) (c .before .before .before .before .before .args .row)))
 
 add-result : tie.Need-add-result
 add-result c =
-    omega (arith, c .before .before .before .before .before .pre .3, first-copied-most (expressionAt (c .before .before .before .before .before .args .rows .now) (c .before .before .before .before .before .args .row)))
+    omega (arith, c .before .before .before .before .before .pre .3, first-copied-most (calledIn (c .before .before .before .before .before .args .rows .now)) (expressionAt (c .before .before .before .before .before .args .rows .now) (c .before .before .before .before .before .args .row)))
 
 result-requires-3 : tie.Need-result-requires-3
 result-requires-3 c κs = search needs
@@ -84,11 +85,11 @@ add-own-rows c =
 
 mul-own-rows-2 : tie.Need-mul-own-rows-2
 mul-own-rows-2 c =
-    omega (arith, c .before .before .before .before .before .before .pre .3, first-copied-most (expressionAt (c .before .before .before .before .before .before .args .rows .now) (c .before .before .before .before .before .before .args .row)))
+    omega (arith, c .before .before .before .before .before .before .pre .3, first-copied-most (calledIn (c .before .before .before .before .before .before .args .rows .now)) (expressionAt (c .before .before .before .before .before .before .args .rows .now) (c .before .before .before .before .before .before .args .row)))
 
 add-own-rows-2 : tie.Need-add-own-rows-2
 add-own-rows-2 c =
-    omega (arith, c .before .before .before .before .before .before .pre .3, first-copied-most (expressionAt (c .before .before .before .before .before .before .args .rows .now) (c .before .before .before .before .before .before .args .row)), c .before .place-own .ensures .rows-are, index-most (placeOf (expressionAt (c .before .before .before .before .before .before .args .rows .now) (c .before .before .before .operation6 .given .0 .1 .0))))
+    omega (arith, c .before .before .before .before .before .before .pre .3, first-copied-most (calledIn (c .before .before .before .before .before .before .args .rows .now)) (expressionAt (c .before .before .before .before .before .before .args .rows .now) (c .before .before .before .before .before .before .args .row)), c .before .place-own .ensures .rows-are, index-most (placeOf (expressionAt (c .before .before .before .before .before .before .args .rows .now) (c .before .before .before .operation6 .given .0 .1 .0))))
 
 own-requires : tie.Need-own-requires
 own-requires c κs = search needs

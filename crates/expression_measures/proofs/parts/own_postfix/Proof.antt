@@ -6,6 +6,7 @@ use Rattle.translation.specs.TranslateBounds.{taken-most}
 use Rattle.shapes.specs.ShapeLaws.{placed}
 use Rattle.measure_table.specs.MeasureLaws.{link-asks, measured-less}
 use Rattle.expression_measures.proofs.OwnLaws.{own-step-variable, own-step-element}
+use Rattle.measure_table.specs.Parts.{calledIn}
 use borrow.Author.Needs.{needs}
 use Rattle.expression_measures.proofs.parts.own_postfix.Statement.{statement}
 use Rattle.expression_measures.proofs.parts.own_postfix.Tie as tie
@@ -32,7 +33,7 @@ taken-at-requires c κs =
 
 add-levels : tie.Need-add-levels
 add-levels c =
-    omega (arith, c .taken-at .ensures, taken-most (atomOf (expressionAt (c .before .before .before .before .before .before .args .rows .now) (c .before .before .shape .given .0 .1 .0))))
+    omega (arith, c .taken-at .ensures, taken-most (atomOf (calledIn (c .before .before .before .before .before .before .args .rows .now)) (expressionAt (c .before .before .before .before .before .before .args .rows .now) (c .before .before .shape .given .0 .1 .0))))
 
 own-requires : tie.Need-own-requires
 own-requires c κs = search needs

@@ -6,6 +6,7 @@ use Rattle.translation.specs.Translate.{atomOf}
 use Rattle.translation.specs.TranslateBounds.{taken-most}
 use Rattle.measure_table.specs.MeasureLaws.{link-asks}
 use Rattle.expression_measures.proofs.OwnLaws.{own-variable-place, own-element-place}
+use Rattle.measure_table.specs.Parts.{calledIn}
 use borrow.Author.Needs.{needs}
 use Rattle.expression_measures.proofs.parts.place_own.Statement.{statement}
 use Rattle.expression_measures.proofs.parts.place_own.Tie as tie
@@ -25,7 +26,7 @@ taken-at-requires : tie.Need-taken-at-requires
 taken-at-requires c κs = link-asks (c .before .before .before .before .before .pre .0) (placed (c .before .before .before .place-at .ensures) (c .before .place .given .1) .onward .1)
 
 add-t8 : tie.Need-add-t8
-add-t8 c = omega (arith, c .taken-at .ensures, taken-most (atomOf (expressionAt (c .before .before .before .before .before .before .args .rows .now) (c .before .before .place .given .0 .1 .0))))
+add-t8 c = omega (arith, c .taken-at .ensures, taken-most (atomOf (calledIn (c .before .before .before .before .before .before .args .rows .now)) (expressionAt (c .before .before .before .before .before .before .args .rows .now) (c .before .before .place .given .0 .1 .0))))
 
 returns : tie.Need-returns
 returns c = own-variable-place (placed (c .before .before .place-at .ensures) (c .enum-told .given .1))

@@ -3,7 +3,7 @@ use mathlib.Core.Path.{refl, ap}
 use native.Mathlib.Omega.{arith}
 use Rattle.shapes.specs.ShapeLaws.{expressed}
 use Rattle.shapes.specs.declared.ExpressionShape.the-variants as expression
-use Rattle.expression_writers.proofs.Choices.{RowAsked, level-small, straight, straight-operation, and-choice, or-choice, conditional-choice}
+use Rattle.expression_writers.proofs.Choices.{RowAsked, level-small, straight, straight-operation, straight-call, and-choice, or-choice, conditional-choice}
 use borrow.Author.Needs.{needs}
 use Rattle.expression_writers.proofs.branches.choice_at.Statement.{statement}
 use Rattle.expression_writers.proofs.branches.choice_at.Tie as tie
@@ -101,6 +101,9 @@ atom-at-requires-7 c κs =
     let shape = expressed (expressed (c .before .before .before .before .before .before .before .before .before .before .expression-at .ensures) (c .before .before .before .before .before .before .before .before .shape .given .1)) (ap expression.Choice (c .before .before .before .before .before .choice3 .given .1)) in
     (asked .writing, shape .onward .2 .inside, omega (arith, level-small asked))
 
+enum-told-4 : tie.Need-enum-told-4
+enum-told-4 c = search needs
+
 returns : tie.Need-returns
 returns c = straight _ _ _ _ (expressed (c .before .before .expression-at .ensures) (c .enum-told .given .1)) (λ u. refl)
 
@@ -128,6 +131,11 @@ returns-6 c =
     let shape = expressed (expressed (c .before .before .before .before .before .before .before .before .before .before .before .expression-at .ensures) (c .before .before .before .before .before .before .before .before .before .shape .given .1)) (ap expression.Choice (c .before .before .before .before .before .before .choice3 .given .1)) in
     conditional-choice _ _ _ _ asked shape (c .before .before .before .before .atom-at5 .ensures) (c .before .before .before .end-at .ensures) (c .before .before .atom-at6 .ensures) (c .before .end-at2 .ensures) (c .atom-at7 .ensures)
 
+returns-7 : tie.Need-returns-7
+returns-7 c =
+    let asked = at-start (c .before .before .before .before) in
+    straight-call _ _ _ _ (asked .writing .measured .source) (asked .inside) (expressed (c .before .before .expression-at .ensures) (c .enum-told4 .given .1))
+
 pub choice-at-spec : {M : Type 1} → statement M
 choice-at-spec =
     tie.close
@@ -151,9 +159,11 @@ choice-at-spec =
     atom-at-requires-6
     end-at-requires-2
     atom-at-requires-7
+    enum-told-4
     returns
     returns-2
     returns-3
     returns-4
     returns-5
-    returns-6)
+    returns-6
+    returns-7)

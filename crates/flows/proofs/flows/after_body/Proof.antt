@@ -1,5 +1,5 @@
 -- `after_body` goes by the flow of the answer.
-use Rattle.flows.proofs.Answers.{body-next, body-break, body-continue, body-goto, body-halted}
+use Rattle.flows.proofs.Answers.{body-next, body-break, body-continue, body-goto, body-return, body-halted}
 use borrow.Author.Needs.{needs}
 use Rattle.flows.proofs.flows.after_body.Statement.{statement}
 use Rattle.flows.proofs.flows.after_body.Tie as tie
@@ -21,6 +21,9 @@ enum-told-4 c = search needs
 
 enum-told-5 : tie.Need-enum-told-5
 enum-told-5 c = search needs
+
+enum-told-6 : tie.Need-enum-told-6
+enum-told-6 c = search needs
 
 returns : tie.Need-returns
 returns c =
@@ -50,7 +53,13 @@ returns-5 : tie.Need-returns-5
 returns-5 c =
     let start = c .before .before .before in
     let past-flow = c .before .before .flow in
-    body-halted (start .args .answer) (start .fits .answer .sfits) (past-flow .result) (past-flow .ensures) (c .enum-told5 .given .1)
+    body-return (start .args .answer) (start .fits .answer .sfits) (past-flow .result) (past-flow .ensures) (c .enum-told5 .given .1)
+
+returns-6 : tie.Need-returns-6
+returns-6 c =
+    let start = c .before .before .before in
+    let past-flow = c .before .before .flow in
+    body-halted (start .args .answer) (start .fits .answer .sfits) (past-flow .result) (past-flow .ensures) (c .enum-told6 .given .1)
 
 pub after-body-spec : {M : Type 1} → statement M
 after-body-spec =
@@ -62,8 +71,10 @@ after-body-spec =
     enum-told-3
     enum-told-4
     enum-told-5
+    enum-told-6
     returns
     returns-2
     returns-3
     returns-4
-    returns-5)
+    returns-5
+    returns-6)

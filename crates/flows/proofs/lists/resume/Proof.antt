@@ -1,7 +1,7 @@
 -- `resume` goes by the flow of the answer.
 use mathlib.Core.Path.{_∙_}
 use Rattle.flows.proofs.Answers.{flow-is}
-use Rattle.flows.proofs.Items.{at-row, next-asks, next-is, resumes-next, resumes-goto, resumes-break, resumes-continue, resumes-halted}
+use Rattle.flows.proofs.Items.{at-row, next-asks, next-is, resumes-next, resumes-goto, resumes-break, resumes-continue, resumes-return, resumes-halted}
 use borrow.Author.Needs.{needs}
 use Rattle.flows.proofs.lists.resume.Statement.{statement}
 use Rattle.flows.proofs.lists.resume.Tie as tie
@@ -35,6 +35,9 @@ enum-told-3 c = search needs
 enum-told-4 : tie.Need-enum-told-4
 enum-told-4 c = search needs
 
+enum-told-5 : tie.Need-enum-told-5
+enum-told-5 c = search needs
+
 returns : tie.Need-returns
 returns c =
     let start = c .before .before .before .before in
@@ -63,7 +66,13 @@ returns-5 : tie.Need-returns-5
 returns-5 c =
     let start = c .before .before .before in
     let past-flow = c .before .before .flow in
-    resumes-halted (start .pre) (start .args .answer) (flow-is (start .args .answer) (start .fits .answer .sfits) (past-flow .result) (past-flow .ensures) ∙ c .enum-told4 .given .1)
+    resumes-return (start .pre) (start .args .answer) (flow-is (start .args .answer) (start .fits .answer .sfits) (past-flow .result) (past-flow .ensures) ∙ c .enum-told4 .given .1)
+
+returns-6 : tie.Need-returns-6
+returns-6 c =
+    let start = c .before .before .before in
+    let past-flow = c .before .before .flow in
+    resumes-halted (start .pre) (start .args .answer) (flow-is (start .args .answer) (start .fits .answer .sfits) (past-flow .result) (past-flow .ensures) ∙ c .enum-told5 .given .1)
 
 pub resume-spec : {M : Type 1} → statement M
 resume-spec =
@@ -78,8 +87,10 @@ resume-spec =
     enum-told-2
     enum-told-3
     enum-told-4
+    enum-told-5
     returns
     returns-2
     returns-3
     returns-4
-    returns-5)
+    returns-5
+    returns-6)

@@ -7,8 +7,9 @@ use Rattle.translation.specs.Uses.{direct}
 use Rattle.translation.specs.Translate.{atomOf, labels, statementLevels}
 use Rattle.translation.specs.TranslateSize.{statementSize}
 use Rattle.translation.specs.TranslateBounds.{taken-most}
+use Rattle.measure_table.specs.Parts.{calledIn}
 use Rattle.measure_table.specs.MeasureLaws.{slot-asks, link-asks}
-use Rattle.measures.proofs.StatementLaws.{absent-link, store-small, plain-measured, express-measured, block-measured, if-measured, while-shape, do-shape, for-measured, switch-measured, guarded-measured, rounds-shape, declare-measured}
+use Rattle.measures.proofs.StatementLaws.{absent-link, store-small, plain-measured, express-measured, block-measured, if-measured, while-shape, do-shape, for-measured, switch-measured, guarded-measured, rounds-shape, declare-measured, return-measured}
 use borrow.Author.Needs.{needs}
 use Rattle.measures.proofs.statements.measured_statement.Statement.{statement}
 use Rattle.measures.proofs.statements.measured_statement.Tie as tie
@@ -21,6 +22,7 @@ use Rattle.measures.proofs.statements.guarded_measures.Reads as guarded
 use Rattle.measures.proofs.statements.if_measures.Reads as if-measures-reads
 use Rattle.measures.proofs.statements.loop_measures.Reads as loop-measures-reads
 use Rattle.measures.proofs.statements.plain_measures.Reads as plain-measures-reads
+use Rattle.measures.proofs.statements.return_measures.Reads as return-measures-reads
 use Rattle.measures.proofs.statements.rounds_measures.Reads as rounds-measures-reads
 use Rattle.measures.proofs.statements.switch_measures.Reads as switch-measures-reads
 use Rattle.shapes.proofs.rows.statement_at.Reads as statement-at-reads
@@ -77,7 +79,7 @@ taken-at-requires : tie.Need-taken-at-requires
 taken-at-requires c κs = link-asks (c .before .before .before .before .before .pre .0) ((stated (c .before .before .before .statement-at .ensures) (c .before .shape7 .given .1)) .onward .0)
 
 switch-measures-requires : tie.Need-switch-measures-requires
-switch-measures-requires c κs = (slot-asks (c .before .before .before .before .before .before .pre .0) (optional ((stated (c .before .before .before .before .statement-at .ensures) (c .before .before .shape7 .given .1)) .onward .0)), slot-asks (c .before .before .before .before .before .before .pre .0) ((stated (c .before .before .before .before .statement-at .ensures) (c .before .before .shape7 .given .1)) .onward .1), omega (arith, c .taken-at .ensures, taken-most (atomOf (expressionAt (c .before .before .before .before .before .before .args .rows .now) (c .before .before .shape7 .given .0 .0)))))
+switch-measures-requires c κs = (slot-asks (c .before .before .before .before .before .before .pre .0) (optional ((stated (c .before .before .before .before .statement-at .ensures) (c .before .before .shape7 .given .1)) .onward .0)), slot-asks (c .before .before .before .before .before .before .pre .0) ((stated (c .before .before .before .before .statement-at .ensures) (c .before .before .shape7 .given .1)) .onward .1), omega (arith, c .taken-at .ensures, taken-most (atomOf (calledIn (c .before .before .before .before .before .before .args .rows .now)) (expressionAt (c .before .before .before .before .before .before .args .rows .now) (c .before .before .shape7 .given .0 .0)))))
 
 enum-told-2 : tie.Need-enum-told-2
 enum-told-2 c = search needs
@@ -123,6 +125,12 @@ store-rows-requires c κs = (c .before .before .before .before .before .pre .0 .
 
 declare-measures-requires : tie.Need-declare-measures-requires
 declare-measures-requires c κs = (slot-asks (c .before .before .before .before .before .before .pre .0) (optional ((stated (c .before .before .before .before .statement-at .ensures) (c .before .before .shape10 .given .1)) .onward .1)), store-small (direct (expressionAt (c .before .before .before .before .before .before .args .rows .now) (c .before .before .shape10 .given .0 .1 .0))) (c .store-rows .ensures))
+
+enum-known-shape-11 : tie.Need-enum-known-shape-11
+enum-known-shape-11 c = search needs
+
+return-measures-requires : tie.Need-return-measures-requires
+return-measures-requires c κs = slot-asks (c .before .before .before .before .before .pre .0) ((stated (c .before .before .before .statement-at .ensures) (c .before .shape11 .given .1)) .onward)
 
 returns : tie.Need-returns
 unfolding statementSize statementLevels labels
@@ -174,6 +182,9 @@ returns-14 c = plain-measured (c .before .before .before .before .before .pre .0
 returns-15 : tie.Need-returns-15
 returns-15 c = declare-measured (c .before .before .before .before .before .before .before .pre .0) (stated (c .before .before .before .before .before .statement-at .ensures) (c .before .before .before .shape10 .given .1)) (c .before .store-rows .ensures) (c .declare-measures .ensures)
 
+returns-16 : tie.Need-returns-16
+returns-16 c = return-measured (c .before .before .before .before .before .before .pre .0) (stated (c .before .before .before .before .statement-at .ensures) (c .before .before .shape11 .given .1)) (c .return-measures .ensures)
+
 pub measured-statement-spec : {M : Type 1} → statement M
 measured-statement-spec =
     tie.close
@@ -211,6 +222,8 @@ measured-statement-spec =
     enum-known-shape-10
     store-rows-requires
     declare-measures-requires
+    enum-known-shape-11
+    return-measures-requires
     returns
     returns-2
     returns-3
@@ -225,4 +238,5 @@ measured-statement-spec =
     returns-12
     returns-13
     returns-14
-    returns-15)
+    returns-15
+    returns-16)

@@ -34,6 +34,9 @@ lay-operated-requires c κs =
 enum-told-3 : tie.Need-enum-told-3
 enum-told-3 c = search needs
 
+enum-told-4 : tie.Need-enum-told-4
+enum-told-4 c = search needs
+
 returns : tie.Need-returns
 unfolding parted
 returns c =
@@ -59,6 +62,12 @@ returns-4 c =
     let f = read-as (c .before .before .expression-at .ensures) (c .enum-told3 .given .1) in
     laid-nothing _ _ _ (ap (bytes (c .before .before .before .before)) (f .is) ∙ no-assignment-chosen (c .before .before .before .before .args .sizes) (c .before .before .before .before .args .rows .now) (c .enum-told3 .given .0 .0)) (c .before .before .before .before .pre .1)
 
+returns-5 : tie.Need-returns-5
+unfolding parted
+returns-5 c =
+    let f = read-as (c .before .before .expression-at .ensures) (c .enum-told4 .given .1) in
+    laid-nothing _ _ _ (ap (bytes (c .before .before .before .before)) (f .is)) (c .before .before .before .before .pre .1)
+
 pub lay-assignment-spec : {M : Type 1} → statement M
 lay-assignment-spec =
     tie.close
@@ -69,8 +78,10 @@ lay-assignment-spec =
     enum-known-shape
     lay-operated-requires
     enum-told-3
+    enum-told-4
     returns
     returns-2
     same-length
     returns-3
-    returns-4)
+    returns-4
+    returns-5)

@@ -46,6 +46,9 @@ enum-told-2 c = search needs
 enum-told-3 : tie.Need-enum-told-3
 enum-told-3 c = search needs
 
+enum-told-4 : tie.Need-enum-told-4
+enum-told-4 c = search needs
+
 same-length : tie.Need-same-length
 same-length c = search needs
 
@@ -77,6 +80,11 @@ returns-5 c =
     let f = read-as (c .before .before .expression-at .ensures) (c .enum-told3 .given .1) in
     laid-nothing _ _ _ (ap (atomWord (c .before .before .before .before .args .sizes)) (f .is) ∙ no-atom-chosen (c .before .before .before .before .args .sizes) (c .before .before .before .before .args .rows .now) (c .enum-told3 .given .0 .0)) (c .before .before .before .before .pre .1)
 
+returns-6 : tie.Need-returns-6
+returns-6 c =
+    let f = read-as (c .before .before .expression-at .ensures) (c .enum-told4 .given .1) in
+    laid-nothing _ _ _ (ap (atomWord (c .before .before .before .before .args .sizes)) (f .is)) (c .before .before .before .before .pre .1)
+
 pub lay-atom-spec : {M : Type 1} → statement M
 lay-atom-spec =
     tie.close
@@ -90,10 +98,12 @@ lay-atom-spec =
     enum-told
     enum-told-2
     enum-told-3
+    enum-told-4
     same-length
     returns
     same-length-2
     returns-2
     returns-3
     returns-4
-    returns-5)
+    returns-5
+    returns-6)

@@ -53,6 +53,9 @@ lay-operation-requires c κs =
 enum-told : tie.Need-enum-told
 enum-told c = search needs
 
+enum-told-2 : tie.Need-enum-told-2
+enum-told-2 c = search needs
+
 same-length : tie.Need-same-length
 same-length c = search needs
 
@@ -84,6 +87,12 @@ returns-4 c =
     let f = read-as (c .before .before .expression-at .ensures) (c .enum-told .given .1) in
     laid-nothing _ _ _ (ap (bytes (c .before .before .before .before)) (f .is) ∙ no-value-chosen (c .before .before .before .before .args .sizes) (c .before .before .before .before .args .rows .now) (c .enum-told .given .0 .0)) (c .before .before .before .before .pre .1)
 
+returns-5 : tie.Need-returns-5
+unfolding ended
+returns-5 c =
+    let f = read-as (c .before .before .expression-at .ensures) (c .enum-told2 .given .1) in
+    laid-nothing _ _ _ (ap (bytes (c .before .before .before .before)) (f .is)) (c .before .before .before .before .pre .1)
+
 pub lay-value-spec : {M : Type 1} → statement M
 lay-value-spec =
     tie.close
@@ -96,10 +105,12 @@ lay-value-spec =
     enum-known-shape-3
     lay-operation-requires
     enum-told
+    enum-told-2
     same-length
     returns
     same-length-2
     returns-2
     same-length-3
     returns-3
-    returns-4)
+    returns-4
+    returns-5)

@@ -18,6 +18,12 @@ enum-told-3 c = search needs
 enum-told-4 : tie.Need-enum-told-4
 enum-told-4 c = search needs
 
+enum-told-5 : tie.Need-enum-told-5
+enum-told-5 c = search needs
+
+enum-told-6 : tie.Need-enum-told-6
+enum-told-6 c = search needs
+
 returns : tie.Need-returns
 returns c = search needs
 
@@ -37,6 +43,14 @@ returns-5 : tie.Need-returns-5
 returns-5 c =
     cc
 
+returns-6 : tie.Need-returns-6
+returns-6 c =
+    cc
+
+returns-7 : tie.Need-returns-7
+returns-7 c =
+    cc
+
 pub expression-of-spec : {M : Type 1} → statement M
 expression-of-spec =
     tie.close
@@ -46,8 +60,12 @@ expression-of-spec =
     enum-told-2
     enum-told-3
     enum-told-4
+    enum-told-5
+    enum-told-6
     returns
     returns-2
     returns-3
     returns-4
-    returns-5)
+    returns-5
+    returns-6
+    returns-7)

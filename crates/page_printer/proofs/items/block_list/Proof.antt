@@ -26,6 +26,12 @@ enum-told-3 c = search needs
 enum-told-4 : tie.Need-enum-told-4
 enum-told-4 c = search needs
 
+enum-told-5 : tie.Need-enum-told-5
+enum-told-5 c = search needs
+
+enum-told-6 : tie.Need-enum-told-6
+enum-told-6 c = search needs
+
 returns : tie.Need-returns
 unfolding blockList
 returns c =
@@ -51,6 +57,16 @@ unfolding blockList
 returns-5 c =
     ap listIn (sym (c .enum-told4 .given .1) ∙ c .before .before .shape-at .ensures)
 
+returns-6 : tie.Need-returns-6
+unfolding blockList
+returns-6 c =
+    ap listIn (sym (c .enum-told5 .given .1) ∙ c .before .before .shape-at .ensures)
+
+returns-7 : tie.Need-returns-7
+unfolding blockList
+returns-7 c =
+    ap listIn (sym (c .enum-told6 .given .1) ∙ c .before .before .shape-at .ensures)
+
 pub block-list-spec : {M : Type 1} → statement M
 block-list-spec =
     tie.close
@@ -62,8 +78,12 @@ block-list-spec =
     enum-told-2
     enum-told-3
     enum-told-4
+    enum-told-5
+    enum-told-6
     returns
     returns-2
     returns-3
     returns-4
-    returns-5)
+    returns-5
+    returns-6
+    returns-7)

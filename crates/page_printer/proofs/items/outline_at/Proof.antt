@@ -26,6 +26,12 @@ enum-told-2 c = search needs
 enum-told-3 : tie.Need-enum-told-3
 enum-told-3 c = search needs
 
+enum-told-4 : tie.Need-enum-told-4
+enum-told-4 c = search needs
+
+enum-told-5 : tie.Need-enum-told-5
+enum-told-5 c = search needs
+
 returns : tie.Need-returns
 unfolding outlineAt
 returns c =
@@ -51,6 +57,16 @@ unfolding outlineAt
 returns-5 c =
     ap (outlineOf (c .before .before .before .args .row)) (sym (c .enum-told3 .given .1) ∙ c .before .before .shape-at .ensures)
 
+returns-6 : tie.Need-returns-6
+unfolding outlineAt
+returns-6 c =
+    ap (outlineOf (c .before .before .before .args .row)) (sym (c .enum-told4 .given .1) ∙ c .before .before .shape-at .ensures)
+
+returns-7 : tie.Need-returns-7
+unfolding outlineAt
+returns-7 c =
+    ap (outlineOf (c .before .before .before .args .row)) (sym (c .enum-told5 .given .1) ∙ c .before .before .shape-at .ensures)
+
 pub outline-at-spec : {M : Type 1} → statement M
 outline-at-spec =
     tie.close
@@ -62,8 +78,12 @@ outline-at-spec =
     enum-known-shape-2
     enum-told-2
     enum-told-3
+    enum-told-4
+    enum-told-5
     returns
     returns-2
     returns-3
     returns-4
-    returns-5)
+    returns-5
+    returns-6
+    returns-7)

@@ -53,6 +53,9 @@ enum-told-10 c = search needs
 enum-told-11 : tie.Need-enum-told-11
 enum-told-11 c = search needs
 
+enum-told-12 : tie.Need-enum-told-12
+enum-told-12 c = search needs
+
 returns : tie.Need-returns
 returns c =
     ap (statementOutline (c .before .before .args .row)) (sym (c .enum-told .given .1))
@@ -105,6 +108,9 @@ returns-14 c =
 returns-15 : tie.Need-returns-15
 returns-15 c = search needs
 
+returns-16 : tie.Need-returns-16
+returns-16 c = search needs
+
 pub statement-outline-spec : {M : Type 1} → statement M
 statement-outline-spec =
     tie.close
@@ -125,6 +131,7 @@ statement-outline-spec =
     enum-told-9
     enum-told-10
     enum-told-11
+    enum-told-12
     returns
     returns-2
     returns-3
@@ -139,4 +146,5 @@ statement-outline-spec =
     returns-12
     returns-13
     returns-14
-    returns-15)
+    returns-15
+    returns-16)

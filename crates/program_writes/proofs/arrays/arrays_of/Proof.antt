@@ -21,7 +21,7 @@ join-arrays-requires : tie.Need-join-arrays-requires
 join-arrays-requires c κs = search needs
 
 returns : tie.Need-returns
-returns c = row-arrays-are (c .before .before .before .before .before .before .pre .0) (c .before .before .before .before .expression-at .ensures) (c .before .before .before .links-of .ensures) (c .before .before .stored .ensures) (c .before .operand-arrays .ensures) (c .join-arrays .ensures)
+returns c = row-arrays-are (c .before .before .before .before .before .before .pre .0) (c .before .before .before .before .before .before .pre .1) (c .before .before .before .before .expression-at .ensures) (c .before .before .before .links-of .ensures) (c .before .before .stored .ensures) (c .before .operand-arrays .ensures) (c .join-arrays .ensures)
 
 pub arrays-of-spec : {M : Type 1} → statement M
 arrays-of-spec =

@@ -29,6 +29,12 @@ enum-known-shape-3 c = search needs
 choice-links-requires : tie.Need-choice-links-requires
 choice-links-requires c κs = search needs
 
+enum-told-2 : tie.Need-enum-told-2
+enum-told-2 c = search needs
+
+links-requires-2 : tie.Need-links-requires-2
+links-requires-2 c κs = search needs
+
 returns : tie.Need-returns
 returns c = c .links .ensures ∙ sym (ap linksOf (c .before .enum-told .given .1))
 
@@ -40,6 +46,9 @@ returns-3 c = c .operation-links .ensures ∙ sym (ap linksOf (c .before .before
 
 returns-4 : tie.Need-returns-4
 returns-4 c = c .choice-links .ensures ∙ sym (ap linksOf (c .before .before .shape3 .given .1))
+
+returns-5 : tie.Need-returns-5
+returns-5 c = c .links2 .ensures ∙ sym (ap linksOf (c .before .enum-told2 .given .1))
 
 pub links-of-spec : {M : Type 1} → statement M
 links-of-spec =
@@ -53,7 +62,10 @@ links-of-spec =
     operation-links-requires
     enum-known-shape-3
     choice-links-requires
+    enum-told-2
+    links-requires-2
     returns
     returns-2
     returns-3
-    returns-4)
+    returns-4
+    returns-5)

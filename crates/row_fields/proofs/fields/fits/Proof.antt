@@ -37,29 +37,13 @@ unfolding fits
 returns-4 c =
     rw (ne-eqb _ _ (c .before .before .before .before .if1 .left), ne-eqb _ _ (c .before .before .before .if2 .left), ne-eqb _ _ (c .before .before .if3 .left), eq-eqb _ _ (c .before .if4 .taken)) (c .is-statement .ensures)
 
-is-arm-requires : tie.Need-is-arm-requires
-is-arm-requires c κs = search needs
+fits-part-requires : tie.Need-fits-part-requires
+fits-part-requires c κs = search needs
 
 returns-5 : tie.Need-returns-5
 unfolding fits
 returns-5 c =
-    rw (ne-eqb _ _ (c .before .before .before .before .before .if1 .left), ne-eqb _ _ (c .before .before .before .before .if2 .left), ne-eqb _ _ (c .before .before .before .if3 .left), ne-eqb _ _ (c .before .before .if4 .left), eq-eqb _ _ (c .before .if5 .taken)) (c .is-arm .ensures)
-
-is-body-requires : tie.Need-is-body-requires
-is-body-requires c κs = search needs
-
-number-at-requires : tie.Need-number-at-requires
-number-at-requires c κs = search needs
-
-returns-6 : tie.Need-returns-6
-unfolding fits
-returns-6 c =
-    rw (ne-eqb _ _ (c .before .before .before .before .before .before .before .if1 .left), ne-eqb _ _ (c .before .before .before .before .before .before .if2 .left), ne-eqb _ _ (c .before .before .before .before .before .if3 .left), ne-eqb _ _ (c .before .before .before .before .if4 .left), ne-eqb _ _ (c .before .before .before .if5 .left), ← c .before .before .is-body .ensures, c .before .if6 .taken, ← c .number-at .ensures)
-
-returns-7 : tie.Need-returns-7
-unfolding fits
-returns-7 c =
-    rw (ne-eqb _ _ (c .before .before .before .before .before .before .if1 .left), ne-eqb _ _ (c .before .before .before .before .before .if2 .left), ne-eqb _ _ (c .before .before .before .before .if3 .left), ne-eqb _ _ (c .before .before .before .if4 .left), ne-eqb _ _ (c .before .before .if5 .left), ← c .before .is-body .ensures, c .if6 .left)
+    rw (ne-eqb _ _ (c .before .before .before .before .if1 .left), ne-eqb _ _ (c .before .before .before .if2 .left), ne-eqb _ _ (c .before .before .if3 .left), ne-eqb _ _ (c .before .if4 .left)) (c .fits-part .ensures)
 
 pub fits-spec : {M : Type 1} → statement M
 fits-spec =
@@ -73,9 +57,5 @@ fits-spec =
     returns-3
     is-statement-requires
     returns-4
-    is-arm-requires
-    returns-5
-    is-body-requires
-    number-at-requires
-    returns-6
-    returns-7)
+    fits-part-requires
+    returns-5)

@@ -1,9 +1,10 @@
 -- What an expression writes, by its shape.
 use Rattle.shapes.specs.ShapeLaws.{expressed}
-use Rattle.row_writes.proofs.WriteLaws.{number-set}
+use Rattle.row_writes.proofs.WriteLaws.{number-set, call-set}
 use borrow.Author.Needs.{needs}
 use Rattle.row_writes.proofs.writes.writes_at.Statement.{statement}
 use Rattle.row_writes.proofs.writes.writes_at.Tie as tie
+use Rattle.row_writes.proofs.arguments.arguments_writes.Reads as arguments-writes-reads
 use Rattle.row_writes.proofs.writes.choice_writes.Reads as choice-writes-reads
 use Rattle.row_writes.proofs.writes.operation_writes.Reads as operation-writes-reads
 use Rattle.row_writes.proofs.writes.read_writes.Reads as read-writes-reads
@@ -37,6 +38,12 @@ enum-known-shape-3 c = search needs
 choice-writes-requires : tie.Need-choice-writes-requires
 choice-writes-requires c κs = (c .before .before .before .before .before .pre .0, expressed (c .before .before .before .expression-at .ensures) (c .before .shape3 .given .1))
 
+enum-known-shape-4 : tie.Need-enum-known-shape-4
+enum-known-shape-4 c = search needs
+
+arguments-writes-requires : tie.Need-arguments-writes-requires
+arguments-writes-requires c κs = (c .before .before .before .before .before .pre .0, (expressed (c .before .before .before .expression-at .ensures) (c .before .shape4 .given .1)) .onward)
+
 returns : tie.Need-returns
 returns c = number-set (c .before .before .before .before .before .pre .0) (expressed (c .before .before .before .expression-at .ensures) (c .before .enum-told .given .1)) (c .nothing .ensures)
 
@@ -48,6 +55,10 @@ returns-3 c = search needs
 
 returns-4 : tie.Need-returns-4
 returns-4 c = search needs
+
+returns-5 : tie.Need-returns-5
+returns-5 c =
+    call-set (c .before .before .before .before .before .before .pre .0) (expressed (c .before .before .before .before .expression-at .ensures) (c .before .before .shape4 .given .1)) (c .arguments-writes .ensures)
 
 pub writes-at-spec : {M : Type 1} → statement M
 writes-at-spec =
@@ -62,7 +73,10 @@ writes-at-spec =
     operation-writes-requires
     enum-known-shape-3
     choice-writes-requires
+    enum-known-shape-4
+    arguments-writes-requires
     returns
     returns-2
     returns-3
-    returns-4)
+    returns-4
+    returns-5)

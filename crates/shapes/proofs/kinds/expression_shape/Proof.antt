@@ -61,6 +61,9 @@ enum-known-kind-3 c = search needs
 enum-known-kind-4 : tie.Need-enum-known-kind-4
 enum-known-kind-4 c = search needs
 
+enum-told-11 : tie.Need-enum-told-11
+enum-told-11 c = search needs
+
 returns : tie.Need-returns
 returns c = expression-arm _ _ _ _ _ _ (c .before .enum-told .given .1) (toZ-ofZ (sfits-of (c .word-at .ok)) ∙ c .word-at .ensures) (c .before .before .before .before .before .number-at .ensures) (c .before .before .before .before .number-at2 .ensures) (c .before .before .before .number-at3 .ensures)
 
@@ -103,6 +106,9 @@ returns-13 c = expression-arm _ _ _ _ _ _ (c .before .kind3 .given .1) refl (c .
 returns-14 : tie.Need-returns-14
 returns-14 c = expression-arm _ _ _ _ _ _ (c .before .kind4 .given .1) refl (c .before .before .before .before .before .number-at .ensures) (c .before .before .before .before .number-at2 .ensures) (c .before .before .before .number-at3 .ensures)
 
+returns-15 : tie.Need-returns-15
+returns-15 c = expression-arm _ _ _ _ _ _ (c .enum-told11 .given .1) refl (c .before .before .before .before .number-at .ensures) (c .before .before .before .number-at2 .ensures) (c .before .before .number-at3 .ensures)
+
 pub expression-shape-spec : {M : Type 1} → statement M
 expression-shape-spec =
     tie.close
@@ -125,6 +131,7 @@ expression-shape-spec =
     enum-known-kind-2
     enum-known-kind-3
     enum-known-kind-4
+    enum-told-11
     returns
     returns-2
     returns-3
@@ -138,4 +145,5 @@ expression-shape-spec =
     returns-11
     returns-12
     returns-13
-    returns-14)
+    returns-14
+    returns-15)

@@ -61,6 +61,9 @@ enum-told-14 c = search needs
 enum-told-15 : tie.Need-enum-told-15
 enum-told-15 c = search needs
 
+enum-told-16 : tie.Need-enum-told-16
+enum-told-16 c = search needs
+
 returns : tie.Need-returns
 returns c = statement-arm _ _ _ _ _ _ (c .enum-told .given .1) (c .before .before .before .before .before .number-at .ensures) (c .before .before .before .before .number-at2 .ensures) (c .before .before .before .number-at3 .ensures) (c .before .before .number-at4 .ensures)
 
@@ -106,6 +109,9 @@ returns-14 c = statement-arm _ _ _ _ _ _ (c .enum-told14 .given .1) (c .before .
 returns-15 : tie.Need-returns-15
 returns-15 c = statement-arm _ _ _ _ _ _ (c .enum-told15 .given .1) (c .before .before .before .before .before .number-at .ensures) (c .before .before .before .before .number-at2 .ensures) (c .before .before .before .number-at3 .ensures) (c .before .before .number-at4 .ensures)
 
+returns-16 : tie.Need-returns-16
+returns-16 c = statement-arm _ _ _ _ _ _ (c .enum-told16 .given .1) (c .before .before .before .before .before .number-at .ensures) (c .before .before .before .before .number-at2 .ensures) (c .before .before .before .number-at3 .ensures) (c .before .before .number-at4 .ensures)
+
 pub statement-shape-spec : {M : Type 1} → statement M
 statement-shape-spec =
     tie.close
@@ -129,6 +135,7 @@ statement-shape-spec =
     enum-told-13
     enum-told-14
     enum-told-15
+    enum-told-16
     returns
     returns-2
     returns-3
@@ -143,4 +150,5 @@ statement-shape-spec =
     returns-12
     returns-13
     returns-14
-    returns-15)
+    returns-15
+    returns-16)

@@ -36,6 +36,12 @@ member-shape-requires c κs = search needs
 enum-told : tie.Need-enum-told
 enum-told c = search needs
 
+definition-shape-requires : tie.Need-definition-shape-requires
+definition-shape-requires c κs = search needs
+
+enum-told-2 : tie.Need-enum-told-2
+enum-told-2 c = search needs
+
 returns : tie.Need-returns
 returns c = ap OfExpression (c .expression-shape .ensures) ∙ shape-arm _ _ (c .before .before .before .before .kind-at .ensures) (c .before .before .kind .given .1)
 
@@ -49,7 +55,10 @@ returns-4 : tie.Need-returns-4
 returns-4 c = c .member-shape .ensures ∙ shape-arm _ _ (c .before .before .before .before .kind-at .ensures) (c .before .before .kind4 .given .1)
 
 returns-5 : tie.Need-returns-5
-returns-5 c = shape-arm _ _ (c .before .before .kind-at .ensures) (c .enum-told .given .1)
+returns-5 c = c .definition-shape .ensures ∙ shape-arm _ _ (c .before .before .before .kind-at .ensures) (c .before .enum-told .given .1)
+
+returns-6 : tie.Need-returns-6
+returns-6 c = shape-arm _ _ (c .before .before .kind-at .ensures) (c .enum-told2 .given .1)
 
 pub shape-at-spec : {M : Type 1} → statement M
 shape-at-spec =
@@ -65,8 +74,11 @@ shape-at-spec =
     enum-known-kind-4
     member-shape-requires
     enum-told
+    definition-shape-requires
+    enum-told-2
     returns
     returns-2
     returns-3
     returns-4
-    returns-5)
+    returns-5
+    returns-6)

@@ -3,6 +3,7 @@ use mathlib.Core.Path.{sym, ap, _∙_}
 use Rattle.translation.specs.Translate.{placeTaken}
 use Rattle.shapes.specs.ShapeLaws.{placed}
 use Rattle.measure_table.specs.MeasureLaws.{whole-asks}
+use Rattle.measure_table.specs.Parts.{calledIn}
 use borrow.Author.Needs.{needs}
 use Rattle.straight_writers.proofs.atoms.place_taken.Statement.{statement}
 use Rattle.straight_writers.proofs.atoms.place_taken.Tie as tie
@@ -21,11 +22,11 @@ taken-at-requires c κs = whole-asks (c .before .before .before .before .before 
 
 returns : tie.Need-returns
 unfolding placeTaken
-returns c = sym (ap placeTaken (placed (c .before .before .place-at .ensures) (c .enum-told .given .1) .is))
+returns c = sym (ap (placeTaken (calledIn (c .before .before .before .before .args .rows .now))) (placed (c .before .before .place-at .ensures) (c .enum-told .given .1) .is))
 
 returns-2 : tie.Need-returns-2
 unfolding placeTaken
-returns-2 c = c .taken-at .ensures ∙ sym (ap placeTaken (placed (c .before .before .before .before .place-at .ensures) (c .before .before .place .given .1) .is))
+returns-2 c = c .taken-at .ensures ∙ sym (ap (placeTaken (calledIn (c .before .before .before .before .before .before .args .rows .now))) (placed (c .before .before .before .before .place-at .ensures) (c .before .before .place .given .1) .is))
 
 pub place-taken-spec : {M : Type 1} → statement M
 place-taken-spec =

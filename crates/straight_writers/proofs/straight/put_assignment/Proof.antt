@@ -11,6 +11,7 @@ use Rattle.shapes.specs.ShapeLaws.{placed}
 use Rattle.leaves.specs.Straight.{straightCode}
 use Rattle.leaves.specs.Chain.{room-less}
 use Rattle.leaves.specs.LeafLaws.{recoded}
+use Rattle.measure_table.specs.Parts.{calledIn}
 use borrow.Author.Needs.{needs}
 use Rattle.straight_writers.proofs.straight.put_assignment.Statement.{statement}
 use Rattle.straight_writers.proofs.straight.put_assignment.Tie as tie
@@ -38,7 +39,7 @@ put-element-requires c κs =
     let asks = c .before .before .before .before .before .before .pre in
     let found = placed (c .before .before .before .before .place-at .ensures) (c .before .before .shape2 .given .1) in
     let size = ap (λ (p : Place). storeRows p (direct (expressionAt (args .rows .now) (args .value)))) (found .is) in
-    let copies = ap (λ (p : Place). copied (atomOf (expressionAt (args .rows .now) (args .value))) (indexWrites p)) (found .is) in
+    let copies = ap (λ (p : Place). copied (atomOf (calledIn (args .rows .now)) (expressionAt (args .rows .now) (args .value))) (indexWrites (calledIn (args .rows .now)) p)) (found .is) in
     record { writing = asks .writing; low = found .onward .0; index-inside = found .onward .1 .inside; value-inside = asks .value-inside; copies-are = asks .copies-are ∙ copies; level-low = asks .level-low; room = room-less _ (asks .room) (omega (arith, size)) }
 
 same-length : tie.Need-same-length
@@ -48,7 +49,7 @@ returns : tie.Need-returns
 returns c =
     let args = c .before .before .before .before .before .before .before .before .args in
     recoded _ _ _ _ _ _ (c .before .put-variable .ensures)
-    (ap (λ (p : Place). straightCode (args .at .store) (assign p (expressionAt (args .rows .now) (args .value))) (args .usage) (args .at .level)) (sym (placed (c .before .before .before .before .before .before .place-at .ensures) (c .before .before .before .before .shape .given .1) .is)))
+    (ap (λ (p : Place). straightCode (calledIn (args .rows .now)) (args .at .store) (assign p (expressionAt (args .rows .now) (args .value))) (args .usage) (args .at .level)) (sym (placed (c .before .before .before .before .before .before .place-at .ensures) (c .before .before .before .before .shape .given .1) .is)))
 
 same-length-2 : tie.Need-same-length-2
 same-length-2 c = search needs
@@ -57,7 +58,7 @@ returns-2 : tie.Need-returns-2
 returns-2 c =
     let args = c .before .before .before .before .before .before .before .before .args in
     recoded _ _ _ _ _ _ (c .before .put-element .ensures)
-    (ap (λ (p : Place). straightCode (args .at .store) (assign p (expressionAt (args .rows .now) (args .value))) (args .usage) (args .at .level)) (sym (placed (c .before .before .before .before .before .before .place-at .ensures) (c .before .before .before .before .shape2 .given .1) .is)))
+    (ap (λ (p : Place). straightCode (calledIn (args .rows .now)) (args .at .store) (assign p (expressionAt (args .rows .now) (args .value))) (args .usage) (args .at .level)) (sym (placed (c .before .before .before .before .before .before .place-at .ensures) (c .before .before .before .before .shape2 .given .1) .is)))
 
 pub put-assignment-spec : {M : Type 1} → statement M
 put-assignment-spec =

@@ -5,6 +5,7 @@ use Rattle.translation.specs.Translate.{atomOf}
 use Rattle.leaves.specs.Chain.{room-less}
 use Rattle.straight_writers.specs.AtomLaws.{hold-copied, hold-nothing}
 use Rattle.leaves.specs.LeafLaws.{recoded, nothing-wrote}
+use Rattle.measure_table.specs.Parts.{calledIn}
 use borrow.Author.Needs.{needs}
 use Rattle.straight_writers.proofs.straight.put_hold.Statement.{statement}
 use Rattle.straight_writers.proofs.straight.put_hold.Tie as tie
@@ -27,7 +28,7 @@ returns : tie.Need-returns
 returns c = recoded _ _ _ _ _ _ (c .before .put-copy .ensures) (hold-copied (c .before .before .before .before .before .before .args .store) (c .before .before .before .before .before .before .args .level) (c .before .before .before .before .before .before .args .copied) (omega arith) (c .before .before .before .atom-at .ensures))
 
 returns-2 : tie.Need-returns-2
-returns-2 c = recoded _ _ _ _ _ _ (nothing-wrote (c .before .before .args .follows) (c .before .before .args .base) _) (hold-nothing (c .before .before .args .store) (c .before .before .args .level) (c .before .before .args .copied) (atomOf (expressionAt (c .before .before .args .rows .now) (c .before .before .args .value))) (λ e. omega arith))
+returns-2 c = recoded _ _ _ _ _ _ (nothing-wrote (c .before .before .args .follows) (c .before .before .args .base) _) (hold-nothing (c .before .before .args .store) (c .before .before .args .level) (c .before .before .args .copied) (atomOf (calledIn (c .before .before .args .rows .now)) (expressionAt (c .before .before .args .rows .now) (c .before .before .args .value))) (λ e. omega arith))
 
 pub put-hold-spec : {M : Type 1} → statement M
 put-hold-spec =

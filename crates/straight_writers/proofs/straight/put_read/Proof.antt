@@ -13,6 +13,7 @@ use Rattle.straight_writers.specs.AtomLaws.{place-index}
 use Rattle.leaves.specs.LeafLaws.{recoded, nothing-wrote}
 use Rattle.leaves.proofs.assignments.put_fetch.Reads as put-fetch-reads
 use Rattle.straight_writers.proofs.atoms.atom_at.Reads as atom-at-reads
+use Rattle.measure_table.specs.Parts.{calledIn}
 use borrow.Author.Needs.{needs}
 use Rattle.straight_writers.proofs.straight.put_read.Statement.{statement}
 use Rattle.straight_writers.proofs.straight.put_read.Tie as tie
@@ -39,7 +40,7 @@ returns : tie.Need-returns
 returns c =
     let args = c .before .before .before .args in
     recoded _ _ _ _ _ _ (nothing-wrote (args .at .follows) (args .at .base) _)
-    (ap (λ (p : PlaceShape). readCode (args .at .store) (placeTree (args .rows .now) p) (args .usage) (args .at .level)) (sym (c .enum-told .given .1)))
+    (ap (λ (p : PlaceShape). readCode (calledIn (args .rows .now)) (args .at .store) (placeTree (args .rows .now) p) (args .usage) (args .at .level)) (sym (c .enum-told .given .1)))
 
 same-length : tie.Need-same-length
 same-length c = search needs
@@ -49,7 +50,7 @@ returns-2 c =
     let args = c .before .before .before .before .before .before .before .before .before .args in
     recoded _ _ _ _ _ _ (c .before .put-fetch .ensures)
     (ap₂ (λ (n : ℕ) (x : Expression). express (assign (variable n) (read (element (c .before .before .before .before .before .before .place .given .0 .0) x))) then none) (c .before .before .before .before .target-word .ensures .is) (c .before .before .before .atom-at .ensures .is)
-    ∙ ap (λ (p : PlaceShape). readCode (args .at .store) (placeTree (args .rows .now) p) (args .usage) (args .at .level)) (sym (c .before .before .before .before .before .before .place .given .1)))
+    ∙ ap (λ (p : PlaceShape). readCode (calledIn (args .rows .now)) (args .at .store) (placeTree (args .rows .now) p) (args .usage) (args .at .level)) (sym (c .before .before .before .before .before .before .place .given .1)))
 
 pub put-read-spec : {M : Type 1} → statement M
 put-read-spec =

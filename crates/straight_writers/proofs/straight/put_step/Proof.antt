@@ -9,6 +9,7 @@ use Rattle.translation.specs.TranslateSize.{postfixRows}
 use Rattle.leaves.specs.Chain.{room-less}
 use Rattle.straight_writers.specs.AtomLaws.{postfix-rows}
 use Rattle.leaves.specs.LeafLaws.{recoded, place-taken-most}
+use Rattle.measure_table.specs.Parts.{calledIn}
 use borrow.Author.Needs.{needs}
 use Rattle.straight_writers.proofs.straight.put_step.Statement.{statement}
 use Rattle.straight_writers.proofs.straight.put_step.Tie as tie
@@ -26,10 +27,10 @@ place-taken-requires : tie.Need-place-taken-requires
 place-taken-requires c κs = (c .before .before .before .before .pre .writing .measured, c .before .before .before .before .pre .place-inside)
 
 add-above-2 : tie.Need-add-above-2
-add-above-2 c = omega (arith, c .before .before .before .before .before .pre .level-low, c .place-taken .ensures, place-taken-most (placeOf (expressionAt (c .before .before .before .before .before .args .rows .now) (c .before .before .before .before .before .args .place))), c .before .before .before .before .before .pre .writing .small-store)
+add-above-2 c = omega (arith, c .before .before .before .before .before .pre .level-low, c .place-taken .ensures, place-taken-most (calledIn (c .before .before .before .before .before .args .rows .now)) (placeOf (expressionAt (c .before .before .before .before .before .args .rows .now) (c .before .before .before .before .before .args .place))), c .before .before .before .before .before .pre .writing .small-store)
 
 put-postfix-requires : tie.Need-put-postfix-requires
-put-postfix-requires c κs = (room-less _ (c .before .before .before .before .before .before .pre .room) (omega (arith, ap (λ (p : Place). postfixRows p (c .before .before .before .before .before .before .args .usage)) (c .before .before .before .kernel-place .ensures .is), postfix-rows (c .before .before .before .before .before .before .args .at .store) (placeOf (expressionAt (c .before .before .before .before .before .before .args .rows .now) (c .before .before .before .before .before .before .args .place))) (c .before .before .before .before .before .before .args .usage) (c .before .before .before .before .before .before .args .at .level + 1))), c .before .before .before .kernel-place .ensures .fits, omega (arith, c .before .before .before .before .before .before .pre .level-low, c .before .before .before .before .before .before .pre .writing .small-store), omega (arith, c .before .before .before .before .before .before .pre .level-low, c .before .place-taken .ensures, place-taken-most (placeOf (expressionAt (c .before .before .before .before .before .before .args .rows .now) (c .before .before .before .before .before .before .args .place))), c .before .before .before .before .before .before .pre .writing .small-store))
+put-postfix-requires c κs = (room-less _ (c .before .before .before .before .before .before .pre .room) (omega (arith, ap (λ (p : Place). postfixRows p (c .before .before .before .before .before .before .args .usage)) (c .before .before .before .kernel-place .ensures .is), postfix-rows (calledIn (c .before .before .before .before .before .before .args .rows .now)) (c .before .before .before .before .before .before .args .at .store) (placeOf (expressionAt (c .before .before .before .before .before .before .args .rows .now) (c .before .before .before .before .before .before .args .place))) (c .before .before .before .before .before .before .args .usage) (c .before .before .before .before .before .before .args .at .level + 1))), c .before .before .before .kernel-place .ensures .fits, omega (arith, c .before .before .before .before .before .before .pre .level-low, c .before .before .before .before .before .before .pre .writing .small-store), omega (arith, c .before .before .before .before .before .before .pre .level-low, c .before .place-taken .ensures, place-taken-most (calledIn (c .before .before .before .before .before .before .args .rows .now)) (placeOf (expressionAt (c .before .before .before .before .before .before .args .rows .now) (c .before .before .before .before .before .before .args .place))), c .before .before .before .before .before .before .pre .writing .small-store))
 
 same-length : tie.Need-same-length
 same-length c = search needs

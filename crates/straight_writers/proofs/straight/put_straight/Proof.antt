@@ -12,10 +12,10 @@ use Rattle.shapes.specs.ShapeLaws.{expressed}
 use Rattle.shapes.specs.declared.ExpressionShape.the-variants.{Operation}
 use Rattle.leaves.specs.Straight.{straightCode}
 use Rattle.leaves.specs.Chain.{room-less}
-use Rattle.straight_writers.specs.AtomLaws.{held-is, onward-inside, room-by-shape, choice-none}
+use Rattle.straight_writers.specs.AtomLaws.{held-is, onward-inside, room-by-shape, choice-none, call-none}
 use Rattle.leaves.specs.LeafLaws.{recoded, nothing-wrote}
 use Rattle.language.specs.Writes.{indexWrites}
-use Rattle.measure_table.specs.Parts.{firstCopied}
+use Rattle.measure_table.specs.Parts.{calledIn, firstCopied}
 use Rattle.measure_table.specs.MeasureLaws.{landed-copied}
 use borrow.Author.Needs.{needs}
 use Rattle.straight_writers.proofs.straight.put_straight.Statement.{statement}
@@ -98,7 +98,7 @@ put-operator-requires c κs =
       writing = c .before .before .before .before .before .before .before .before .before .before .before .pre .0;
       left-inside = shape .onward .0 .inside;
       right-inside = shape .onward .1 .inside;
-      copies-are = c .before .before .before .before .before .before .before .before .operand-copied .ensures ∙ ap firstCopied (shape .is);
+      copies-are = c .before .before .before .before .before .before .before .before .operand-copied .ensures ∙ ap (firstCopied (calledIn (c .before .before .before .before .before .before .before .before .before .before .before .args .rows .now))) (shape .is);
       use-fits = c .before .before .before .before .before .before .before .before .before .before .before .pre .1 .use-fits;
       level-low = omega (arith, c .before .before .before .before .before .before .before .before .before .before .before .pre .1 .level-low, c .before .before .before .before .before .before .before .before .before .before .before .pre .1 .inside, c .before .before .before .before .before .before .before .before .before .before .before .pre .0 .measured .source .few-rows, c .before .before .before .before .before .before .before .before .before .before .before .pre .0 .small-store);
       room = room-less _ (room-by-shape (c .before .before .before .before .before .before .before .before .before .before .before .args .usage) shape (c .before .before .before .before .before .before .before .before .before .before .before .pre .1 .room)) (omega arith);
@@ -117,9 +117,9 @@ put-assignment-requires c κs =
       writing = c .before .before .before .before .before .before .before .before .before .before .before .pre .0;
       place-inside = shape .onward .0 .inside;
       value-inside = shape .onward .1 .inside;
-      copies-are = c .before .before .before .before .before .before .before .before .operand-copied .ensures ∙ ap firstCopied (shape .is);
+      copies-are = c .before .before .before .before .before .before .before .before .operand-copied .ensures ∙ ap (firstCopied (calledIn (c .before .before .before .before .before .before .before .before .before .before .before .args .rows .now))) (shape .is);
       level-low = omega (arith, c .before .before .before .before .before .before .before .before .before .before .before .pre .1 .level-low, c .before .before .before .before .before .before .before .before .before .before .before .pre .1 .inside, c .before .before .before .before .before .before .before .before .before .before .before .pre .0 .measured .source .few-rows, c .before .before .before .before .before .before .before .before .before .before .before .pre .0 .small-store);
-      room = room-less _ (room-by-shape (c .before .before .before .before .before .before .before .before .before .before .before .args .usage) shape (c .before .before .before .before .before .before .before .before .before .before .before .pre .1 .room)) (omega (arith, landed-copied (placeOf (expressionAt (c .before .before .before .before .before .before .before .before .before .before .before .args .rows .now) (c .before .before .operation4 .given .0 .0))) (direct (expressionAt (c .before .before .before .before .before .before .before .before .before .before .before .args .rows .now) (c .before .before .operation4 .given .0 .1 .0))) (atomOf (expressionAt (c .before .before .before .before .before .before .before .before .before .before .before .args .rows .now) (c .before .before .operation4 .given .0 .1 .0)))));
+      room = room-less _ (room-by-shape (c .before .before .before .before .before .before .before .before .before .before .before .args .usage) shape (c .before .before .before .before .before .before .before .before .before .before .before .pre .1 .room)) (omega (arith, landed-copied (calledIn (c .before .before .before .before .before .before .before .before .before .before .before .args .rows .now)) (placeOf (expressionAt (c .before .before .before .before .before .before .before .before .before .before .before .args .rows .now) (c .before .before .operation4 .given .0 .0))) (direct (expressionAt (c .before .before .before .before .before .before .before .before .before .before .before .args .rows .now) (c .before .before .operation4 .given .0 .1 .0))) (atomOf (calledIn (c .before .before .before .before .before .before .before .before .before .before .before .args .rows .now)) (expressionAt (c .before .before .before .before .before .before .before .before .before .before .before .args .rows .now) (c .before .before .operation4 .given .0 .1 .0)))));
     }
 
 enum-known-operation-5 : tie.Need-enum-known-operation-5
@@ -154,10 +154,13 @@ put-step-requires c κs =
 enum-told-3 : tie.Need-enum-told-3
 enum-told-3 c = search needs
 
+enum-told-4 : tie.Need-enum-told-4
+enum-told-4 c = search needs
+
 returns : tie.Need-returns
 returns c =
     let shape = expressed (c .before .before .expression-at .ensures) (c .enum-told .given .1) in
-    recoded _ _ _ _ _ _ (nothing-wrote (c .before .before .before .before .before .before .args .follows) (c .before .before .before .before .before .before .args .base) _) (ap (λ (e : Expression). straightCode (c .before .before .before .before .before .before .args .store) e (c .before .before .before .before .before .before .args .usage) (c .before .before .before .before .before .before .args .level)) (sym (shape .is)))
+    recoded _ _ _ _ _ _ (nothing-wrote (c .before .before .before .before .before .before .args .follows) (c .before .before .before .before .before .before .args .base) _) (ap (λ (e : Expression). straightCode (calledIn (c .before .before .before .before .before .before .args .rows .now)) (c .before .before .before .before .before .before .args .store) e (c .before .before .before .before .before .before .args .usage) (c .before .before .before .before .before .before .args .level)) (sym (shape .is)))
 
 same-length : tie.Need-same-length
 same-length c = search needs
@@ -165,7 +168,7 @@ same-length c = search needs
 returns-2 : tie.Need-returns-2
 returns-2 c =
     let shape = expressed (c .before .before .before .before .before .before .expression-at .ensures) (c .before .before .before .before .shape .given .1) in
-    recoded _ _ _ _ _ _ (c .before .put-read .ensures) (ap (λ (e : Expression). straightCode (c .before .before .before .before .before .before .before .before .before .before .args .store) e (c .before .before .before .before .before .before .before .before .before .before .args .usage) (c .before .before .before .before .before .before .before .before .before .before .args .level)) (sym (shape .is)))
+    recoded _ _ _ _ _ _ (c .before .put-read .ensures) (ap (λ (e : Expression). straightCode (calledIn (c .before .before .before .before .before .before .before .before .before .before .args .rows .now)) (c .before .before .before .before .before .before .before .before .before .before .args .store) e (c .before .before .before .before .before .before .before .before .before .before .args .usage) (c .before .before .before .before .before .before .before .before .before .before .args .level)) (sym (shape .is)))
 
 same-length-2 : tie.Need-same-length-2
 same-length-2 c = search needs
@@ -174,7 +177,7 @@ returns-3 : tie.Need-returns-3
 returns-3 c =
     let shape = expressed (expressed (c .before .before .before .before .before .before .before .before .before .before .expression-at .ensures) (c .before .before .before .before .before .before .before .before .shape2 .given .1)) (ap Operation (c .before .before .before .before .before .operation .given .1)) in
     recoded _ _ _ _ _ _ (c .before .put-minus .ensures)
-    (ap₂ (λ (n : ℕ) (x : Expression). express (assign (variable n) (minus x)) then none) (c .before .before .before .before .before .before .before .before .before .before .before .before .target-word .ensures .is) (c .before .before .before .atom-at .ensures .is) ∙ ap (λ (e : Expression). straightCode (c .before .before .before .before .before .before .before .before .before .before .before .before .before .before .args .store) e (c .before .before .before .before .before .before .before .before .before .before .before .before .before .before .args .usage) (c .before .before .before .before .before .before .before .before .before .before .before .before .before .before .args .level)) (sym (shape .is)))
+    (ap₂ (λ (n : ℕ) (x : Expression). express (assign (variable n) (minus x)) then none) (c .before .before .before .before .before .before .before .before .before .before .before .before .target-word .ensures .is) (c .before .before .before .atom-at .ensures .is) ∙ ap (λ (e : Expression). straightCode (calledIn (c .before .before .before .before .before .before .before .before .before .before .before .before .before .before .args .rows .now)) (c .before .before .before .before .before .before .before .before .before .before .before .before .before .before .args .store) e (c .before .before .before .before .before .before .before .before .before .before .before .before .before .before .args .usage) (c .before .before .before .before .before .before .before .before .before .before .before .before .before .before .args .level)) (sym (shape .is)))
 
 same-length-3 : tie.Need-same-length-3
 same-length-3 c = search needs
@@ -183,7 +186,7 @@ returns-4 : tie.Need-returns-4
 returns-4 c =
     let shape = expressed (expressed (c .before .before .before .before .before .before .before .before .before .before .expression-at .ensures) (c .before .before .before .before .before .before .before .before .shape2 .given .1)) (ap Operation (c .before .before .before .before .before .operation2 .given .1)) in
     recoded _ _ _ _ _ _ (c .before .put-binary .ensures)
-    (ap₂ (λ (n : ℕ) (x : Expression). express (assign (variable n) (binary Equal x (constant (pos 0)))) then none) (c .before .before .before .before .before .before .before .before .before .before .before .before .target-word .ensures .is) (c .before .before .before .atom-at2 .ensures .is) ∙ ap (λ (e : Expression). straightCode (c .before .before .before .before .before .before .before .before .before .before .before .before .before .before .args .store) e (c .before .before .before .before .before .before .before .before .before .before .before .before .before .before .args .usage) (c .before .before .before .before .before .before .before .before .before .before .before .before .before .before .args .level)) (sym (shape .is)))
+    (ap₂ (λ (n : ℕ) (x : Expression). express (assign (variable n) (binary Equal x (constant (pos 0)))) then none) (c .before .before .before .before .before .before .before .before .before .before .before .before .target-word .ensures .is) (c .before .before .before .atom-at2 .ensures .is) ∙ ap (λ (e : Expression). straightCode (calledIn (c .before .before .before .before .before .before .before .before .before .before .before .before .before .before .args .rows .now)) (c .before .before .before .before .before .before .before .before .before .before .before .before .before .before .args .store) e (c .before .before .before .before .before .before .before .before .before .before .before .before .before .before .args .usage) (c .before .before .before .before .before .before .before .before .before .before .before .before .before .before .args .level)) (sym (shape .is)))
 
 same-length-4 : tie.Need-same-length-4
 same-length-4 c = search needs
@@ -191,12 +194,12 @@ same-length-4 c = search needs
 returns-5 : tie.Need-returns-5
 returns-5 c =
     let shape = expressed (expressed (c .before .before .before .before .before .before .before .before .before .expression-at .ensures) (c .before .before .before .before .before .before .before .shape2 .given .1)) (ap Operation (c .before .before .before .before .operation3 .given .1)) in
-    recoded _ _ _ _ _ _ (c .before .put-operator .ensures) (ap (λ (e : Expression). straightCode (c .before .before .before .before .before .before .before .before .before .before .before .before .before .args .store) e (c .before .before .before .before .before .before .before .before .before .before .before .before .before .args .usage) (c .before .before .before .before .before .before .before .before .before .before .before .before .before .args .level)) (sym (shape .is)))
+    recoded _ _ _ _ _ _ (c .before .put-operator .ensures) (ap (λ (e : Expression). straightCode (calledIn (c .before .before .before .before .before .before .before .before .before .before .before .before .before .args .rows .now)) (c .before .before .before .before .before .before .before .before .before .before .before .before .before .args .store) e (c .before .before .before .before .before .before .before .before .before .before .before .before .before .args .usage) (c .before .before .before .before .before .before .before .before .before .before .before .before .before .args .level)) (sym (shape .is)))
 
 returns-6 : tie.Need-returns-6
 returns-6 c =
     let shape = expressed (expressed (c .before .before .before .before .before .expression-at .ensures) (c .before .before .before .shape2 .given .1)) (ap Operation (c .enum-told2 .given .1)) in
-    recoded _ _ _ _ _ _ (nothing-wrote (c .before .before .before .before .before .before .before .before .before .args .follows) (c .before .before .before .before .before .before .before .before .before .args .base) _) (ap (λ (e : Expression). straightCode (c .before .before .before .before .before .before .before .before .before .args .store) e (c .before .before .before .before .before .before .before .before .before .args .usage) (c .before .before .before .before .before .before .before .before .before .args .level)) (sym (shape .is)))
+    recoded _ _ _ _ _ _ (nothing-wrote (c .before .before .before .before .before .before .before .before .before .args .follows) (c .before .before .before .before .before .before .before .before .before .args .base) _) (ap (λ (e : Expression). straightCode (calledIn (c .before .before .before .before .before .before .before .before .before .args .rows .now)) (c .before .before .before .before .before .before .before .before .before .args .store) e (c .before .before .before .before .before .before .before .before .before .args .usage) (c .before .before .before .before .before .before .before .before .before .args .level)) (sym (shape .is)))
 
 same-length-5 : tie.Need-same-length-5
 same-length-5 c = search needs
@@ -204,7 +207,7 @@ same-length-5 c = search needs
 returns-7 : tie.Need-returns-7
 returns-7 c =
     let shape = expressed (expressed (c .before .before .before .before .before .before .before .before .before .expression-at .ensures) (c .before .before .before .before .before .before .before .shape2 .given .1)) (ap Operation (c .before .before .before .before .operation4 .given .1)) in
-    recoded _ _ _ _ _ _ (c .before .put-assignment .ensures) (ap (λ (e : Expression). straightCode (c .before .before .before .before .before .before .before .before .before .before .before .before .before .args .store) e (c .before .before .before .before .before .before .before .before .before .before .before .before .before .args .usage) (c .before .before .before .before .before .before .before .before .before .before .before .before .before .args .level)) (sym (shape .is)))
+    recoded _ _ _ _ _ _ (c .before .put-assignment .ensures) (ap (λ (e : Expression). straightCode (calledIn (c .before .before .before .before .before .before .before .before .before .before .before .before .before .args .rows .now)) (c .before .before .before .before .before .before .before .before .before .before .before .before .before .args .store) e (c .before .before .before .before .before .before .before .before .before .before .before .before .before .args .usage) (c .before .before .before .before .before .before .before .before .before .before .before .before .before .args .level)) (sym (shape .is)))
 
 same-length-6 : tie.Need-same-length-6
 same-length-6 c = search needs
@@ -214,10 +217,10 @@ returns-8 c =
     let shape = expressed (expressed (c .before .before .before .before .before .before .before .before .before .before .expression-at .ensures) (c .before .before .before .before .before .before .before .before .shape2 .given .1)) (ap Operation (c .before .before .before .before .before .operation5 .given .1)) in
     let args = c .before .before .before .before .before .before .before .before .before .before .before .before .before .before .args in
     let place = placeOf (expressionAt (args .rows .now) (c .before .before .before .before .before .operation5 .given .0 .1 .0)) in
-    let copies = c .before .before .before .before .before .before .before .before .before .before .before .operand-copied .ensures ∙ ap firstCopied (shape .is) in
+    let copies = c .before .before .before .before .before .before .before .before .before .before .before .operand-copied .ensures ∙ ap (firstCopied (calledIn (args .rows .now))) (shape .is) in
     recoded _ _ _ _ _ _ (c .before .put-operation .ensures)
-    (ap (λ (x : Expression). updateCode (args .store) (c .before .before .before .before .before .operation5 .given .0 .0) (kernelPlace (args .store) place (args .level + 1)) x (args .level) (args .level + 1 + placeTaken place))
-    (held-is (indexWrites place) copies (c .before .before .before .held-atom .ensures)) ∙ ap (λ (e : Expression). straightCode (c .before .before .before .before .before .before .before .before .before .before .before .before .before .before .args .store) e (c .before .before .before .before .before .before .before .before .before .before .before .before .before .before .args .usage) (c .before .before .before .before .before .before .before .before .before .before .before .before .before .before .args .level)) (sym (shape .is)))
+    (ap (λ (x : Expression). updateCode (args .store) (c .before .before .before .before .before .operation5 .given .0 .0) (kernelPlace (calledIn (args .rows .now)) (args .store) place (args .level + 1)) x (args .level) (args .level + 1 + placeTaken (calledIn (args .rows .now)) place))
+    (held-is (indexWrites (calledIn (args .rows .now)) place) copies (c .before .before .before .held-atom .ensures)) ∙ ap (λ (e : Expression). straightCode (calledIn (args .rows .now)) (c .before .before .before .before .before .before .before .before .before .before .before .before .before .before .args .store) e (c .before .before .before .before .before .before .before .before .before .before .before .before .before .before .args .usage) (c .before .before .before .before .before .before .before .before .before .before .before .before .before .before .args .level)) (sym (shape .is)))
 
 same-length-7 : tie.Need-same-length-7
 same-length-7 c = search needs
@@ -225,7 +228,7 @@ same-length-7 c = search needs
 returns-9 : tie.Need-returns-9
 returns-9 c =
     let shape = expressed (expressed (c .before .before .before .before .before .before .before .before .before .expression-at .ensures) (c .before .before .before .before .before .before .before .shape2 .given .1)) (ap Operation (c .before .before .before .before .operation6 .given .1)) in
-    recoded _ _ _ _ _ _ (c .before .put-operation2 .ensures) (ap (λ (e : Expression). straightCode (c .before .before .before .before .before .before .before .before .before .before .before .before .before .args .store) e (c .before .before .before .before .before .before .before .before .before .before .before .before .before .args .usage) (c .before .before .before .before .before .before .before .before .before .before .before .before .before .args .level)) (sym (shape .is)))
+    recoded _ _ _ _ _ _ (c .before .put-operation2 .ensures) (ap (λ (e : Expression). straightCode (calledIn (c .before .before .before .before .before .before .before .before .before .before .before .before .before .args .rows .now)) (c .before .before .before .before .before .before .before .before .before .before .before .before .before .args .store) e (c .before .before .before .before .before .before .before .before .before .before .before .before .before .args .usage) (c .before .before .before .before .before .before .before .before .before .before .before .before .before .args .level)) (sym (shape .is)))
 
 same-length-8 : tie.Need-same-length-8
 same-length-8 c = search needs
@@ -233,10 +236,15 @@ same-length-8 c = search needs
 returns-10 : tie.Need-returns-10
 returns-10 c =
     let shape = expressed (expressed (c .before .before .before .before .before .before .before .before .before .expression-at .ensures) (c .before .before .before .before .before .before .before .shape2 .given .1)) (ap Operation (c .before .before .before .before .operation7 .given .1)) in
-    recoded _ _ _ _ _ _ (c .before .put-step .ensures) (ap (λ (e : Expression). straightCode (c .before .before .before .before .before .before .before .before .before .before .before .before .before .args .store) e (c .before .before .before .before .before .before .before .before .before .before .before .before .before .args .usage) (c .before .before .before .before .before .before .before .before .before .before .before .before .before .args .level)) (sym (shape .is)))
+    recoded _ _ _ _ _ _ (c .before .put-step .ensures) (ap (λ (e : Expression). straightCode (calledIn (c .before .before .before .before .before .before .before .before .before .before .before .before .before .args .rows .now)) (c .before .before .before .before .before .before .before .before .before .before .before .before .before .args .store) e (c .before .before .before .before .before .before .before .before .before .before .before .before .before .args .usage) (c .before .before .before .before .before .before .before .before .before .before .before .before .before .args .level)) (sym (shape .is)))
 
 returns-11 : tie.Need-returns-11
 returns-11 c = recoded _ _ _ _ _ _ (nothing-wrote (c .before .before .before .before .before .before .args .follows) (c .before .before .before .before .before .before .args .base) _) (choice-none (c .before .before .before .before .before .before .args .store) (c .before .before .before .before .before .before .args .usage) (c .before .before .before .before .before .before .args .level) (expressed (c .before .before .expression-at .ensures) (c .enum-told3 .given .1)))
+
+returns-12 : tie.Need-returns-12
+returns-12 c =
+    let start = c .before .before .before .before .before .before in
+    recoded _ _ _ _ _ _ (nothing-wrote (start .args .follows) (start .args .base) _) (call-none (start .args .store) (start .args .usage) (start .args .level) (start .pre .0 .measured .source) (start .pre .1 .inside) (expressed (c .before .before .expression-at .ensures) (c .enum-told4 .given .1)))
 
 pub put-straight-spec : {M : Type 1} → statement M
 put-straight-spec =
@@ -268,6 +276,7 @@ put-straight-spec =
     enum-known-operation-7
     put-step-requires
     enum-told-3
+    enum-told-4
     returns
     same-length
     returns-2
@@ -286,4 +295,5 @@ put-straight-spec =
     returns-9
     same-length-8
     returns-10
-    returns-11)
+    returns-11
+    returns-12)

@@ -7,6 +7,7 @@ use Rattle.translation.specs.TranslateSize.{storeRows}
 use Rattle.leaves.specs.Chain.{room-less}
 use Rattle.straight_writers.specs.AtomLaws.{stored-straight, stored-copy}
 use Rattle.leaves.specs.LeafLaws.{recoded, nothing-wrote}
+use Rattle.measure_table.specs.Parts.{calledIn}
 use borrow.Author.Needs.{needs}
 use Rattle.straight_writers.proofs.straight.put_variable.Statement.{statement}
 use Rattle.straight_writers.proofs.straight.put_variable.Tie as tie
@@ -18,7 +19,7 @@ returns : tie.Need-returns
 returns c =
     let args = c .before .before .before .args in
     recoded _ _ _ _ _ _ (nothing-wrote (args .at .follows) (args .at .base) _)
-    (stored-straight (args .at .store) (args .number) (expressionAt (args .rows .now) (args .value)) (args .usage) (args .at .level) (sym (c .before .direct-at .ensures) ∙ c .if1 .taken))
+    (stored-straight (calledIn (args .rows .now)) (args .at .store) (args .number) (expressionAt (args .rows .now) (args .value)) (args .usage) (args .at .level) (sym (c .before .direct-at .ensures) ∙ c .if1 .taken))
 
 atom-at-requires : tie.Need-atom-at-requires
 atom-at-requires c κs = (c .before .before .before .pre .writing, c .before .before .before .pre .value-inside, omega (arith, c .before .before .before .pre .level-low))
@@ -35,7 +36,7 @@ returns-2 : tie.Need-returns-2
 returns-2 c =
     let args = c .before .before .before .before .before .before .before .args in
     recoded _ _ _ _ _ _ (c .before .put-copy .ensures)
-    (stored-copy (args .at .store) (args .number) (expressionAt (args .rows .now) (args .value)) (args .usage) (args .at .level) (sym (c .before .before .before .before .before .direct-at .ensures) ∙ c .before .before .before .before .if1 .left) (c .before .before .before .atom-at .ensures .is))
+    (stored-copy (calledIn (args .rows .now)) (args .at .store) (args .number) (expressionAt (args .rows .now) (args .value)) (args .usage) (args .at .level) (sym (c .before .before .before .before .before .direct-at .ensures) ∙ c .before .before .before .before .if1 .left) (c .before .before .before .atom-at .ensures .is))
 
 pub put-variable-spec : {M : Type 1} → statement M
 put-variable-spec =

@@ -20,11 +20,17 @@ statement-labels-requires c κs =
 enum-told-2 : tie.Need-enum-told-2
 enum-told-2 c = search needs
 
+enum-told-3 : tie.Need-enum-told-3
+enum-told-3 c = search needs
+
 returns : tie.Need-returns
 returns c = c .statement-labels .ensures ∙ sym (ap itemLabels (item-is (c .before .before .before .item-at .ensures) (c .before .enum-told .given .1)))
 
 returns-2 : tie.Need-returns-2
 returns-2 c = sym (ap itemLabels (item-is (c .before .before .item-at .ensures) (c .enum-told2 .given .1)))
+
+returns-3 : tie.Need-returns-3
+returns-3 c = sym (ap itemLabels (item-is (c .before .before .item-at .ensures) (c .enum-told3 .given .1)))
 
 pub item-labels-spec : {M : Type 1} → statement M
 item-labels-spec =
@@ -34,5 +40,7 @@ item-labels-spec =
     enum-told
     statement-labels-requires
     enum-told-2
+    enum-told-3
     returns
-    returns-2)
+    returns-2
+    returns-3)

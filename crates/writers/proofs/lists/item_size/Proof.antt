@@ -1,5 +1,6 @@
 -- The kernel rows of an item, by what the row is as an item.
 use mathlib.Core.Path.{sym, ap, _∙_}
+use Rattle.measure_table.specs.Parts.{calledIn}
 use Rattle.writers.specs.Items.{itemSize}
 use Rattle.writers.proofs.ListLaws.{item-is}
 use borrow.Author.Needs.{needs}
@@ -20,11 +21,17 @@ statement-size-requires c κs =
 enum-told-2 : tie.Need-enum-told-2
 enum-told-2 c = search needs
 
+enum-told-3 : tie.Need-enum-told-3
+enum-told-3 c = search needs
+
 returns : tie.Need-returns
-returns c = c .statement-size .ensures ∙ sym (ap itemSize (item-is (c .before .before .before .item-at .ensures) (c .before .enum-told .given .1)))
+returns c = c .statement-size .ensures ∙ sym (ap (itemSize (calledIn (c .before .before .before .before .before .args .rows .now))) (item-is (c .before .before .before .item-at .ensures) (c .before .enum-told .given .1)))
 
 returns-2 : tie.Need-returns-2
-returns-2 c = sym (ap itemSize (item-is (c .before .before .item-at .ensures) (c .enum-told2 .given .1)))
+returns-2 c = sym (ap (itemSize (calledIn (c .before .before .before .before .args .rows .now))) (item-is (c .before .before .item-at .ensures) (c .enum-told2 .given .1)))
+
+returns-3 : tie.Need-returns-3
+returns-3 c = sym (ap (itemSize (calledIn (c .before .before .before .before .args .rows .now))) (item-is (c .before .before .item-at .ensures) (c .enum-told3 .given .1)))
 
 pub item-size-spec : {M : Type 1} → statement M
 item-size-spec =
@@ -34,5 +41,7 @@ item-size-spec =
     enum-told
     statement-size-requires
     enum-told-2
+    enum-told-3
     returns
-    returns-2)
+    returns-2
+    returns-3)

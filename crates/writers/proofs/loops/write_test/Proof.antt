@@ -7,6 +7,7 @@ use Rattle.translation.specs.Translate.{testCode}
 use Rattle.emission.specs.Emission.{emitItems}
 use Rattle.words.specs.Over.{over}
 use Rattle.leaves.specs.Chain.{room-less}
+use Rattle.measure_table.specs.Parts.{calledIn}
 use Rattle.writers.proofs.Sequence.{room-behind}
 use Rattle.writers.proofs.LoopLaws.{test-some, test-most, test-done}
 use borrow.Author.Needs.{needs}
@@ -17,12 +18,12 @@ returns : tie.Need-returns
 unfolding emitItems over
 returns c =
     let args = c .before .before .args in
-    sym (ap (λ test. over (emitItems (args .follows) (testCode (args .store) (partAt (args .rows .now) test) (args .label) none) (args .base)) (args .out .now)) (c .if1 .taken))
+    sym (ap (λ test. over (emitItems (args .follows) (testCode (calledIn (args .rows .now)) (args .store) (partAt (args .rows .now) test) (args .label) none) (args .base)) (args .out .now)) (c .if1 .taken))
 
 operand-size-requires : tie.Need-operand-size-requires
 operand-size-requires c κs =
     let start = c .before .before in
-    (start .pre .0 .measured, start .pre .1 .inside, omega (arith, test-most (partAt (start .args .rows .now) (start .args .test)), start .pre .1 .room .low))
+    (start .pre .0 .measured, start .pre .1 .inside, omega (arith, test-most (calledIn (start .args .rows .now)) (partAt (start .args .rows .now) (start .args .test)), start .pre .1 .room .low))
 
 atom-at-requires : tie.Need-atom-at-requires
 atom-at-requires c κs = search needs
@@ -31,32 +32,32 @@ write-expression-requires : tie.Need-write-expression-requires
 write-expression-requires c κs =
     let start = c .before .before .before .before .before in
     let asks = start .pre .1 in
-    (start .pre .0, record { inside = asks .inside; level-low = λ h. omega arith; use-fits = tt; room = room-less _ (asks .room) (test-most (partAt (start .args .rows .now) (start .args .test))) })
+    (start .pre .0, record { inside = asks .inside; level-low = λ h. omega arith; use-fits = tt; room = room-less _ (asks .room) (test-most (calledIn (start .args .rows .now)) (partAt (start .args .rows .now) (start .args .test))) })
 
 add-put-exit : tie.Need-add-put-exit
 add-put-exit c =
     let start = c .before .before .before .before .before .before .before in
-    omega (arith, c .before .before .before .before .operand-size .ensures, test-most (partAt (start .args .rows .now) (start .args .test)), start .pre .1 .room .low)
+    omega (arith, c .before .before .before .before .operand-size .ensures, test-most (calledIn (start .args .rows .now)) (partAt (start .args .rows .now) (start .args .test)), start .pre .1 .room .low)
 
 mul-put-exit : tie.Need-mul-put-exit
 mul-put-exit c =
     let start = c .before .before .before .before .before .before .before in
-    omega (arith, c .before .before .before .before .operand-size .ensures, test-most (partAt (start .args .rows .now) (start .args .test)), start .pre .1 .room .low)
+    omega (arith, c .before .before .before .before .operand-size .ensures, test-most (calledIn (start .args .rows .now)) (partAt (start .args .rows .now) (start .args .test)), start .pre .1 .room .low)
 
 mul-put-exit-2 : tie.Need-mul-put-exit-2
 mul-put-exit-2 c =
     let start = c .before .before .before .before .before .before .before in
-    omega (arith, c .before .before .before .before .operand-size .ensures, test-most (partAt (start .args .rows .now) (start .args .test)), start .pre .1 .room .low)
+    omega (arith, c .before .before .before .before .operand-size .ensures, test-most (calledIn (start .args .rows .now)) (partAt (start .args .rows .now) (start .args .test)), start .pre .1 .room .low)
 
 sub-put-exit : tie.Need-sub-put-exit
 sub-put-exit c =
     let start = c .before .before .before .before .before .before .before in
-    omega (arith, c .before .before .before .before .operand-size .ensures, test-most (partAt (start .args .rows .now) (start .args .test)), start .pre .1 .room .inside, c .before .write-expression .kept .1 .1 .1 .1 .1 .1 .1 .1 .0)
+    omega (arith, c .before .before .before .before .operand-size .ensures, test-most (calledIn (start .args .rows .now)) (partAt (start .args .rows .now) (start .args .test)), start .pre .1 .room .inside, c .before .write-expression .kept .1 .1 .1 .1 .1 .1 .1 .1 .0)
 
 part-put-exit-start : tie.Need-part-put-exit-start
 part-put-exit-start c =
     let start = c .before .before .before .before .before .before .before in
-    omega (arith, c .before .before .before .before .operand-size .ensures, test-most (partAt (start .args .rows .now) (start .args .test)), start .pre .1 .room .inside, c .before .write-expression .kept .1 .1 .1 .1 .1 .1 .1 .1 .0)
+    omega (arith, c .before .before .before .before .operand-size .ensures, test-most (calledIn (start .args .rows .now)) (partAt (start .args .rows .now) (start .args .test)), start .pre .1 .room .inside, c .before .write-expression .kept .1 .1 .1 .1 .1 .1 .1 .1 .0)
 
 part-put-exit-end : tie.Need-part-put-exit-end
 part-put-exit-end c = search needs

@@ -1,10 +1,12 @@
 -- A program: the block at row 0.
-use mathlib.Core.Path.{ap}
+use mathlib.Core.Path.{_≡_, sym, ap, _∙_}
 use native.Mathlib.Omega.{arith}
 use Rattle.language.specs.Decode.{listAt}
 use Rattle.language.specs.Program.{contents}
-use Rattle.translation.specs.TranslateSize.{itemsSize}
+use Rattle.translation.specs.TranslateSize.{itemsSize, programSize}
+use Rattle.measure_table.specs.Parts.{calledIn}
 use Rattle.leaves.specs.Chain.{room-less}
+use Rattle.writers.specs.PlainProgram.{program-size}
 use Rattle.writers.proofs.ProgramLaws.{list-labels-small, program-inside, program-done}
 use borrow.Author.Needs.{needs}
 use Rattle.writers.proofs.program.write_program.Statement.{statement}
@@ -21,12 +23,13 @@ write-block-requires c κs =
     let asks = start .pre in
     let rows = start .args .rows .now in
     let source = asks .writing .measured .source in
-    let size = ap (λ list. itemsSize (listAt rows list)) (past-number-at .ensures) in (
+    let size : itemsSize (calledIn rows) (listAt rows (past-number-at .result)) ≡ programSize (calledIn rows) (contents rows) =
+    ap (λ list. itemsSize (calledIn rows) (listAt rows list)) (past-number-at .ensures) ∙ sym (program-size source) in (
       asks .writing,
       record {
         inside = program-inside rows source (asks .is-block) (past-number-at .ensures);
         room = room-less _ (asks .room) (omega (arith, size));
-        labels-low = omega (arith, asks .room .low, size, list-labels-small (listAt rows (past-number-at .result)));
+        labels-low = omega (arith, asks .room .low, size, list-labels-small (calledIn rows) (listAt rows (past-number-at .result)));
         exits-low = (omega arith, omega arith);
       },
     )

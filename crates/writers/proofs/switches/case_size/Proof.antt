@@ -26,6 +26,9 @@ enum-told-3 c = search needs
 enum-told-4 : tie.Need-enum-told-4
 enum-told-4 c = search needs
 
+enum-told-5 : tie.Need-enum-told-5
+enum-told-5 c = search needs
+
 returns : tie.Need-returns
 returns c = sym (ap (λ is. 11 * itemCases is) (item-is (c .before .before .item-at .ensures) (c .enum-told .given .1)))
 
@@ -38,6 +41,9 @@ returns-3 c = sym (ap (λ is. 11 * itemCases is) (item-is (c .before .before .be
 returns-4 : tie.Need-returns-4
 returns-4 c = sym (ap (λ is. 11 * itemCases is) (item-is (c .before .before .before .before .before .item-at .ensures) (c .before .before .before .item .given .1 ∙ ap Mark (c .enum-told4 .given .1))))
 
+returns-5 : tie.Need-returns-5
+returns-5 c = sym (ap (λ is. 11 * itemCases is) (item-is (c .before .before .item-at .ensures) (c .enum-told5 .given .1)))
+
 pub case-size-spec : {M : Type 1} → statement M
 case-size-spec =
     tie.close
@@ -48,7 +54,9 @@ case-size-spec =
     enum-told-2
     enum-told-3
     enum-told-4
+    enum-told-5
     returns
     returns-2
     returns-3
-    returns-4)
+    returns-4
+    returns-5)

@@ -37,6 +37,9 @@ enum-told-2 c = search needs
 enum-told-3 : tie.Need-enum-told-3
 enum-told-3 c = search needs
 
+enum-told-4 : tie.Need-enum-told-4
+enum-told-4 c = search needs
+
 returns : tie.Need-returns
 unfolding emitItems over
 returns c =
@@ -66,6 +69,12 @@ returns-4 c =
     let args = c .before .before .before .before .before .before .args in
     sym (ap (λ is. over (emitItems true (itemTest (args .store) (atomTree (args .x)) (args .level) is (args .target)) (args .base)) (args .out .now)) (item-is (c .before .before .before .before .before .item-at .ensures) (c .before .before .before .item .given .1 ∙ ap Mark (c .enum-told3 .given .1))))
 
+returns-5 : tie.Need-returns-5
+unfolding emitItems over
+returns-5 c =
+    let args = c .before .before .before .args in
+    sym (ap (λ is. over (emitItems true (itemTest (args .store) (atomTree (args .x)) (args .level) is (args .target)) (args .base)) (args .out .now)) (item-is (c .before .before .item-at .ensures) (c .enum-told4 .given .1)))
+
 pub put-item-test-spec : {M : Type 1} → statement M
 put-item-test-spec =
     tie.close
@@ -77,8 +86,10 @@ put-item-test-spec =
     put-case-requires
     enum-told-2
     enum-told-3
+    enum-told-4
     returns
     same-length
     returns-2
     returns-3
-    returns-4)
+    returns-4
+    returns-5)

@@ -7,6 +7,7 @@ use Rattle.language.specs.Decode.{partAt}
 use Rattle.measure_table.specs.MeasureLaws.{whole-behind}
 use Rattle.leaves.specs.LeafLaws.{recoded, nothing-wrote}
 use Rattle.translation.specs.Translate.{operandCode}
+use Rattle.measure_table.specs.Parts.{calledIn}
 use Rattle.expression_writers.proofs.Ranks.{rank-some}
 use Rattle.expression_writers.proofs.ExpressionParts.{ExpressionAsked, all-small, row-low}
 use Rattle.expression_writers.proofs.ExpressionParts.{OperandsFound, copied-most, first-inside, first-small, second-inside, second-small, held-within, operands-within, above-low, level-small, first-falls, second-falls, first-asks}
@@ -115,7 +116,7 @@ module _ (t : ℕ) where
   returns c =
       let args = c .before .before .args in
       recoded _ _ _ _ _ _ (nothing-wrote (args .follows) (args .base) _)
-      (ap (λ r. operandCode (args .store) (partAt (args .rows .now) r) (args .usage) (args .level)) (sym (c .if1 .taken)))
+      (ap (λ r. operandCode (calledIn (args .rows .now)) (args .store) (partAt (args .rows .now) r) (args .usage) (args .level)) (sym (c .if1 .taken)))
 
   -- ---- the operands and the sizes
 

@@ -14,6 +14,7 @@ use Rattle.shapes.specs.ShapeLaws.{armed}
 use Rattle.words.specs.Over.{over}
 use Rattle.leaves.specs.Chain.{room-less}
 use Rattle.leaves.specs.LeafLaws.{nothing-wrote}
+use Rattle.measure_table.specs.Parts.{calledIn}
 use Rattle.writers.specs.Code.{exitsOf}
 use Rattle.writers.specs.Items.{firstOnly}
 use Rattle.writers.proofs.ArmLaws.{arm-is}
@@ -68,7 +69,7 @@ returns t c =
     let past-arm-at = c .before .before .before .before .before .before .arm-at in
     let past-shape = c .before .before .before .before .shape in
     let arms-told = arm-is (past-arm-at .ensures) (past-shape .given .1) in
-    let table : Arms → List ℤ = λ a. over (emitItems true (armsCode (args .store) (firstOnly a) (exitsOf (args .exits)) (args .target) (args .label)) (args .base)) (args .out .now) in
+    let table : Arms → List ℤ = λ a. over (emitItems true (armsCode (calledIn (args .rows .now)) (args .store) (firstOnly a) (exitsOf (args .exits)) (args .target) (args .label)) (args .base)) (args .out .now) in
     past-write-guarded .ensures ∙ sym (ap table arms-told)
 
 pub returns-2 : (t : ℕ) → lts.Need-returns-2 (write-arm-claims t) (write-arm-at t) reads.Post
@@ -79,5 +80,5 @@ returns-2 t c =
     let past-arm-at = c .before .before .arm-at in
     let past-enum-told = c .enum-told in
     let none-told = arm-is (past-arm-at .ensures) (past-enum-told .given .1) in
-    let table : Arms → List ℤ = λ a. over (emitItems true (armsCode (args .store) (firstOnly a) (exitsOf (args .exits)) (args .target) (args .label)) (args .base)) (args .out .now) in
+    let table : Arms → List ℤ = λ a. over (emitItems true (armsCode (calledIn (args .rows .now)) (args .store) (firstOnly a) (exitsOf (args .exits)) (args .target) (args .label)) (args .base)) (args .out .now) in
     nothing-wrote true (args .base) (args .out .now) ∙ sym (ap table none-told)

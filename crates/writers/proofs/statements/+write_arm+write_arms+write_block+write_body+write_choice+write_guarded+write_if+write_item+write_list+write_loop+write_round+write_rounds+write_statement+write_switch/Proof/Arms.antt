@@ -8,6 +8,7 @@ use lib.IntN.{ℤ}
 use Rattle.language.specs.Decode.{armListAt}
 use Rattle.translation.specs.Translate.{armsLabels, armsCode}
 use Rattle.translation.specs.TranslateSize.{armsSize}
+use Rattle.measure_table.specs.Parts.{calledIn}
 use Rattle.writers.specs.Code.{exitsOf}
 use Rattle.writers.proofs.Sequence.{room-behind}
 use Rattle.writers.proofs.ListLaws.{Progress, start as begin, finish, above-some}
@@ -18,13 +19,13 @@ use Rattle.writers.proofs.statements.+write_arm+write_arms+write_block+
 
 abbrev pub Inv-loop : lts.InvT-loop
 Inv-loop rows table store arms exits target label base out₀ size last arm₀ from₀ n₀ out arm from n =
-    Progress (armListAt rows) armsLabels true (λ a. armsCode store a (exitsOf exits) target) armsSize rows arms label base out₀ out arm from n
+    Progress (armListAt rows) armsLabels true (λ a. armsCode (calledIn rows) store a (exitsOf exits) target) (armsSize (calledIn rows)) rows arms label base out₀ out arm from n
 
 abbrev pub μ-loop : lts.MeasureT-loop
-μ-loop rows table store arms exits target label base out₀ size last arm₀ from₀ n₀ out arm from n = armsSize (armListAt rows arm)
+μ-loop rows table store arms exits target label base out₀ size last arm₀ from₀ n₀ out arm from n = armsSize (calledIn rows) (armListAt rows arm)
 
 -- Rows are left, so arms are.
-left-some : (rows : List ℤ) (arms arm : ℕ) {n size : ℕ} → armsSize (armListAt rows arms) ≡ n + armsSize (armListAt rows arm) → size ≡ armsSize (armListAt rows arms) → n < size → 0 < armsSize (armListAt rows arm)
+left-some : (rows : List ℤ) (arms arm : ℕ) {n size : ℕ} → armsSize (calledIn rows) (armListAt rows arms) ≡ n + armsSize (calledIn rows) (armListAt rows arm) → size ≡ armsSize (calledIn rows) (armListAt rows arms) → n < size → 0 < armsSize (calledIn rows) (armListAt rows arm)
 left-some rows arms arm s e h = omega arith
 
 pub arms-size-requires : (t : ℕ) → lts.Need-arms-size-requires (write-arms-claims t) (write-arms-at t) reads.Post Inv-loop μ-loop
@@ -250,4 +251,4 @@ returns t c =
     let past-arms-size = c .before .before .before .arms-size in
     let past-loop-test = c .loop-test in
     finish _ _ _ _ _ _ _ _ _ _ progress
-    (no-arms (args .store) (armListAt rows (past-loop .arm)) (exitsOf (args .exits)) (args .target) (past-loop .from) (omega (arith, progress .size-is, past-arms-size .ensures, past-loop-test .left)))
+    (no-arms (calledIn (args .rows .now)) (args .store) (armListAt rows (past-loop .arm)) (exitsOf (args .exits)) (args .target) (past-loop .from) (omega (arith, progress .size-is, past-arms-size .ensures, past-loop-test .left)))

@@ -4,6 +4,7 @@ use mathlib.Core.Path.{_∙_}
 use Prim.Native.Nat.{ℕ, _+_}
 use native.Mathlib.Omega.{arith}
 use Rattle.language.specs.Decode.{listAt}
+use Rattle.measure_table.specs.Parts.{calledIn}
 use Rattle.writers.specs.Code.{exitsOf}
 use Rattle.leaves.proofs.Words.{pick-most}
 use Rattle.writers.proofs.Sequence.{back-length, room-behind}
@@ -122,5 +123,5 @@ returns t c =
     let past-behind2 = c .before .before .before .before .before .before .behind2 in
     let past-put-block = c .before .before .before .before .put-block in
     let past-write-list = c .before .write-list in
-    block-done (args .store) (listAt (args .rows .now) (args .list)) (exitsOf (args .exits)) (args .label) (args .base) (args .follows) (args .out .now)
+    block-done (calledIn (args .rows .now)) (args .store) (listAt (args .rows .now) (args .list)) (exitsOf (args .exits)) (args .label) (args .base) (args .follows) (args .out .now)
     (past-list-size .ensures) (past-more .ensures) (past-behind .ensures) (past-behind2 .ensures) (past-put-block .ensures) (past-write-list .ensures)

@@ -4,6 +4,7 @@ use Prim.Native.Nat.{ℕ}
 use native.Mathlib.Omega.{arith}
 use Rattle.language.specs.Decode.{armListAt}
 use Rattle.leaves.specs.Chain.{room-less}
+use Rattle.measure_table.specs.Parts.{calledIn}
 use Rattle.writers.specs.Code.{exitsOf}
 use Rattle.writers.proofs.Sequence.{back-length, room-behind}
 use Rattle.writers.proofs.ArmLaws.{choice-done}
@@ -111,4 +112,4 @@ returns t c =
     let past-arms-size = c .before .before .before .before .before .before .arms-size in
     let past-write-arms = c .before .before .before .before .write-arms in
     let past-put-choice-end = c .before .put-choice-end in
-    choice-done (args .store) (armListAt (args .rows .now) (args .arms)) (exitsOf (args .exits)) (args .label) (args .base) (args .follows) (args .out .now) (past-arms-size .ensures) (past-write-arms .ensures) (past-put-choice-end .ensures)
+    choice-done (calledIn (args .rows .now)) (args .store) (armListAt (args .rows .now) (args .arms)) (exitsOf (args .exits)) (args .label) (args .base) (args .follows) (args .out .now) (past-arms-size .ensures) (past-write-arms .ensures) (past-put-choice-end .ensures)

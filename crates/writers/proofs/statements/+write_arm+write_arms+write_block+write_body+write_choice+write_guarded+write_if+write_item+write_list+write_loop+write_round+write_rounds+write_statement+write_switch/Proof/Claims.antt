@@ -83,6 +83,7 @@ use Rattle.expression_measures.proofs.holders.taken_at.Reads as taken-at-reads
 use Rattle.writers.proofs.lists.body_size.Reads as body-size-reads
 use Rattle.writers.proofs.loops.round_size.Reads as round-size-reads
 use Rattle.writers.proofs.declarations.write_declare.Reads as write-declare-reads
+use Rattle.writers.proofs.returns.write_return.Reads as write-return-reads
 use Rattle.writers.proofs.statements.write_express.Reads as write-express-reads
 
 abbrev pub μ-write-arm : Measures 3 write-arm-kinds.ps ℕ
@@ -248,7 +249,7 @@ abbrev pub write-round-claims : ℕ → write-round-lts.Claims
 write-round-claims t = (test-size-reads.Asked, test-size-reads.Learnt, statement-size-reads.Asked, statement-size-reads.Learnt, write-test-reads.Asked, write-test-reads.Learnt, write-statement-below t, write-statement.Post, write-round-end-reads.Asked, write-round-end-reads.Learnt)
 
 abbrev pub write-statement-claims : ℕ → write-statement-lts.Claims
-write-statement-claims t = (statement-at-reads.Asked, statement-at-reads.Learnt, put-empty-reads.Asked, put-empty-reads.Learnt, write-express-reads.Asked, write-express-reads.Learnt, write-block-below t, write-block.Post, write-if-below t, write-if.Post, write-loop-below t, write-loop.Post, write-switch-below t, write-switch.Post, put-goto-reads.Asked, put-goto-reads.Learnt, write-choice-below t, write-choice.Post, write-rounds-below t, write-rounds.Post, write-declare-reads.Asked, write-declare-reads.Learnt)
+write-statement-claims t = (statement-at-reads.Asked, statement-at-reads.Learnt, put-empty-reads.Asked, put-empty-reads.Learnt, write-express-reads.Asked, write-express-reads.Learnt, write-block-below t, write-block.Post, write-if-below t, write-if.Post, write-loop-below t, write-loop.Post, write-switch-below t, write-switch.Post, put-goto-reads.Asked, put-goto-reads.Learnt, write-choice-below t, write-choice.Post, write-rounds-below t, write-rounds.Post, write-declare-reads.Asked, write-declare-reads.Learnt, write-return-reads.Asked, write-return-reads.Learnt)
 
 abbrev pub write-switch-claims : ℕ → write-switch-lts.Claims
 write-switch-claims t = (operand-size-reads.Asked, operand-size-reads.Learnt, list-cases-reads.Asked, list-cases-reads.Learnt, list-size-reads.Asked, list-size-reads.Learnt, atom-at-reads.Asked, atom-at-reads.Learnt, taken-at-reads.Asked, taken-at-reads.Learnt, write-expression-reads.Asked, write-expression-reads.Learnt, write-cases-reads.Asked, write-cases-reads.Learnt, default-label-reads.Asked, default-label-reads.Learnt, put-goto-reads.Asked, put-goto-reads.Learnt, write-list-below t, write-list.Post, put-label-reads.Asked, put-label-reads.Learnt)

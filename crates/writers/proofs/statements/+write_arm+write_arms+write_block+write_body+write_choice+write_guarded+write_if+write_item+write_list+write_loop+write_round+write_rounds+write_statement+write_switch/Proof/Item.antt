@@ -1,4 +1,4 @@
--- An item: a statement, or a mark's label.
+-- An item: a statement, or a mark's label; nothing for a definition.
 use borrow.Author.Needs.{needs}
 use mathlib.Core.Path.{sym, ap, _∙_}
 use mathlib.Core.List.{List}
@@ -8,6 +8,7 @@ use Rattle.language.specs.Trees.{Items}
 use native.Mathlib.Omega.{arith}
 use Rattle.emission.specs.Emission.{emitItems}
 use Rattle.words.specs.Over.{over}
+use Rattle.measure_table.specs.Parts.{calledIn}
 use Rattle.writers.specs.Items.{itemCode}
 use Rattle.writers.specs.Code.{exitsOf}
 use Rattle.writers.proofs.ListLaws.{item-is}
@@ -55,7 +56,7 @@ pub returns : (t : ℕ) → lts.Need-returns (write-item-claims t) (write-item-a
 returns t c =
     let start = c .before .before .before .before .before .before .before in
     let args = start .args in
-    let table : Items → List ℤ = λ is. over (emitItems (args .follows) (itemCode (args .store) is (exitsOf (args .exits)) (args .label)) (args .base)) (args .out .now) in
+    let table : Items → List ℤ = λ is. over (emitItems (args .follows) (itemCode (calledIn (args .rows .now)) (args .store) is (exitsOf (args .exits)) (args .label)) (args .base)) (args .out .now) in
     let past-item-at = c .before .before .before .before .before .item-at in
     let past-enum-told = c .before .before .before .enum-told in
     let is1 = item-is (past-item-at .ensures) (past-enum-told .given .1) in
@@ -69,9 +70,20 @@ pub returns-2 : (t : ℕ) → lts.Need-returns-2 (write-item-claims t) (write-it
 returns-2 t c =
     let start = c .before .before .before .before .before .before .before in
     let args = start .args in
-    let table : Items → List ℤ = λ is. over (emitItems (args .follows) (itemCode (args .store) is (exitsOf (args .exits)) (args .label)) (args .base)) (args .out .now) in
+    let table : Items → List ℤ = λ is. over (emitItems (args .follows) (itemCode (calledIn (args .rows .now)) (args .store) is (exitsOf (args .exits)) (args .label)) (args .base)) (args .out .now) in
     let past-item-at = c .before .before .before .before .before .item-at in
     let past-enum-told2 = c .before .before .before .enum-told2 in
     let is2 = item-is (past-item-at .ensures) (past-enum-told2 .given .1) in
     let past-put-label = c .before .put-label in
     past-put-label .ensures ∙ sym (ap table is2)
+
+pub enum-told-3 : (t : ℕ) → lts.Need-enum-told-3 (write-item-claims t) (write-item-at t) reads.Post
+enum-told-3 t c = search needs
+
+pub returns-3 : (t : ℕ) → lts.Need-returns-3 (write-item-claims t) (write-item-at t) reads.Post
+unfolding emitItems over
+returns-3 t c =
+    let start = c .before .before .before .before in
+    let args = start .args in
+    let table : Items → List ℤ = λ is. over (emitItems (args .follows) (itemCode (calledIn (args .rows .now)) (args .store) is (exitsOf (args .exits)) (args .label)) (args .base)) (args .out .now) in
+    sym (ap table (item-is (c .before .before .item-at .ensures) (c .enum-told3 .given .1)))

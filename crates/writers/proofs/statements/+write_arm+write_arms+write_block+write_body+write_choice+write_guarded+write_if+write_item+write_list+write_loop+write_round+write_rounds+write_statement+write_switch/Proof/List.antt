@@ -8,6 +8,7 @@ use Rattle.language.specs.Decode.{listAt}
 use Rattle.translation.specs.Translate.{itemsLabels, itemsCode}
 use Rattle.translation.specs.TranslateSize.{itemsSize}
 use Rattle.leaves.specs.Room.{moreRows}
+use Rattle.measure_table.specs.Parts.{calledIn}
 use Rattle.writers.specs.Code.{exitsOf}
 use Rattle.writers.proofs.ListLaws.{Progress, start as begin, finish, none-at, above, above-some, next-less, behind-inside, behind-size, behind-labels, room-item, items-step}
 use Rattle.writers.proofs.statements.write_list.Reads as reads
@@ -16,7 +17,7 @@ use Rattle.writers.proofs.statements.+write_arm+write_arms+write_block+
 
 abbrev pub Inv-loop : lts.InvT-loop
 Inv-loop rows table store list exits label base follows out₀ item₀ from₀ n₀ out item from n =
-    Progress (listAt rows) itemsLabels follows (λ is. itemsCode store is (exitsOf exits)) itemsSize rows list label base out₀ out item from n
+    Progress (listAt rows) itemsLabels follows (λ is. itemsCode (calledIn rows) store is (exitsOf exits)) (itemsSize (calledIn rows)) rows list label base out₀ out item from n
 
 abbrev pub μ-loop : lts.MeasureT-loop
 μ-loop rows table store list exits label base follows out₀ item₀ from₀ n₀ out item from n = above rows item
@@ -140,7 +141,7 @@ write-item-requires t c κs =
         start .pre .1 .0,
         record {
           inside = progress .inside;
-          room = room-item (args .rows .now) (args .list) (past-loop .item) (past-loop .n) itemsSize (past-loop .out) (asks .room) (progress .kept) (progress .size-is) (omega (arith, size));
+          room = room-item (args .rows .now) (args .list) (past-loop .item) (past-loop .n) (itemsSize (calledIn (args .rows .now))) (past-loop .out) (asks .room) (progress .kept) (progress .size-is) (omega (arith, size));
           labels-low = omega (arith, progress .labels-are, asks .labels-low, labels);
           exits-low = asks .exits-low;
         },
@@ -243,4 +244,4 @@ returns t c =
     let progress = past-loop .inv in
     let past-loop-test = c .loop-test in
     let args = c .before .before .before .args in
-    finish _ _ _ _ _ _ _ _ _ _ progress (ap (λ (is : Items). itemsCode (args .store) is (exitsOf (args .exits)) (past-loop .from)) (none-at (args .rows .now) (past-loop .item) (past-loop-test .left)))
+    finish _ _ _ _ _ _ _ _ _ _ progress (ap (λ (is : Items). itemsCode (calledIn (args .rows .now)) (args .store) is (exitsOf (args .exits)) (past-loop .from)) (none-at (args .rows .now) (past-loop .item) (past-loop-test .left)))

@@ -4,6 +4,7 @@ use Prim.Native.Nat.{ℕ, _+_}
 use native.Mathlib.Omega.{arith}
 use Rattle.language.specs.Decode.{armListAt}
 use Rattle.leaves.specs.Chain.{back-in, room-less}
+use Rattle.measure_table.specs.Parts.{calledIn}
 use Rattle.writers.specs.Code.{exitsOf}
 use Rattle.writers.proofs.Sequence.{back-length, room-behind}
 use Rattle.writers.proofs.ArmLaws.{rounds-rows, rounds-labels, rounds-own, rounds-none, rounds-done}
@@ -38,7 +39,7 @@ returns t c =
     let past-arms-size = c .before .before .before .before .arms-size in
     let past-if1 = c .before .before .before .if1 in
     let past-put-empty = c .before .put-empty in
-    rounds-none (args .store) arms (exitsOf (args .exits)) (args .label) (args .base) (args .follows) (args .out .now) (past-arms-size .ensures) (past-if1 .taken) (past-put-empty .ensures)
+    rounds-none (calledIn (args .rows .now)) (args .store) arms (exitsOf (args .exits)) (args .label) (args .base) (args .follows) (args .out .now) (past-arms-size .ensures) (past-if1 .taken) (past-put-empty .ensures)
 
 pub add-m : (t : ℕ) → lts.Need-add-m (write-rounds-claims t) (write-rounds-at t) reads.Post
 add-m t c =
@@ -49,7 +50,7 @@ add-m t c =
     let rows = args .rows .now in
     let arms = armListAt (args .rows .now) (args .arms) in
     let past-if1 = c .if1 in
-    let own = rounds-rows arms (λ z. past-if1 .left (past-arms-size .ensures ∙ z)) in
+    let own = rounds-rows (calledIn (args .rows .now)) arms (λ z. past-if1 .left (past-arms-size .ensures ∙ z)) in
     omega (arith, asks .room .low, past-arms-size .ensures, own)
 
 pub add-put-loop : (t : ℕ) → lts.Need-add-put-loop (write-rounds-claims t) (write-rounds-at t) reads.Post
@@ -61,7 +62,7 @@ add-put-loop t c =
     let rows = args .rows .now in
     let arms = armListAt (args .rows .now) (args .arms) in
     let past-if1 = c .if1 in
-    let own = rounds-rows arms (λ z. past-if1 .left (past-arms-size .ensures ∙ z)) in
+    let own = rounds-rows (calledIn (args .rows .now)) arms (λ z. past-if1 .left (past-arms-size .ensures ∙ z)) in
     omega (arith, asks .room .low, past-arms-size .ensures, own)
 
 pub put-loop-requires : (t : ℕ) → lts.Need-put-loop-requires (write-rounds-claims t) (write-rounds-at t) reads.Post
@@ -73,7 +74,7 @@ put-loop-requires t c κs =
     let arms = armListAt (args .rows .now) (args .arms) in
     let past-if1 = c .before .if1 in
     let past-arms-size = c .before .before .arms-size in
-    let own = rounds-rows arms (λ z. past-if1 .left (past-arms-size .ensures ∙ z)) in
+    let own = rounds-rows (calledIn (args .rows .now)) arms (λ z. past-if1 .left (past-arms-size .ensures ∙ z)) in
     (room-less 3 (asks .room) (omega (arith, own)), omega (arith, asks .room .low, past-arms-size .ensures, own))
 
 pub add-write-arms : (t : ℕ) → lts.Need-add-write-arms (write-rounds-claims t) (write-rounds-at t) reads.Post
@@ -85,8 +86,8 @@ add-write-arms t c =
     let arms = armListAt (args .rows .now) (args .arms) in
     let past-if1 = c .before .before .before .if1 in
     let past-arms-size = c .before .before .before .before .arms-size in
-    let own = rounds-rows arms (λ z. past-if1 .left (past-arms-size .ensures ∙ z)) in
-    let marks = rounds-labels arms (λ z. past-if1 .left (past-arms-size .ensures ∙ z)) in
+    let own = rounds-rows (calledIn (args .rows .now)) arms (λ z. past-if1 .left (past-arms-size .ensures ∙ z)) in
+    let marks = rounds-labels (calledIn (args .rows .now)) arms (λ z. past-if1 .left (past-arms-size .ensures ∙ z)) in
     omega (arith, asks .labels-low, asks .room .low, own, marks)
 
 pub add-write-arms-2 : (t : ℕ) → lts.Need-add-write-arms-2 (write-rounds-claims t) (write-rounds-at t) reads.Post
@@ -98,8 +99,8 @@ add-write-arms-2 t c =
     let arms = armListAt (args .rows .now) (args .arms) in
     let past-if1 = c .before .before .before .if1 in
     let past-arms-size = c .before .before .before .before .arms-size in
-    let own = rounds-rows arms (λ z. past-if1 .left (past-arms-size .ensures ∙ z)) in
-    let marks = rounds-labels arms (λ z. past-if1 .left (past-arms-size .ensures ∙ z)) in
+    let own = rounds-rows (calledIn (args .rows .now)) arms (λ z. past-if1 .left (past-arms-size .ensures ∙ z)) in
+    let marks = rounds-labels (calledIn (args .rows .now)) arms (λ z. past-if1 .left (past-arms-size .ensures ∙ z)) in
     omega (arith, asks .labels-low, asks .room .low, own, marks)
 
 pub add-write-arms-3 : (t : ℕ) → lts.Need-add-write-arms-3 (write-rounds-claims t) (write-rounds-at t) reads.Post
@@ -111,8 +112,8 @@ add-write-arms-3 t c =
     let arms = armListAt (args .rows .now) (args .arms) in
     let past-if1 = c .before .before .before .if1 in
     let past-arms-size = c .before .before .before .before .arms-size in
-    let own = rounds-rows arms (λ z. past-if1 .left (past-arms-size .ensures ∙ z)) in
-    let marks = rounds-labels arms (λ z. past-if1 .left (past-arms-size .ensures ∙ z)) in
+    let own = rounds-rows (calledIn (args .rows .now)) arms (λ z. past-if1 .left (past-arms-size .ensures ∙ z)) in
+    let marks = rounds-labels (calledIn (args .rows .now)) arms (λ z. past-if1 .left (past-arms-size .ensures ∙ z)) in
     omega (arith, asks .labels-low, asks .room .low, own, marks)
 
 pub sub-write-arms : (t : ℕ) → lts.Need-sub-write-arms (write-rounds-claims t) (write-rounds-at t) reads.Post
@@ -124,7 +125,7 @@ sub-write-arms t c =
     let arms = armListAt (args .rows .now) (args .arms) in
     let past-if1 = c .before .before .before .if1 in
     let past-arms-size = c .before .before .before .before .arms-size in
-    let own = rounds-rows arms (λ z. past-if1 .left (past-arms-size .ensures ∙ z)) in
+    let own = rounds-rows (calledIn (args .rows .now)) arms (λ z. past-if1 .left (past-arms-size .ensures ∙ z)) in
     let past-put-loop = c .before .put-loop in
     let head-kept = past-put-loop .kept .1 .1 .0 in
     omega (arith, asks .room .inside, own, head-kept)
@@ -138,7 +139,7 @@ part-write-arms-start t c =
     let arms = armListAt (args .rows .now) (args .arms) in
     let past-if1 = c .before .before .before .if1 in
     let past-arms-size = c .before .before .before .before .arms-size in
-    let own = rounds-rows arms (λ z. past-if1 .left (past-arms-size .ensures ∙ z)) in
+    let own = rounds-rows (calledIn (args .rows .now)) arms (λ z. past-if1 .left (past-arms-size .ensures ∙ z)) in
     let past-put-loop = c .before .put-loop in
     let head-kept = past-put-loop .kept .1 .1 .0 in
     omega (arith, asks .room .inside, own, head-kept)
@@ -158,8 +159,8 @@ write-arms-requires t c κs =
     let arms = armListAt (args .rows .now) (args .arms) in
     let past-if1 = c .before .before .before .before .if1 in
     let past-arms-size = c .before .before .before .before .before .arms-size in
-    let own = rounds-rows arms (λ z. past-if1 .left (past-arms-size .ensures ∙ z)) in
-    let marks = rounds-labels arms (λ z. past-if1 .left (past-arms-size .ensures ∙ z)) in (
+    let own = rounds-rows (calledIn (args .rows .now)) arms (λ z. past-if1 .left (past-arms-size .ensures ∙ z)) in
+    let marks = rounds-labels (calledIn (args .rows .now)) arms (λ z. past-if1 .left (past-arms-size .ensures ∙ z)) in (
       omega (arith, start .pre .0),
       (
         start .pre .1 .0,
@@ -182,7 +183,7 @@ add-put-rounds-end t c =
     let arms = armListAt (args .rows .now) (args .arms) in
     let past-if1 = c .before .before .before .before .before .before .if1 in
     let past-arms-size = c .before .before .before .before .before .before .before .arms-size in
-    let own = rounds-rows arms (λ z. past-if1 .left (past-arms-size .ensures ∙ z)) in
+    let own = rounds-rows (calledIn (args .rows .now)) arms (λ z. past-if1 .left (past-arms-size .ensures ∙ z)) in
     omega (arith, asks .room .low, own, past-arms-size .ensures)
 
 pub mul-put-rounds-end : (t : ℕ) → lts.Need-mul-put-rounds-end (write-rounds-claims t) (write-rounds-at t) reads.Post
@@ -194,7 +195,7 @@ mul-put-rounds-end t c =
     let arms = armListAt (args .rows .now) (args .arms) in
     let past-if1 = c .before .before .before .before .before .before .if1 in
     let past-arms-size = c .before .before .before .before .before .before .before .arms-size in
-    let own = rounds-rows arms (λ z. past-if1 .left (past-arms-size .ensures ∙ z)) in
+    let own = rounds-rows (calledIn (args .rows .now)) arms (λ z. past-if1 .left (past-arms-size .ensures ∙ z)) in
     omega (arith, asks .room .low, own, past-arms-size .ensures)
 
 pub mul-put-rounds-end-2 : (t : ℕ) → lts.Need-mul-put-rounds-end-2 (write-rounds-claims t) (write-rounds-at t) reads.Post
@@ -206,7 +207,7 @@ mul-put-rounds-end-2 t c =
     let arms = armListAt (args .rows .now) (args .arms) in
     let past-if1 = c .before .before .before .before .before .before .if1 in
     let past-arms-size = c .before .before .before .before .before .before .before .arms-size in
-    let own = rounds-rows arms (λ z. past-if1 .left (past-arms-size .ensures ∙ z)) in
+    let own = rounds-rows (calledIn (args .rows .now)) arms (λ z. past-if1 .left (past-arms-size .ensures ∙ z)) in
     omega (arith, asks .room .low, own, past-arms-size .ensures)
 
 pub sub-put-rounds-end : (t : ℕ) → lts.Need-sub-put-rounds-end (write-rounds-claims t) (write-rounds-at t) reads.Post
@@ -218,7 +219,7 @@ sub-put-rounds-end t c =
     let arms = armListAt (args .rows .now) (args .arms) in
     let past-if1 = c .before .before .before .before .before .before .if1 in
     let past-arms-size = c .before .before .before .before .before .before .before .arms-size in
-    let own = rounds-rows arms (λ z. past-if1 .left (past-arms-size .ensures ∙ z)) in
+    let own = rounds-rows (calledIn (args .rows .now)) arms (λ z. past-if1 .left (past-arms-size .ensures ∙ z)) in
     let past-put-loop = c .before .before .before .before .put-loop in
     let head-kept = past-put-loop .kept .1 .1 .0 in
     let head-table = past-put-loop .last .1 .1 .0 in
@@ -236,7 +237,7 @@ part-put-rounds-end-start t c =
     let arms = armListAt (args .rows .now) (args .arms) in
     let past-if1 = c .before .before .before .before .before .before .if1 in
     let past-arms-size = c .before .before .before .before .before .before .before .arms-size in
-    let own = rounds-rows arms (λ z. past-if1 .left (past-arms-size .ensures ∙ z)) in
+    let own = rounds-rows (calledIn (args .rows .now)) arms (λ z. past-if1 .left (past-arms-size .ensures ∙ z)) in
     let past-put-loop = c .before .before .before .before .put-loop in
     let head-kept = past-put-loop .kept .1 .1 .0 in
     let head-table = past-put-loop .last .1 .1 .0 in
@@ -265,8 +266,8 @@ put-rounds-end-requires t c κs =
     let rows = args .rows .now in
     let arms = armListAt (args .rows .now) (args .arms) in
     let past-if1 = c .before .before .before .before .before .before .before .if1 in
-    let own = rounds-rows arms (λ z. past-if1 .left (past-arms-size .ensures ∙ z)) in
-    let marks = rounds-labels arms (λ z. past-if1 .left (past-arms-size .ensures ∙ z)) in
+    let own = rounds-rows (calledIn (args .rows .now)) arms (λ z. past-if1 .left (past-arms-size .ensures ∙ z)) in
+    let marks = rounds-labels (calledIn (args .rows .now)) arms (λ z. past-if1 .left (past-arms-size .ensures ∙ z)) in
     (room-behind end-at 3 arms-table (asks .room) (arms-kept ∙ head-kept) (omega (arith, own, past-arms-size .ensures)), omega (arith, asks .labels-low, marks))
 
 pub same-length-2 : (t : ℕ) → lts.Need-same-length-2 (write-rounds-claims t) (write-rounds-at t) reads.Post
@@ -296,4 +297,4 @@ returns-2 t c =
     let past-put-loop = c .before .before .before .before .before .before .before .put-loop in
     let past-write-arms = c .before .before .before .before .write-arms in
     let past-put-rounds-end = c .before .put-rounds-end in
-    rounds-done (args .store) arms (exitsOf (args .exits)) (args .label) (args .base) (args .follows) (args .out .now) (past-arms-size .ensures) (past-if1 .left) (past-put-loop .ensures) (past-write-arms .ensures) (past-put-rounds-end .ensures)
+    rounds-done (calledIn (args .rows .now)) (args .store) arms (exitsOf (args .exits)) (args .label) (args .base) (args .follows) (args .out .now) (past-arms-size .ensures) (past-if1 .left) (past-put-loop .ensures) (past-write-arms .ensures) (past-put-rounds-end .ensures)

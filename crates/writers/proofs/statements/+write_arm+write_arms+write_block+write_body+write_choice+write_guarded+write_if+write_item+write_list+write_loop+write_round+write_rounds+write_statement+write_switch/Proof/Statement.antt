@@ -6,7 +6,7 @@ use Prim.Native.Nat.{ℕ}
 use lib.IntN.{ℤ}
 use native.Mathlib.Omega.{arith}
 use Rattle.language.specs.Trees.{Items}
-use Rattle.language.specs.Decode.{expressionAt, statementAt}
+use Rattle.language.specs.Decode.{expressionAt, statementAt, partAt}
 use Rattle.translation.specs.declared.Use.the-variants.{Stored as stored}
 use Rattle.translation.specs.Translate.{labels, statementCode}
 use Rattle.translation.specs.TranslateSize.{statementSize}
@@ -14,8 +14,10 @@ use Rattle.emission.specs.Emission.{emitItems}
 use Rattle.shapes.specs.ShapeLaws.{stated}
 use Rattle.words.specs.Over.{over}
 use Rattle.writers.specs.Code.{exitsOf}
+use Rattle.measure_table.specs.Parts.{calledIn}
 use Rattle.leaves.specs.Chain.{room-less}
 use Rattle.writers.proofs.ListLaws.{above-less, optional-inside}
+use Rattle.writers.proofs.ReturnLaws.{returned-code}
 use Rattle.writers.proofs.StatementLaws.{line-done, part-size, if-size, if-labels, while-size, do-size, for-size, while-code, do-code, for-code}
 use Rattle.writers.proofs.statements.write_statement.Reads as reads
 use Rattle.writers.proofs.statements.+write_arm+write_arms+write_block+write_body+write_choice+write_guarded+write_if+write_item+write_list+write_loop+write_round+write_rounds+write_statement+write_switch.Lts-write_statement as lts
@@ -358,6 +360,17 @@ write-declare-requires t c κs =
     let line = is-declare in
     (writing, record { low = line .onward .0 .low; some = omega (arith, line .onward .1 .later); inside = line .onward .1 .inside; room = room-less _ (rw (line .is) at (asks .room)) (omega (arith, part-size (stored (past-line10 .given .0 .0)) (start .args .rows .now) (past-line10 .given .0 .1 .0) (omega (arith, line .onward .1 .later)))) })
 
+pub enum-known-line-11 : (t : ℕ) → lts.Need-enum-known-line-11 (write-statement-claims t) (write-statement-at t) reads.Post
+enum-known-line-11 t c = search needs
+
+pub write-return-requires : (t : ℕ) → lts.Need-write-return-requires (write-statement-claims t) (write-statement-at t) reads.Post
+unfolding statementSize
+write-return-requires t c κs =
+    let line = stated (c .before .before .before .before .statement-at .ensures) (c .before .before .line11 .given .1) in
+    let start = c .before .before .before .before .before .before in
+    let asks = start .pre .1 .1 in
+    (start .pre .1 .0, record { inside = optional-inside (start .args .rows .now) (start .args .row) (c .before .before .line11 .given .0 .0) (asks .inside) (line .onward); room = rw (line .is) at (asks .room) })
+
 pub same-length : (t : ℕ) → lts.Need-same-length (write-statement-claims t) (write-statement-at t) reads.Post
 same-length t c = c .before .put-empty .kept .1 .1 .0
 
@@ -563,3 +576,17 @@ returns-15 t c =
     let is-declare = stated (past-statement-at .ensures) (past-line10 .given .1) in
     let past-write-declare = c .before .write-declare in
     line-done (args .store) (exitsOf (args .exits)) (args .label) (args .base) (args .follows) (args .out .now) is-declare (past-write-declare .ensures)
+
+pub same-length-16 : (t : ℕ) → lts.Need-same-length-16 (write-statement-claims t) (write-statement-at t) reads.Post
+same-length-16 t c = c .before .write-return .kept .1 .1 .1 .1 .1 .1 .0
+
+pub returns-16 : (t : ℕ) → lts.Need-returns-16 (write-statement-claims t) (write-statement-at t) reads.Post
+returns-16 t c =
+    let start = c .before .before .before .before .before .before .before .before in
+    let args = start .args in
+    let rows = args .rows .now in
+    let past-line11 = c .before .before .before .before .line11 in
+    let is-return = stated (c .before .before .before .before .before .before .statement-at .ensures) (past-line11 .given .1) in
+    let items : Items → List ℤ = λ xs. over (emitItems (args .follows) xs (args .base)) (args .out .now) in
+    line-done (args .store) (exitsOf (args .exits)) (args .label) (args .base) (args .follows) (args .out .now) is-return
+    (c .before .write-return .ensures ∙ ap items (returned-code (calledIn rows) (args .store) (partAt rows (past-line11 .given .0 .0)) (exitsOf (args .exits)) (args .label)))

@@ -5,6 +5,7 @@ use native.Mathlib.Omega.{arith}
 use Rattle.translation.specs.declared.Use.the-variants.{Wanted as wanted}
 use Rattle.language.specs.Decode.{expressionAt, listAt}
 use Rattle.translation.specs.Translate.{atomOf}
+use Rattle.measure_table.specs.Parts.{calledIn}
 use Rattle.writers.specs.Code.{exitsOf}
 use Rattle.leaves.specs.Chain.{Reach, back-in, room-less}
 use Rattle.writers.proofs.Sequence.{back-length, room-behind}
@@ -155,7 +156,7 @@ write-cases-requires t c κs =
       record {
         inside = asks .inside;
         atom-fits = past-atom-at .ensures .fits;
-        number-low = omega (arith, start .pre .1 .0 .small-store, past-taken-at .ensures, taken-most (atomOf (expressionAt (args .rows .now) (args .selector))));
+        number-low = omega (arith, start .pre .1 .0 .small-store, past-taken-at .ensures, taken-most (atomOf (calledIn (args .rows .now)) (expressionAt (args .rows .now) (args .selector))));
         labels-low = omega (arith, asks .labels-low);
         room = room-behind selector-rows _ selector-table (asks .room) selector-kept (omega (arith, selector-size, past-operand-size .ensures));
       },

@@ -24,7 +24,7 @@ use Rattle.row_fields.specs.declared.Bounds.{Bounds}
 use Rattle.structure.specs.Structured.{Leads, Structured, Tree}
 use Rattle.list_items.specs.Items.{ListItem, first, next}
 use Rattle.statement_places.specs.Places.{isLoop, isLoopOrSwitch, isMark}
-use Rattle.source_check.specs.Legal.{Inside, part, along, SwitchItem, Placed as PlacedRow}
+use Rattle.source_check.specs.Legal.{Inside, part, along, SwitchItem, PlacedRow}
 use Rattle.accepted.specs.Sorts.{between-true, statementNumber, number-is, in-language}
 use Rattle.accepted.specs.Fields.{leads-on}
 use Rattle.accepted.specs.Statements.{StatementRow, empty-row, express-row, block-row, ifThen-row, ifElse-row, while-row, doWhile-row, for-row, switch-row, case-row, default-row, break-row, continue-row, goto-row, label-row, guardedIf-row, guardedDo-row, abort-row, declare-row, return-row, ArmsRow, no-arms, arm-row, ListRow, no-items, item, case-item, default-item, label-item, root-inside, root-row, program-block}

@@ -19,7 +19,7 @@ use Rattle.words.specs.declared.Form.the-variants.{Kernel}
 use Rattle.text_form.specs.declared.ReadAnswer.{ReadAnswer}
 use Rattle.text_form.specs.declared.ReadAnswer.the-variants.{Read, Refused}
 use Rattle.text_form.specs.Text.{Parsed, parsed, malformed, Program}
-use Rattle.text_form.specs.Answers.{unless, tablesHold, Reads}
+use Rattle.text_form.specs.Answers.{causeUnless, tablesHold, Reads}
 use Rattle.flat_text.specs.Text.{parseFlat}
 use Rattle.flat_text.specs.Answers.{flatCause, flatParsed, flatReadResult}
 use Rattle.command_text.specs.Read.{ReadText, ReadFor}
@@ -27,8 +27,8 @@ use Rattle.command_text.proofs.Readings.{Taken, read-by, malformed-by}
 use Rattle.command_flat.specs.Lists.{listRoom, parsedList, listOutput}
 
 -- a test, and one that is made where it holds
-none-said : (holds : Bool) (number : ℕ) (others : Option ℕ) → unless holds number others ≡ none → (holds ≡ true) × (others ≡ none)
-unfolding unless
+none-said : (holds : Bool) (number : ℕ) (others : Option ℕ) → causeUnless holds number others ≡ none → (holds ≡ true) × (others ≡ none)
+unfolding causeUnless
 none-said true number others e = (refl, e)
 none-said false number others e = absurd (let z : _≡_ {A = ℕ} 0 1 = cc in omega arith)
 
@@ -50,7 +50,7 @@ module _ (program : Program) (header list : List ℤ) (h : 35 ≤ length header)
 
   -- the header has room wherever it is within its limits
   same-cause : flatCause (program .header) (tablesHold program header list) ≡ flatCause (program .header) (leb (length (program .rows)) listRoom)
-  unfolding flatCause unless
+  unfolding flatCause causeUnless
   same-cause =
       by-cases (headerFits Kernel (program .header))
       (λ f. rw (l, le-leb (length (program .header)) (length header) (header-short f)))

@@ -17,7 +17,7 @@ use Rattle.words.specs.declared.Form.the-variants.{Kernel}
 use Rattle.words.specs.declared.Refusal.{Refusal}
 use Rattle.words.specs.declared.Verdict.{Verdict}
 use Rattle.words.specs.declared.Verdict.the-variants.{Accepted, Refused as Turned}
-use Rattle.text_form.specs.Answers.{finished, refused, unless, WriteResult, writeBytes, Writes}
+use Rattle.text_form.specs.Answers.{finished, refused, causeUnless, WriteResult, writeBytes, Writes}
 use Rattle.text_form.specs.AnswerLaws.{refused-finished}
 use Rattle.text_numbers.specs.Writer.{Put}
 use Rattle.text_form.specs.declared.WriteAnswer.the-variants.{Written, Refused}
@@ -45,15 +45,15 @@ module _ (header rows : List ℤ) (page : List ℕ) (whole : length page ≡ out
       let same : size ≡ length bytes = cc in
       record { put = record { size = same; written = w }; room = omega (arith, leb-true (length bytes) outputRoom e, whole) }
 
-  written-if : (fits : Bool) → leb (length bytes) outputRoom ≡ fits → {size : ℕ} {left : List ℕ} → Writes (writeBytes (unless fits 10 none) bytes page) (Written size) left
+  written-if : (fits : Bool) → leb (length bytes) outputRoom ≡ fits → {size : ℕ} {left : List ℕ} → Writes (writeBytes (causeUnless fits 10 none) bytes page) (Written size) left
       → Filled (pick fits bytes (refusedLine 10 0)) page size left
-  unfolding writeBytes unless
+  unfolding writeBytes causeUnless
   written-if true e w = whole-page e (w .outcome) (w .text-left)
   written-if false e w = refused-finished (sym (w .outcome))
 
-  refused-if : (fits : Bool) {refusal : Refusal} {left : List ℕ} → Writes (writeBytes (unless fits 10 none) bytes page) (Refused refusal) left
+  refused-if : (fits : Bool) {refusal : Refusal} {left : List ℕ} → Writes (writeBytes (causeUnless fits 10 none) bytes page) (Refused refusal) left
       → refusedLine (refusal .number) (refusal .place) ≡ pick fits bytes (refusedLine 10 0)
-  unfolding writeBytes unless
+  unfolding writeBytes causeUnless
   refused-if true w = refused-finished (w .outcome)
   refused-if false w = refused-line (w .outcome)
 
@@ -68,8 +68,8 @@ module _ (header rows : List ℤ) (page : List ℕ) (whole : length page ≡ out
   refused-by Accepted w = refused-if (leb (length bytes) outputRoom) (rw whole at w)
   refused-by (Turned other) w = refused-line (w .outcome)
 
-  left-if : (fits : Bool) {refusal : Refusal} {left : List ℕ} → Writes (writeBytes (unless fits 10 none) bytes page) (Refused refusal) left → left ≡ page
-  unfolding writeBytes unless
+  left-if : (fits : Bool) {refusal : Refusal} {left : List ℕ} → Writes (writeBytes (causeUnless fits 10 none) bytes page) (Refused refusal) left → left ≡ page
+  unfolding writeBytes causeUnless
   left-if true w = refused-finished (w .outcome)
   left-if false w = w .text-left
 

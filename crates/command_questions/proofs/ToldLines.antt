@@ -7,10 +7,10 @@ use Rattle.words.specs.declared.Form.the-variants.{Source}
 use Rattle.words.specs.declared.Refusal.{Refusal}
 use Rattle.words.specs.declared.Verdict.{Verdict}
 use Rattle.report.specs.Lines.{refusedLine}
-use Rattle.program_meaning.specs.Program.{resolvedRows}
+use Rattle.program_meaning.specs.Program.{sourceSize, resolvedRows}
 use Rattle.program_writes.specs.ProgramWrites.{WritesAre}
 use Rattle.program_writes.specs.declared.Writes.{Writes}
-use Rattle.writes.specs.Told.{sizeOf, Told, sets, refusal}
+use Rattle.writes.specs.Told.{Told, sets, refusal}
 use Rattle.writes.specs.declared.WritesVerdict.the-variants.{Written, Refused}
 use Rattle.written_lines.specs.Lines.{bitsOf, isIn, writtenLines}
 use Rattle.written_lines.specs.declared.PlaceSort.{PlaceSort}
@@ -25,7 +25,7 @@ bits-told x Arrays i h = x .arrays .are i
 bits-told x Declared i h = x .variables .declared i h
 
 pub told-lines : {header rows : List ℤ} {v : Verdict} {w : Writes} → Told header rows v (Written w) → writtenLines (isIn (w .variables) (w .arrays)) ≡ verdictWrites v header rows
-told-lines {header} {rows} {v} {w} (sets x) = lines-same (isIn (w .variables) (w .arrays)) (canWrite (sizeOf header) (resolvedRows Source header rows)) (bits-told x)
+told-lines {header} {rows} {v} {w} (sets x) = lines-same (isIn (w .variables) (w .arrays)) (canWrite (sourceSize header) (resolvedRows Source header rows)) (bits-told x)
 
 pub told-refused : {header rows : List ℤ} {v : Verdict} {r : Refusal} → Told header rows v (Refused r) → refusedLine (r .number) (r .place) ≡ verdictWrites v header rows
 told-refused refusal = refl

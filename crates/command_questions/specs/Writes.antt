@@ -7,9 +7,8 @@ use Rattle.words.specs.declared.Form.the-variants.{Source}
 use Rattle.words.specs.declared.Verdict.{Verdict}
 use Rattle.words.specs.declared.Verdict.the-variants.{Accepted, Refused}
 use Rattle.report.specs.Lines.{refusedLine}
-use Rattle.program_meaning.specs.Program.{resolvedRows}
+use Rattle.program_meaning.specs.Program.{sourceSize, resolvedRows}
 use Rattle.program_writes.specs.ProgramWrites.{variablesWritten, declaredWritten, programWritesArray}
-use Rattle.writes.specs.Told.{sizeOf}
 use Rattle.written_lines.specs.Lines.{writtenLines}
 use Rattle.written_lines.specs.declared.PlaceSort.{PlaceSort}
 use Rattle.written_lines.specs.declared.PlaceSort.the-variants.{Variables, Arrays, Declared}
@@ -24,7 +23,7 @@ canWrite S rows Declared = declaredWritten S rows
 
 abbrev pub verdictWrites : Verdict → (header rows : List ℤ) → List ℕ
 verdictWrites (Refused refusal) header rows = refusedLine (refusal .number) (refusal .place)
-verdictWrites Accepted header rows = writtenLines (canWrite (sizeOf header) (resolvedRows Source header rows))
+verdictWrites Accepted header rows = writtenLines (canWrite (sourceSize header) (resolvedRows Source header rows))
 
 abbrev pub writesLines : (header rows : List ℤ) → List ℕ
 writesLines header rows = verdictWrites (refusalOf Source header rows) header rows

@@ -8,7 +8,7 @@ use lib.Dec.{leb, eqb}
 use Rattle.words.specs.Word.{pick}
 use Rattle.words.specs.declared.Form.{Form}
 use Rattle.words.specs.declared.Form.the-variants.{Source, Kernel}
-use Rattle.text_numbers.specs.Number.{natural}
+use Rattle.text_numbers.specs.Number.{naturalOf}
 use Rattle.text_numbers.specs.Reader.{atMost}
 use Rattle.command_request.specs.Ascii.{ascii}
 use Rattle.command_request.specs.declared.request.Task.{Task}
@@ -51,7 +51,7 @@ pub record Tried (name known : List ℕ) (verb others found : Verb) : Type 0 whe
 
 -- "The budget is any unsigned 32-bit number": decimal digits, no sign, no leading zero.
 unfoldable pub budgetOf : List ℕ → Option ℕ
-budgetOf bytes = atMost 4294967295 (natural bytes)
+budgetOf bytes = atMost 4294967295 (naturalOf bytes)
 
 unfoldable pub startRequest : Task → Option ℕ → (stored : Bool) → Request
 startRequest task none stored = WrongBudget

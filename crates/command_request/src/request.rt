@@ -1,6 +1,6 @@
 // What the arguments ask for.
 use text_numbers::number::Digits;
-use text_numbers::number::natural;
+use text_numbers::number::natural_of;
 use words::Form;
 ghost use mathlib.Core.Path.{_≡_};
 ghost use lib.Dec.{eqb};
@@ -175,7 +175,7 @@ fn start_arguments(task: Task, count: usize, second: &[u8]) -> Request
     if count > 3 {
         return Request::WrongArguments;
     }
-    start_request(task, natural(second, 4294967295), count == 3)
+    start_request(task, natural_of(second, 4294967295), count == 3)
 }
 
 fn request_by(verb: Verb, count: usize, second: &[u8]) -> Request

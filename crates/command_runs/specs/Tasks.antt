@@ -9,7 +9,8 @@ use Rattle.words.specs.declared.Form.{Form}
 use Rattle.words.specs.declared.Form.the-variants.{Source, Kernel}
 use Rattle.text_form.specs.Text.{Parsed, parsed, malformed}
 use Rattle.program_runs.specs.Runs.{RunResult, runResult}
-use Rattle.program_previews.specs.Previews.{PreviewResult, sizeOf, previewResult}
+use Rattle.program_meaning.specs.Program.{sourceSize}
+use Rattle.program_previews.specs.Previews.{PreviewResult, previewResult}
 use Rattle.dispatcher_runs.specs.DispatcherRuns.{DispatcherResult, dispatcherResult}
 use Rattle.command_lines.specs.Lines.{runLine, dispatcherLine, malformedLine}
 use Rattle.preview_lines.specs.Changes.{previewLines}
@@ -44,7 +45,7 @@ abbrev pub resultLine : RunResult → List ℕ
 resultLine result = runLine (result .answer) (result .store)
 
 abbrev pub resultLines : (header : List ℤ) → PreviewResult → List ℕ
-resultLines header result = previewLines (result .answer) (sizeOf header) (result .store) (result .scratch)
+resultLines header result = previewLines (result .answer) (sourceSize header) (result .store) (result .scratch)
 
 abbrev pub shownLine : DispatcherResult → List ℕ
 shownLine result = dispatcherLine (result .answer) (result .words)

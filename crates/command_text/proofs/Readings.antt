@@ -19,7 +19,7 @@ use Rattle.words.specs.declared.Refusal.{Refusal}
 use Rattle.text_form.specs.declared.ReadAnswer.{ReadAnswer}
 use Rattle.text_form.specs.declared.ReadAnswer.the-variants.{Read, Refused}
 use Rattle.text_form.specs.Text.{Parsed, parsed, malformed, Program, parse}
-use Rattle.text_form.specs.Answers.{Outcome, finished, refused, causeOf, tablesHold, ReadResult, readOutcome, readRefused, readProgram, readParsed, readResult, Reads}
+use Rattle.text_form.specs.Answers.{TextOutcome, finished, refused, causeOf, tablesHold, ReadResult, readOutcome, readRefused, readProgram, readParsed, readResult, Reads}
 use Rattle.text_form.specs.AnswerLaws.{cause-none, refused-finished}
 use Rattle.text_form.proofs.Shapes.{cause-some}
 use Rattle.report.specs.Lines.{refusedLine}

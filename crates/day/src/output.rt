@@ -23,7 +23,7 @@ ghost use Rattle.day_form.specs.Lines.{mostDays};
 ghost use Rattle.day_form.specs.Plans.{Sets, planOf};
 ghost use Rattle.day_run.specs.Days.{pairsOf};
 ghost use Rattle.day_values.specs.Values.{settingOutput};
-ghost use Rattle.day_values.specs.Conditions.{outputRoom};
+ghost use Rattle.day_values.specs.Conditions.{dayRoom};
 ghost use Rattle.day.specs.Output.{planOutput, dayOutput};
 
 // The values of a setting. The rule is resolved once, whatever the number of lines: its table stands in this frame alone.
@@ -37,7 +37,7 @@ fn put_resolved(
     requires { ⌜ IsAccepted (now header) (now rows) ⌝ }
     requires { ⌜ length (linesOf (now days)) ≤ mostDays ⌝ }
     requires { ⌜ Sets setting ⌝ }
-    requires { ⌜ outputRoom ≤ length (now output) ⌝ }
+    requires { ⌜ dayRoom ≤ length (now output) ⌝ }
     ensures { λ r. ⌜ Put (settingOutput (now (header .entry)) (resolvedRows Source (now (header .entry)) (now (rows .entry))) setting (pairsOf (linesOf (now (days .entry))))) (now (output .entry)) r (now (output .exit)) ⌝ }
 {
     let words = rows.len();
@@ -50,7 +50,7 @@ fn put_resolved(
 fn put_plan(header: &[i32], rows: &[i32], input: &[u8], size: usize, output: &mut [u8]) -> usize
     requires { ⌜ IsAccepted (now header) (now rows) ⌝ }
     requires { ⌜ size ≡ ruleSize (now input) ⌝ }
-    requires { ⌜ outputRoom ≤ length (now output) ⌝ }
+    requires { ⌜ dayRoom ≤ length (now output) ⌝ }
     ensures { λ r. ⌜ Put (planOutput (now (header .entry)) (now (rows .entry)) (planOf (layoutOf Source (now (header .entry)) .variables) (now (input .entry)))) (now (output .entry)) r (now (output .exit)) ⌝ }
 {
     let variables = natural(header[0]);
@@ -69,7 +69,7 @@ fn put_plan(header: &[i32], rows: &[i32], input: &[u8], size: usize, output: &mu
 
 // The rule's own causes, then what stands behind it. The rule is read, checked and resolved once.
 pub fn day(input: &[u8], output: &mut [u8]) -> usize
-    requires { ⌜ outputRoom ≤ length (now output) ⌝ }
+    requires { ⌜ dayRoom ≤ length (now output) ⌝ }
     ensures { λ r. ⌜ Put (dayOutput (now (input .entry))) (now (output .entry)) r (now (output .exit)) ⌝ }
 {
     let size = rule_size(input);

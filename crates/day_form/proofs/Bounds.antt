@@ -10,7 +10,7 @@ use lib.ListN.{length, take, drop, getD, drop-of-length-le}
 use lib.Seq.{drop-cons, take-all}
 use borrow.Author.Tests.{ltb-true, ltb-false}
 use Rattle.words.specs.Laws.{by-cases}
-use Rattle.text_lines.specs.Line.{newline, Line, ended, unended, longerLine, linesOf}
+use Rattle.text_lines.specs.Line.{newline, TextLine, ended, unended, longerLine, linesOf}
 use Rattle.text_lines.specs.LineLaws.{lines-none}
 use Rattle.text_lines.proofs.Pieces.{Piece}
 use Rattle.text_lines.proofs.Pieces.{lines-step, lines-last}
@@ -76,7 +76,7 @@ behind-next input size h = record { inside = omega arith; before = refl; behind 
 
 -- the first line from byte `at` on, and where the next begins
 pub record First (text : List ℕ) (at next : ℕ) : Type 0 where
-  pub line : Line
+  pub line : TextLine
   pub is : linesOf (drop at text) ≡ line ∷ linesOf (drop next text)
 
 lines-behind : (text : List ℕ) (at : ℕ) → length text ≤ at → linesOf (drop at text) ≡ []
@@ -85,7 +85,7 @@ lines-behind text at h = lines-none (drop at text) (ap length (drop-of-length-le
 module _ {text : List ℕ} {at end : ℕ} (p : Piece 10 text at end) (more : at < length text) where
   -- a line without its newline is the last: the next would begin anywhere behind the text
   pub line-unended : length text ≤ end → (next : ℕ) → length text ≤ next → linesOf (drop at text) ≡ unended (take (end - at) (drop at text)) ∷ linesOf (drop next text)
-  line-unended h next g = lines-last p more h ∙ ap (λ (lines : List Line). unended (take (end - at) (drop at text)) ∷ lines) (sym (lines-behind text next g))
+  line-unended h next g = lines-last p more h ∙ ap (λ (lines : List TextLine). unended (take (end - at) (drop at text)) ∷ lines) (sym (lines-behind text next g))
 
   pub line-first : First text at (end + 1)
   line-first =
@@ -97,7 +97,7 @@ module _ {text : List ℕ} {at end : ℕ} (p : Piece 10 text at end) (more : at 
       past t = omega (arith, ltb-false end (length text) t)
 
 -- every line has a byte
-longer-few : (byte : ℕ) (lines : List Line) → length (longerLine byte lines) ≤ length lines + 1
+longer-few : (byte : ℕ) (lines : List TextLine) → length (longerLine byte lines) ≤ length lines + 1
 longer-few byte [] = omega arith
 longer-few byte (ended line ∷ lines) = omega arith
 longer-few byte (unended line ∷ lines) = omega arith

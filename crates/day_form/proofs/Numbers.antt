@@ -9,7 +9,7 @@ use lib.ListN.{length, take, drop}
 use borrow.Author.Tests.{le-leb, lt-leb}
 use Rattle.words.specs.Over.{over}
 use Rattle.words.specs.OverLaws.{over-none}
-use Rattle.text_lines.specs.Line.{Line, ended, unended, linesOf, fieldsOf, numbersOf, lineNumbers}
+use Rattle.text_lines.specs.Line.{TextLine, ended, unended, linesOf, fieldsOf, numbersOf, lineNumbers}
 use Rattle.text_form.specs.Text.{keep}
 use Rattle.text_form.specs.TextLaws.{keep-is, keep-not, keep-none}
 use Rattle.text_lines.specs.Reader.{numbersIn}
@@ -29,7 +29,7 @@ unfolding lineWords lineNumbers
 words-malformed line e = rw e (ap numbersIn (keep-none isFew))
 
 -- nothing is written for a line that has no numbers
-none-read : (line : Line) (table : List ℤ) → lineWords line ≡ [] → WordsRead line 0 table table
+none-read : (line : TextLine) (table : List ℤ) → lineWords line ≡ [] → WordsRead line 0 table table
 none-read line table e = record { size = sym (ap length e); few = omega arith; written = over-none table ∙ ap (λ (l : List ℤ). over l table) (sym e) }
 
 pub malformed-read : (line : List ℕ) (table : List ℤ) → numbersOf (fieldsOf line) ≡ none → WordsRead (ended line) 0 table table

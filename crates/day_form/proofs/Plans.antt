@@ -18,7 +18,7 @@ use Rattle.words.specs.declared.Found.the-variants.{At, Nothing}
 use Rattle.words.specs.declared.Refusal.{Refusal}
 use Rattle.words.specs.declared.Verdict.{Verdict}
 use Rattle.words.specs.declared.Verdict.the-variants.{Accepted, Refused}
-use Rattle.text_lines.specs.Line.{Line, linesOf}
+use Rattle.text_lines.specs.Line.{TextLine, linesOf}
 use Rattle.day_form.specs.Input.{ruleSize, firstNumber, linesBehind, Behind}
 use Rattle.day_form.specs.Lines.{mostDays, lineWords, turnsAway, firstLine, NextRead}
 use Rattle.day_form.specs.Settings.{settingOf}
@@ -39,7 +39,7 @@ late-turned last number numbers e =
     (λ t. ltb-false _ _ t)
 
 -- where none is turned away, none is past the last
-few-lines : (last number : ℕ) (lines : List Line) → number ≤ last + 1 → firstLine (Pairs last) number lines ≡ Nothing → number + length lines ≤ last + 1
+few-lines : (last number : ℕ) (lines : List TextLine) → number ≤ last + 1 → firstLine (Pairs last) number lines ≡ Nothing → number + length lines ≤ last + 1
 unfolding firstLine
 few-lines last number [] h e = omega arith
 few-lines last number (line ∷ lines) h e =
@@ -51,7 +51,7 @@ none-turned : (number : ℕ) (found : Found) (others : Verdict) → Accepted ≡
 none-turned number (At line) others e = absurd (let z : _≡_ {A = ℕ} 0 1 = cc in omega arith)
 none-turned number Nothing others e = refl
 
-module _ (variables first variable : ℕ) (days : List Line) where
+module _ (variables first variable : ℕ) (days : List TextLine) where
   pub setting-outside : variables ≤ variable → At first ≡ outsideLine variables first variable days
   unfolding outsideLine
   setting-outside h = rw (le-ltb _ _ h)

@@ -13,7 +13,7 @@ use borrow.Author.Tests.{lt-ltb, le-ltb}
 use Rattle.words.specs.Word.{natural}
 use Rattle.words.specs.OverLaws.{written-part}
 use Rattle.words.specs.declared.Found.the-variants.{At, Nothing}
-use Rattle.text_lines.specs.Line.{Line, linesOf}
+use Rattle.text_lines.specs.Line.{TextLine, linesOf}
 use Rattle.text_lines.specs.LineLaws.{lines-none}
 use Rattle.day_form.specs.Lines.{lineWords, arePairs, allNamed, turnsAway, firstLine, WordsRead, NextRead}
 use Rattle.day_form.specs.declared.lines.LineTest.{LineTest}
@@ -93,7 +93,7 @@ module _ {test : LineTest} {text : List ℕ} {first at number : ℕ} (t : Tried 
     }
 
 -- the numbers that stand at the start of the table
-pub lent-numbers : {line : Line} {count : ℕ} {table left : List ℤ} → WordsRead line count table left → take (count - 0) left ≡ lineWords line
+pub lent-numbers : {line : TextLine} {count : ℕ} {table left : List ℤ} → WordsRead line count table left → take (count - 0) left ≡ lineWords line
 lent-numbers {table = table} r = written-part _ table _ _ (r .size) (r .written)
 
 -- ---- one line

@@ -11,7 +11,7 @@ use lib.Signed.{mag}
 use borrow.Author.Tests.{ltb-true, ltb-false, eqb-true}
 use Rattle.words.specs.Word.{natural}
 use Rattle.words.specs.Laws.{by-cases}
-use Rattle.text_lines.specs.Line.{Line, lineNumbers}
+use Rattle.text_lines.specs.Line.{TextLine, lineNumbers}
 use Rattle.text_lines.specs.LineLaws.{Words, line-reads}
 use Rattle.text_numbers.specs.NumberLaws.{not-some}
 use Rattle.text_lines.specs.Reader.{numbersIn}
@@ -29,7 +29,7 @@ unfolding Words
 words-in none fits = tt
 words-in (some numbers) fits = fits numbers refl
 
-line-words : (line : Line) → Words (lineWords line)
+line-words : (line : TextLine) → Words (lineWords line)
 unfolding lineWords
 line-words line = words-in (keep isFew (lineNumbers line)) (λ numbers e. line-reads line numbers (keep-reads isFew (lineNumbers line) numbers e .same) .fits)
 
@@ -83,5 +83,5 @@ sets-of numbers w setting e =
     sets-by (getD numbers 0 (pos 0)) (getD numbers 1 (pos 0)) (getD numbers 2 (pos 0)) (word-at numbers w 1 (omega arith)) (word-at numbers w 2 (omega arith)) setting (e ∙ rw t))
     (λ t. not-some (sym (e ∙ rw t)))
 
-pub setting-sets : (line : Line) (setting : Setting) → some setting ≡ settingOf (lineWords line) → Sets setting
+pub setting-sets : (line : TextLine) (setting : Setting) → some setting ≡ settingOf (lineWords line) → Sets setting
 setting-sets line setting e = sets-of (lineWords line) (line-words line) setting e

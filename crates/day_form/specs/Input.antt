@@ -6,7 +6,7 @@ use Prim.Native.Nat.{ℕ, suc, _+_, _≤_}
 use lib.Dec.{eqb}
 use lib.ListN.{length, take, drop}
 use Rattle.words.specs.Word.{pick}
-use Rattle.text_lines.specs.Line.{newline, Line, linesOf}
+use Rattle.text_lines.specs.Line.{newline, TextLine, linesOf}
 
 -- How many bytes stand before the first empty line; all, where there is none. `starts` says whether a line begins here.
 unfoldable pub bytesBefore : Bool → List ℕ → ℕ
@@ -21,7 +21,7 @@ unfoldable pub ruleText : List ℕ → List ℕ
 ruleText input = take (ruleSize input) input
 
 -- The lines behind the empty line: the setting's, and the day's.
-unfoldable pub linesBehind : List ℕ → List Line
+unfoldable pub linesBehind : List ℕ → List TextLine
 linesBehind input = linesOf (drop (ruleSize input + 1) input)
 
 -- "With their line of the whole input": the number of the first line behind the empty line, of "the line after the last" where there is none.

@@ -10,7 +10,7 @@ use Rattle.words.specs.Word.{natural, pick}
 use Rattle.words.specs.Over.{over}
 use Rattle.words.specs.declared.Found.{Found}
 use Rattle.words.specs.declared.Found.the-variants.{At, Nothing}
-use Rattle.text_lines.specs.Line.{Line, linesOf, lineNumbers}
+use Rattle.text_lines.specs.Line.{TextLine, linesOf, lineNumbers}
 use Rattle.text_form.specs.Text.{keep}
 use Rattle.text_lines.specs.Reader.{numbersIn}
 use Rattle.day_form.specs.declared.lines.LineTest.{LineTest}
@@ -28,7 +28,7 @@ abbrev pub isFew : List ℤ → Bool
 isFew numbers = leb (length numbers) mostNumbers
 
 -- The numbers of a line; none where it is malformed or has more than a line may have.
-unfoldable pub lineWords : Line → List ℤ
+unfoldable pub lineWords : TextLine → List ℤ
 lineWords line = numbersIn (keep isFew (lineNumbers line))
 
 -- "Day lines of pairs": at least one, and no number alone.
@@ -47,21 +47,21 @@ turnsAway (Pairs last) number numbers = ltb last number || not (arePairs numbers
 turnsAway (Names variables) number numbers = not (allNamed variables numbers)
 
 -- The first line that is turned away, where the lines are counted from `number`.
-unfoldable pub firstLine : LineTest → ℕ → List Line → Found
+unfoldable pub firstLine : LineTest → ℕ → List TextLine → Found
 firstLine test number [] = Nothing
 firstLine test number (line ∷ lines) = pick (turnsAway test number (lineWords line)) (At number) (firstLine test (number + 1) lines)
 
 -- ---- what the reader of a line is lent and leaves
 
 -- So many numbers of a line stand at the start of the table.
-pub record WordsRead (line : Line) (count : ℕ) (table left : List ℤ) : Type 0 where
+pub record WordsRead (line : TextLine) (count : ℕ) (table left : List ℤ) : Type 0 where
   pub size : count ≡ length (lineWords line)
   pub few : count ≤ mostNumbers
   pub written : left ≡ over (lineWords line) table
 
 -- The same of the first line from byte `at` on; the next line begins where it says.
 pub record NextRead (text : List ℕ) (at : ℕ) (next : NextLine) (table left : List ℤ) : Type 0 where
-  pub line : Line
+  pub line : TextLine
   pub is-first : linesOf (drop at text) ≡ line ∷ linesOf (drop (next .at) text)
   pub further : at < next .at
   pub inside : next .at ≤ length text

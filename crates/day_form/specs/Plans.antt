@@ -12,7 +12,7 @@ use Rattle.words.specs.declared.Found.{Found}
 use Rattle.words.specs.declared.Found.the-variants.{At, Nothing}
 use Rattle.words.specs.declared.Verdict.{Verdict}
 use Rattle.words.specs.declared.Verdict.the-variants as verdicts
-use Rattle.text_lines.specs.Line.{Line, linesOf}
+use Rattle.text_lines.specs.Line.{TextLine, linesOf}
 use Rattle.day_form.specs.Input.{firstNumber, linesBehind}
 use Rattle.day_form.specs.Lines.{mostDays, lineWords, firstLine}
 use Rattle.day_form.specs.Settings.{mostValues, settingOf}
@@ -23,7 +23,7 @@ use Rattle.day_form.specs.declared.plan.PlanAnswer.the-variants as answe
 
 -- A setting with its day lines, or the refusal: the number of the cause, and the line of the whole input.
 pub data Plan : Type 0 where
-  planned : Setting → List Line → Plan
+  planned : Setting → List TextLine → Plan
   refused : (number line : ℕ) → Plan
 
 abbrev pub refusedAt : ℕ → Found → Verdict → Verdict
@@ -31,27 +31,27 @@ refusedAt number (At line) others = verdicts.Refused (record { number = number; 
 refusedAt number Nothing others = others
 
 -- "22 for a variable number outside 0 to V−1": the setting's, or a day line's. The setting's line has the number `first`.
-unfoldable pub outsideLine : ℕ → ℕ → ℕ → List Line → Found
+unfoldable pub outsideLine : ℕ → ℕ → ℕ → List TextLine → Found
 outsideLine variables first variable days = pick (ltb variable variables) (firstLine (Names variables) (first + 1) days) (At first)
 
 -- "21 for a .. day line malformed, .. or a .. day line or pair too many; then 22".
-unfoldable pub daysVerdict : ℕ → ℕ → ℕ → List Line → Verdict
+unfoldable pub daysVerdict : ℕ → ℕ → ℕ → List TextLine → Verdict
 daysVerdict variables first variable days =
     refusedAt 21 (firstLine (Pairs (first + mostDays)) (first + 1) days)
     (refusedAt 22 (outsideLine variables first variable days)
     verdicts.Accepted)
 
-unfoldable pub checkedPlan : Verdict → Setting → List Line → Plan
+unfoldable pub checkedPlan : Verdict → Setting → List TextLine → Plan
 checkedPlan (verdicts.Refused cause) setting days = refused (cause .number) (cause .place)
 checkedPlan verdicts.Accepted setting days = planned setting days
 
 -- "21 for a setting .. malformed, .. lowest above highest, or a value .. too many".
-unfoldable pub settingPlan : ℕ → ℕ → Option Setting → List Line → Plan
+unfoldable pub settingPlan : ℕ → ℕ → Option Setting → List TextLine → Plan
 settingPlan variables first none days = refused 21 first
 settingPlan variables first (some setting) days = checkedPlan (daysVerdict variables first (setting .variable) days) setting days
 
 -- The setting's line and the day's, the first of which has this number; "a missing setting (the line after the last)".
-unfoldable pub linesPlan : ℕ → ℕ → List Line → Plan
+unfoldable pub linesPlan : ℕ → ℕ → List TextLine → Plan
 linesPlan variables first [] = refused 21 first
 linesPlan variables first (line ∷ days) = settingPlan variables first (settingOf (lineWords line)) days
 

@@ -12,7 +12,7 @@ use Rattle.words.specs.declared.FaultSort.{FaultSort}
 use Rattle.words.specs.declared.RunAnswer.{RunAnswer}
 use Rattle.language.specs.Program.{runTable}
 use Rattle.machine.specs.Whole.{finishedOf, Runnable}
-use Rattle.text_lines.specs.Line.{Line, linesOf}
+use Rattle.text_lines.specs.Line.{TextLine, linesOf}
 use Rattle.text_lines.specs.LineLaws.{lines-none}
 use Rattle.rule_text.specs.Rules.{budget}
 use Rattle.day_form.specs.Lines.{lineWords, NextRead}
@@ -93,7 +93,7 @@ module _ {header rows : List ℤ} {text : List ℕ} {start : List ℤ} {at plain
   done-end h =
       sym (
       d .same
-      ∙ ap (λ (lines : List Line). doLines header rows (pairsOf lines) (record { store = store; plain = plain; other = other })) (lines-none (drop at text) (ap length (drop-of-length-le text {i = at} h)))
+      ∙ ap (λ (lines : List TextLine). doLines header rows (pairsOf lines) (record { store = store; plain = plain; other = other })) (lines-none (drop at text) (ap length (drop-of-length-le text {i = at} h)))
       ∙ no-lines header rows _
       )
 
@@ -106,7 +106,7 @@ module _ {header rows : List ℤ} {text : List ℕ} {start : List ℤ} {at plain
     kept = k ∙ d .kept;
     same =
         d .same
-        ∙ ap (λ (lines : List Line). doLines header rows (pairsOf lines) (record { store = store; plain = plain; other = other })) (r .is-first)
+        ∙ ap (λ (lines : List TextLine). doLines header rows (pairsOf lines) (record { store = store; plain = plain; other = other })) (r .is-first)
         ∙ next-lines header rows (lineWords (r .line)) (pairsOf (linesOf (drop (next .at) text))) _
         ∙ ap (doLines header rows (pairsOf (linesOf (drop (next .at) text)))) (ap (λ (pairs : List ℤ). doLine header rows pairs (record { store = store; plain = plain; other = other })) (sym is) ∙ l .does plain other);
   }

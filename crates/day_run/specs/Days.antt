@@ -9,7 +9,7 @@ use Rattle.words.specs.declared.Form.the-variants.{Source}
 use Rattle.words.specs.declared.Ending.{Ending}
 use Rattle.words.specs.declared.Ending.the-variants.{Plain, Spent, Fault}
 use Rattle.language.specs.Program.{runTable}
-use Rattle.text_lines.specs.Line.{Line}
+use Rattle.text_lines.specs.Line.{TextLine}
 use Rattle.rule_text.specs.Rules.{budget}
 use Rattle.day_form.specs.Lines.{lineWords}
 
@@ -49,5 +49,5 @@ doLines header rows [] day = day
 doLines header rows (pairs ∷ lines) day = doLines header rows lines (doLine header rows pairs day)
 
 -- The pairs of each line.
-abbrev pub pairsOf : List Line → List (List ℤ)
+abbrev pub pairsOf : List TextLine → List (List ℤ)
 pairsOf lines = map lineWords lines

@@ -16,7 +16,7 @@ use Rattle.words.specs.Layout.{layoutOf, storeSize, storeWords, zeros}
 use Rattle.words.specs.Laws.{back, headerFits-facts}
 use Rattle.words.specs.StoreLaws.{size-least}
 use Rattle.words.specs.declared.Form.the-variants.{Source}
-use Rattle.text_lines.specs.Line.{Line, lineBytes}
+use Rattle.text_lines.specs.Line.{TextLine, lineBytes}
 use Rattle.text_lines.specs.Writer.{Measured}
 use Rattle.text_lines.proofs.Sizing.{bytes-line}
 use Rattle.day_form.specs.Lines.{lineWords}
@@ -67,7 +67,7 @@ value-stored store left words variable value z e h = e ∙ rw (z, back value h)
 
 -- ---- a day that was done
 
-module _ (header rows : List ℤ) (lines : List Line) (start : List ℤ) (tally : Tally) (store : List ℤ) (e : dayLeft tally store ≡ doLines header rows (pairsOf lines) (newDay start)) where
+module _ (header rows : List ℤ) (lines : List TextLine) (start : List ℤ) (tally : Tally) (store : List ℤ) (e : dayLeft tally store ≡ doLines header rows (pairsOf lines) (newDay start)) where
   pub day-counted : length lines ≤ 200 → (tally .plain ≤ 200) × (tally .other ≤ 200)
   day-counted h =
       let sum = lines-counted header rows (pairsOf lines) (newDay start) in

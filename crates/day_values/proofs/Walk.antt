@@ -17,7 +17,7 @@ use Rattle.day_form.specs.Settings.{mostValues}
 use Rattle.day_form.specs.Plans.{Sets}
 use Rattle.day_form.specs.declared.setting.Setting.{Setting}
 use Rattle.day_values.specs.Values.{dayLine, valuesOutput, settingOutput}
-use Rattle.day_values.specs.Conditions.{lineRoom, outputRoom}
+use Rattle.day_values.specs.Conditions.{lineRoom, dayRoom}
 
 module _ (line : ℤ → List ℕ) where
   none-left : (value : ℤ) (left : ℕ) → left ≡ 0 → valuesOutput line value left ≡ []
@@ -47,7 +47,7 @@ module _ (line : ℤ → List ℕ) where
         put-as (sym (m .same ∙ ap (λ (l : List ℕ). m .bytes ++ l) (none-left (lowest +ℤ pos done) (values - done) (omega arith)) ∙ append-nil (m .bytes))) (m .put)
 
     -- there is room for the next line
-    module _ (few : values ≤ mostValues) (roomy : outputRoom ≤ length buffer) where
+    module _ (few : values ≤ mostValues) (roomy : dayRoom ≤ length buffer) where
       pub made-fits : length (m .bytes) ≤ length buffer
       made-fits = omega (arith, m .put .size, m .short, m .inside)
 

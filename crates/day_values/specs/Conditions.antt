@@ -29,5 +29,5 @@ abbrev pub lineRoom : ℕ
 lineRoom = 12 * mostInLine
 
 -- Bytes enough for a line of each value: 310,800.
-abbrev pub outputRoom : ℕ
-outputRoom = lineRoom * mostValues
+abbrev pub dayRoom : ℕ
+dayRoom = lineRoom * mostValues

@@ -8,7 +8,7 @@ ghost use Rattle.text_numbers.specs.Writer.{Put};
 ghost use Rattle.day_form.specs.Plans.{Sets};
 ghost use Rattle.day_run.specs.Days.{pairsOf};
 ghost use Rattle.day_values.specs.Values.{settingOutput};
-ghost use Rattle.day_values.specs.Conditions.{Fits, outputRoom};
+ghost use Rattle.day_values.specs.Conditions.{Fits, dayRoom};
 
 pub fn put_values(
     header: &[i32],
@@ -19,7 +19,7 @@ pub fn put_values(
 ) -> usize
     requires { ⌜ Fits (now header) (now rows) (now text) ⌝ }
     requires { ⌜ Sets setting ⌝ }
-    requires { ⌜ outputRoom ≤ length (now output) ⌝ }
+    requires { ⌜ dayRoom ≤ length (now output) ⌝ }
     ensures { λ r. ⌜ Put (settingOutput (now (header .entry)) (now (rows .entry)) setting (pairsOf (linesOf (now (text .entry))))) (now (output .entry)) r (now (output .exit)) ⌝ }
 {
     let variable = setting.variable;

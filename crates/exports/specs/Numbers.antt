@@ -7,7 +7,7 @@ use lib.ListN.{getD}
 use Rattle.words.specs.Numbers.{Numbers, done, refused, verdictNumbers, runNumbers}
 use Rattle.words.specs.declared.Verdict.{Verdict}
 use Rattle.words.specs.declared.RunVerdict.{RunVerdict}
-use Rattle.text_form.specs.Answers.{Outcome, finished, refused as textRefused}
+use Rattle.text_form.specs.Answers.{TextOutcome, finished, refused as textRefused}
 use Rattle.translator.specs.Translation.{translateNumbers, WroteKernelForm}
 use Rattle.translator.specs.declared.TranslateAnswer.{TranslateAnswer}
 use Rattle.joiner.specs.Joining.{joinNumbers, WroteJoin}
@@ -33,11 +33,11 @@ abbrev pub previewAnswer : Numbers → ℕ → PreviewAnswer
 previewAnswer numbers tally = record { cause = numbers .cause; first = numbers .first; second = numbers .second; differing = tally }
 
 -- A reader: the header words and the row words. A writer: the bytes, and 0. Or the refusal.
-abbrev pub outcomeNumbers : Outcome → Numbers
+abbrev pub outcomeNumbers : TextOutcome → Numbers
 outcomeNumbers (finished values) = done (getD values 0 0) (getD values 1 0)
 outcomeNumbers (textRefused number place) = refused number place
 
-abbrev pub outcomeAnswer : Outcome → Answer
+abbrev pub outcomeAnswer : TextOutcome → Answer
 outcomeAnswer outcome = answerOf (outcomeNumbers outcome)
 
 abbrev pub translateAnswer : TranslateAnswer → Answer

@@ -18,7 +18,7 @@ use Rattle.emission.specs.Emission.{rowOf, emitStatement, emitItems}
 use Rattle.measure_table.specs.Parts.{calledIn}
 use Rattle.leaves.specs.Room.{Room, moreRows}
 use Rattle.straight_writers.specs.Asks.{Writing}
-use Rattle.leaves.specs.Chain.{part, back-in, Put, put-next, reworded, Reach, put-length, put-reach, put-room, Wrote, wrote-put}
+use Rattle.leaves.specs.Chain.{part, back-in, PutWords, put-next, reworded, Reach, put-length, put-reach, put-room, Wrote, wrote-put}
 use Rattle.expression_writers.specs.Code.{finishCode, branchCode}
 use Rattle.expression_writers.specs.Asks.{OperandAsks, finishSize, branchSize, BranchFits}
 use Rattle.expression_writers.specs.CodeLaws.{rows-operand, rows-finish, branch-words}
@@ -57,7 +57,7 @@ module _ {S : ℕ} {rows : List ℤ} {table : List ℕ} {branch : Branch} {level
 
 module _ {S : ℕ} {rows : List ℤ} {table : List ℕ} {branch : Branch} {level base : ℕ} {out : List ℤ} {asked : BranchAsked S rows table branch level base out}
     {codeRows endRows : ℕ} {sizes : BranchSizes asked codeRows endRows} {first : ℕ} {headed : List ℤ} (row : BlockRow sizes first headed) where
-  row-put : Put (rowOf 42 (pos first) 0 0 0 0) 1 out headed
+  row-put : PutWords (rowOf 42 (pos first) 0 0 0 0) 1 out headed
   row-put = record { table = row .table-is; size = refl }
 
   pub row-reach : Reach 1 base headed
@@ -83,7 +83,7 @@ module _ {S : ℕ} {rows : List ℤ} {table : List ℕ} {branch : Branch} {level
   code-wrote : Wrote more (operandCode (calledIn rows) S (partAt rows (branch .row)) wanted level) (base + 1) codeRows (part 1 headed) code
   code-wrote = record { table = written .table-is; size = rows-operand (calledIn rows) S (partAt rows (branch .row)) wanted level ∙ sym (sizes .code-is) }
 
-  code-put : Put (rowOf 42 (pos first) 0 0 0 0 ++ emitItems more (operandCode (calledIn rows) S (partAt rows (branch .row)) wanted level) (base + 1))
+  code-put : PutWords (rowOf 42 (pos first) 0 0 0 0 ++ emitItems more (operandCode (calledIn rows) S (partAt rows (branch .row)) wanted level) (base + 1))
       (1 + codeRows) out (back-in 1 headed code)
   code-put = put-next (row-put row) (wrote-put code-wrote)
 

@@ -17,26 +17,26 @@ use Rattle.leaves.specs.Room.{Room}
 use Rattle.leaves.specs.Atoms.{atomTree, AtomFits}
 use Rattle.straight_writers.specs.AtomLaws.{atom-rows}
 use Rattle.straight_writers.specs.Asks.{Writing}
-use Rattle.leaves.specs.Chain.{part, back-in, Put, put-next, reworded, Reach, put-length, put-reach, put-room, choice-words}
-use Rattle.leaves.specs.declared.Atom.{Atom}
+use Rattle.leaves.specs.Chain.{part, back-in, PutWords, put-next, reworded, Reach, put-length, put-reach, put-room, choice-words}
+use Rattle.leaves.specs.declared.KernelAtom.{KernelAtom}
 use Rattle.expression_writers.specs.Code.{branchCode, choiceCode}
 use Rattle.expression_writers.specs.Asks.{branchSize, BranchFits}
 use Rattle.expression_writers.specs.CodeLaws.{rows-branch}
 use Rattle.expression_writers.specs.declared.Branch.{Branch}
 
 -- The rows of an if and of its test.
-abbrev pub ifWords : Atom → ℕ → ℕ → ℕ → List ℤ
+abbrev pub ifWords : KernelAtom → ℕ → ℕ → ℕ → List ℤ
 ifWords test base second next = rowOf 43 (pos (base + 1)) (base + 2) second 0 next ++ emitExpression (atomTree test) (base + 1)
 
 -- A branch as a block that nothing follows.
 abbrev pub branchWords : ℕ → List ℤ → Branch → ℕ → ℕ → List ℤ
 branchWords S rows branch level base = emitStatement (block (branchCode S rows branch level)) base 0
 
-if-put : (test : Atom) (base second next : ℕ) (out headed : List ℤ) → headed ≡ over (ifWords test base second next) out → Put (ifWords test base second next) 2 out headed
+if-put : (test : KernelAtom) (base second next : ℕ) (out headed : List ℤ) → headed ≡ over (ifWords test base second next) out → PutWords (ifWords test base second next) 2 out headed
 if-put test base second next out headed e = record { table = e; size = omega (arith, length-expression (atomTree test) (base + 1), atom-rows test) }
 
 branch-put : (S : ℕ) (rows : List ℤ) (branch : Branch) (level base size : ℕ) (l m : List ℤ) → size ≡ branchSize rows branch → m ≡ over (branchWords S rows branch level base) l
-    → Put (branchWords S rows branch level base) size l m
+    → PutWords (branchWords S rows branch level base) size l m
 branch-put S rows branch level base size l m s e = record {
   table = e;
   size = omega (arith, length-statement (block (branchCode S rows branch level)) base 0, rows-branch S rows branch level);
@@ -44,14 +44,14 @@ branch-put S rows branch level base size l m s e = record {
 
 -- ---- what the caller promised
 
-pub record ChoiceAsked (S : ℕ) (rows : List ℤ) (table : List ℕ) (test : Atom) (onTrue onFalse : Branch) (level base : ℕ) (out : List ℤ) : Type 0 where
+pub record ChoiceAsked (S : ℕ) (rows : List ℤ) (table : List ℕ) (test : KernelAtom) (onTrue onFalse : Branch) (level base : ℕ) (out : List ℤ) : Type 0 where
   pub writing : Writing rows table S
   pub test-fits : AtomFits test
   pub true-fits : BranchFits rows onTrue level
   pub false-fits : BranchFits rows onFalse level
   pub room : Room (2 + branchSize rows onTrue + branchSize rows onFalse) base (length out)
 
-module _ {S : ℕ} {rows : List ℤ} {table : List ℕ} {test : Atom} {onTrue onFalse : Branch} {level base : ℕ} {out : List ℤ}
+module _ {S : ℕ} {rows : List ℤ} {table : List ℕ} {test : KernelAtom} {onTrue onFalse : Branch} {level base : ℕ} {out : List ℤ}
     (asked : ChoiceAsked S rows table test onTrue onFalse level base out) where
   pub true-small : branchSize rows onTrue ≤ 40978
   true-small = omega (arith, asked .room .low)
@@ -65,7 +65,7 @@ module _ {S : ℕ} {rows : List ℤ} {table : List ℕ} {test : Atom} {onTrue on
     pub true-is : trueRows ≡ branchSize rows onTrue
     pub false-is : falseRows ≡ branchSize rows onFalse
 
-module _ {S : ℕ} {rows : List ℤ} {table : List ℕ} {test : Atom} {onTrue onFalse : Branch} {level base : ℕ} {out : List ℤ}
+module _ {S : ℕ} {rows : List ℤ} {table : List ℕ} {test : KernelAtom} {onTrue onFalse : Branch} {level base : ℕ} {out : List ℤ}
     {asked : ChoiceAsked S rows table test onTrue onFalse level base out} {trueRows falseRows : ℕ} (sizes : ChoiceSizes asked trueRows falseRows) where
   pub choice-room : Room (2 + trueRows + falseRows) base (length out)
   choice-room = record {
@@ -79,10 +79,10 @@ module _ {S : ℕ} {rows : List ℤ} {table : List ℕ} {test : Atom} {onTrue on
     pub next-is : next ≡ pick follows (base + (2 + trueRows + falseRows)) 0
     pub table-is : headed ≡ over (ifWords test base (base + (2 + trueRows)) next) out
 
-module _ {S : ℕ} {rows : List ℤ} {table : List ℕ} {test : Atom} {onTrue onFalse : Branch} {level base : ℕ} {out : List ℤ}
+module _ {S : ℕ} {rows : List ℤ} {table : List ℕ} {test : KernelAtom} {onTrue onFalse : Branch} {level base : ℕ} {out : List ℤ}
     {asked : ChoiceAsked S rows table test onTrue onFalse level base out} {trueRows falseRows : ℕ} {sizes : ChoiceSizes asked trueRows falseRows}
     {follows : Bool} {next : ℕ} {headed : List ℤ} (head : IfRows sizes follows next headed) where
-  head-put : Put (ifWords test base (base + (2 + trueRows)) next) 2 out headed
+  head-put : PutWords (ifWords test base (base + (2 + trueRows)) next) 2 out headed
   head-put = if-put test base (base + (2 + trueRows)) next out headed (head .table-is)
 
   pub if-reach : Reach 2 base headed
@@ -96,10 +96,10 @@ module _ {S : ℕ} {rows : List ℤ} {table : List ℕ} {test : Atom} {onTrue on
   pub record TrueBranch (first : List ℤ) : Type 0 where
     pub table-is : first ≡ over (branchWords S rows onTrue level (base + 2)) (part 2 headed)
 
-module _ {S : ℕ} {rows : List ℤ} {table : List ℕ} {test : Atom} {onTrue onFalse : Branch} {level base : ℕ} {out : List ℤ}
+module _ {S : ℕ} {rows : List ℤ} {table : List ℕ} {test : KernelAtom} {onTrue onFalse : Branch} {level base : ℕ} {out : List ℤ}
     {asked : ChoiceAsked S rows table test onTrue onFalse level base out} {trueRows falseRows : ℕ} {sizes : ChoiceSizes asked trueRows falseRows}
     {follows : Bool} {next : ℕ} {headed : List ℤ} {head : IfRows sizes follows next headed} {first : List ℤ} (written : TrueBranch head first) where
-  true-put : Put (ifWords test base (base + (2 + trueRows)) next ++ branchWords S rows onTrue level (base + 2)) (2 + trueRows) out (back-in 2 headed first)
+  true-put : PutWords (ifWords test base (base + (2 + trueRows)) next ++ branchWords S rows onTrue level (base + 2)) (2 + trueRows) out (back-in 2 headed first)
   true-put = put-next (head-put head) (branch-put S rows onTrue level (base + 2) trueRows (part 2 headed) first (sizes .true-is) (written .table-is))
 
   pub true-reach : Reach (2 + trueRows) base (back-in 2 headed first)
@@ -112,7 +112,7 @@ module _ {S : ℕ} {rows : List ℤ} {table : List ℕ} {test : Atom} {onTrue on
 
   module _ (second : List ℤ)
       (second-table : second ≡ over (branchWords S rows onFalse level (base + (2 + trueRows))) (part (2 + trueRows) (back-in 2 headed first))) where
-    false-put : Put ((ifWords test base (base + (2 + trueRows)) next ++ branchWords S rows onTrue level (base + 2)) ++ branchWords S rows onFalse level (base + (2 + trueRows)))
+    false-put : PutWords ((ifWords test base (base + (2 + trueRows)) next ++ branchWords S rows onTrue level (base + 2)) ++ branchWords S rows onFalse level (base + (2 + trueRows)))
         (2 + trueRows + falseRows) out (back-in (2 + trueRows) (back-in 2 headed first) second)
     false-put =
         put-next true-put

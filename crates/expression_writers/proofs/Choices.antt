@@ -26,7 +26,7 @@ use Rattle.measure_table.specs.PlainRows.{no-call}
 use Rattle.leaves.specs.Atoms.{atomTree, AtomFits}
 use Rattle.leaves.specs.Straight.{straightCode, lastSize}
 use Rattle.straight_writers.specs.Asks.{Writing, AtomAt}
-use Rattle.leaves.specs.declared.Atom.{Atom}
+use Rattle.leaves.specs.declared.KernelAtom.{KernelAtom}
 use Rattle.expression_writers.specs.Code.{lastCode, finishCode, branchCode}
 use Rattle.expression_writers.specs.Asks.{endOf, finishSize, branchSize, BranchFits, ChoiceAt, numberBranch}
 use Rattle.expression_writers.specs.declared.End.{End}
@@ -42,7 +42,7 @@ pub chosen : {S : ℕ} {rows : List ℤ} {row level : ℕ} {choice other : Choic
 chosen {S} {rows} {row} {level} at e = subst (λ (c : Choice). ChoiceAt S rows row level c) e at
 
 -- The test and the branches that are chosen between.
-pub record BranchesFit (rows : List ℤ) (row level : ℕ) (test : Atom) (onTrue onFalse : Branch) : Type 0 where
+pub record BranchesFit (rows : List ℤ) (row level : ℕ) (test : KernelAtom) (onTrue onFalse : Branch) : Type 0 where
   pub test-fits : AtomFits test
   pub true-fits : BranchFits rows onTrue level
   pub false-fits : BranchFits rows onFalse level
@@ -50,7 +50,7 @@ pub record BranchesFit (rows : List ℤ) (row level : ℕ) (test : Atom) (onTrue
   pub false-later : 0 < onFalse .row → row < onFalse .row
   pub rows-are : (u : Use) → lastSize (calledIn rows) (expressionAt rows row) u ≡ 2 + branchSize rows onTrue + branchSize rows onFalse
 
-pub branches-fit : {S : ℕ} {rows : List ℤ} {row level : ℕ} {test : Atom} {onTrue onFalse : Branch} → ChoiceAt S rows row level (Choose test onTrue onFalse)
+pub branches-fit : {S : ℕ} {rows : List ℤ} {row level : ℕ} {test : KernelAtom} {onTrue onFalse : Branch} → ChoiceAt S rows row level (Choose test onTrue onFalse)
     → BranchesFit rows row level test onTrue onFalse
 branches-fit at = record {
   test-fits = at .fits .0;
@@ -108,7 +108,7 @@ module _ (S : ℕ) (rows : List ℤ) (row level : ℕ) where
   pub straight-call : {f link : ℕ} → Source rows → row < rowCount rows → ExpressionAt rows row (expression.Call f link) → ChoiceAt S rows row level Straight
   straight-call s inside f = absurd (no-call s row inside (f .is))
 
-  abbrev branch : ℕ → End → Atom → Branch
+  abbrev branch : ℕ → End → KernelAtom → Branch
   branch link end x = record { row = link; end = end; atom = x }
 
   -- ---- the code of a branch
@@ -120,12 +120,12 @@ module _ (S : ℕ) (rows : List ℤ) (row level : ℕ) where
   abbrev truth-of : Expression → Items
   truth-of value = assigning S (temporary S level) (binary NotEqual value (constant (pos 0))) none
 
-  truth-code : (link : ℕ) (x : Atom) → 0 < link → AtomAt S rows link level x
+  truth-code : (link : ℕ) (x : KernelAtom) → 0 < link → AtomAt S rows link level x
       → branchCode S rows (branch link Truth x) level ≡ expressionCode (calledIn rows) S (expressionAt rows link) wanted level ⧺ truth-of (atom S level (atomOf (calledIn rows) (expressionAt rows link)))
   truth-code link x h a = ap₂ (λ (is : Items) (y : Expression). is ⧺ truth-of y) (some-code link h) (a .is)
 
   -- a number or a variable goes into the temporary; a value that is there already stays
-  finish-copy : (x : Atom) (held : Held) → atomTree x ≡ atom S level held → finishCode S (endOf held) x level ≡ copyCode S level held
+  finish-copy : (x : KernelAtom) (held : Held) → atomTree x ≡ atom S level held → finishCode S (endOf held) x level ≡ copyCode S level held
   finish-copy x (number v) e = ap (λ (y : Expression). assigning S (temporary S level) y none) e
   finish-copy x (word i) e = ap (λ (y : Expression). assigning S (temporary S level) y none) e
   finish-copy x top e = refl
@@ -135,7 +135,7 @@ module _ (S : ℕ) (rows : List ℤ) (row level : ℕ) where
   finish-rows (word i) = refl
   finish-rows top = refl
 
-  value-code : (link : ℕ) (x : Atom) → 0 < link → AtomAt S rows link level x
+  value-code : (link : ℕ) (x : KernelAtom) → 0 < link → AtomAt S rows link level x
       → branchCode S rows (branch link (endOf (atomOf (calledIn rows) (expressionAt rows link))) x) level ≡ expressionCode (calledIn rows) S (expressionAt rows link) wanted level ⧺ copyCode S level (atomOf (calledIn rows) (expressionAt rows link))
   value-code link x h a = ap₂ _⧺_ (some-code link h) (finish-copy x (atomOf (calledIn rows) (expressionAt rows link)) (a .is))
 
@@ -146,7 +146,7 @@ module _ (S : ℕ) (rows : List ℤ) (row level : ℕ) where
   -- ---- what a branch asks
 
   module _ {table : List ℕ} (asked : RowAsked S rows table row level) where
-    branch-fits : {link : ℕ} {end : End} {x : Atom} → Onward rows row link → AtomFits x → BranchFits rows (branch link end x) level
+    branch-fits : {link : ℕ} {end : End} {x : KernelAtom} → Onward rows row link → AtomFits x → BranchFits rows (branch link end x) level
     branch-fits o f = record {
       inside = o .inside;
       level-low = λ h. omega (arith, o .later, asked .level-low);
@@ -177,7 +177,7 @@ module _ (S : ℕ) (rows : List ℤ) (row level : ℕ) where
     abbrev if-of : Expression → Items → Items → Items
     if-of test onTrue onFalse = choosing S test onTrue onFalse none
 
-    pub and-choice : {a b : ℕ} {test x : Atom} {no : Branch} → ExpressionAt rows row (expression.Choice (And a b)) → AtomAt S rows a level test → AtomAt S rows b level x → no ≡ numberBranch (pos 0)
+    pub and-choice : {a b : ℕ} {test x : KernelAtom} {no : Branch} → ExpressionAt rows row (expression.Choice (And a b)) → AtomAt S rows a level test → AtomAt S rows b level x → no ≡ numberBranch (pos 0)
         → ChoiceAt S rows row level (Choose test (branch b Truth x) no)
     and-choice {a} {b} {test} {x} {no} f t y n = rw n (record {
       is = λ u. as-last _ f u (sym (ap₃ if-of (t .is) (truth-code b x (omega (arith, f .onward .1 .later)) y) (number-code (pos 0))));
@@ -191,7 +191,7 @@ module _ (S : ℕ) (rows : List ℤ) (row level : ℕ) where
       );
     })
 
-    pub or-choice : {a b : ℕ} {test x : Atom} {onTrue : Branch} → ExpressionAt rows row (expression.Choice (Or a b)) → AtomAt S rows a level test → AtomAt S rows b level x → onTrue ≡ numberBranch (pos 1)
+    pub or-choice : {a b : ℕ} {test x : KernelAtom} {onTrue : Branch} → ExpressionAt rows row (expression.Choice (Or a b)) → AtomAt S rows a level test → AtomAt S rows b level x → onTrue ≡ numberBranch (pos 1)
         → ChoiceAt S rows row level (Choose test onTrue (branch b Truth x))
     or-choice {a} {b} {test} {x} {onTrue} f t y n = rw n (record {
       is = λ u. as-last _ f u (sym (ap₃ if-of (t .is) (number-code (pos 1)) (truth-code b x (omega (arith, f .onward .1 .later)) y)));
@@ -205,7 +205,7 @@ module _ (S : ℕ) (rows : List ℤ) (row level : ℕ) where
       );
     })
 
-    pub conditional-choice : {c a b : ℕ} {test x y : Atom} {yesEnd noEnd : End} → ExpressionAt rows row (expression.Choice (Conditional c a b)) → AtomAt S rows c level test
+    pub conditional-choice : {c a b : ℕ} {test x y : KernelAtom} {yesEnd noEnd : End} → ExpressionAt rows row (expression.Choice (Conditional c a b)) → AtomAt S rows c level test
         → yesEnd ≡ endOf (atomOf (calledIn rows) (expressionAt rows a)) → AtomAt S rows a level x → noEnd ≡ endOf (atomOf (calledIn rows) (expressionAt rows b)) → AtomAt S rows b level y
         → ChoiceAt S rows row level (Choose test (branch a yesEnd x) (branch b noEnd y))
     conditional-choice {c} {a} {b} {test} {x} {y} f t ea p eb q = rw (ea, eb) (record {

@@ -13,7 +13,7 @@ use Rattle.measure_table.specs.Parts.{calledIn, UseFits}
 use Rattle.leaves.specs.Room.{Room}
 use Rattle.leaves.specs.Atoms.{AtomFits}
 use Rattle.leaves.specs.Straight.{lastSize}
-use Rattle.leaves.specs.declared.Atom.the-variants.{Constant}
+use Rattle.leaves.specs.declared.KernelAtom.the-variants.{Constant}
 use Rattle.expression_writers.specs.Code.{lastCode, chosenCode}
 use Rattle.expression_writers.specs.declared.End.{End}
 use Rattle.expression_writers.specs.declared.End.the-variants.{Truth, Copy, Stays}

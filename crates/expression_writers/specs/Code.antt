@@ -15,7 +15,7 @@ use Rattle.translation.specs.HeldCode.{holdCode}
 use Rattle.measure_table.specs.Parts.{calledIn}
 use Rattle.leaves.specs.Atoms.{atomTree}
 use Rattle.leaves.specs.Straight.{straightCode}
-use Rattle.leaves.specs.declared.Atom.{Atom}
+use Rattle.leaves.specs.declared.KernelAtom.{KernelAtom}
 use Rattle.expression_writers.specs.declared.End.{End}
 use Rattle.expression_writers.specs.declared.End.the-variants.{Truth, Copy, Stays}
 use Rattle.expression_writers.specs.declared.Branch.{Branch}
@@ -64,7 +64,7 @@ module _ (called : ℕ → ℕ → Bool) (S : ℕ) where
 
 module _ (S : ℕ) where
   -- The end of a branch: its atom into temporary t, as a truth value, or as it is where it is not there already.
-  abbrev pub finishCode : End → Atom → ℕ → Items
+  abbrev pub finishCode : End → KernelAtom → ℕ → Items
   finishCode Truth x t = assigning S (temporary S t) (binary NotEqual (atomTree x) (constant (pos 0))) none
   finishCode Copy x t = assigning S (temporary S t) (atomTree x) none
   finishCode Stays x t = none
@@ -74,7 +74,7 @@ module _ (S : ℕ) where
     abbrev pub branchCode : Branch → ℕ → Items
     branchCode branch t = operandCode (calledIn rows) S (partAt rows (branch .row)) wanted t ⧺ finishCode (branch .end) (branch .atom) t
 
-    abbrev pub choiceCode : Atom → Branch → Branch → ℕ → Items
+    abbrev pub choiceCode : KernelAtom → Branch → Branch → ℕ → Items
     choiceCode test onTrue onFalse t = choosing S (atomTree test) (branchCode onTrue t) (branchCode onFalse t) none
 
     -- The same by a choice.

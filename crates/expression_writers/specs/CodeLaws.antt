@@ -30,8 +30,8 @@ use Rattle.words.specs.Over.{over}
 use Rattle.leaves.specs.Room.{moreRows}
 use Rattle.leaves.specs.Straight.{lastSize}
 use Rattle.leaves.specs.Chain.{Wrote, more-is, block-words}
-use Rattle.leaves.specs.declared.Atom.{Atom}
-use Rattle.leaves.specs.declared.Atom.the-variants.{Constant, Variable}
+use Rattle.leaves.specs.declared.KernelAtom.{KernelAtom}
+use Rattle.leaves.specs.declared.KernelAtom.the-variants.{Constant, Variable}
 use Rattle.expression_writers.specs.Code.{waitCode, lastCode, finishCode, branchCode}
 use Rattle.expression_writers.specs.Asks.{finishSize, branchSize}
 use Rattle.expression_writers.specs.declared.End.{End}
@@ -155,7 +155,7 @@ module _ (called : ℕ → ℕ → Bool) (S : ℕ) where
 
 module _ (S : ℕ) where
   -- a branch
-  pub rows-finish : (end : End) (x : Atom) (t : ℕ) → itemsRows (finishCode S end x t) ≡ finishSize end
+  pub rows-finish : (end : End) (x : KernelAtom) (t : ℕ) → itemsRows (finishCode S end x t) ≡ finishSize end
   unfolding itemsRows expressionRows
   rows-finish Truth (Constant v) t = refl
   rows-finish Truth (Variable n) t = refl

@@ -3,7 +3,7 @@ use super::Branch;
 use super::Choice;
 use super::End;
 use expression_measures::holders::taken_at;
-use leaves::Atom;
+use leaves::KernelAtom;
 use leaves::assignments::put_binary;
 use leaves::assignments::put_copy;
 use shapes::ChoiceShape;
@@ -37,7 +37,7 @@ fn number_branch(v: i32) -> Branch
     Branch {
         row: 0,
         end: End::Copy,
-        atom: Atom::Constant(v),
+        atom: KernelAtom::Constant(v),
     }
 }
 
@@ -122,14 +122,21 @@ pub fn branch_size(rows: &[i32], table: &[usize], branch: Branch) -> usize
 }
 
 // The end of a branch: its atom into the temporary of a level, where it is not there already.
-pub fn put_finish(end: End, atom: Atom, store: usize, level: usize, base: usize, out: &mut [i32])
+pub fn put_finish(
+    end: End,
+    atom: KernelAtom,
+    store: usize,
+    level: usize,
+    base: usize,
+    out: &mut [i32],
+)
     requires { ⌜ Room (finishSize end) base (length (now out)) × AtomFits atom × (store + level < 65536) ⌝ }
     ensures { λ _. ⌜ now (out .exit) ≡ over (emitItems false (finishCode store end atom level) base) (now (out .entry)) ⌝ }
 {
     let number = store + level;
     match end {
         End::Truth => {
-            let zero = Atom::Constant(0);
+            let zero = KernelAtom::Constant(0);
             put_binary(number, Operator::NotEqual, atom, zero, base, false, out);
         }
         End::Copy => put_copy(number, atom, base, false, out),

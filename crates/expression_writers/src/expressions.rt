@@ -6,7 +6,7 @@ use super::branches::choice_at;
 use super::branches::finish_size;
 use super::branches::put_finish;
 use expression_measures::parts::own_at;
-use leaves::Atom;
+use leaves::KernelAtom;
 use leaves::control::put_block;
 use leaves::control::put_if;
 use leaves::rows::behind;
@@ -152,7 +152,7 @@ fn write_choice(
     rows: &[i32],
     table: &[usize],
     store: usize,
-    test: Atom,
+    test: KernelAtom,
     yes: Branch,
     no: Branch,
     level: usize,

@@ -1,5 +1,5 @@
 // The writers of expressions.
-use leaves::Atom;
+use leaves::KernelAtom;
 
 pub mod branches; // branches.rt: what and, or and a conditional choose between
 pub mod expressions; // expressions.rt: the operands' code, and then what the expression does with their values
@@ -15,11 +15,11 @@ pub enum End {
 pub struct Branch {
     pub row: usize,
     pub end: End,
-    pub atom: Atom,
+    pub atom: KernelAtom,
 }
 
 // What the code of an expression ends with.
 pub enum Choice {
-    Choose(Atom, Branch, Branch),
+    Choose(KernelAtom, Branch, Branch),
     Straight,
 }

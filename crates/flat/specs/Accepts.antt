@@ -23,13 +23,13 @@ use Rattle.structure.specs.Refusal.{at, unless}
 use Rattle.structure.specs.RefusalLaws.{next-accepts, accepts-next, at-accepts, accepts-at, unless-accepts, accepts-unless}
 use Rattle.row_fields.specs.declared.Bounds.{Bounds}
 use Rattle.emission.specs.Emission.{operatorNumber}
-use Rattle.flat.specs.Lines.{Operand, number, word, copy, minus, operate, fetch, put, Line, does, jump, jumpZero, jumpOther, abort}
+use Rattle.flat.specs.Lines.{Operand, number, word, copy, minus, operate, fetch, put, FlatLine, does, jump, jumpZero, jumpOther, abort}
 use Rattle.flat.specs.Words.{distance, targetOf, Parts, parts, unused, lineParts, sortOf, wordOf, operationOf, lineCount, fieldAt, operationAt, kindOf, leftConstant, rightConstant, operandOf, Written}
 use Rattle.flat.specs.WordsLaws.{distance-onward, distance-back, operator-few, kind-small, isNumber, one, kind-back, left-back, right-back, operation-small, operation-whole, operation-back}
 use Rattle.flat.specs.Refusal.{shape, shapeOf, constantFits, knownOperation, unknownOperation, landsInside, jumpOutside, holdsRight, numberOutside, lineCauses, refusal}
 use Rattle.flat.specs.Legal.{WithinOperand, Within, LegalLine, LegalFlat}
 use Rattle.flat.specs.declared.Holds.the-variants.{Atom, Variable}
-use Rattle.flat.specs.declared.Shape.{Shape}
+use Rattle.flat.specs.declared.LineShape.{LineShape}
 
 -- ---- the kinds of lines
 
@@ -138,7 +138,7 @@ module _ (bounds : Bounds) (small : Small bounds) (constant : Bool) (z : ℤ) wh
 -- The words of a line of kind k: the line, its parts, and that it names what there is.
 module _ (bounds : Bounds) (i lines : ℕ) (k : ℕ) (leftIs rightIs : Bool) (t l r d : ℤ) where
   record Made : Type 0 where
-    line : Line
+    line : FlatLine
     same-parts : lineParts i line ≡ parts k (natural t) (operandOf leftIs l) (operandOf rightIs r) d
     target-word : t ≡ pos (natural t)
     left-word : l ≡ wordOf (operandOf leftIs l)
@@ -146,7 +146,7 @@ module _ (bounds : Bounds) (i lines : ℕ) (k : ℕ) (leftIs rightIs : Bool) (t 
     within : Within bounds lines line
 
 -- The tests of the three causes, as they come out for one shape.
-record Passes (bounds : Bounds) (i lines : ℕ) (s : Shape) (leftIs rightIs : Bool) (t l r d : ℤ) : Type 0 where
+record Passes (bounds : Bounds) (i lines : ℕ) (s : LineShape) (leftIs rightIs : Bool) (t l r d : ℤ) : Type 0 where
   left-fits : constantFits leftIs (s .left) ≡ true
   right-fits : constantFits rightIs (s .right) ≡ true
   lands : pick (s .jumps) (landsInside i lines d) (eqb (natural d) 0) ≡ true
@@ -342,10 +342,10 @@ module _ (bounds : Bounds) (i lines : ℕ) (inside : i < lines) where
   atom-holds (number v) w = refl
   atom-holds (word k) w = w
 
-  abbrev PassesLine : Line → Type 0
+  abbrev PassesLine : FlatLine → Type 0
   PassesLine x = let p = lineParts i x in Passes bounds i lines (shapeOf (p .kind)) (isNumber (p .left)) (isNumber (p .right)) (pos (p .target)) (wordOf (p .left)) (wordOf (p .right)) (p .distance-is)
 
-  line-known : (x : Line) → shapeOf (lineParts i x .kind) .known ≡ true
+  line-known : (x : FlatLine) → shapeOf (lineParts i x .kind) .known ≡ true
   unfolding shapeOf
   line-known (does (copy x a)) = refl
   line-known (does (minus x a)) = refl
@@ -357,7 +357,7 @@ module _ (bounds : Bounds) (i lines : ℕ) (inside : i < lines) where
   line-known (jumpOther a j) = refl
   line-known abort = refl
 
-  line-passes : (x : Line) → Within bounds lines x → PassesLine x
+  line-passes : (x : FlatLine) → Within bounds lines x → PassesLine x
   unfolding shapeOf natural
   line-passes (does (copy x a)) w = record { left-fits = refl; right-fits = refl; lands = refl; target-holds = w .0; left-holds = atom-holds a (w .1); right-holds = refl }
   line-passes (does (minus x a)) w = record { left-fits = refl; right-fits = refl; lands = refl; target-holds = w .0; left-holds = atom-holds a (w .1); right-holds = refl }
@@ -370,7 +370,7 @@ module _ (bounds : Bounds) (i lines : ℕ) (inside : i < lines) where
   line-passes (jumpOther a j) w = record { left-fits = refl; right-fits = refl; lands = lands-distance i j lines inside (w .1); target-holds = refl; left-holds = atom-holds a (w .0); right-holds = refl }
   line-passes abort w = record { left-fits = refl; right-fits = refl; lands = refl; target-holds = refl; left-holds = refl; right-holds = refl }
 
-module _ (bounds : Bounds) (list : List ℤ) (i : ℕ) (inside : i < lineCount list) (x : Line) (w : Written list i (lineParts i x)) (h : Within bounds (lineCount list) x) where
+module _ (bounds : Bounds) (list : List ℤ) (i : ℕ) (inside : i < lineCount list) (x : FlatLine) (w : Written list i (lineParts i x)) (h : Within bounds (lineCount list) x) where
   abbrev p : Parts
   p = lineParts i x
 

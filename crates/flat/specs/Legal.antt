@@ -10,7 +10,7 @@ use Rattle.words.specs.Layout.{headerFits}
 use Rattle.words.specs.declared.Form.the-variants.{Kernel}
 use Rattle.row_fields.specs.Fields.{boundsOf, numberFits}
 use Rattle.row_fields.specs.declared.Bounds.{Bounds}
-use Rattle.flat.specs.Lines.{Operand, number, word, Operation, copy, minus, operate, fetch, put, Line, does, jump, jumpZero, jumpOther, abort}
+use Rattle.flat.specs.Lines.{Operand, number, word, Operation, copy, minus, operate, fetch, put, FlatLine, does, jump, jumpZero, jumpOther, abort}
 use Rattle.flat.specs.Words.{lineCount, lineParts, Written}
 
 module _ (bounds : Bounds) where
@@ -33,7 +33,7 @@ module _ (bounds : Bounds) where
   WithinOperation (put array a b) = NamesArray array × WithinOperand a × WithinOperand b
 
   -- A line of a list of so many.
-  abbrev pub Within : ℕ → Line → Type 0
+  abbrev pub Within : ℕ → FlatLine → Type 0
   Within lines (does o) = WithinOperation o
   Within lines (jump j) = j ≤ lines
   Within lines (jumpZero a j) = WithinOperand a × (j ≤ lines)
@@ -42,7 +42,7 @@ module _ (bounds : Bounds) where
 
   -- The five words from line i on are those of a line.
   pub record LegalLine (list : List ℤ) (i : ℕ) : Type 0 where
-    pub line : Line
+    pub line : FlatLine
     pub written : Written list i (lineParts i line)
     pub within : Within (lineCount list) line
 

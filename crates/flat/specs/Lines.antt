@@ -26,11 +26,11 @@ pub data Operation : Type 0 where
   put : ℕ → Operand → Operand → Operation
 
 -- A line: an operation, and the following line; a jump to a line; a jump where an operand is 0, or is not; the kernel's abort.
-pub data Line : Type 0 where
-  does : Operation → Line
-  jump : ℕ → Line
-  jumpZero jumpOther : Operand → ℕ → Line
-  abort : Line
+pub data FlatLine : Type 0 where
+  does : Operation → FlatLine
+  jump : ℕ → FlatLine
+  jumpZero jumpOther : Operand → ℕ → FlatLine
+  abort : FlatLine
 
 abbrev pub valueOf : Operand → List ℤ → ℤ
 valueOf (number v) s = v
@@ -79,7 +79,7 @@ module _ (L : Layout) where
   effect (fetch i array a) s = fetched i s (elementWord (arrayBase L array) (arrayLength L array) (valueOf a s))
   effect (put array a b) s = putAt (valueOf b s) s (elementWord (arrayBase L array) (arrayLength L array) (valueOf a s))
 
-  abbrev pub nextOf : Line → ℕ → List ℤ → Next
+  abbrev pub nextOf : FlatLine → ℕ → List ℤ → Next
   nextOf (does o) i s = onward i (effect o s)
   nextOf (jump j) i s = goes j s
   nextOf (jumpZero a j) i s = goes (pick (isTrue (valueOf a s)) (suc i) j) s
@@ -87,12 +87,12 @@ module _ (L : Layout) where
   nextOf abort i s = faults Guard
 
   -- What follows line i, the k-th of the lines; "just past its last line" the run ends.
-  abbrev pub nextAt : List Line → ℕ → ℕ → List ℤ → Next
+  abbrev pub nextAt : List FlatLine → ℕ → ℕ → List ℤ → Next
   nextAt [] k i s = ends
   nextAt (x ∷ xs) zero i s = nextOf x i s
   nextAt (x ∷ xs) (suc k) i s = nextAt xs k i s
 
   -- The run from line i on, after `count` lines: "budget counted in lines".
-  abbrev pub runFrom : List Line → ℕ → ℕ → ℕ → List ℤ → Finished
+  abbrev pub runFrom : List FlatLine → ℕ → ℕ → ℕ → List ℤ → Finished
   runFrom lines zero count i s = stop count s (nextAt lines i i s)
   runFrom lines (suc left) count i s = follow (λ j t. runFrom lines left (suc count) j t) count s (nextAt lines i i s)

@@ -18,16 +18,16 @@ use Rattle.row_fields.specs.declared.Bounds.{Bounds}
 use Rattle.flat.specs.Words.{lineCount, fieldAt, operationAt, kindOf, leftConstant, rightConstant}
 use Rattle.flat.specs.declared.Holds.{Holds}
 use Rattle.flat.specs.declared.Holds.the-variants.{Unused, Atom, Variable, Array}
-use Rattle.flat.specs.declared.Shape.{Shape}
+use Rattle.flat.specs.declared.LineShape.{LineShape}
 
-abbrev pub shape : Holds → Holds → Holds → Bool → Shape
+abbrev pub shape : Holds → Holds → Holds → Bool → LineShape
 shape target left right jumps = record { known = true; target = target; left = left; right = right; jumps = jumps }
 
-abbrev pub unknown : Shape
+abbrev pub unknown : LineShape
 unknown = record { known = false; target = Unused; left = Unused; right = Unused; jumps = false }
 
 -- The kinds of lines, as docs/FLAT.md lists them.
-unfoldable pub shapeOf : ℕ → Shape
+unfoldable pub shapeOf : ℕ → LineShape
 shapeOf kind =
     pick (eqb kind 1) (shape Variable Atom Unused false)
     (pick (eqb kind 3) (shape Variable Array Atom false)

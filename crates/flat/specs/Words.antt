@@ -10,7 +10,7 @@ use lib.ListN.{length, getD}
 use Rattle.words.specs.Word.{natural, pick}
 use Rattle.words.specs.Kinds.{operatorOf}
 use Rattle.emission.specs.Emission.{operatorNumber}
-use Rattle.flat.specs.Lines.{Operand, number, word, Operation, copy, minus, operate, fetch, put, Line, does, jump, jumpZero, jumpOther, abort}
+use Rattle.flat.specs.Lines.{Operand, number, word, Operation, copy, minus, operate, fetch, put, FlatLine, does, jump, jumpZero, jumpOther, abort}
 
 -- ---- distances
 
@@ -47,7 +47,7 @@ operationParts (fetch i array a) = parts 3 i (word array) a (pos 0)
 operationParts (put array a b) = parts 21 array a b (pos 0)
 
 -- The parts of a line that stands at i.
-abbrev pub lineParts : ℕ → Line → Parts
+abbrev pub lineParts : ℕ → FlatLine → Parts
 lineParts i (does o) = operationParts o
 lineParts i (jump j) = parts 52 0 unused unused (distance i j)
 lineParts i (jumpZero a j) = parts 43 0 a unused (distance i j)
@@ -60,7 +60,7 @@ numberIn (number v) = 0
 numberIn (word i) = i
 
 -- The line with these parts, at i.
-abbrev pub lineOf : ℕ → Parts → Line
+abbrev pub lineOf : ℕ → Parts → FlatLine
 lineOf i p =
     pick (eqb (p .kind) 1) (does (copy (p .target) (p .left)))
     (pick (eqb (p .kind) 3) (does (fetch (p .target) (numberIn (p .left)) (p .right)))
@@ -119,15 +119,15 @@ partsAt list line =
     parts (kindOf operation) (natural (fieldAt list line 1)) (operandOf (leftConstant operation) (fieldAt list line 2))
     (operandOf (rightConstant operation) (fieldAt list line 3)) (fieldAt list line 4)
 
-unfoldable pub lineAt : List ℤ → ℕ → Line
+unfoldable pub lineAt : List ℤ → ℕ → FlatLine
 lineAt list line = lineOf line (partsAt list line)
 
 -- So many lines from line i on; all lines of a list.
-unfoldable pub linesFrom : List ℤ → ℕ → ℕ → List Line
+unfoldable pub linesFrom : List ℤ → ℕ → ℕ → List FlatLine
 linesFrom list i zero = []
 linesFrom list i (suc count) = lineAt list i ∷ linesFrom list (suc i) count
 
-unfoldable pub linesOf : List ℤ → List Line
+unfoldable pub linesOf : List ℤ → List FlatLine
 linesOf list = linesFrom list 0 (lineCount list)
 
 -- Words of parts at a line.

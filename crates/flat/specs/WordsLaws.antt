@@ -12,7 +12,7 @@ use Rattle.words.specs.Kinds.{operators, operatorOf}
 use Rattle.words.specs.declared.Operator.{Operator}
 use Rattle.words.specs.declared.Operator.the-variants.{Add, Subtract, Multiply, Divide, Remainder, Less, Greater, LessOrEqual, GreaterOrEqual, Equal, NotEqual}
 use Rattle.emission.specs.Emission.{operatorNumber}
-use Rattle.flat.specs.Lines.{Operand, number, word, copy, minus, operate, fetch, put, Line, does, jump, jumpZero, jumpOther, abort}
+use Rattle.flat.specs.Lines.{Operand, number, word, copy, minus, operate, fetch, put, FlatLine, does, jump, jumpZero, jumpOther, abort}
 use Rattle.flat.specs.Words.{distance, targetOf, Parts, parts, lineParts, lineOf, sortOf, wordOf, operationOf, operationAt, kindOf, leftConstant, rightConstant, operandOf, partsAt, lineAt, Written}
 
 -- ---- distances
@@ -61,7 +61,7 @@ operate-back i x Equal a b = refl
 operate-back i x NotEqual a b = refl
 
 -- The parts of a line, read back.
-pub line-back : (i : ℕ) (x : Line) → lineOf i (lineParts i x) ≡ x
+pub line-back : (i : ℕ) (x : FlatLine) → lineOf i (lineParts i x) ≡ x
 line-back i (does (copy x a)) = refl
 line-back i (does (minus x a)) = refl
 line-back i (does (operate o x a b)) = operate-back i x o a b
@@ -72,7 +72,7 @@ line-back i (jumpZero a j) = ap (jumpZero a) (target-distance i j)
 line-back i (jumpOther a j) = ap (jumpOther a) (target-distance i j)
 line-back i abort = refl
 
-pub kind-small : (i : ℕ) (x : Line) → lineParts i x .kind < 64
+pub kind-small : (i : ℕ) (x : FlatLine) → lineParts i x .kind < 64
 kind-small i (does (copy x a)) = omega arith
 kind-small i (does (minus x a)) = omega arith
 kind-small i (does (operate o x a b)) = omega (arith, operator-few o)
@@ -184,6 +184,6 @@ module _ {list : List ℤ} {i : ℕ} {p : Parts} (w : Written list i p) where
       rw (operation-back, kind-back p h, left-back p h, right-back p h, w .target-word, w .left-word, w .right-word, w .distance-word, operand-back (p .left), operand-back (p .right))
 
 -- Five words, written and read, give the same line.
-pub written-line : (list : List ℤ) (i : ℕ) (x : Line) → Written list i (lineParts i x) → lineAt list i ≡ x
+pub written-line : (list : List ℤ) (i : ℕ) (x : FlatLine) → Written list i (lineParts i x) → lineAt list i ≡ x
 unfolding lineAt
 written-line list i x w = ap (lineOf i) (parts-back w (kind-small i x)) ∙ line-back i x

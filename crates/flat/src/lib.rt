@@ -10,7 +10,7 @@ pub enum Holds {
 }
 
 // What the words of a line of one kind hold, and whether it jumps; `known` is false where no line is of this kind.
-pub struct Shape {
+pub struct LineShape {
     pub known: bool,
     pub target: Holds,
     pub left: Holds,

@@ -22,7 +22,7 @@ pub fn operation_at(list: &[i32], line: usize) -> usize
 }
 
 // The kind that an operation is of.
-pub fn kind_of(operation: usize) -> usize
+pub fn operation_kind(operation: usize) -> usize
     ensures { λ r. ⌜ r ≡ kindOf operation ⌝ }
 {
     operation % 64

@@ -13,13 +13,13 @@ use Rattle.words.specs.Laws.{back}
 use Rattle.row_fields.specs.declared.Bounds.{Bounds}
 use Rattle.flat.specs.Words.{lineCount, fieldAt, operationAt, kindOf, leftConstant, rightConstant}
 use Rattle.flat.specs.Refusal.{shapeOf, constantFits, knownOperation, landsInside, jumpOutside, holdsRight, numberOutside}
-use Rattle.flat.specs.declared.Shape.{Shape}
+use Rattle.flat.specs.declared.LineShape.{LineShape}
 
 -- a word that was read and handed on
 pub handed : {A : Type 0} (f : ℤ → A) (w z : ℤ) {r : A} → mag w < 2 ^ 31 → w ≡ z → r ≡ f (toZ w32 (ofZ w32 w)) → r ≡ f z
 handed f w z h e g = g ∙ ap f (back w h ∙ e)
 
-module _ (operation kind : ℕ) (s : Shape) (k : kind ≡ kindOf operation) (e : s ≡ shapeOf kind) where
+module _ (operation kind : ℕ) (s : LineShape) (k : kind ≡ kindOf operation) (e : s ≡ shapeOf kind) where
   shape-is : s ≡ shapeOf (kindOf operation)
   shape-is = e ∙ ap shapeOf k
 
@@ -27,7 +27,7 @@ module _ (operation kind : ℕ) (s : Shape) (k : kind ≡ kindOf operation) (e :
   unfolding knownOperation
   known-is = rw (← shape-is)
 
-module _ (list : List ℤ) (line operation kind : ℕ) (s : Shape) (o : operation ≡ operationAt list line) (k : kind ≡ kindOf operation) (e : s ≡ shapeOf kind) where
+module _ (list : List ℤ) (line operation kind : ℕ) (s : LineShape) (o : operation ≡ operationAt list line) (k : kind ≡ kindOf operation) (e : s ≡ shapeOf kind) where
   pub jump-is : jumpOutside list line ≡ not (pick (s .jumps) (landsInside line (lineCount list) (fieldAt list line 4)) (eqb (natural (fieldAt list line 4)) 0))
   unfolding jumpOutside
   jump-is = rw (← o, ← shape-is operation kind s k e)

@@ -2,10 +2,10 @@
 use super::kinds::constant_fits;
 use super::kinds::shape_of;
 use flat::Holds;
-use flat::lines::kind_of;
 use flat::lines::left_constant;
 use flat::lines::magnitude;
 use flat::lines::operation_at;
+use flat::lines::operation_kind;
 use flat::lines::right_constant;
 use flat::lines::word_at;
 use grammar::ARRAY;
@@ -25,7 +25,7 @@ fn known_operation(operation: usize) -> bool
     if operation >= 256 {
         return false;
     }
-    let shape = shape_of(kind_of(operation));
+    let shape = shape_of(operation_kind(operation));
     if !shape.known {
         return false;
     }
@@ -62,7 +62,7 @@ pub fn is_jump_outside(list: &[i32], line: usize) -> bool
     requires { ⌜ line < lineCount (now list) ⌝ }
     ensures { λ r. ⌜ r ≡ jumpOutside (now (list .entry)) line ⌝ }
 {
-    let shape = shape_of(kind_of(operation_at(list, line)));
+    let shape = shape_of(operation_kind(operation_at(list, line)));
     let distance = word_at(list, line, 4);
     if shape.jumps {
         return !lands_inside(list, line, distance);
@@ -94,7 +94,7 @@ pub fn is_number_outside(bounds: Bounds, list: &[i32], line: usize) -> bool
     ensures { λ r. ⌜ r ≡ numberOutside bounds (now (list .entry)) line ⌝ }
 {
     let operation = operation_at(list, line);
-    let shape = shape_of(kind_of(operation));
+    let shape = shape_of(operation_kind(operation));
     let target = shape.target;
     if !holds_right(bounds, target, false, word_at(list, line, 1)) {
         return true;

@@ -1,15 +1,15 @@
 // The table of kinds: what the words of a line hold.
 use flat::Holds;
-use flat::Shape;
+use flat::LineShape;
 ghost use mathlib.Core.Path.{_≡_};
 ghost use Rattle.words.specs.Kinds.{between};
 ghost use Rattle.flat.specs.Refusal.{shape as shapeWith, shapeOf, constantFits};
 
 // A shape that is known.
-fn known_shape(target: Holds, left: Holds, right: Holds, jumps: bool) -> Shape
+fn known_shape(target: Holds, left: Holds, right: Holds, jumps: bool) -> LineShape
     ensures { λ r. ⌜ r ≡ shapeWith target left right jumps ⌝ }
 {
-    Shape {
+    LineShape {
         known: true,
         target: target,
         left: left,
@@ -28,7 +28,7 @@ fn is_between(least: usize, most: usize, number: usize) -> bool
 }
 
 // What the words of a line of this kind hold.
-pub fn shape_of(kind: usize) -> Shape
+pub fn shape_of(kind: usize) -> LineShape
     ensures { λ r. ⌜ r ≡ shapeOf kind ⌝ }
 {
     if kind == 1 {
@@ -55,7 +55,7 @@ pub fn shape_of(kind: usize) -> Shape
     if kind == 57 {
         return known_shape(Holds::Unused, Holds::Unused, Holds::Unused, false);
     }
-    Shape {
+    LineShape {
         known: false,
         target: Holds::Unused,
         left: Holds::Unused,

@@ -14,7 +14,7 @@ use Rattle.words.specs.Layout.{Layout}
 use Rattle.language.specs.Trees.{label, case, default, Statement, empty, express, block, ifThen, ifElse, while, doWhile, for, switch, break, continue, goto, guardedIf, guardedDo, abort, declare, Items, none, _then_, _here_, giveBack, define}
 use Rattle.language.specs.Calls.{ItemsCallBelow}
 use Rattle.translation.specs.KernelForm.{markTimes, statementTimes, itemsTimes, KernelStatement, kernel-empty, kernel-assign, kernel-block, kernel-if, kernel-while, kernel-goto, kernel-abort, kernel-return, KernelItems, kernel-none, kernel-then, kernel-label}
-use Rattle.flat.specs.Lines.{Line, nextAt}
+use Rattle.flat.specs.Lines.{FlatLine, nextAt}
 use Rattle.flat_fate.specs.Stands.{StandsItems}
 use Rattle.flat_fate.specs.Code.{operandOf, always, statementLines, itemsLines, itemsCode}
 use Rattle.flat_fate.specs.CodeStands.{firstAt, secondAt, bodyAt, Has, items-length, Addressed, AddressedItems, items-stands}
@@ -87,7 +87,7 @@ once-there k = rw (same-number k)
 found : (k i rest : ℕ) → pick (eqb k k) i rest ≡ i
 found k i rest = rw (same-number k)
 
-module _ (L : Layout) (lines : List Line) (address : ℕ → ℕ) where
+module _ (L : Layout) (lines : List FlatLine) (address : ℕ → ℕ) where
   mutual
     unfolding statementAddress statementTimes Addressed statementLines
 
@@ -120,7 +120,7 @@ module _ (L : Layout) (lines : List Line) (address : ℕ → ℕ) where
     )
 
   -- A list has its own lines.
-  has-lines : (i : ℕ) (xs : List Line) → ((j k : ℕ) (s : List ℤ) → nextAt L lines (i + j) k s ≡ nextAt L xs j k s) → Has L lines address i xs
+  has-lines : (i : ℕ) (xs : List FlatLine) → ((j k : ℕ) (s : List ℤ) → nextAt L lines (i + j) k s ≡ nextAt L xs j k s) → Has L lines address i xs
   has-lines i [] h = tt
   has-lines i (x ∷ xs) h =
       let here-is : i + 0 ≡ i = omega arith in (
@@ -133,7 +133,7 @@ module _ (L : Layout) (lines : List Line) (address : ℕ → ℕ) where
 abbrev pub addressIn : Items → ℕ → ℕ
 addressIn contents l = itemsAddress l contents 0 0
 
-unfoldable pub flatOf : Items → List Line
+unfoldable pub flatOf : Items → List FlatLine
 flatOf contents = itemsCode (addressIn contents) contents 0
 
 module _ (L : Layout) (contents : Items) (form : KernelItems false none contents) (arity : ℕ → ℕ) (calls : ItemsCallBelow arity 0 contents) (once : (l : ℕ) → itemsTimes l contents ≤ 1) where

@@ -6,7 +6,7 @@ use Prim.Native.Nat.{ℕ, zero, suc, _+_}
 use lib.IntN.{pos}
 use Rattle.arithmetic.specs.Arithmetic.{isTrue}
 use Rattle.language.specs.Trees.{Expression, constant, read, minus, not, binary, and, or, comma, conditional, assign, compound, prefix, postfix, Place, variable, element, Statement, empty, express, block, ifThen, ifElse, while, doWhile, for, switch, break, continue, goto, guardedIf, guardedDo, abort, declare, Items, none, _then_, _here_, call, giveBack, define}
-use Rattle.flat.specs.Lines.{Operand, number, word, Operation, copy, minus as negate, operate, fetch, put, Line, does, jump, jumpZero, jumpOther, abort as abortLine}
+use Rattle.flat.specs.Lines.{Operand, number, word, Operation, copy, minus as negate, operate, fetch, put, FlatLine, does, jump, jumpZero, jumpOther, abort as abortLine}
 
 -- An atom; every other expression is none.
 abbrev pub placeOperand : Place → Operand
@@ -119,19 +119,19 @@ unfoldable mutual
 -- ---- code
 
 -- An if whose branches have p and q lines, from line i on.
-abbrev pub ifCode : Operand → ℕ → ℕ → ℕ → (ℕ → List Line) → (ℕ → List Line) → List Line
+abbrev pub ifCode : Operand → ℕ → ℕ → ℕ → (ℕ → List FlatLine) → (ℕ → List FlatLine) → List FlatLine
 ifCode a zero zero i first second = []
 ifCode a zero (suc q) i first second = jumpOther a (i + (1 + suc q)) ∷ second (i + 1)
 ifCode a (suc p) zero i first second = jumpZero a (i + (1 + suc p)) ∷ first (i + 1)
 ifCode a (suc p) (suc q) i first second = jumpZero a (i + (2 + suc p)) ∷ (first (i + 1) ++ (jump (i + (2 + (suc p + suc q))) ∷ second (i + (2 + suc p))))
 
-abbrev pub whileCode : Bool → Operand → ℕ → ℕ → (ℕ → List Line) → List Line
+abbrev pub whileCode : Bool → Operand → ℕ → ℕ → (ℕ → List FlatLine) → List FlatLine
 whileCode true a p i body = body i ++ (jump i ∷ [])
 whileCode false a p i body = jumpZero a (i + (p + 2)) ∷ (body (i + 1) ++ (jump i ∷ []))
 
 module _ (address : ℕ → ℕ) where
   unfoldable mutual
-    pub statementCode : Statement → ℕ → List Line
+    pub statementCode : Statement → ℕ → List FlatLine
     statementCode empty i = []
     statementCode (express e) i = does (operationOf e) ∷ []
     statementCode (block is) i = itemsCode is i
@@ -150,7 +150,7 @@ module _ (address : ℕ → ℕ) where
     statementCode (declare j e) i = []
     statementCode (giveBack value) i = []
 
-    pub itemsCode : Items → ℕ → List Line
+    pub itemsCode : Items → ℕ → List FlatLine
     itemsCode none i = []
     itemsCode (s then is) i = statementCode s i ++ itemsCode is (i + statementLines s)
     itemsCode (m here is) i = itemsCode is i

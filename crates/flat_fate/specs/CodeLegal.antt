@@ -22,7 +22,7 @@ use Rattle.language.specs.Functions.{functionCount}
 use Rattle.language.specs.Calls.{arityIn}
 use Rattle.translation.specs.PlainKernel.{plain-kernel}
 use Rattle.translation.specs.KernelForm.{IsAtom, constant-atom, variable-atom, Assigns, assigns-atom, assigns-minus, assigns-operation, assigns-element, assigns-call, assigns-to-element, KernelStatement, kernel-empty, kernel-assign, kernel-block, kernel-if, kernel-while, kernel-goto, kernel-abort, kernel-return, KernelItems, kernel-none, kernel-then, kernel-label, KernelName, name-variable, name-temporary, KernelTree}
-use Rattle.flat.specs.Lines.{Operand, Line, jump}
+use Rattle.flat.specs.Lines.{Operand, FlatLine, jump}
 use Rattle.flat.specs.Words.{lineParts, fiveWords, lineCount}
 use Rattle.flat.specs.Legal.{NamesVariable, NamesArray, WithinOperand, WithinOperation, Within, LegalLine, LegalFlat}
 use Rattle.flat_fate.specs.Code.{operandOf, operationOf, always, ifLines, whileLines, statementLines, itemsLines, ifCode, whileCode, statementCode, itemsCode}
@@ -77,11 +77,11 @@ module _ (l most : ℕ) where
 
 -- ---- lines of which something holds
 
-abbrev pub All : (Line → Type 0) → List Line → Type 0
+abbrev pub All : (FlatLine → Type 0) → List FlatLine → Type 0
 All P [] = Unit {0}
 All P (x ∷ xs) = P x × All P xs
 
-all-append : (P : Line → Type 0) (xs ys : List Line) → All P xs → All P ys → All P (xs ++ ys)
+all-append : (P : FlatLine → Type 0) (xs ys : List FlatLine) → All P xs → All P ys → All P (xs ++ ys)
 all-append P [] ys a b = b
 all-append P (x ∷ xs) ys a b = (a .0, all-append P xs ys (a .1) b)
 
@@ -104,10 +104,10 @@ module _ (bounds : Bounds) (Names : ℕ → Type 0) (arrays : ℕ) (names : (i :
   operation-within (assigns-to-element a b) n = (fits _ (n .0 .0), operand-within a (n .0 .1), operand-within b (n .1))
 
   module _ (lines : ℕ) where
-    abbrev W : Line → Type 0
+    abbrev W : FlatLine → Type 0
     W x = Within bounds lines x
 
-    if-within : (a : Operand) (p q i : ℕ) (first second : ℕ → List Line) → WithinOperand bounds a → i + ifLines p q ≤ lines
+    if-within : (a : Operand) (p q i : ℕ) (first second : ℕ → List FlatLine) → WithinOperand bounds a → i + ifLines p q ≤ lines
         → ((j : ℕ) → j + p ≤ lines → All W (first j)) → ((j : ℕ) → j + q ≤ lines → All W (second j)) → All W (ifCode a p q i first second)
     if-within a zero zero i first second w h f g = tt
     if-within a zero (suc q) i first second w h f g = ((w, omega arith), g (i + 1) (omega arith))
@@ -115,7 +115,7 @@ module _ (bounds : Bounds) (Names : ℕ → Type 0) (arrays : ℕ) (names : (i :
     if-within a (suc p) (suc q) i first second w h f g =
         ((w, omega arith), all-append W (first (i + 1)) (jump (i + (2 + (suc p + suc q))) ∷ second (i + (2 + suc p))) (f (i + 1) (omega arith)) (omega arith, g (i + (2 + suc p)) (omega arith)))
 
-    while-within : (b : Bool) (a : Operand) (p i : ℕ) (body : ℕ → List Line) → WithinOperand bounds a → i + whileLines b p ≤ lines → ((j : ℕ) → j + p ≤ lines → All W (body j)) → All W (whileCode b a p i body)
+    while-within : (b : Bool) (a : Operand) (p i : ℕ) (body : ℕ → List FlatLine) → WithinOperand bounds a → i + whileLines b p ≤ lines → ((j : ℕ) → j + p ≤ lines → All W (body j)) → All W (whileCode b a p i body)
     while-within true a p i body w h f = all-append W (body i) (jump i ∷ []) (f i (omega arith)) (omega arith, tt)
     while-within false a p i body w h f = ((w, omega arith), all-append W (body (i + 1)) (jump i ∷ []) (f (i + 1) (omega arith)) (omega arith, tt))
 
@@ -144,7 +144,7 @@ module _ (bounds : Bounds) (Names : ℕ → Type 0) (arrays : ℕ) (names : (i :
 -- ---- words of such lines are legal
 
 module _ (bounds : Bounds) (lines : ℕ) where
-  legal-from : (before : List ℤ) (i : ℕ) (xs : List Line) → length before ≡ 5 * i → lines ≡ lineCount (before ++ wordsFrom i xs) → All (λ x. Within bounds lines x) xs
+  legal-from : (before : List ℤ) (i : ℕ) (xs : List FlatLine) → length before ≡ 5 * i → lines ≡ lineCount (before ++ wordsFrom i xs) → All (λ x. Within bounds lines x) xs
       → (k : ℕ) → k < length xs → LegalLine bounds (before ++ wordsFrom i xs) (i + k)
   unfolding wordsFrom
   legal-from before i [] e c a k h = absurd (omega arith)

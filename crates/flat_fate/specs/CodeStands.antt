@@ -11,7 +11,7 @@ use Rattle.words.specs.Layout.{Layout}
 use Rattle.language.specs.Trees.{Expression, label, case, default, Statement, empty, express, block, ifThen, ifElse, while, doWhile, for, switch, break, continue, goto, guardedIf, guardedDo, abort, declare, Items, none, _then_, _here_, giveBack, define}
 use Rattle.language.specs.Calls.{CallsBelow, StatementCallsBelow, ItemsCallBelow}
 use Rattle.translation.specs.KernelForm.{IsAtom, constant-atom, variable-atom, Assigns, assigns-atom, assigns-minus, assigns-operation, assigns-element, assigns-call, assigns-to-element, KernelStatement, kernel-empty, kernel-assign, kernel-block, kernel-if, kernel-while, kernel-goto, kernel-abort, kernel-return, KernelItems, kernel-none, kernel-then, kernel-label}
-use Rattle.flat.specs.Lines.{Operand, Line, jump, jumpZero}
+use Rattle.flat.specs.Lines.{Operand, FlatLine, jump, jumpZero}
 use Rattle.flat_fate.specs.Stands.{Means, means-number, means-word, Acts, acts-copy, acts-minus, acts-operate, acts-fetch, acts-put, At, Stands, stands-empty, stands-assign, stands-block, stands-neither, stands-yes, stands-no, stands-both, stands-while, stands-endless, stands-goto, stands-abort, StandsItems, stands-none, stands-then, stands-label}
 use Rattle.flat_fate.specs.Code.{operandOf, operationOf, always, ifLines, whileLines, statementLines, itemsLines, ifCode, whileCode, statementCode, itemsCode}
 
@@ -45,33 +45,33 @@ abbrev pub bodyAt : Bool → ℕ → ℕ
 bodyAt true i = i
 bodyAt false i = i + 1
 
-module _ (L : Layout) (lines : List Line) (address : ℕ → ℕ) where
+module _ (L : Layout) (lines : List FlatLine) (address : ℕ → ℕ) where
   -- The list has the code xs from line i on.
-  abbrev pub Has : ℕ → List Line → Type 0
+  abbrev pub Has : ℕ → List FlatLine → Type 0
   Has i [] = Unit {0}
   Has i (x ∷ xs) = At L lines address i x × Has (i + 1) xs
 
-  has-cast : {i j : ℕ} (xs : List Line) → i ≡ j → Has i xs → Has j xs
+  has-cast : {i j : ℕ} (xs : List FlatLine) → i ≡ j → Has i xs → Has j xs
   has-cast xs e h = subst (λ k. Has k xs) e h
 
-  has-first : (i : ℕ) (xs ys : List Line) → Has i (xs ++ ys) → Has i xs
+  has-first : (i : ℕ) (xs ys : List FlatLine) → Has i (xs ++ ys) → Has i xs
   has-first i [] ys h = tt
   has-first i (x ∷ xs) ys h = (h .0, has-first (i + 1) xs ys (h .1))
 
-  has-second : (i n : ℕ) (xs ys : List Line) → length xs ≡ n → Has i (xs ++ ys) → Has (i + n) ys
+  has-second : (i n : ℕ) (xs ys : List FlatLine) → length xs ≡ n → Has i (xs ++ ys) → Has (i + n) ys
   has-second i n [] ys e h = has-cast ys (let q : i ≡ i + n = omega arith in q) h
   has-second i zero (x ∷ xs) ys e h = absurd (omega arith)
   has-second i (suc n) (x ∷ xs) ys e h = has-cast ys (let q : (i + 1) + n ≡ i + suc n = omega arith in q) (has-second (i + 1) n xs ys (omega arith) (h .1))
 
   -- ---- the size is exact
 
-  if-length : (a : Operand) (p q i : ℕ) (first second : ℕ → List Line) → ((j : ℕ) → length (first j) ≡ p) → ((j : ℕ) → length (second j) ≡ q) → length (ifCode a p q i first second) ≡ ifLines p q
+  if-length : (a : Operand) (p q i : ℕ) (first second : ℕ → List FlatLine) → ((j : ℕ) → length (first j) ≡ p) → ((j : ℕ) → length (second j) ≡ q) → length (ifCode a p q i first second) ≡ ifLines p q
   if-length a zero zero i first second f g = refl
   if-length a zero (suc q) i first second f g = omega (arith, g (i + 1))
   if-length a (suc p) zero i first second f g = omega (arith, f (i + 1))
   if-length a (suc p) (suc q) i first second f g = omega (arith, length-append (first (i + 1)) (jump (i + (2 + (suc p + suc q))) ∷ second (i + (2 + suc p))), f (i + 1), g (i + (2 + suc p)))
 
-  while-length : (b : Bool) (a : Operand) (p i : ℕ) (body : ℕ → List Line) → ((j : ℕ) → length (body j) ≡ p) → length (whileCode b a p i body) ≡ whileLines b p
+  while-length : (b : Bool) (a : Operand) (p i : ℕ) (body : ℕ → List FlatLine) → ((j : ℕ) → length (body j) ≡ p) → length (whileCode b a p i body) ≡ whileLines b p
   while-length true a p i body f = omega (arith, length-append (body i) (jump i ∷ []), f i)
   while-length false a p i body f = omega (arith, length-append (body (i + 1)) (jump i ∷ []), f (i + 1))
 
@@ -140,14 +140,14 @@ module _ (L : Layout) (lines : List Line) (address : ℕ → ℕ) where
   end-cast : {i j l : ℕ} {s : Statement} → j ≡ l → Stands L lines address i s j → Stands L lines address i s l
   end-cast {i} {s = s} q h = subst (λ j. Stands L lines address i s j) q h
 
-  at-cast : (i j : ℕ) (x : Line) → i ≡ j → At L lines address i x → At L lines address j x
+  at-cast : (i j : ℕ) (x : FlatLine) → i ≡ j → At L lines address i x → At L lines address j x
   at-cast i j x q h = subst (λ i. At L lines address i x) q h
 
-  none-there : (j : ℕ) (xs : List Line) → length xs ≡ 0 → Has j xs
+  none-there : (j : ℕ) (xs : List FlatLine) → length xs ≡ 0 → Has j xs
   none-there j [] e = tt
   none-there j (x ∷ xs) e = absurd (omega arith)
 
-  if-stands : {e : Expression} {onTrue onFalse : Items} (a : Operand) (p q i : ℕ) (first second : ℕ → List Line) → Means e a → ((j : ℕ) → length (first j) ≡ p) → ((j : ℕ) → length (second j) ≡ q)
+  if-stands : {e : Expression} {onTrue onFalse : Items} (a : Operand) (p q i : ℕ) (first second : ℕ → List FlatLine) → Means e a → ((j : ℕ) → length (first j) ≡ p) → ((j : ℕ) → length (second j) ≡ q)
       → (Has (firstAt p q i) (first (firstAt p q i)) → StandsItems L lines address (firstAt p q i) onTrue (firstAt p q i + p))
       → (Has (secondAt p q i) (second (secondAt p q i)) → StandsItems L lines address (secondAt p q i) onFalse (secondAt p q i + q))
       → Has i (ifCode a p q i first second) → Stands L lines address i (ifElse e (block onTrue) (block onFalse)) (i + ifLines p q)
@@ -171,7 +171,7 @@ module _ (L : Layout) (lines : List Line) (address : ℕ → ℕ) where
       stands-both {k = k} m (subst (λ t. At L lines address i (jumpZero a t)) (sym back) (h .0)) (items-cast (i + 1) k (suc i) k (let e : i + 1 ≡ suc i = omega arith in e) refl (y (has-first (i + 1) (first (i + 1)) _ (h .1)))) (skip .0)
       (items-cast (i + (2 + suc p)) (i + (2 + suc p) + suc q) (suc k) j (sym back) (let e : i + (2 + suc p) + suc q ≡ j = omega arith in e) (n (has-cast (second (i + (2 + suc p))) (let e : k + 1 ≡ i + (2 + suc p) = omega arith in e) (skip .1))))
 
-  while-stands : {e : Expression} {is : Items} (b : Bool) (p i : ℕ) (body : ℕ → List Line) → IsAtom e → always (operandOf e) ≡ b → ((j : ℕ) → length (body j) ≡ p)
+  while-stands : {e : Expression} {is : Items} (b : Bool) (p i : ℕ) (body : ℕ → List FlatLine) → IsAtom e → always (operandOf e) ≡ b → ((j : ℕ) → length (body j) ≡ p)
       → (Has (bodyAt b i) (body (bodyAt b i)) → StandsItems L lines address (bodyAt b i) is (bodyAt b i + p)) → Has i (whileCode b (operandOf e) p i body) → Stands L lines address i (while e (block is)) (i + whileLines b p)
   while-stands true p i body constant-atom t f k h =
       end-cast (let e : suc (i + p) ≡ i + (p + 1) = omega arith in e) (stands-endless t (k (has-first i (body i) _ h)) (has-second i p (body i) _ (f i) h .0))

@@ -21,12 +21,12 @@ use Rattle.language.specs.Program.{Finished}
 use Rattle.translation.specs.KernelForm.{KernelItems, kernel-main}
 use Rattle.accepted.specs.Gives.{Gives}
 use Rattle.accepted_kernel.specs.Jumps.{program-lands}
-use Rattle.flat.specs.Lines.{Line, Next, goes, faults, ends, nextAt, stop, follow, runFrom}
+use Rattle.flat.specs.Lines.{FlatLine, Next, goes, faults, ends, nextAt, stop, follow, runFrom}
 use Rattle.flat_fate.specs.Stands.{StandsItems}
 use Rattle.flat_fate.specs.Follows.{Reaches, stay, on, moves-on, moves-to, Follows, follows-ok, follows-fault, follows-spent, items-follows}
 use Rattle.language.specs.Trees.{none}
 
-module _ (L : Layout) (lines : List Line) (address : ℕ → ℕ) where
+module _ (L : Layout) (lines : List FlatLine) (address : ℕ → ℕ) where
   -- ---- what the flat run makes of lines that it reaches
 
   run-reaches : {i k n : ℕ} {s t : List ℤ} → Reaches L lines address i s n k t → (left count : ℕ) → runFrom L lines (n + left) count i s ≡ runFrom L lines left (n + count) k t
@@ -39,7 +39,7 @@ module _ (L : Layout) (lines : List Line) (address : ℕ → ℕ) where
   run-spent {s = s} (on e p) zero count h = ap (λ q. (stop count s q) .ending) e
   run-spent {s = s} (on {j = j} {t = t} e p) (suc b) count h = ap (λ q. (follow (λ j t. runFrom L lines b (suc count) j t) count s q) .ending) e ∙ run-spent p b (suc count) (omega arith)
 
-  past-end : (xs : List Line) (i : ℕ) (s : List ℤ) → nextAt L xs (length xs) i s ≡ ends
+  past-end : (xs : List FlatLine) (i : ℕ) (s : List ℤ) → nextAt L xs (length xs) i s ≡ ends
   past-end [] i s = refl
   past-end (x ∷ xs) i s = past-end xs i s
 

@@ -7,13 +7,13 @@ use lib.IntN.{ℤ}
 use Rattle.words.specs.declared.Form.the-variants.{Kernel}
 use Rattle.words.specs.declared.Ending.the-variants.{Spent}
 use Rattle.language.specs.Program.{Finished, contents, runTable}
-use Rattle.flat.specs.Lines.{Line}
+use Rattle.flat.specs.Lines.{FlatLine}
 use Rattle.flat.specs.Words.{lineParts, fiveWords}
 use Rattle.flat.specs.Results.{runList}
 use Rattle.flat_fate.specs.Addresses.{flatOf}
 
 -- The words of lines from line i on.
-unfoldable pub wordsFrom : ℕ → List Line → List ℤ
+unfoldable pub wordsFrom : ℕ → List FlatLine → List ℤ
 wordsFrom i [] = []
 wordsFrom i (x ∷ xs) = fiveWords (lineParts i x) ++ wordsFrom (suc i) xs
 

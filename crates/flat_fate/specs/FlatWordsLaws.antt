@@ -21,7 +21,7 @@ use Rattle.translation.specs.PlainKernel.{PlainKernel}
 use Rattle.translation.specs.KernelForm.{itemsTimes, KernelItems}
 use Rattle.kernel_check.specs.Legal.{Legal}
 use Rattle.accepted_kernel.specs.Kernel.{legal-functionless, legal-plain, legal-block}
-use Rattle.flat.specs.Lines.{Line, runFrom}
+use Rattle.flat.specs.Lines.{FlatLine, runFrom}
 use Rattle.flat.specs.Words.{Parts, lineParts, fiveWords, fieldAt, linesFrom, linesOf, Written}
 use Rattle.flat.specs.WordsLaws.{written-line}
 use Rattle.flat.specs.Results.{runList}
@@ -32,7 +32,7 @@ use Rattle.flat_fate.specs.FlatWords.{wordsFrom, flattened, kernelRun, f
 
 -- ---- words and lines
 
-pub words-length : (i : ℕ) (xs : List Line) → length (wordsFrom i xs) ≡ 5 * length xs
+pub words-length : (i : ℕ) (xs : List FlatLine) → length (wordsFrom i xs) ≡ 5 * length xs
 unfolding wordsFrom
 words-length i [] = refl
 words-length i (x ∷ xs) = omega (arith, words-length (suc i) xs)
@@ -46,7 +46,7 @@ module _ (before rest : List ℤ) (i : ℕ) (e : length before ≡ 5 * i) (p : P
   pub five-written : Written (before ++ (fiveWords p ++ rest)) i p
   five-written = record { operation-word = field-is 0; target-word = field-is 1; left-word = field-is 2; right-word = field-is 3; distance-word = field-is 4 }
 
-lines-back : (before : List ℤ) (i : ℕ) (xs : List Line) → length before ≡ 5 * i → linesFrom (before ++ wordsFrom i xs) i (length xs) ≡ xs
+lines-back : (before : List ℤ) (i : ℕ) (xs : List FlatLine) → length before ≡ 5 * i → linesFrom (before ++ wordsFrom i xs) i (length xs) ≡ xs
 unfolding wordsFrom linesFrom
 lines-back before i [] e = refl
 lines-back before i (x ∷ xs) e =
@@ -56,7 +56,7 @@ lines-back before i (x ∷ xs) e =
     rw (written-line (before ++ (five ++ wordsFrom (suc i) xs)) i x (five-written before (wordsFrom (suc i) xs) i e (lineParts i x)), rest)
 
 -- The lines of a list of words are those it was written from.
-pub lines-again : (xs : List Line) → linesOf (wordsFrom 0 xs) ≡ xs
+pub lines-again : (xs : List FlatLine) → linesOf (wordsFrom 0 xs) ≡ xs
 unfolding linesOf
 lines-again xs =
     let count : length (wordsFrom 0 xs) / 5 ≡ length xs = omega (arith, words-length 0 xs) in

@@ -19,14 +19,14 @@ use Rattle.computation.specs.Run.{State, stepped, spent, fault, Result, ok, sto
 use Rattle.language.specs.Trees.{Expression, label, sameMark, Statement, express, block, ifElse, while, Items, _then_, _here_}
 use Rattle.language.specs.Functions.{plain}
 use Rattle.language.specs.Meaning.{Signal, next, seeking, entersStatement, entersMark, enter, evaluate, afterBody, afterTest, perform, items}
-use Rattle.flat.specs.Lines.{Operand, number, Operation, stored, fetched, putAt, valueOf, Line, does, jump, jumpZero, jumpOther, goes, faults, onward, nextAt}
+use Rattle.flat.specs.Lines.{Operand, number, Operation, stored, fetched, putAt, valueOf, FlatLine, does, jump, jumpZero, jumpOther, goes, faults, onward, nextAt}
 use Rattle.flat_fate.specs.Stands.{Means, means-number, means-word, Acts, acts-copy, acts-minus, acts-operate, acts-fetch, acts-put, At, Stands, stands-empty, stands-assign, stands-block, stands-neither, stands-yes, stands-no, stands-both, stands-while, stands-endless, stands-goto, stands-abort, StandsItems, stands-none, stands-then, stands-label}
 
 by-outcome : {A G : Type 0} (o : Outcome A) → ((a : A) → o ≡ value a → G) → ((sort : FaultSort) → o ≡ faulty sort → G) → G
 by-outcome (value a) y n = y a refl
 by-outcome (faulty sort) y n = n sort refl
 
-module _ (L : Layout) (lines : List Line) (address : ℕ → ℕ) where
+module _ (L : Layout) (lines : List FlatLine) (address : ℕ → ℕ) where
   -- In n lines from line i with the store s to line j with the store t.
   pub data Reaches : ℕ → List ℤ → ℕ → ℕ → List ℤ → Type 0 where
     stay : {i : ℕ} {s : List ℤ} → Reaches i s 0 i s

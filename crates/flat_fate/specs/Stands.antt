@@ -9,7 +9,7 @@ use Rattle.words.specs.Layout.{Layout}
 use Rattle.arithmetic.specs.Arithmetic.{isTrue}
 use Rattle.words.specs.declared.Operator.{Operator}
 use Rattle.language.specs.Trees.{Expression, constant, read, minus, binary, assign, variable, element, label, Statement, empty, express, block, ifElse, while, goto, abort, Items, none, _then_, _here_}
-use Rattle.flat.specs.Lines.{Operand, number, word, Operation, copy, minus as negate, operate, fetch, put, Line, does, jump, jumpZero, jumpOther, abort as abortLine, nextOf, nextAt}
+use Rattle.flat.specs.Lines.{Operand, number, word, Operation, copy, minus as negate, operate, fetch, put, FlatLine, does, jump, jumpZero, jumpOther, abort as abortLine, nextOf, nextAt}
 
 -- An atom as an operand.
 pub data Means : Expression → Operand → Type 0 where
@@ -24,9 +24,9 @@ pub data Acts : Expression → Operation → Type 0 where
   acts-fetch : {i array : ℕ} {e : Expression} {a : Operand} → Means e a → Acts (assign (variable i) (read (element array e))) (fetch i array a)
   acts-put : {array : ℕ} {e f : Expression} {a b : Operand} → Means e a → Means f b → Acts (assign (element array e) f) (put array a b)
 
-module _ (L : Layout) (lines : List Line) (address : ℕ → ℕ) where
+module _ (L : Layout) (lines : List FlatLine) (address : ℕ → ℕ) where
   -- The line x stands at i.
-  abbrev pub At : ℕ → Line → Type 0
+  abbrev pub At : ℕ → FlatLine → Type 0
   At i x = (s : List ℤ) → nextAt L lines i i s ≡ nextOf L x i s
 
   mutual

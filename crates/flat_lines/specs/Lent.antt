@@ -10,13 +10,13 @@ use Rattle.kernel_rows.specs.Rows.{KernelTable}
 use Rattle.flat_fate.specs.Addresses.{flatOf}
 use Rattle.flat_rows.specs.Places.{lineOf, ownLines, Each}
 use Rattle.flat_rows.specs.Written.{Holds}
-use Rattle.flat_sizes.specs.Tables.{Sized, Placed, Labelled}
+use Rattle.flat_sizes.specs.Tables.{Sized, LinesPlaced, Labelled}
 
 -- A legal kernel table with its sizes, lines and labels.
 pub record Tables (rows : List ℤ) (sizes lines labels : List ℕ) : Type 0 where
   pub table : KernelTable rows
   pub sized : Sized rows 0 sizes
-  pub placed : Placed rows (rowCount rows) lines
+  pub placed : LinesPlaced rows (rowCount rows) lines
   pub labelled : Labelled rows (rowCount rows) labels
 
 -- The list has room for all lines and no more.

@@ -4,7 +4,7 @@ use mathlib.Core.Bool.{Bool, true, false}
 use mathlib.Core.List.{List, [], _∷_}
 use Prim.Native.Nat.{ℕ, zero, suc, _+_}
 use lib.IntN.{ℤ}
-use Rattle.flat.specs.Lines.{Operand, Line, jump, jumpZero, jumpOther}
+use Rattle.flat.specs.Lines.{Operand, FlatLine, jump, jumpZero, jumpOther}
 use Rattle.flat.specs.Words.{parts, unused, lineParts, distance}
 use Rattle.flat_rows.specs.Places.{ifOwn, whileOwn}
 use Rattle.flat_rows.specs.Written.{putLine, putAll}
@@ -13,11 +13,11 @@ pub puts-none : (out : List ℤ) → out ≡ putAll [] out
 unfolding putAll
 puts-none out = refl
 
-pub puts-one : (out after : List ℤ) (i : ℕ) (x : Line) → after ≡ putLine i (lineParts i x) out → after ≡ putAll ((i, x) ∷ []) out
+pub puts-one : (out after : List ℤ) (i : ℕ) (x : FlatLine) → after ≡ putLine i (lineParts i x) out → after ≡ putAll ((i, x) ∷ []) out
 unfolding putAll
 puts-one out after i x e = e
 
-pub puts-two : (out middle after : List ℤ) (i j : ℕ) (x y : Line) → middle ≡ putLine i (lineParts i x) out → after ≡ putLine j (lineParts j y) middle → after ≡ putAll ((i, x) ∷ (j, y) ∷ []) out
+pub puts-two : (out middle after : List ℤ) (i j : ℕ) (x y : FlatLine) → middle ≡ putLine i (lineParts i x) out → after ≡ putLine j (lineParts j y) middle → after ≡ putAll ((i, x) ∷ (j, y) ∷ []) out
 unfolding putAll
 puts-two out middle after i j x y e f = rw f (rw e)
 

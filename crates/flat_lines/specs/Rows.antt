@@ -25,7 +25,7 @@ use Rattle.flat_fate.specs.Addresses.{addressIn, flatOf}
 use Rattle.flat_rows.specs.Places.{listLines, lineOf, ifOwn, whileOwn, ownLines}
 use Rattle.flat_rows.specs.Standing.{row-within, list-few, label-address}
 use Rattle.flat_rows.specs.Written.{putLine, putAll}
-use Rattle.flat_sizes.specs.Tables.{slot, Sized, Placed, Labelled}
+use Rattle.flat_sizes.specs.Tables.{slot, Sized, LinesPlaced, Labelled}
 use Rattle.flat_sizes.specs.Sizes.{one-size, true-answer, false-answer, body-answer, true-room, false-room, body-room, sized-later, size-split, if-size, while-size, line-few}
 use Rattle.flat_sizes.specs.Places.{placed-here}
 use Rattle.flat_lines.specs.Lent.{Tables, Exact, Standing}
@@ -45,7 +45,7 @@ label-row (outward o d a) = label-row a
 -- ---- where a row stands
 
 module _ {rows : List ℤ} {sizes lines labels : List ℕ} (s : Tables rows sizes lines labels) {row : ℕ} (n : row < rowCount rows) where
-  earlier : Placed rows row lines
+  earlier : LinesPlaced rows row lines
   earlier = let p = s .placed in record { room = p .room; root = p .root; linked = λ o field l m. p .linked o field (omega arith) m }
 
   pub stands : {out : List ℤ} → Exact rows out → 41 ≤ numberAt rows row 0 → (line : ℕ) → line ≡ getD lines row 0 → Standing rows row line out

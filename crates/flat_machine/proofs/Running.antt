@@ -8,7 +8,7 @@ use Rattle.words.specs.Layout.{Layout}
 use Rattle.words.specs.declared.FaultSort.{FaultSort}
 use Rattle.words.specs.declared.Ending.the-variants.{Plain, Spent, Fault}
 use Rattle.language.specs.Program.{Finished}
-use Rattle.flat.specs.Lines.{Line, does, jump, jumpZero, jumpOther, abort, Next, goes, faults, ends, onward, effect, nextOf, nextAt, stop, follow, runFrom}
+use Rattle.flat.specs.Lines.{FlatLine, does, jump, jumpZero, jumpOther, abort, Next, goes, faults, ends, onward, effect, nextOf, nextAt, stop, follow, runFrom}
 use Rattle.arithmetic.specs.Arithmetic.{Outcome, value, fault}
 use Rattle.flat.specs.Words.{lineCount, lineAt, linesFrom, linesOf}
 use Rattle.flat_steps.specs.Steps.{Makes}
@@ -41,7 +41,7 @@ module _ (L : Layout) (list : List ℤ) where
   onward-stops count i s (value t) = refl
   onward-stops count i s (fault sort) = refl
 
-  line-stops : (count i : ℕ) (s : List ℤ) (x : Line) → stop count s (nextOf L x i s) ≡ record { ending = Spent; count = count; store = s }
+  line-stops : (count i : ℕ) (s : List ℤ) (x : FlatLine) → stop count s (nextOf L x i s) ≡ record { ending = Spent; count = count; store = s }
   line-stops count i s (does o) = onward-stops count i s (effect L o s)
   line-stops count i s (jump j) = refl
   line-stops count i s (jumpZero a j) = refl

@@ -16,7 +16,7 @@ use Rattle.row_fields.specs.Fields.{boundsIn, boundsOf as numbersOf}
 use Rattle.row_fields.specs.declared.Bounds.{Bounds}
 use Rattle.operations.specs.Bounds.{boundsFrom, layoutFrom}
 use Rattle.machine.proofs.Bounds.{layout-again, bounds-again}
-use Rattle.flat.specs.Lines.{copy, minus, operate, fetch, put, Line, does, jump, jumpZero, jumpOther, abort, runFrom}
+use Rattle.flat.specs.Lines.{copy, minus, operate, fetch, put, FlatLine, does, jump, jumpZero, jumpOther, abort, runFrom}
 use Rattle.flat.specs.Words.{lineParts, lineCount, fieldAt, operationAt, kindOf, leftConstant, lineAt, linesOf, Written}
 use Rattle.flat.specs.WordsLaws.{isNumber, kind-small, kind-back, left-back, operation-small, operation-back, written-line}
 use Rattle.flat.specs.Refusal.{landsInside}
@@ -28,7 +28,7 @@ use Rattle.flat_machine.specs.Whole.{Startable}
 
 -- ---- a line of a legal list
 
-line-kind-is : (i : ℕ) (x : Line) → LineKind (lineParts i x .kind)
+line-kind-is : (i : ℕ) (x : FlatLine) → LineKind (lineParts i x .kind)
 line-kind-is i (does (copy x a)) = copies
 line-kind-is i (does (minus x a)) = negates
 line-kind-is i (does (operate o x a b)) = operates o refl
@@ -39,7 +39,7 @@ line-kind-is i (jumpZero a j) = jumps-at-zero
 line-kind-is i (jumpOther a j) = jumps-otherwise
 line-kind-is i abort = aborts
 
-array-left-is : (i : ℕ) (x : Line) → lineParts i x .kind ≡ 3 → isNumber (lineParts i x .left) ≡ false
+array-left-is : (i : ℕ) (x : FlatLine) → lineParts i x .kind ≡ 3 → isNumber (lineParts i x .left) ≡ false
 array-left-is i (does (copy x a)) e = absurd (omega arith)
 array-left-is i (does (minus x a)) e = absurd (omega arith)
 array-left-is i (does (operate o x a b)) e = absurd (omega arith)
@@ -54,7 +54,7 @@ module _ (i lines : ℕ) (h : i < lines) where
   follows : landsInside i lines (pos 0) ≡ true
   follows = le-leb (suc i + 0) lines (omega arith)
 
-  line-lands : (bounds : Bounds) (x : Line) → Within bounds lines x → landsInside i lines (lineParts i x .distance-is) ≡ true
+  line-lands : (bounds : Bounds) (x : FlatLine) → Within bounds lines x → landsInside i lines (lineParts i x .distance-is) ≡ true
   line-lands bounds (does (copy x a)) w = follows
   line-lands bounds (does (minus x a)) w = follows
   line-lands bounds (does (operate o x a b)) w = follows
@@ -75,7 +75,7 @@ module _ (header list : List ℤ) (legal : LegalFlat header list) (words : ℕ) 
   fits = headerFits-facts Kernel header (legal .header-fits)
 
   module _ (i : ℕ) (h : i < lineCount list) where
-    abbrev x : Line
+    abbrev x : FlatLine
     x = legal .lines i h .line
 
     abbrev written : Written list i (lineParts i x)

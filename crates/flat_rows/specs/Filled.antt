@@ -26,7 +26,7 @@ use Rattle.accepted_kernel.specs.Kernel.{legal-plain}
 use Rattle.kernel_rows.specs.Rows.{Lone, Listed, BlockRow, KernelRow, empty-row, assign-row, block-row, if-row, while-row, goto-row, label-row, abort-row, next-at, kernel-row, label-list, statement-list}
 use Rattle.kernel_rows.specs.Labels.{legal-once}
 use Rattle.kernel_rows.specs.Tree.{root-items}
-use Rattle.flat.specs.Lines.{Operand, Line}
+use Rattle.flat.specs.Lines.{Operand, FlatLine}
 use Rattle.flat.specs.Words.{lineParts, Written}
 use Rattle.flat_fate.specs.Code.{always, ifLines, whileLines, statementLines, itemsLines}
 use Rattle.flat_fate.specs.CodeStands.{firstAt, secondAt, bodyAt}
@@ -37,7 +37,7 @@ use Rattle.flat_rows.specs.Lies.{nothing, There}
 use Rattle.flat_rows.specs.Standing.{list, line-root, line-link, branch-lines, own-there}
 use Rattle.flat_rows.specs.Written.{Holds, written-whole}
 
-module _ (lines : List Line) (out : List ℤ) where
+module _ (lines : List FlatLine) (out : List ℤ) where
   -- Every line from i to j is written.
   abbrev pub Filled : ℕ → ℕ → Type 0
   Filled i j = (k : ℕ) → i ≤ k → k < j → Holds out k (getD lines k nothing)
@@ -45,7 +45,7 @@ module _ (lines : List Line) (out : List ℤ) where
   filled-none : (i j : ℕ) → j ≤ i → Filled i j
   filled-none i j h k l m = absurd (omega arith)
 
-  filled-one : (i : ℕ) (x : Line) → There lines i x → Holds out i x → Filled i (i + 1)
+  filled-one : (i : ℕ) (x : FlatLine) → There lines i x → Holds out i x → Filled i (i + 1)
   filled-one i x there w k l m =
       let e : k ≡ i = omega arith in
       subst (λ (n : ℕ). Holds out n (getD lines n nothing)) (sym e) (subst (λ y. Holds out i y) (sym (there .1)) w)
@@ -84,7 +84,7 @@ module _ (lines : List Line) (out : List ℤ) where
       (filled-two (i + 1) j (i + (p + 2)) f (filled-cast j (j + 1) j (i + (p + 2)) refl (let e : j + 1 ≡ i + (p + 2) = omega arith in e) (filled-one j _ (there .1 .0) (own .1 .0))))
 
 module _ (header rows : List ℤ) (legal : Legal header rows) (out : List ℤ) (written : (row : ℕ) → row < rowCount rows → Each (Holds out) (ownLines rows row)) where
-  abbrev lines : List Line
+  abbrev lines : List FlatLine
   lines = list header rows legal
 
   -- The list from a row on is written.
@@ -141,7 +141,7 @@ module _ (header rows : List ℤ) (legal : Legal header rows) (out : List ℤ) (
         let e : i + statementLines (statementAt rows row) ≡ i = omega arith in
         filled-cast lines out i (i + itemsLines (listAt rows (numberAt rows row 5))) i (i + itemsLines (itemsAt rows row)) refl (omega arith) (listed-filled 5 (omega arith) (next-at header rows legal row n t) i e)
 
-    one-filled : (x : Line) → There lines i x → Holds out i x → statementLines (statementAt rows row) ≡ 1 → (numberAt rows row 0 ≡ 53 → ⊥) → From row
+    one-filled : (x : FlatLine) → There lines i x → Holds out i x → statementLines (statementAt rows row) ≡ 1 → (numberAt rows row 0 ≡ 53 → ⊥) → From row
     one-filled x th w e other = statement-filled other (rw e (filled-one lines out i x th w))
 
     block-filled : numberAt rows row 0 ≡ 42 → BlockRow rows row → From row

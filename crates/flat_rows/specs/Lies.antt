@@ -6,29 +6,29 @@ use Prim.Native.Nat.{ℕ, zero, suc, _+_, _≤_, _<_}
 use native.Mathlib.Omega.{arith}
 use lib.ListN.{length, getD, length-append, List·getD-append}
 use lib.Seq.{getD-append-add}
-use Rattle.flat.specs.Lines.{Operand, Line, jump, jumpZero, jumpOther}
+use Rattle.flat.specs.Lines.{Operand, FlatLine, jump, jumpZero, jumpOther}
 use Rattle.flat_fate.specs.Code.{ifLines, whileLines, ifCode, whileCode}
 use Rattle.flat_fate.specs.CodeStands.{firstAt, secondAt, bodyAt}
 use Rattle.flat_rows.specs.Places.{ifOwn, whileOwn, Each}
 
 -- Beyond a list there is no line; the one that stands for it is never asked for.
-abbrev pub nothing : Line
+abbrev pub nothing : FlatLine
 nothing = jump 0
 
 -- The lines xs lie in a list from line i on.
-pub record Lies (lines : List Line) (i : ℕ) (xs : List Line) : Type 0 where
+pub record Lies (lines : List FlatLine) (i : ℕ) (xs : List FlatLine) : Type 0 where
   pub within : i + length xs ≤ length lines
   pub same : (k : ℕ) → k < length xs → getD lines (i + k) nothing ≡ getD xs k nothing
 
 -- A line stands in a list.
-abbrev pub There : List Line → ℕ → Line → Type 0
+abbrev pub There : List FlatLine → ℕ → FlatLine → Type 0
 There lines i x = (i < length lines) × (getD lines i nothing ≡ x)
 
-module _ (lines : List Line) where
+module _ (lines : List FlatLine) where
   pub lies-whole : Lies lines 0 lines
   lies-whole = record { within = omega arith; same = λ k h. (let e : 0 + k ≡ k = omega arith in rw e) }
 
-  pub lies-first : (i : ℕ) (xs ys : List Line) → Lies lines i (xs ++ ys) → Lies lines i xs
+  pub lies-first : (i : ℕ) (xs ys : List FlatLine) → Lies lines i (xs ++ ys) → Lies lines i xs
   lies-first i xs ys l =
       let w = l .within in
       record {
@@ -36,7 +36,7 @@ module _ (lines : List Line) where
         same = λ k h. l .same k (omega (arith, length-append xs ys)) ∙ List·getD-append xs ys nothing k h;
       }
 
-  pub lies-second : (i n : ℕ) (xs ys : List Line) → length xs ≡ n → Lies lines i (xs ++ ys) → Lies lines (i + n) ys
+  pub lies-second : (i n : ℕ) (xs ys : List FlatLine) → length xs ≡ n → Lies lines i (xs ++ ys) → Lies lines (i + n) ys
   lies-second i n xs ys e l =
       let w = l .within in
       record {
@@ -46,27 +46,27 @@ module _ (lines : List Line) where
             ap (λ (m : ℕ). getD lines m nothing) there ∙ l .same (length xs + k) (omega (arith, length-append xs ys)) ∙ getD-append-add xs ys k nothing);
       }
 
-  pub lies-head : (i : ℕ) (x : Line) (xs : List Line) → Lies lines i (x ∷ xs) → There lines i x
+  pub lies-head : (i : ℕ) (x : FlatLine) (xs : List FlatLine) → Lies lines i (x ∷ xs) → There lines i x
   lies-head i x xs l =
       let w = l .within in
       let stays : i ≡ i + 0 = omega arith in
       (omega arith, ap (λ (m : ℕ). getD lines m nothing) stays ∙ l .same 0 (omega arith))
 
-  pub lies-tail : (i : ℕ) (x : Line) (xs : List Line) → Lies lines i (x ∷ xs) → Lies lines (i + 1) xs
+  pub lies-tail : (i : ℕ) (x : FlatLine) (xs : List FlatLine) → Lies lines i (x ∷ xs) → Lies lines (i + 1) xs
   lies-tail i x xs l = lies-second i 1 (x ∷ []) xs refl l
 
-  pub lies-none : (i : ℕ) (xs : List Line) → length xs ≡ 0 → i ≤ length lines → Lies lines i xs
+  pub lies-none : (i : ℕ) (xs : List FlatLine) → length xs ≡ 0 → i ≤ length lines → Lies lines i xs
   lies-none i xs e h = record { within = omega arith; same = λ k l. absurd (omega arith) }
 
-  pub lies-cast : (i j : ℕ) (xs : List Line) → i ≡ j → Lies lines i xs → Lies lines j xs
+  pub lies-cast : (i j : ℕ) (xs : List FlatLine) → i ≡ j → Lies lines i xs → Lies lines j xs
   lies-cast i j xs e l = subst (λ (m : ℕ). Lies lines m xs) e l
 
-  there-cast : (i j : ℕ) (x : Line) → i ≡ j → There lines i x → There lines j x
+  there-cast : (i j : ℕ) (x : FlatLine) → i ≡ j → There lines i x → There lines j x
   there-cast i j x e l = subst (λ (m : ℕ). There lines m x) e l
 
   -- ---- the parts of an if
 
-  module _ (a : Operand) (first second : ℕ → List Line) where
+  module _ (a : Operand) (first second : ℕ → List FlatLine) where
     pub if-first : (p q i : ℕ) → ((j : ℕ) → length (first j) ≡ p) → i + ifLines p q ≤ length lines → Lies lines i (ifCode a p q i first second) → Lies lines (firstAt p q i) (first (firstAt p q i))
     if-first zero zero i f w l = lies-none (i + 0) (first (i + 0)) (f (i + 0)) w
     if-first zero (suc q) i f w l = lies-none (i + (1 + suc q)) (first (i + (1 + suc q))) (f (i + (1 + suc q))) w
@@ -92,7 +92,7 @@ module _ (lines : List Line) where
 
   -- ---- the parts of a while
 
-  module _ (a : Operand) (body : ℕ → List Line) where
+  module _ (a : Operand) (body : ℕ → List FlatLine) where
     pub while-body : (b : Bool) (p i : ℕ) → Lies lines i (whileCode b a p i body) → Lies lines (bodyAt b i) (body (bodyAt b i))
     while-body true p i l = lies-first i (body i) _ l
     while-body false p i l = lies-first (i + 1) (body (i + 1)) _ (lies-tail i _ _ l)

@@ -10,7 +10,7 @@ use Rattle.words.specs.Table.{numberAt}
 use Rattle.words.specs.Links.{note}
 use Rattle.language.specs.Decode.{expressionAt, statementAt, listAt}
 use Rattle.language.specs.Program.{contents}
-use Rattle.flat.specs.Lines.{Operand, Line, does, jump, jumpZero, jumpOther, abort}
+use Rattle.flat.specs.Lines.{Operand, FlatLine, does, jump, jumpZero, jumpOther, abort}
 use Rattle.flat_fate.specs.Code.{operandOf, operationOf, always, statementLines, itemsLines}
 use Rattle.flat_fate.specs.CodeStands.{firstAt, secondAt, bodyAt}
 use Rattle.flat_fate.specs.Addresses.{addressIn}
@@ -37,17 +37,17 @@ lineOf rows row = note (handed rows) 0 rows row
 
 -- ---- the lines that are a row's own, each with its place
 
-abbrev pub ifOwn : Operand → ℕ → ℕ → ℕ → List (ℕ × Line)
+abbrev pub ifOwn : Operand → ℕ → ℕ → ℕ → List (ℕ × FlatLine)
 ifOwn a zero zero i = []
 ifOwn a zero (suc q) i = (i, jumpOther a (i + (1 + suc q))) ∷ []
 ifOwn a (suc p) zero i = (i, jumpZero a (i + (1 + suc p))) ∷ []
 ifOwn a (suc p) (suc q) i = (i, jumpZero a (i + (2 + suc p))) ∷ (i + 1 + suc p, jump (i + (2 + (suc p + suc q)))) ∷ []
 
-abbrev pub whileOwn : Bool → Operand → ℕ → ℕ → List (ℕ × Line)
+abbrev pub whileOwn : Bool → Operand → ℕ → ℕ → List (ℕ × FlatLine)
 whileOwn true a p i = (i + p, jump i) ∷ []
 whileOwn false a p i = (i, jumpZero a (i + (p + 2))) ∷ (i + 1 + p, jump i) ∷ []
 
-unfoldable pub ownLines : List ℤ → ℕ → List (ℕ × Line)
+unfoldable pub ownLines : List ℤ → ℕ → List (ℕ × FlatLine)
 ownLines rows row =
     let kind = numberAt rows row 0 in
     let line = lineOf rows row in
@@ -60,6 +60,6 @@ ownLines rows row =
     (pick (eqb kind 57) ((line, abort) ∷ []) []))))
 
 -- Something holds of each place and line.
-abbrev pub Each : (ℕ → Line → Type 0) → List (ℕ × Line) → Type 0
+abbrev pub Each : (ℕ → FlatLine → Type 0) → List (ℕ × FlatLine) → Type 0
 Each P [] = Unit {0}
 Each P (x ∷ xs) = P (x .0) (x .1) × Each P xs

@@ -33,7 +33,7 @@ use Rattle.accepted_kernel.specs.Kernel.{legal-plain, legal-rows}
 use Rattle.kernel_rows.specs.Rows.{Lone, Listed, BlockRow, IfRow, WhileRow, KernelRow, empty-row, assign-row, block-row, if-row, while-row, goto-row, label-row, abort-row, StatementLink, next-item, first-item, true-branch, false-branch, loop-body, expression-or-statement, statement-link, next-at, kernel-row, label-list, statement-list, lone-list, linking-statement, label-statement, as-expression, block-at, if-of, while-of}
 use Rattle.kernel_rows.specs.Labels.{legal-once}
 use Rattle.kernel_rows.specs.Tree.{root-items}
-use Rattle.flat.specs.Lines.{Line}
+use Rattle.flat.specs.Lines.{FlatLine}
 use Rattle.flat_fate.specs.Code.{operandOf, operationOf, always, ifLines, statementLines, itemsLines, statementCode, itemsCode}
 use Rattle.flat_fate.specs.CodeStands.{firstAt, secondAt, bodyAt, Addressed, AddressedItems, statement-length, items-length}
 use Rattle.flat_fate.specs.Addresses.{addressIn, flatOf, flat-size, items-addressed}
@@ -45,7 +45,7 @@ module _ (header rows : List ℤ) (legal : Legal header rows) where
   abbrev L : Layout
   L = layoutOf Kernel header
 
-  abbrev pub list : List Line
+  abbrev pub list : List FlatLine
   list = flatOf (contents rows)
 
   abbrev address : ℕ → ℕ
@@ -249,7 +249,7 @@ module _ (header rows : List ℤ) (legal : Legal header rows) where
           rw (k, branch-lines (the-while .body))
           (while-own list (testOf rows row) (λ j. statementCode address body j) (always (testOf rows row)) (statementLines body) i (λ j. statement-length L list address body j) (while-stands .lies))
 
-    one-line : (x : Line) (s : Statement) → statementAt rows row ≡ s → statementCode address s i ≡ x ∷ [] → (numberAt rows row 0 ≡ 53 → ⊥) → There list i x
+    one-line : (x : FlatLine) (s : Statement) → statementAt rows row ≡ s → statementCode address s i ≡ x ∷ [] → (numberAt rows row 0 ≡ 53 → ⊥) → There list i x
     one-line x s e c other = lies-head list i x [] (subst (λ xs. Lies list i xs) (ap (λ s. statementCode address s i) e ∙ c) (own-stands other .lies))
 
     link-stands : (field : ℕ) → Leads rows row field → StatementLink rows row field → At (link rows row field)

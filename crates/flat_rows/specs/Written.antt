@@ -13,7 +13,7 @@ use lib.ListN.{length, getD, set, length-set, length-append}
 use lib.Seq.{getD-set-same, getD-set-other, ext-getD, sets, length-sets}
 use borrow.Author.Tests.{ltb-true, ltb-false}
 use Rattle.words.specs.SearchLaws.{from-on}
-use Rattle.flat.specs.Lines.{Line}
+use Rattle.flat.specs.Lines.{FlatLine}
 use Rattle.flat.specs.Words.{Parts, lineParts, fiveWords, fieldAt, Written}
 use Rattle.flat_fate.specs.FlatWords.{wordsFrom}
 use Rattle.flat_fate.specs.FlatWordsLaws.{words-length, five-written}
@@ -22,7 +22,7 @@ use Rattle.flat_rows.specs.Lies.{nothing, There}
 
 -- ---- the words of lines, line by line
 
-pub words-written : (before : List ℤ) (i : ℕ) (xs : List Line) → length before ≡ 5 * i → (k : ℕ) → k < length xs
+pub words-written : (before : List ℤ) (i : ℕ) (xs : List FlatLine) → length before ≡ 5 * i → (k : ℕ) → k < length xs
     → Written (before ++ wordsFrom i xs) (i + k) (lineParts (i + k) (getD xs k nothing))
 unfolding wordsFrom
 words-written before i [] e k h = absurd (omega arith)
@@ -47,7 +47,7 @@ same-field {a} {b} {i} v w field h =
     (λ l. from-on (λ (f : ℕ). fieldAt a i f ≡ fieldAt b i f) field 4 l (v .distance-word ∙ sym (w .distance-word)) (λ l. absurd (omega arith))))))
 
 -- Where every line is written, the words are the lines'.
-pub written-whole : (out : List ℤ) (xs : List Line) → length out ≡ 5 * length xs → ((k : ℕ) → k < length xs → Written out k (lineParts k (getD xs k nothing))) → out ≡ wordsFrom 0 xs
+pub written-whole : (out : List ℤ) (xs : List FlatLine) → length out ≡ 5 * length xs → ((k : ℕ) → k < length xs → Written out k (lineParts k (getD xs k nothing))) → out ≡ wordsFrom 0 xs
 unfolding fieldAt
 written-whole out xs e w = ext-getD (pos 0) out (wordsFrom 0 xs) (omega (arith, words-length 0 xs)) same
   where
@@ -129,22 +129,22 @@ put-other line p out other q d w =
 -- ---- lines of a list put into a table of words
 
 -- A line is written.
-abbrev pub Holds : List ℤ → ℕ → Line → Type 0
+abbrev pub Holds : List ℤ → ℕ → FlatLine → Type 0
 Holds out i x = Written out i (lineParts i x)
 
 -- Lines with their places, put one after the other.
-unfoldable pub putAll : List (ℕ × Line) → List ℤ → List ℤ
+unfoldable pub putAll : List (ℕ × FlatLine) → List ℤ → List ℤ
 putAll [] out = out
 putAll (x ∷ xs) out = putAll xs (putLine (x .0) (lineParts (x .0) (x .1)) out)
 
-pub puts-length : (xs : List (ℕ × Line)) (out : List ℤ) → length (putAll xs out) ≡ length out
+pub puts-length : (xs : List (ℕ × FlatLine)) (out : List ℤ) → length (putAll xs out) ≡ length out
 unfolding putAll
 puts-length [] out = refl
 puts-length (x ∷ xs) out = puts-length xs (putLine (x .0) (lineParts (x .0) (x .1)) out) ∙ put-length (x .0) (lineParts (x .0) (x .1)) out
 
 -- Where every line that is put is the list's, a line of the list that is written stays so.
-module _ (lines : List Line) where
-  one-kept : (i : ℕ) (x : Line) (out : List ℤ) → length out ≡ 5 * length lines → There lines i x → (j : ℕ) (y : Line) → There lines j y → Holds out j y → Holds (putLine i (lineParts i x) out) j y
+module _ (lines : List FlatLine) where
+  one-kept : (i : ℕ) (x : FlatLine) (out : List ℤ) → length out ≡ 5 * length lines → There lines i x → (j : ℕ) (y : FlatLine) → There lines j y → Holds out j y → Holds (putLine i (lineParts i x) out) j y
   one-kept i x out e there j y other w = go (ℕ-discrete j i)
     where
       go : Dec (j ≡ i) → Holds (putLine i (lineParts i x) out) j y
@@ -154,14 +154,14 @@ module _ (lines : List Line) where
           let inside = there .0 in
           subst (λ (n : ℕ). Holds (putLine i (lineParts i x) out) n y) (sym q) (subst (λ z. Holds (putLine i (lineParts i x) out) i z) same (put-written i (lineParts i x) out (omega arith)))
 
-  pub puts-kept : (xs : List (ℕ × Line)) (out : List ℤ) → length out ≡ 5 * length lines → Each (There lines) xs → (j : ℕ) (y : Line) → There lines j y → Holds out j y → Holds (putAll xs out) j y
+  pub puts-kept : (xs : List (ℕ × FlatLine)) (out : List ℤ) → length out ≡ 5 * length lines → Each (There lines) xs → (j : ℕ) (y : FlatLine) → There lines j y → Holds out j y → Holds (putAll xs out) j y
   unfolding putAll
   puts-kept [] out e there j y other w = w
   puts-kept (x ∷ xs) out e there j y other w =
       puts-kept xs (putLine (x .0) (lineParts (x .0) (x .1)) out) (put-length (x .0) (lineParts (x .0) (x .1)) out ∙ e) (there .1) j y other (one-kept (x .0) (x .1) out e (there .0) j y other w)
 
   -- And what is put is written.
-  pub puts-hold : (xs : List (ℕ × Line)) (out : List ℤ) → length out ≡ 5 * length lines → Each (There lines) xs → Each (Holds (putAll xs out)) xs
+  pub puts-hold : (xs : List (ℕ × FlatLine)) (out : List ℤ) → length out ≡ 5 * length lines → Each (There lines) xs → Each (Holds (putAll xs out)) xs
   unfolding putAll
   puts-hold [] out e there = tt
   puts-hold (x ∷ xs) out e there =
@@ -170,7 +170,7 @@ module _ (lines : List Line) where
       let inside = there .0 .0 in
       (puts-kept xs next long (there .1) (x .0) (x .1) (there .0) (put-written (x .0) (lineParts (x .0) (x .1)) out (omega arith)), puts-hold xs next long (there .1))
 
-  pub each-kept : (ys xs : List (ℕ × Line)) (out : List ℤ) → length out ≡ 5 * length lines → Each (There lines) xs → Each (There lines) ys → Each (Holds out) ys → Each (Holds (putAll xs out)) ys
+  pub each-kept : (ys xs : List (ℕ × FlatLine)) (out : List ℤ) → length out ≡ 5 * length lines → Each (There lines) xs → Each (There lines) ys → Each (Holds out) ys → Each (Holds (putAll xs out)) ys
   each-kept [] xs out e there others w = tt
   each-kept (y ∷ ys) xs out e there others w =
       (puts-kept xs out e there (y .0) (y .1) (others .0) (w .0), each-kept ys xs out e there (others .1) (w .1))

@@ -31,7 +31,7 @@ use Rattle.flat_fate.specs.CodeStands.{firstAt, secondAt, bodyAt}
 use Rattle.flat_fate.specs.Addresses.{addressIn}
 use Rattle.flat_rows.specs.Places.{listLines, testOf, handed, lineOf}
 use Rattle.flat_rows.specs.Standing.{line-root, line-link, label-address}
-use Rattle.flat_sizes.specs.Tables.{slot, Sized, Right, Handed, Placed, Keeps, PartsPlaced, NextPlaced, Labelled, stored}
+use Rattle.flat_sizes.specs.Tables.{slot, Sized, Right, Handed, LinesPlaced, Keeps, PartsPlaced, NextPlaced, Labelled, stored}
 use Rattle.flat_sizes.specs.Sizes.{block-room, next-room, true-room, false-room, body-room, true-answer, false-answer, line-few, sized-later}
 
 module _ {rows : List ℤ} (table : KernelTable rows) where
@@ -112,7 +112,7 @@ module _ {rows : List ℤ} (table : KernelTable rows) where
 
     -- ---- the row's own line
 
-    pub placed-here : {lines : List ℕ} → Placed rows row lines → isStatement rows row ≡ true → Right rows lines row
+    pub placed-here : {lines : List ℕ} → LinesPlaced rows row lines → isStatement rows row ≡ true → Right rows lines row
     placed-here {lines} p t = by (ℕ-discrete row 0)
       where
         by : Dec (row ≡ 0) → Right rows lines row
@@ -124,7 +124,7 @@ module _ {rows : List ℤ} (table : KernelTable rows) where
 
     -- ---- one row more
 
-    pub placed-row : {lines after : List ℕ} → Placed rows row lines → Keeps rows lines after → ((field : ℕ) → field < 6 → Handed rows after row field) → Placed rows (row + 1) after
+    pub placed-row : {lines after : List ℕ} → LinesPlaced rows row lines → Keeps rows lines after → ((field : ℕ) → field < 6 → Handed rows after row field) → LinesPlaced rows (row + 1) after
     placed-row {lines} {after} p k h =
         let room = p .room in
         let long = k .same-length in
@@ -134,7 +134,7 @@ module _ {rows : List ℤ} (table : KernelTable rows) where
         by other field l m (yes q) leads t = (rw (sym q) at (h field m)) leads t
         by other field l m (no q) leads t = k .kept (link rows other field) (p .linked other field (lt-of-le-ne (omega arith) q) m leads t)
 
-    pub placed-other : {lines : List ℕ} → Placed rows row lines → numberAt rows row 0 < 40 → Placed rows (row + 1) lines
+    pub placed-other : {lines : List ℕ} → LinesPlaced rows row lines → numberAt rows row 0 < 40 → LinesPlaced rows (row + 1) lines
     placed-other {lines} p h =
         placed-row p (keeps-same lines) (λ field m. none-handed lines field m (λ x. (let l = statement-number rows row (linking-statement rows row x) in omega arith)))
 
@@ -213,7 +213,7 @@ module _ {rows : List ℤ} (table : KernelTable rows) where
         none-of field h (false-branch q t) = b (e ∙ t)
         none-of field h (loop-body q t) = c (e ∙ t)
 
-    pub placed-both : {lines middle after : List ℕ} → Placed rows row lines → PartsPlaced rows row lines middle → NextPlaced rows row middle after → Placed rows (row + 1) after
+    pub placed-both : {lines middle after : List ℕ} → LinesPlaced rows row lines → PartsPlaced rows row lines middle → NextPlaced rows row middle after → LinesPlaced rows (row + 1) after
     placed-both {lines} {middle} {after} p q r =
         placed-row p (keeps-two (q .keeps) (r .keeps)) (λ field h. from-five field h)
       where
@@ -258,14 +258,14 @@ module _ {rows : List ℤ} (table : KernelTable rows) where
 
   -- ---- the tables, before the first row
 
-  pub placed-start : (lines : List ℕ) → rowCount rows ≤ length lines → getD lines 0 0 ≡ 0 → Placed rows 0 lines
+  pub placed-start : (lines : List ℕ) → rowCount rows ≤ length lines → getD lines 0 0 ≡ 0 → LinesPlaced rows 0 lines
   placed-start lines room root = record { room = room; root = root ∙ sym (line-root (table .header) rows (table .legal)); linked = λ row field l. absurd (omega arith) }
 
   pub labelled-start : (labels : List ℕ) → 40980 ≤ length labels → Labelled rows 0 labels
   labelled-start labels room = record { room = room; labelled = λ row l. absurd (omega arith) }
 
-  pub placed-at : {k l : ℕ} {lines : List ℕ} → k ≡ l → Placed rows k lines → Placed rows l lines
-  placed-at {lines = lines} e s = subst (λ (k : ℕ). Placed rows k lines) e s
+  pub placed-at : {k l : ℕ} {lines : List ℕ} → k ≡ l → LinesPlaced rows k lines → LinesPlaced rows l lines
+  placed-at {lines = lines} e s = subst (λ (k : ℕ). LinesPlaced rows k lines) e s
 
   pub labelled-at : {k l : ℕ} {labels : List ℕ} → k ≡ l → Labelled rows k labels → Labelled rows l labels
   labelled-at {labels = labels} e s = subst (λ (k : ℕ). Labelled rows k labels) e s

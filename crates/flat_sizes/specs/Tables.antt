@@ -34,7 +34,7 @@ abbrev pub Handed : List ℤ → List ℕ → ℕ → ℕ → Type 0
 Handed rows lines row field = Leads rows row field → isStatement rows (link rows row field) ≡ true → Right rows lines (link rows row field)
 
 -- The lines of row 0 and of the statements that the rows below k link.
-pub record Placed (rows : List ℤ) (k : ℕ) (lines : List ℕ) : Type 0 where
+pub record LinesPlaced (rows : List ℤ) (k : ℕ) (lines : List ℕ) : Type 0 where
   pub room : rowCount rows ≤ length lines
   pub root : Right rows lines 0
   pub linked : (row field : ℕ) → row < k → field < 6 → Handed rows lines row field

@@ -13,7 +13,7 @@ ghost use Rattle.words.specs.Links.{isStatement};
 ghost use Rattle.kernel_rows.specs.Rows.{KernelTable};
 ghost use Rattle.flat_fate.specs.CodeStands.{firstAt, secondAt, bodyAt};
 ghost use Rattle.flat_rows.specs.Places.{lineOf};
-ghost use Rattle.flat_sizes.specs.Tables.{stored, Sized, Placed, PartsPlaced, NextPlaced, Labelled};
+ghost use Rattle.flat_sizes.specs.Tables.{stored, Sized, LinesPlaced, PartsPlaced, NextPlaced, Labelled};
 
 // Stores the line of the row at a link, if there is one.
 fn store_line(lines: &mut [u16], link: usize, line: usize)
@@ -113,8 +113,8 @@ fn place_label(rows: &[i32], labels: &mut [u16], row: usize, line: usize)
 }
 
 fn place_row(rows: &[i32], sizes: &[u16], lines: &mut [u16], labels: &mut [u16], row: usize)
-    requires { ⌜ KernelTable (now rows) × Sized (now rows) 0 (now sizes) × Placed (now rows) row (now lines) × Labelled (now rows) row (now labels) × (row < rowCount (now rows)) ⌝ }
-    ensures { λ _. ⌜ Placed (now (rows .entry)) (row + 1) (now (lines .exit)) × Labelled (now (rows .entry)) (row + 1) (now (labels .exit)) ⌝ }
+    requires { ⌜ KernelTable (now rows) × Sized (now rows) 0 (now sizes) × LinesPlaced (now rows) row (now lines) × Labelled (now rows) row (now labels) × (row < rowCount (now rows)) ⌝ }
+    ensures { λ _. ⌜ LinesPlaced (now (rows .entry)) (row + 1) (now (lines .exit)) × Labelled (now (rows .entry)) (row + 1) (now (labels .exit)) ⌝ }
 {
     if number_at(rows, row, 0) < 40 {
         return;
@@ -128,7 +128,7 @@ fn place_row(rows: &[i32], sizes: &[u16], lines: &mut [u16], labels: &mut [u16],
 // Fills the tables of lines and of labels. Row 0 stands at line 0.
 pub fn place_rows(rows: &[i32], sizes: &[u16], lines: &mut [u16], labels: &mut [u16])
     requires { ⌜ KernelTable (now rows) × Sized (now rows) 0 (now sizes) × (rowCount (now rows) ≤ length (now lines)) × (getD (now lines) 0 0 ≡ 0) × (40980 ≤ length (now labels)) ⌝ }
-    ensures { λ _. ⌜ Placed (now (rows .entry)) (rowCount (now (rows .entry))) (now (lines .exit)) × Labelled (now (rows .entry)) (rowCount (now (rows .entry))) (now (labels .exit)) ⌝ }
+    ensures { λ _. ⌜ LinesPlaced (now (rows .entry)) (rowCount (now (rows .entry))) (now (lines .exit)) × Labelled (now (rows .entry)) (rowCount (now (rows .entry))) (now (labels .exit)) ⌝ }
 {
     let count = rows.len() / 6;
     let mut row = 0;

@@ -15,8 +15,8 @@ use arithmetic::minus;
 use arithmetic::multiply;
 use arithmetic::remainder;
 use arithmetic::subtract;
-use flat::lines::kind_of;
 use flat::lines::left_constant;
+use flat::lines::operation_kind;
 use flat::lines::right_constant;
 use operations::operations::is_binary;
 use words::FaultSort;
@@ -158,7 +158,7 @@ pub fn make(list: &[i32], bounds: &[usize], line: usize, store: &mut [i32]) -> S
     ensures { λ r. ⌜ Makes (now (store .entry)) r (now (store .exit)) (nextOf (layoutFrom (now (bounds .entry))) (lineAt (now (list .entry)) line) line (now (store .entry))) ⌝ }
 {
     let operation = number_at(list, line, 0);
-    let kind = kind_of(operation);
+    let kind = operation_kind(operation);
     if kind == 43 {
         return jump_zero(list, bounds, line, operation, store);
     }

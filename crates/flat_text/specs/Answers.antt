@@ -9,12 +9,12 @@ use lib.ListN.{length}
 use Rattle.words.specs.Layout.{headerFits}
 use Rattle.words.specs.declared.Form.the-variants.{Kernel}
 use Rattle.text_form.specs.Text.{Parsed, parsed, malformed, Program}
-use Rattle.text_form.specs.Answers.{unless, ReadResult, readRefused, readProgram, tablesHold, WriteResult, writeBytes}
+use Rattle.text_form.specs.Answers.{causeUnless, ReadResult, readRefused, readProgram, tablesHold, WriteResult, writeBytes}
 use Rattle.flat_text.specs.Text.{flatBytes, parseFlat}
 
 -- 1, then 10. The words are a multiple of five, and no number of lines is too great.
 unfoldable pub flatCause : List ℤ → Bool → Option ℕ
-flatCause header room = unless (headerFits Kernel header) 1 (unless room 10 none)
+flatCause header room = causeUnless (headerFits Kernel header) 1 (causeUnless room 10 none)
 
 -- 14 first.
 unfoldable pub flatParsed : Parsed Program → List ℤ → List ℤ → ReadResult
@@ -27,7 +27,7 @@ flatReadResult text header list = flatParsed (parseFlat text) header list
 
 -- 1, then 2 where the words are no multiple of five, then 10.
 unfoldable pub flatWriteCause : (header list : List ℤ) → Bool → Option ℕ
-flatWriteCause header list room = unless (headerFits Kernel header) 1 (unless (eqb (length list % 5) 0) 2 (unless room 10 none))
+flatWriteCause header list room = causeUnless (headerFits Kernel header) 1 (causeUnless (eqb (length list % 5) 0) 2 (causeUnless room 10 none))
 
 -- What writing a header and a list gives, where the buffer holds `text`.
 unfoldable pub flatWriteResult : (header list : List ℤ) → List ℕ → WriteResult

@@ -12,7 +12,7 @@ use Rattle.words.specs.declared.Form.the-variants.{Kernel}
 use Rattle.text_lines.specs.Line.{fieldsOf, numbersOf}
 use Rattle.text_lines.specs.Reader.{numbersIn}
 use Rattle.text_form.specs.Text.{malformed}
-use Rattle.text_form.specs.Answers.{unless, readRefused, readProgram, tablesHold, Reads}
+use Rattle.text_form.specs.Answers.{causeUnless, readRefused, readProgram, tablesHold, Reads}
 use Rattle.text_form.specs.Reader.{HasLines, orShort, readBy}
 use Rattle.text_form.specs.ReaderLaws.{lent-line}
 use Rattle.text_form.specs.declared.ReadAnswer.the-variants.{Refused}
@@ -20,16 +20,16 @@ use Rattle.flat_text.specs.Text.{parseFlat}
 use Rattle.flat_text.specs.Answers.{flatCause, flatParsed, flatReadResult}
 
 pub cause-fits : (header : List ℤ) → headerFits Kernel header ≡ true → flatCause header true ≡ none
-unfolding flatCause unless
+unfolding flatCause causeUnless
 cause-fits header e = rw e
 
 pub cause-unfit : (header : List ℤ) → headerFits Kernel header ≡ false → flatCause header true ≡ some 1
-unfolding flatCause unless
+unfolding flatCause causeUnless
 cause-unfit header e = rw e
 
 -- 10 comes after 1
 cause-by : (header : List ℤ) (room : Bool) → flatCause header room ≡ orShort (flatCause header true) room
-unfolding flatCause unless orShort
+unfolding flatCause causeUnless orShort
 cause-by header room = by-cases (headerFits Kernel header) (λ t. rw t) (λ t. rw t)
 
 pub reads-malformed : (text : List ℕ) (header list : List ℤ) (line : ℕ) → parseFlat text ≡ malformed line

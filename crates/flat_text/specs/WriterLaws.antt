@@ -15,7 +15,7 @@ use Rattle.text_numbers.specs.Writer.{Put}
 use Rattle.text_lines.specs.LineLaws.{Words}
 use Rattle.text_form.specs.Text.{parsed, headerSized, Program}
 use Rattle.text_form.specs.TextLaws.{table-shows, table-reads}
-use Rattle.text_form.specs.Answers.{unless, finished, writeBytes, Writes}
+use Rattle.text_form.specs.Answers.{causeUnless, finished, writeBytes, Writes}
 use Rattle.text_form.specs.Writer.{Fills}
 use Rattle.text_form.specs.declared.WriteAnswer.the-variants.{Written, Refused}
 use Rattle.flat.specs.Words.{lineCount}
@@ -25,7 +25,7 @@ use Rattle.flat_text.specs.Answers.{flatWriteCause, flatWriteResult}
 -- ---- the causes
 
 pub writes-unfit : (header list : List ℤ) (text : List ℕ) → headerFits Kernel header ≡ false → Writes (flatWriteResult header list text) (Refused (record { number = 1; place = 0 })) text
-unfolding flatWriteResult flatWriteCause unless writeBytes
+unfolding flatWriteResult flatWriteCause causeUnless writeBytes
 writes-unfit header list text e = rw e (record { outcome = refl; text-left = refl })
 
 -- a header within its limits, and lines of five words
@@ -34,7 +34,7 @@ pub record Lined (header list : List ℤ) : Type 0 where
   pub even : length list % 5 ≡ 0
 
 pub writes-uneven : (header list : List ℤ) (text : List ℕ) → headerFits Kernel header ≡ true → eqb (length list % 5) 0 ≡ false → Writes (flatWriteResult header list text) (Refused (record { number = 2; place = 0 })) text
-unfolding flatWriteResult flatWriteCause unless writeBytes
+unfolding flatWriteResult flatWriteCause causeUnless writeBytes
 writes-uneven header list text e f = rw (e, f) (record { outcome = refl; text-left = refl })
 
 module _ {header list : List ℤ} (l : Lined header list) where
@@ -48,7 +48,7 @@ module _ {header list : List ℤ} (l : Lined header list) where
   even-test = eq-eqb _ _ (l .even)
 
   pub writes-short : (text : List ℕ) → leb (length (flatBytes header list)) (length text) ≡ false → Writes (flatWriteResult header list text) (Refused (record { number = 10; place = 0 })) text
-  unfolding flatWriteResult flatWriteCause unless writeBytes
+  unfolding flatWriteResult flatWriteCause causeUnless writeBytes
   writes-short text e = rw (l .fits, even-test, e) (record { outcome = refl; text-left = refl })
 
   pub lined-fills : (text : List ℕ) → length (flatBytes header list) ≤ length text → Fills 5 (lineCount list) header list text
@@ -56,7 +56,7 @@ module _ {header list : List ℤ} (l : Lined header list) where
 
   pub writes-all : (text : List ℕ) → leb (length (flatBytes header list)) (length text) ≡ true → (count : ℕ) (left : List ℕ) → Put (flatBytes header list) text count left
       → Writes (flatWriteResult header list text) (Written count) left
-  unfolding flatWriteResult flatWriteCause unless writeBytes
+  unfolding flatWriteResult flatWriteCause causeUnless writeBytes
   writes-all text e count left p =
       rw (l .fits, even-test, e) (record { outcome = ap (λ (n : ℕ). finished (n ∷ [])) (p .size); text-left = p .written })
 

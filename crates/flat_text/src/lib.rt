@@ -6,7 +6,7 @@ use self::reader::read_lines;
 use self::writer::text_fits;
 use text_form::ReadAnswer;
 use text_form::WriteAnswer;
-use text_form::reader::Shape;
+use text_form::reader::TextShape;
 use text_form::reader::shape_of;
 use text_form::writer::put_text;
 use words::Form;
@@ -21,11 +21,18 @@ pub fn read(text: &[u8], header: &mut [i32], list: &mut [i32]) -> ReadAnswer
 {
     let shape = shape_of(5, Form::Kernel, text);
     match shape {
-        Shape::Malformed(line) => ReadAnswer::Refused(Refusal {
+        TextShape::Malformed(line) => ReadAnswer::Refused(Refusal {
             number: 14,
             place: line,
         }),
-        Shape::Lines(end, numbers, words) => read_lines(text, end, numbers, words, header, list),
+        TextShape::Lines(end, numbers, words) => read_lines(
+            text,
+            end,
+            numbers,
+            words,
+            header,
+            list,
+        ),
     }
 }
 

@@ -16,11 +16,11 @@ use Rattle.language.specs.Meaning.{Context, Signal, next, items, exec}
 use Rattle.language.specs.Sound.{Sound}
 use Rattle.operations.specs.Rows.{contextIn}
 use Rattle.flows.specs.Flows.{ran}
-use Rattle.flows.specs.declared.Mark as declared
-use Rattle.flows.specs.declared.Mark.the-variants.{Case, Default, Label}
+use Rattle.flows.specs.declared.SoughtMark as declared
+use Rattle.flows.specs.declared.SoughtMark.the-variants.{Case, Default, Label}
 
 -- The mark that the code's value is.
-abbrev pub markOf : declared.Mark → Mark
+abbrev pub markOf : declared.SoughtMark → Mark
 markOf (Case v) = case v
 markOf Default = default
 markOf (Label l) = label l

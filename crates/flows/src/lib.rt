@@ -29,7 +29,7 @@ pub enum Flow {
 }
 
 // What is sought in a list.
-pub enum Mark {
+pub enum SoughtMark {
     Case(i32),
     Default,
     Label(usize),

@@ -1,6 +1,6 @@
 // Where a list goes on: "the run goes on at its label, in the first list outward that has it".
 use super::Flow;
-use super::Mark;
+use super::SoughtMark;
 use super::flows::flow;
 use operations::operations::link_at;
 use words::table::number_at;
@@ -12,14 +12,14 @@ ghost use Rattle.flows.specs.Lists.{markOf, marks, InTable, Finds, Start
 
 // Whether the item at a row is this mark. A search passes many rows, so the tests go by the number of the kind: 48 a case, 49 a
 // default, 53 a label.
-fn is_mark(rows: &[i32], row: usize, mark: Mark) -> bool
+fn is_mark(rows: &[i32], row: usize, mark: SoughtMark) -> bool
     requires { ⌜ InTable (now rows) row ⌝ }
     ensures { λ r. ⌜ r ≡ marks (markOf mark) (itemsAt (now (rows .entry)) row) ⌝ }
 {
     match mark {
-        Mark::Case(value) => is_case(rows, row, value),
-        Mark::Default => is_default(rows, row),
-        Mark::Label(label) => is_label(rows, row, label),
+        SoughtMark::Case(value) => is_case(rows, row, value),
+        SoughtMark::Default => is_default(rows, row),
+        SoughtMark::Label(label) => is_label(rows, row, label),
     }
 }
 
@@ -53,7 +53,7 @@ fn is_label(rows: &[i32], row: usize, label: usize) -> bool
 }
 
 // The first item from `first` on that is the mark, or 0.
-pub fn find_mark(rows: &[i32], first: usize, mark: Mark) -> usize
+pub fn find_mark(rows: &[i32], first: usize, mark: SoughtMark) -> usize
     requires { ⌜ InTable (now rows) first ⌝ }
     ensures { λ r. ⌜ Finds (now (rows .entry)) first (markOf mark) r ⌝ }
 {
@@ -75,11 +75,11 @@ pub fn find_start(rows: &[i32], first: usize, value: i32) -> usize
     requires { ⌜ InTable (now rows) first ⌝ }
     ensures { λ r. ⌜ Starts (now (rows .entry)) first value r ⌝ }
 {
-    let at = find_mark(rows, first, Mark::Case(value));
+    let at = find_mark(rows, first, SoughtMark::Case(value));
     if at != 0 {
         return at;
     }
-    find_mark(rows, first, Mark::Default)
+    find_mark(rows, first, SoughtMark::Default)
 }
 
 // The item at which a list goes on after the item at a row ended with this answer, or 0.
@@ -90,7 +90,7 @@ pub fn resume(rows: &[i32], row: usize, answer: i64) -> usize
     let ended = flow(answer);
     match ended {
         Flow::Next => link_at(rows, row, 5),
-        Flow::Goto(label) => find_mark(rows, link_at(rows, row, 5), Mark::Label(label)),
+        Flow::Goto(label) => find_mark(rows, link_at(rows, row, 5), SoughtMark::Label(label)),
         Flow::Break => 0,
         Flow::Continue => 0,
         Flow::Return => 0,

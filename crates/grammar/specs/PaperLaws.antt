@@ -13,14 +13,14 @@ use Rattle.words.specs.Kinds.{between, KindRow, kinds, kindIn, kindOf, kindRow,
 use Rattle.words.specs.declared.Kind.the-variants.{Other}
 use Rattle.grammar.specs.Grammar.{kindLimit, tabulate, columns, grammar}
 use Rattle.grammar.specs.GrammarLaws.{kind-beyond, tabulated, grammar-row}
-use Rattle.grammar.specs.Papers.{Line, lines, saidBy, said}
+use Rattle.grammar.specs.Papers.{KindLine, lines, saidBy, said}
 
 -- the one proof over the whole table
 whole-table : tabulate (λ number. kindRow (kindOf number)) 0 kindLimit ≡ tabulate said 0 kindLimit
 unfolding said saidBy lines kindOf kindIn kinds kindRow expressionFields statementFields markFields definitionFields memberFields
 whole-table = refl
 
-below : List Line → Bool
+below : List KindLine → Bool
 below [] = true
 below (l ∷ ls) = ltb (l .most) kindLimit && below ls
 
@@ -35,7 +35,7 @@ said-beyond number h = go lines refl
         fails true = refl
         fails false = refl
 
-    go : (ls : List Line) → below ls ≡ true → saidBy ls number ≡ kindRow Other
+    go : (ls : List KindLine) → below ls ≡ true → saidBy ls number ≡ kindRow Other
     go [] e = refl
     go (l ∷ ls) e =
         let low = both (ltb (l .most) kindLimit) (below ls) e in

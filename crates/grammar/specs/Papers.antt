@@ -7,7 +7,7 @@ use Rattle.words.specs.Kinds.{unused, value, variable, array, label, declaredNu
 use Rattle.words.specs.declared.Kind.the-variants.{Other}
 
 -- A line is about the kinds from one number to another, and says what a, b, c and d hold.
-pub record Line : Type 0 where
+pub record KindLine : Type 0 where
   pub least : ℕ
   pub most : ℕ
   pub a : ℕ
@@ -15,10 +15,10 @@ pub record Line : Type 0 where
   pub c : ℕ
   pub d : ℕ
 
-abbrev pub line : ℕ → ℕ → ℕ → ℕ → ℕ → ℕ → Line
+abbrev pub line : ℕ → ℕ → ℕ → ℕ → ℕ → ℕ → KindLine
 line least most a b c d = record { least = least; most = most; a = a; b = b; c = c; d = d }
 
-unfoldable pub lines : List Line
+unfoldable pub lines : List KindLine
 lines =
     line 1 1 value unused unused unused ∷  -- "1 constant | a value"
     line 2 2 variable unused unused unused ∷  -- "2 variable | a number"
@@ -79,11 +79,11 @@ formsSaid number =
     pick (between 52 53 number || between 57 57 number) inKernel
     (pick (inParagraph number) inBoth (pick (between 59 60 number || between 31 32 number) inNeither inSource))
 
-abbrev pub rowSaid : ℕ → Line → KindRow
+abbrev pub rowSaid : ℕ → KindLine → KindRow
 rowSaid number l =
     record { what = whatSaid number; a = l .a; b = l .b; c = l .c; d = l .d; next = nextSaid number; forms = formsSaid number }
 
-unfoldable pub saidBy : List Line → ℕ → KindRow
+unfoldable pub saidBy : List KindLine → ℕ → KindRow
 saidBy [] number = kindRow Other
 saidBy (l ∷ ls) number = pick (between (l .least) (l .most) number) (rowSaid number l) (saidBy ls number)
 

@@ -32,7 +32,7 @@ use Rattle.declaration_causes.specs.DeclarationLaws.{block-undeclared, none-too
 use Rattle.declaration_causes.specs.Demands.{NotOwn, NotTwice}
 use Rattle.function_causes.specs.FrontLaws.{block-no-return}
 use Rattle.function_causes.specs.Functionless.{functionless-called}
-use Rattle.source_check.specs.Legal.{Placed, Distinct, Legal}
+use Rattle.source_check.specs.Legal.{PlacedRow, Distinct, Legal}
 use Rattle.join.specs.Join.{secondBegins, joinedRows}
 use Rattle.join.specs.JoinedRows.{length-joined}
 use Rattle.join.specs.MovedLegal.{link-named, known-held, unused-held, present-held, forward-held, fitting-held, named-held, placed-held, distinct-held}
@@ -60,7 +60,7 @@ module _ (rows : List ℤ) (row : ℕ) (block : numberAt rows row 0 ≡ 42) wher
   no-field (suc (suc (suc (suc zero)))) least most = rw block
   no-field (suc (suc (suc (suc (suc field))))) least most = absurd (omega arith)
 
-  block-not-placed : Placed rows row
+  block-not-placed : PlacedRow rows row
   block-not-placed = record {
     break-inside = λ k. absurd (omega arith);
     continue-inside = λ k. absurd (omega arith);
@@ -240,7 +240,7 @@ joined-legal header first second l m few flat declarations =
     record {
       header-fits = l .header-fits;
       structured = structured;
-      placed = every-row first second s z (Placed (joinedRows first second)) (block-not-placed (joinedRows first second) 0 (outer-block first second s z))
+      placed = every-row first second s z (PlacedRow (joinedRows first second)) (block-not-placed (joinedRows first second) 0 (outer-block first second s z))
           (λ r n. placed-held s (holds-first first second s z) r n (l .placed r n)) (λ r n. placed-held z (holds-second first second s z) r n (m .placed r n));
       distinct = every-row first second s z (Distinct (joinedRows first second)) (block-distinct (joinedRows first second) 0 (outer-block first second s z))
           (λ r n. distinct-held s (holds-first first second s z) (back-first first second s z) r n (l .distinct r n))

@@ -21,7 +21,7 @@ use Rattle.structure.specs.Structured.{Leads, Structured}
 use Rattle.structure.specs.Lists.{Before, adjacent, further, before-later}
 use Rattle.row_fields.specs.declared.Bounds.{Bounds}
 use Rattle.source_check.specs.Carried.{Carries, placed-carried}
-use Rattle.source_check.specs.Legal.{Placed, Distinct}
+use Rattle.source_check.specs.Legal.{PlacedRow, Distinct}
 use Rattle.join.specs.Moved.{movedLink, Holds, number-held, sort-held, link-held, leads-own, link-leads, leads-held, holds-itself}
 use Rattle.join.specs.MovedTrees.{next-alike}
 
@@ -92,7 +92,7 @@ module _ {form : Form} {bounds : Bounds} {joined rows : List ℤ} {ρ : ℕ → 
   carries : Carries joined rows ρ
   carries = record { kind = number-held h; leads = leads-held s h; to = link-leads s h }
 
-  pub placed-held : (row : ℕ) → row < rowCount rows → Placed rows row → Placed joined (ρ row)
+  pub placed-held : (row : ℕ) → row < rowCount rows → PlacedRow rows row → PlacedRow joined (ρ row)
   placed-held = placed-carried carries
 
   -- ---- cause 8: back along the lists

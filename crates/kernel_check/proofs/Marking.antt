@@ -17,7 +17,7 @@ use Rattle.kernel_check.specs.Legal.{Label}
 use Rattle.kernel_check.specs.LabelLaws.{label-test, test-label, search-behind, behind-search}
 use Rattle.kernel_check.specs.ListLaws.{first-most, same-list, before-first}
 use Rattle.kernel_check.specs.Passes.{noteAt, Jump, NextJump, ListLabel, Marks, Latest, Marked}
-use Rattle.kernel_check.specs.declared.Note.the-variants.{First}
+use Rattle.kernel_check.specs.declared.LabelNote.the-variants.{First}
 
 pub refuted : (b : Bool) → (b ≡ true → ⊥) → b ≡ false
 refuted true n = absurd (n refl)

@@ -17,8 +17,8 @@ use Rattle.structure.specs.Lists.{Before, adjacent, further, before-next}
 use Rattle.kernel_check.specs.Labels.{owning, ownerAt}
 use Rattle.kernel_check.specs.Legal.{Owner, part, beside}
 use Rattle.kernel_check.specs.Passes.{handed, noteAt}
-use Rattle.kernel_check.specs.declared.Note.{Note}
-use Rattle.kernel_check.specs.declared.Note.the-variants.{First}
+use Rattle.kernel_check.specs.declared.LabelNote.{LabelNote}
+use Rattle.kernel_check.specs.declared.LabelNote.the-variants.{First}
 
 module _ (rows : List ℤ) (t : Tree rows) where
   abbrev first : ℕ → ℕ
@@ -50,7 +50,7 @@ module _ (rows : List ℤ) (t : Tree rows) where
   unfolding ownerAt owning
   owner-next row leads = note-link owning 0 rows t row 5 (omega arith) leads
 
-  pub owner-noted : (row : ℕ) → noteAt Note.Owner rows row ≡ ownerAt rows row
+  pub owner-noted : (row : ℕ) → noteAt LabelNote.Owner rows row ≡ ownerAt rows row
   unfolding noteAt handed ownerAt
   owner-noted row = refl
 

@@ -15,16 +15,16 @@ use Rattle.structure.specs.Passes.{Notes}
 use Rattle.structure.specs.Structured.{Tree}
 use Rattle.kernel_check.specs.Labels.{isLabel, owning}
 use Rattle.kernel_check.specs.Legal.{Label}
-use Rattle.kernel_check.specs.declared.Note.{Note}
-use Rattle.kernel_check.specs.declared.Note.the-variants.{First, Owner}
+use Rattle.kernel_check.specs.declared.LabelNote.{LabelNote}
+use Rattle.kernel_check.specs.declared.LabelNote.the-variants.{First, Owner}
 
 -- ---- notes: the first row of each row's list, and its owner
 
-unfoldable pub handed : Note → List ℤ → ℕ → ℕ → ℕ → ℕ
+unfoldable pub handed : LabelNote → List ℤ → ℕ → ℕ → ℕ → ℕ
 handed First rows linker field first = pick (eqb field 5) first (link rows linker field)
 handed Owner rows linker field owner = owning linker field owner
 
-unfoldable pub noteAt : Note → List ℤ → ℕ → ℕ
+unfoldable pub noteAt : LabelNote → List ℤ → ℕ → ℕ
 noteAt which rows row = note (handed which rows) 0 rows row
 
 -- What a climb from owner to owner goes by. (Row 0 has no next.)

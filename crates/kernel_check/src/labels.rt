@@ -1,5 +1,5 @@
 // Cause 13, one label number at a time: its labels mark their lists, and from each of its gotos a climb looks for a marked list.
-use super::Note;
+use super::LabelNote;
 use super::chains::chain_rows;
 use super::notes::write_notes;
 use function_check::front::is_definition;
@@ -17,7 +17,7 @@ ghost use Rattle.structure.specs.Passes.{Notes};
 ghost use Rattle.structure.specs.Structured.{Tree};
 ghost use Rattle.kernel_check.specs.Labels.{aroundAt, isLabel, labelBehind, labelAhead, labelFault};
 ghost use Rattle.kernel_check.specs.Passes.{noteAt, Noted, Jump, NextJump, LabelNumbers, Heads, Chain, Marks, Marked, LowestAmong, NumberBelow, lower};
-ghost use Rattle.kernel_check.specs.declared.Note.the-variants.{First, Owner};
+ghost use Rattle.kernel_check.specs.declared.LabelNote.the-variants.{First, Owner};
 
 // A label with this number.
 fn is_label(rows: &[i32], number: usize, row: usize) -> bool
@@ -205,9 +205,9 @@ pub fn lowest_label_fault(rows: &[i32]) -> Found
     ensures { λ r. ⌜ r ≡ lowestRow (now (rows .entry)) (labelFault (now (rows .entry))) ⌝ }
 {
     let mut firsts = [0u16; 40980];
-    write_notes(Note::First, rows, &mut firsts);
+    write_notes(LabelNote::First, rows, &mut firsts);
     let mut owners = [0u16; 40980];
-    write_notes(Note::Owner, rows, &mut owners);
+    write_notes(LabelNote::Owner, rows, &mut owners);
     let mut heads = [40980u16; 40980];
     let mut chain = [40980u16; 40980];
     chain_rows(rows, &mut heads, &mut chain);

@@ -33,7 +33,7 @@ ghost use Rattle.function_causes.specs.Causes.{functionRefusal};
 ghost use Rattle.kernel_check.specs.Refusal.{formCauses, kernelCauses, refusal as refusalOf};
 
 // What a pass along the links notes of each row.
-pub enum Note {
+pub enum LabelNote {
     // the first row of its list
     First,
     // the row whose part it is, or whose list it stands in

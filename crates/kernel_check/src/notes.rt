@@ -1,5 +1,5 @@
 // Notes that each row gets from the row that links it: the first row of its list, and its owner.
-use super::Note;
+use super::LabelNote;
 use grammar::KindTable;
 use grammar::kinds::kind_table;
 use grammar::link;
@@ -14,7 +14,14 @@ ghost use Rattle.structure.specs.Structured.{Tree};
 ghost use Rattle.kernel_check.specs.Passes.{handed, noteAt};
 
 // What a row hands to the row that its field links.
-fn hand(kinds: &KindTable, which: Note, rows: &[i32], row: usize, field: usize, own: usize) -> usize
+fn hand(
+    kinds: &KindTable,
+    which: LabelNote,
+    rows: &[i32],
+    row: usize,
+    field: usize,
+    own: usize,
+) -> usize
     requires { ⌜ (6 * row + 5 < length (now rows)) × (field < 6) × (now kinds ≡ grammar) ⌝ }
     ensures { λ r. ⌜ r ≡ handed which (now (rows .entry)) row field own ⌝ }
 {
@@ -22,13 +29,13 @@ fn hand(kinds: &KindTable, which: Note, rows: &[i32], row: usize, field: usize, 
         return own;
     }
     match which {
-        Note::First => link(kinds, rows, row, field),
-        Note::Owner => row,
+        LabelNote::First => link(kinds, rows, row, field),
+        LabelNote::Owner => row,
     }
 }
 
 // A word that links a row writes that row's note.
-fn write_note(kinds: &KindTable, which: Note, rows: &[i32], notes: &mut [u16], word: usize)
+fn write_note(kinds: &KindTable, which: LabelNote, rows: &[i32], notes: &mut [u16], word: usize)
     requires { ⌜ Tree (now rows) × (length (now rows) / 6 ≤ length (now notes)) × (word < length (now rows)) × (now kinds ≡ grammar) ⌝ }
     ensures { λ _. ⌜ now (notes .exit) ≡ written (handed which (now (rows .entry))) (now (rows .entry)) word (now (notes .entry)) ⌝ }
 {
@@ -42,7 +49,7 @@ fn write_note(kinds: &KindTable, which: Note, rows: &[i32], notes: &mut [u16], w
 }
 
 // The notes of all rows, in one pass: a row's own note is written before those of the rows that it links.
-fn write_notes_by(kinds: &KindTable, which: Note, rows: &[i32], notes: &mut [u16])
+fn write_notes_by(kinds: &KindTable, which: LabelNote, rows: &[i32], notes: &mut [u16])
     requires { ⌜ Tree (now rows) × (length (now rows) / 6 ≤ length (now notes)) × (getD (now notes) 0 0 ≡ 0) × (now kinds ≡ grammar) ⌝ }
     ensures { λ _. ⌜ Notes (now (rows .entry)) (noteAt which (now (rows .entry))) (now (notes .exit)) ⌝ }
 {
@@ -52,7 +59,7 @@ fn write_notes_by(kinds: &KindTable, which: Note, rows: &[i32], notes: &mut [u16
 }
 
 // The same, with the table of kinds: it is built here, once, and lent on.
-pub fn write_notes(which: Note, rows: &[i32], notes: &mut [u16])
+pub fn write_notes(which: LabelNote, rows: &[i32], notes: &mut [u16])
     requires { ⌜ Tree (now rows) × (length (now rows) / 6 ≤ length (now notes)) × (getD (now notes) 0 0 ≡ 0) ⌝ }
     ensures { λ _. ⌜ Notes (now (rows .entry)) (noteAt which (now (rows .entry))) (now (notes .exit)) ⌝ }
 {

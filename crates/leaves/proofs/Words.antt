@@ -15,12 +15,12 @@ use Rattle.emission.specs.Emission.{rowOf, operatorNumber, emitExpression, emit
 use Rattle.words.specs.Over.{over}
 use Rattle.leaves.specs.Atoms.{atomTree, atomRow, AtomFits}
 use Rattle.leaves.specs.Straight.{targetRows}
-use Rattle.leaves.specs.Chain.{Put}
-use Rattle.leaves.specs.declared.Atom.{Atom}
-use Rattle.leaves.specs.declared.Atom.the-variants.{Constant, Variable}
+use Rattle.leaves.specs.Chain.{PutWords}
+use Rattle.leaves.specs.declared.KernelAtom.{KernelAtom}
+use Rattle.leaves.specs.declared.KernelAtom.the-variants.{Constant, Variable}
 
-pub atom-low : {x : Atom} {n : ℕ} → AtomFits x → x ≡ Variable n → n < 65536
-atom-low {x} {n} f e = subst (λ (x : Atom). AtomFits x) e f
+pub atom-low : {x : KernelAtom} {n : ℕ} → AtomFits x → x ≡ Variable n → n < 65536
+atom-low {x} {n} f e = subst (λ (x : KernelAtom). AtomFits x) e f
 
 -- the same words, said otherwise
 pub worded : (u w l m : List ℤ) → m ≡ over u l → u ≡ w → m ≡ over w l
@@ -45,28 +45,28 @@ operator-most NotEqual = omega arith
 
 -- ---- how many rows were written
 
-pub rows-put : (n : ℕ) (u l m : List ℤ) → m ≡ over u l → length u ≡ 6 * n → Put u n l m
+pub rows-put : (n : ℕ) (u l m : List ℤ) → m ≡ over u l → length u ≡ 6 * n → PutWords u n l m
 rows-put n u l m e h = record { table = e; size = h }
 
 module _ (l m : List ℤ) where
-  pub atom-put : (x : Atom) → m ≡ over (atomRow x) l → Put (atomRow x) 1 l m
+  pub atom-put : (x : KernelAtom) → m ≡ over (atomRow x) l → PutWords (atomRow x) 1 l m
   atom-put (Constant v) e = record { table = e; size = refl }
   atom-put (Variable n) e = record { table = e; size = refl }
 
-  pub if-put : (base second next : ℕ) (x : Atom) → m ≡ over (rowOf 43 (pos (base + 1)) (base + 2) second 0 next ++ emitExpression (atomTree x) (base + 1)) l
-      → Put (rowOf 43 (pos (base + 1)) (base + 2) second 0 next ++ emitExpression (atomTree x) (base + 1)) 2 l m
+  pub if-put : (base second next : ℕ) (x : KernelAtom) → m ≡ over (rowOf 43 (pos (base + 1)) (base + 2) second 0 next ++ emitExpression (atomTree x) (base + 1)) l
+      → PutWords (rowOf 43 (pos (base + 1)) (base + 2) second 0 next ++ emitExpression (atomTree x) (base + 1)) 2 l m
   unfolding emitExpression
   if-put base second next (Constant v) e = record { table = e; size = refl }
   if-put base second next (Variable n) e = record { table = e; size = refl }
 
-  pub operand-put : (number kind a b size base : ℕ) (follows : Bool) (x : Atom) → m ≡ over ((targetRows 2 number 0 (base + 3) size base follows ++ rowOf kind (pos a) b 0 0 0) ++ atomRow x) l
-      → Put ((targetRows 2 number 0 (base + 3) size base follows ++ rowOf kind (pos a) b 0 0 0) ++ atomRow x) 5 l m
+  pub operand-put : (number kind a b size base : ℕ) (follows : Bool) (x : KernelAtom) → m ≡ over ((targetRows 2 number 0 (base + 3) size base follows ++ rowOf kind (pos a) b 0 0 0) ++ atomRow x) l
+      → PutWords ((targetRows 2 number 0 (base + 3) size base follows ++ rowOf kind (pos a) b 0 0 0) ++ atomRow x) 5 l m
   operand-put number kind a b size base follows (Constant v) e = record { table = e; size = refl }
   operand-put number kind a b size base follows (Variable n) e = record { table = e; size = refl }
 
 -- ---- one row
 
-pub atom-words : (x : Atom) (base : ℕ) → atomRow x ≡ emitExpression (atomTree x) base
+pub atom-words : (x : KernelAtom) (base : ℕ) → atomRow x ≡ emitExpression (atomTree x) base
 unfolding emitExpression
 atom-words (Constant v) base = refl
 atom-words (Variable n) base = refl
@@ -102,24 +102,24 @@ sums : (base : ℕ) → Sums base
 sums base = record { two = omega arith; three = omega arith; four = omega arith; five = omega arith; two-more = omega arith }
 
 module _ (base : ℕ) (follows : Bool) where
-  pub copy-words : (number : ℕ) (x : Atom) → targetRows 2 number 0 (base + 3) 4 base follows ++ atomRow x ≡ emitItems follows (express (assign (variable number) (atomTree x)) then none) base
+  pub copy-words : (number : ℕ) (x : KernelAtom) → targetRows 2 number 0 (base + 3) 4 base follows ++ atomRow x ≡ emitItems follows (express (assign (variable number) (atomTree x)) then none) base
   unfolding emitItems emitExpression statementRows expressionRows
   copy-words number (Constant v) = let s = sums base in cc
   copy-words number (Variable n) = let s = sums base in cc
 
-  pub minus-words : (number : ℕ) (x : Atom)
+  pub minus-words : (number : ℕ) (x : KernelAtom)
       → (targetRows 2 number 0 (base + 3) 5 base follows ++ rowOf 4 (pos (base + 4)) 0 0 0 0) ++ atomRow x ≡ emitItems follows (express (assign (variable number) (minus (atomTree x))) then none) base
   unfolding emitItems emitExpression statementRows expressionRows
   minus-words number (Constant v) = let s = sums base in cc
   minus-words number (Variable n) = let s = sums base in cc
 
-  pub fetch-words : (number array : ℕ) (x : Atom)
+  pub fetch-words : (number array : ℕ) (x : KernelAtom)
       → (targetRows 2 number 0 (base + 3) 5 base follows ++ rowOf 3 (pos array) (base + 4) 0 0 0) ++ atomRow x ≡ emitItems follows (express (assign (variable number) (read (element array (atomTree x)))) then none) base
   unfolding emitItems emitExpression statementRows expressionRows
   fetch-words number array (Constant v) = let s = sums base in cc
   fetch-words number array (Variable n) = let s = sums base in cc
 
-  pub binary-words : (number : ℕ) (operator : Operator) (x y : Atom) {o : ℕ} → o ≡ operatorNumber operator
+  pub binary-words : (number : ℕ) (operator : Operator) (x y : KernelAtom) {o : ℕ} → o ≡ operatorNumber operator
       → ((targetRows 2 number 0 (base + 3) 6 base follows ++ rowOf (6 + o) (pos (base + 4)) (base + 5) 0 0 0) ++ atomRow x) ++ atomRow y
       ≡ emitItems follows (express (assign (variable number) (binary operator (atomTree x) (atomTree y))) then none) base
   unfolding emitItems emitExpression statementRows expressionRows
@@ -128,7 +128,7 @@ module _ (base : ℕ) (follows : Bool) where
   binary-words number operator (Variable n) (Constant w) e = let s = sums base in cc
   binary-words number operator (Variable n) (Variable k) e = let s = sums base in cc
 
-  pub store-words : (array : ℕ) (x y : Atom)
+  pub store-words : (array : ℕ) (x y : KernelAtom)
       → (targetRows 3 array (base + 3) (base + 4) 5 base follows ++ atomRow x) ++ atomRow y ≡ emitItems follows (express (assign (element array (atomTree x)) (atomTree y)) then none) base
   unfolding emitItems emitExpression statementRows expressionRows
   store-words array (Constant v) (Constant w) = let s = sums base in cc
@@ -136,12 +136,12 @@ module _ (base : ℕ) (follows : Bool) where
   store-words array (Variable n) (Constant w) = let s = sums base in cc
   store-words array (Variable n) (Variable k) = let s = sums base in cc
 
-  pub return-words : (x : Atom) {next : ℕ} → next ≡ pick follows (base + 2) 0 → rowOf 60 (pos (base + 1)) 0 0 0 next ++ atomRow x ≡ emitItems follows (giveBack (present (atomTree x)) then none) base
+  pub return-words : (x : KernelAtom) {next : ℕ} → next ≡ pick follows (base + 2) 0 → rowOf 60 (pos (base + 1)) 0 0 0 next ++ atomRow x ≡ emitItems follows (giveBack (present (atomTree x)) then none) base
   unfolding emitItems emitExpression statementRows expressionRows
   return-words (Constant v) e = let s = sums base in cc
   return-words (Variable n) e = let s = sums base in cc
 
-  pub exit-words : (number : ℕ) (x : Atom) {next : ℕ} → next ≡ pick follows (base + 5) 0
+  pub exit-words : (number : ℕ) (x : KernelAtom) {next : ℕ} → next ≡ pick follows (base + 5) 0
       → ((rowOf 43 (pos (base + 1)) (base + 2) (base + 3) 0 next ++ emitExpression (atomTree x) (base + 1)) ++ rowOf 42 (pos 0) 0 0 0 0) ++ (rowOf 42 (pos (base + 3 + 1)) 0 0 0 0 ++ rowOf 52 (pos number) 0 0 0 0)
       ≡ emitItems follows (ifElse (atomTree x) (block none) (block (goto number then none)) then none) base
   unfolding emitItems emitExpression statementRows expressionRows

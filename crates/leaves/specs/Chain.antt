@@ -30,22 +30,22 @@ back-in n l m = putMid (6 * n) (length l - 6 * n) l m
 -- ---- words
 
 -- n rows, the words u, were written from the start of l, which gave m.
-pub record Put (u : List ℤ) (n : ℕ) (l m : List ℤ) : Type 0 where
+pub record PutWords (u : List ℤ) (n : ℕ) (l m : List ℤ) : Type 0 where
   pub table : m ≡ over u l
   pub size : length u ≡ 6 * n
 
 -- Two parts, one behind the other.
-pub put-next : {u v : List ℤ} {n k : ℕ} {l l1 l2 : List ℤ} → Put u n l l1 → Put v k (part n l1) l2 → Put (u ++ v) (n + k) l (back-in n l1 l2)
+pub put-next : {u v : List ℤ} {n k : ℕ} {l l1 l2 : List ℤ} → PutWords u n l l1 → PutWords v k (part n l1) l2 → PutWords (u ++ v) (n + k) l (back-in n l1 l2)
 put-next {u} {v} {n} p q = record {
   table = over-next u v _ _ _ (6 * n) (sym (p .size)) (p .table) (q .table);
   size = rw (length-append u v) (omega (arith, p .size, q .size));
 }
 
 -- The same words, said otherwise.
-pub reworded : {u : List ℤ} {n : ℕ} {l m : List ℤ} (w : List ℤ) → Put u n l m → u ≡ w → m ≡ over w l
+pub reworded : {u : List ℤ} {n : ℕ} {l m : List ℤ} (w : List ℤ) → PutWords u n l m → u ≡ w → m ≡ over w l
 reworded {u} {n} {l} {m} w p h = rw h at (p .table)
 
-pub put-length : {u : List ℤ} {n : ℕ} {l m : List ℤ} → Put u n l m → 6 * n ≤ length l → length m ≡ length l
+pub put-length : {u : List ℤ} {n : ℕ} {l m : List ℤ} → PutWords u n l m → 6 * n ≤ length l → length m ≡ length l
 put-length {u} {n} {l} {m} p h = length-over u l m (p .table) (omega (arith, p .size))
 
 -- Where the next part begins.
@@ -53,11 +53,11 @@ pub record Reach (n base : ℕ) (l : List ℤ) : Type 0 where
   pub inside : 6 * n ≤ length l
   pub low : base + n ≤ 40980
 
-pub put-reach : {u : List ℤ} {n w base : ℕ} {l m : List ℤ} (k : ℕ) → Put u n l m → Room w base (length l) → n + k ≤ w → Reach n base m
+pub put-reach : {u : List ℤ} {n w base : ℕ} {l m : List ℤ} (k : ℕ) → PutWords u n l m → Room w base (length l) → n + k ≤ w → Reach n base m
 put-reach k p r e = record { inside = omega (arith, put-length p (omega (arith, r .inside)), r .inside); low = omega (arith, r .low) }
 
 -- The room that is left behind n rows.
-pub put-room : {u : List ℤ} {n w base : ℕ} {l m : List ℤ} (k : ℕ) → Put u n l m → Room w base (length l) → n + k ≤ w → Room k (base + n) (length (part n m))
+pub put-room : {u : List ℤ} {n w base : ℕ} {l m : List ℤ} (k : ℕ) → PutWords u n l m → Room w base (length l) → n + k ≤ w → Room k (base + n) (length (part n m))
 put-room {u} {n} {w} {base} {l} {m} k p r e = record {
   inside = rw (part-is (6 * n) m, length-drop) (omega (arith, put-length p (omega (arith, r .inside)), r .inside));
   low = omega (arith, r .low);
@@ -92,7 +92,7 @@ pub record Wrote (follows : Bool) (is : Items) (base n : ℕ) (l m : List ℤ) :
   pub table : m ≡ over (emitItems follows is base) l
   pub size : itemsRows is ≡ n
 
-pub wrote-put : {follows : Bool} {is : Items} {base n : ℕ} {l m : List ℤ} → Wrote follows is base n l m → Put (emitItems follows is base) n l m
+pub wrote-put : {follows : Bool} {is : Items} {base n : ℕ} {l m : List ℤ} → Wrote follows is base n l m → PutWords (emitItems follows is base) n l m
 wrote-put {follows} {is} {base} {n} w = record { table = w .table; size = length-items follows is base ∙ ap (λ (k : ℕ). 6 * k) (w .size) }
 
 emit-two : (follows : Bool) (xs ys : Items) (base n k : ℕ) → itemsRows xs ≡ n → itemsRows ys ≡ k

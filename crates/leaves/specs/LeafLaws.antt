@@ -14,8 +14,8 @@ use Rattle.translation.specs.TranslateBounds.{taken-most}
 use Rattle.words.specs.Over.{over}
 use Rattle.leaves.specs.Atoms.{atomTree}
 use Rattle.leaves.specs.Chain.{Wrote}
-use Rattle.leaves.specs.declared.Atom.{Atom}
-use Rattle.leaves.specs.declared.Atom.the-variants.{Constant, Variable}
+use Rattle.leaves.specs.declared.KernelAtom.{KernelAtom}
+use Rattle.leaves.specs.declared.KernelAtom.the-variants.{Constant, Variable}
 
 -- the same items, said otherwise
 pub recoded : (follows : Bool) (is is′ : Items) (base : ℕ) (l m : List ℤ) → m ≡ over (emitItems follows is base) l → is ≡ is′ → m ≡ over (emitItems follows is′ base) l
@@ -27,12 +27,12 @@ unfolding over emitItems
 nothing-wrote follows base l = refl
 
 module _ (follows : Bool) (base : ℕ) (l m : List ℤ) where
-  pub copy-wrote : (number : ℕ) (x : Atom) → m ≡ over (emitItems follows (express (assign (variable number) (atomTree x)) then none) base) l → Wrote follows (express (assign (variable number) (atomTree x)) then none) base 4 l m
+  pub copy-wrote : (number : ℕ) (x : KernelAtom) → m ≡ over (emitItems follows (express (assign (variable number) (atomTree x)) then none) base) l → Wrote follows (express (assign (variable number) (atomTree x)) then none) base 4 l m
   unfolding itemsRows expressionRows
   copy-wrote number (Constant v) e = record { table = e; size = refl }
   copy-wrote number (Variable n) e = record { table = e; size = refl }
 
-  pub binary-wrote : (number : ℕ) (operator : Operator) (x y : Atom) → m ≡ over (emitItems follows (express (assign (variable number) (binary operator (atomTree x) (atomTree y))) then none) base) l
+  pub binary-wrote : (number : ℕ) (operator : Operator) (x y : KernelAtom) → m ≡ over (emitItems follows (express (assign (variable number) (binary operator (atomTree x) (atomTree y))) then none) base) l
       → Wrote follows (express (assign (variable number) (binary operator (atomTree x) (atomTree y))) then none) base 6 l m
   unfolding itemsRows expressionRows
   binary-wrote number operator (Constant v) (Constant w) e = record { table = e; size = refl }
@@ -40,13 +40,13 @@ module _ (follows : Bool) (base : ℕ) (l m : List ℤ) where
   binary-wrote number operator (Variable n) (Constant w) e = record { table = e; size = refl }
   binary-wrote number operator (Variable n) (Variable k) e = record { table = e; size = refl }
 
-  pub fetch-wrote : (number array : ℕ) (x : Atom) → m ≡ over (emitItems follows (express (assign (variable number) (read (element array (atomTree x)))) then none) base) l
+  pub fetch-wrote : (number array : ℕ) (x : KernelAtom) → m ≡ over (emitItems follows (express (assign (variable number) (read (element array (atomTree x)))) then none) base) l
       → Wrote follows (express (assign (variable number) (read (element array (atomTree x)))) then none) base 5 l m
   unfolding itemsRows expressionRows
   fetch-wrote number array (Constant v) e = record { table = e; size = refl }
   fetch-wrote number array (Variable n) e = record { table = e; size = refl }
 
-  pub store-wrote : (array : ℕ) (x y : Atom) → m ≡ over (emitItems follows (express (assign (element array (atomTree x)) (atomTree y)) then none) base) l
+  pub store-wrote : (array : ℕ) (x y : KernelAtom) → m ≡ over (emitItems follows (express (assign (element array (atomTree x)) (atomTree y)) then none) base) l
       → Wrote follows (express (assign (element array (atomTree x)) (atomTree y)) then none) base 5 l m
   unfolding itemsRows expressionRows
   store-wrote array (Constant v) (Constant w) e = record { table = e; size = refl }
@@ -66,12 +66,12 @@ module _ (follows : Bool) (base : ℕ) (l m : List ℤ) where
   unfolding itemsRows
   label-wrote number e = record { table = e; size = refl }
 
-  pub return-wrote : (x : Atom) → m ≡ over (emitItems follows (giveBack (present (atomTree x)) then none) base) l → Wrote follows (giveBack (present (atomTree x)) then none) base 2 l m
+  pub return-wrote : (x : KernelAtom) → m ≡ over (emitItems follows (giveBack (present (atomTree x)) then none) base) l → Wrote follows (giveBack (present (atomTree x)) then none) base 2 l m
   unfolding itemsRows expressionRows
   return-wrote (Constant v) e = record { table = e; size = refl }
   return-wrote (Variable n) e = record { table = e; size = refl }
 
-  pub exit-wrote : (number : ℕ) (x : Atom) → m ≡ over (emitItems follows (ifElse (atomTree x) (block none) (block (goto number then none)) then none) base) l
+  pub exit-wrote : (number : ℕ) (x : KernelAtom) → m ≡ over (emitItems follows (ifElse (atomTree x) (block none) (block (goto number then none)) then none) base) l
       → Wrote follows (ifElse (atomTree x) (block none) (block (goto number then none)) then none) base 5 l m
   unfolding itemsRows expressionRows
   exit-wrote number (Constant v) e = record { table = e; size = refl }

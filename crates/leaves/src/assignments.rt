@@ -1,5 +1,5 @@
 // The assignments of the kernel: to a variable an atom, its negative, an operation or an element, and to an element an atom.
-use super::Atom;
+use super::KernelAtom;
 use super::rows::behind;
 use super::rows::operator_number;
 use super::rows::put_atom;
@@ -42,7 +42,7 @@ fn put_operand(
     kind: usize,
     a: usize,
     b: usize,
-    operand: Atom,
+    operand: KernelAtom,
     size: usize,
     base: usize,
     follows: bool,
@@ -57,7 +57,7 @@ fn put_operand(
 }
 
 // variable := atom
-pub fn put_copy(number: usize, source: Atom, base: usize, follows: bool, out: &mut [i32])
+pub fn put_copy(number: usize, source: KernelAtom, base: usize, follows: bool, out: &mut [i32])
     requires { ⌜ Room 4 base (length (now out)) × (number < 65536) × AtomFits source ⌝ }
     ensures { λ _. ⌜ now (out .exit) ≡ over (emitItems follows (express (assign (variable number) (atomTree source)) then none) base) (now (out .entry)) ⌝ }
 {
@@ -66,7 +66,7 @@ pub fn put_copy(number: usize, source: Atom, base: usize, follows: bool, out: &m
 }
 
 // variable := - atom
-pub fn put_minus(number: usize, operand: Atom, base: usize, follows: bool, out: &mut [i32])
+pub fn put_minus(number: usize, operand: KernelAtom, base: usize, follows: bool, out: &mut [i32])
     requires { ⌜ Room 5 base (length (now out)) × (number < 65536) × AtomFits operand ⌝ }
     ensures { λ _. ⌜ now (out .exit) ≡ over (emitItems follows (express (assign (variable number) (minus (atomTree operand))) then none) base) (now (out .entry)) ⌝ }
 {
@@ -77,8 +77,8 @@ pub fn put_minus(number: usize, operand: Atom, base: usize, follows: bool, out: 
 pub fn put_binary(
     number: usize,
     operator: Operator,
-    left: Atom,
-    right: Atom,
+    left: KernelAtom,
+    right: KernelAtom,
     base: usize,
     follows: bool,
     out: &mut [i32],
@@ -105,7 +105,7 @@ pub fn put_binary(
 pub fn put_fetch(
     number: usize,
     array: usize,
-    index: Atom,
+    index: KernelAtom,
     base: usize,
     follows: bool,
     out: &mut [i32],
@@ -119,8 +119,8 @@ pub fn put_fetch(
 // array[atom] := atom
 pub fn put_store(
     array: usize,
-    index: Atom,
-    value: Atom,
+    index: KernelAtom,
+    value: KernelAtom,
     base: usize,
     follows: bool,
     out: &mut [i32],

@@ -1,5 +1,5 @@
 // Rows that say where a run goes on: blocks, ifs, loops, labels, gotos, aborts, returns, and empty statements.
-use super::Atom;
+use super::KernelAtom;
 use super::rows::behind;
 use super::rows::put_atom;
 use super::rows::put_row;
@@ -26,7 +26,7 @@ pub fn put_block(first: usize, next: usize, out: &mut [i32])
 }
 
 // The row of an if and that of its test. The first branch follows; the second one stands at the row `second`.
-pub fn put_if(test: Atom, base: usize, second: usize, next: usize, out: &mut [i32])
+pub fn put_if(test: KernelAtom, base: usize, second: usize, next: usize, out: &mut [i32])
     requires { ⌜ Room 2 base (length (now out)) × (second < 2 ^ 31) × (next < 2 ^ 31) × AtomFits test ⌝ }
     ensures { λ _. ⌜ now (out .exit) ≡ over (rowOf 43 (pos (base + 1)) (base + 2) second 0 next ++ emitExpression (atomTree test) (base + 1)) (now (out .entry)) ⌝ }
 {
@@ -73,7 +73,7 @@ pub fn put_label(number: usize, base: usize, follows: bool, out: &mut [i32])
 }
 
 // "A kernel return takes an atom."
-pub fn put_return(value: Atom, base: usize, follows: bool, out: &mut [i32])
+pub fn put_return(value: KernelAtom, base: usize, follows: bool, out: &mut [i32])
     requires { ⌜ Room 2 base (length (now out)) × AtomFits value ⌝ }
     ensures { λ _. ⌜ now (out .exit) ≡ over (emitItems follows (giveBack (present (atomTree value)) then none) base) (now (out .entry)) ⌝ }
 {
@@ -101,7 +101,7 @@ fn put_goto_block(number: usize, base: usize, out: &mut [i32])
 }
 
 // The test of a loop, behind the code of its expression: where it is 0, go to the label.
-pub fn put_exit(test: Atom, number: usize, base: usize, follows: bool, out: &mut [i32])
+pub fn put_exit(test: KernelAtom, number: usize, base: usize, follows: bool, out: &mut [i32])
     requires { ⌜ Room 5 base (length (now out)) × (number < 65536) × AtomFits test ⌝ }
     ensures { λ _. ⌜ now (out .exit) ≡ over (emitItems follows (ifElse (atomTree test) (block none) (block (goto number then none)) then none) base) (now (out .entry)) ⌝ }
 {
@@ -115,7 +115,7 @@ pub fn put_jump(number: usize, target: usize, base: usize, out: &mut [i32])
     requires { ⌜ Room 5 base (length (now out)) × (number < 65536) × (target < 65536) ⌝ }
     ensures { λ _. ⌜ now (out .exit) ≡ over (emitItems true (ifElse (read (variable number)) (block (goto target then none)) (block none) then none) base) (now (out .entry)) ⌝ }
 {
-    put_if(Atom::Variable(number), base, base + 4, base + 5, out);
+    put_if(KernelAtom::Variable(number), base, base + 4, base + 5, out);
     put_goto_block(target, base + 2, &mut out[12..]);
     put_block(0, 0, &mut out[24..]);
 }

@@ -1,5 +1,5 @@
 // The rows of the guarded forms, beside the code of their guards and blocks.
-use super::Atom;
+use super::KernelAtom;
 use super::control::put_abort;
 use super::control::put_block;
 use super::control::put_goto;
@@ -18,7 +18,7 @@ ghost use Rattle.leaves.specs.Guarded.{armHead, armEnd, roundsEnd};
 
 // The rows that head an arm, behind the code of its guard: the if, its atom, and the block of its body, which takes `rows` rows before
 // its goto. More follows.
-pub fn put_arm_head(guard: Atom, base: usize, rows: usize, out: &mut [i32])
+pub fn put_arm_head(guard: KernelAtom, base: usize, rows: usize, out: &mut [i32])
     requires { ⌜ Room 3 base (length (now out)) × (rows < 65536) × AtomFits guard ⌝ }
     ensures { λ _. ⌜ now (out .exit) ≡ over (armHead (atomTree guard) base rows) (now (out .entry)) ⌝ }
 {

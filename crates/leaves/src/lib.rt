@@ -5,7 +5,7 @@ pub mod guarded; // guarded.rt: the rows of the guarded forms, beside the code o
 pub mod rows; // rows.rt: what all rows are put together by
 
 // "An atom is a constant or variable."
-pub enum Atom {
+pub enum KernelAtom {
     Constant(i32),
     Variable(usize),
 }
@@ -13,5 +13,5 @@ pub enum Atom {
 // A place in the kernel: a variable, or an element with an atom index.
 pub enum KernelPlace {
     Variable(usize),
-    Element(usize, Atom),
+    Element(usize, KernelAtom),
 }

@@ -1,5 +1,5 @@
 // What all rows are put together by: words, a row and an atom's row written into a table, links to what stands behind, the numbers of operators.
-use super::Atom;
+use super::KernelAtom;
 use copying::put;
 use words::Operator;
 ghost use mathlib.Core.Path.{_≡_};
@@ -24,13 +24,13 @@ pub fn put_row(kind: usize, a: usize, b: usize, c: usize, next: usize, out: &mut
 }
 
 // Writes the row of an atom at the start of the table.
-pub fn put_atom(atom: Atom, out: &mut [i32])
+pub fn put_atom(atom: KernelAtom, out: &mut [i32])
     requires { ⌜ (6 ≤ length (now out)) × AtomFits atom ⌝ }
     ensures { λ _. ⌜ now (out .exit) ≡ over (atomRow atom) (now (out .entry)) ⌝ }
 {
     match atom {
-        Atom::Constant(value) => put(&[1, value, 0, 0, 0, 0], out),
-        Atom::Variable(number) => put_row(2, number, 0, 0, 0, out),
+        KernelAtom::Constant(value) => put(&[1, value, 0, 0, 0, 0], out),
+        KernelAtom::Variable(number) => put_row(2, number, 0, 0, 0, out),
     }
 }
 

@@ -7,7 +7,7 @@ use lib.IntN.{pos, negsuc}
 use Rattle.words.specs.Word.{isWord}
 use Rattle.words.specs.Layout.{Layout, storeSize}
 use Rattle.words.specs.declared.Operator.the-variants.{Add, Subtract, LessOrEqual}
-use Rattle.text_numbers.specs.Number.{digits, digitsWithin, numberBytes, isDigit, decimal, natural, word, positive, negative, numberOf}
+use Rattle.text_numbers.specs.Number.{digits, digitsWithin, numberBytes, isDigit, decimal, naturalOf, word, positive, negative, numberOf}
 use Rattle.text_lines.specs.Line.{together, linesOf}
 use Rattle.language.specs.Trees.{Expression, constant, read, minus, binary, assign, compound, postfix, Place, variable, element, label, Statement, empty, express, block, ifElse, while, goto, abort, Items, none as noItem, _then_, _here_}
 use Rattle.translation.specs.Translate.{translate}
@@ -101,7 +101,7 @@ unfolding quoted bytesOf digits digitsWithin numberBytes statementLines ended na
 every-page = refl
 
 pub every-read : readPage five (quoted everyLines) ≡ some every
-unfolding quoted bytesOf digits digitsWithin numberBytes isDigit decimal natural word positive negative numberOf isWord together linesOf statementLines readBefore readLines ended name blanks parted rightSet padded lineBytes linesBytes pageBytes same pieces filled without readOperator readName readAtom readPlace pageLines readPage
+unfolding quoted bytesOf digits digitsWithin numberBytes isDigit decimal naturalOf word positive negative numberOf isWord together linesOf statementLines readBefore readLines ended name blanks parted rightSet padded lineBytes linesBytes pageBytes same pieces filled without readOperator readName readAtom readPlace pageLines readPage
 every-read = refl
 
 -- ---- a line deep inside: the indent stops at 36 columns
@@ -122,9 +122,9 @@ abbrev unclosed : List String
 unclosed = "    1 {                                                                         " ∷ []
 
 pub shifted-refused : readPage four (quoted shifted) ≡ none
-unfolding quoted bytesOf digits digitsWithin numberBytes isDigit decimal natural word positive negative numberOf isWord together linesOf statementLines readBefore readLines ended name blanks parted rightSet padded lineBytes linesBytes pageBytes same pieces filled without readOperator readName readAtom readPlace pageLines readPage
+unfolding quoted bytesOf digits digitsWithin numberBytes isDigit decimal naturalOf word positive negative numberOf isWord together linesOf statementLines readBefore readLines ended name blanks parted rightSet padded lineBytes linesBytes pageBytes same pieces filled without readOperator readName readAtom readPlace pageLines readPage
 shifted-refused = refl
 
 pub unclosed-refused : readPage four (quoted unclosed) ≡ none
-unfolding quoted bytesOf isDigit decimal natural together linesOf readBefore readLines same pieces filled without readPlace pageLines readPage
+unfolding quoted bytesOf isDigit decimal naturalOf together linesOf readBefore readLines same pieces filled without readPlace pageLines readPage
 unclosed-refused = refl

@@ -12,7 +12,7 @@ use Rattle.language.specs.Calls.{CallsBelow, StatementCallsBelow, ItemsCallBelo
 use Rattle.language.specs.WellFormed.{NamedExpression, NamedStatement, NamedItems}
 use Rattle.translation.specs.KernelForm.{IsAtom, constant-atom, variable-atom, Assigns, assigns-atom, assigns-minus, assigns-operation, assigns-element, assigns-call, assigns-to-element, isLabelNumber, KernelStatement, kernel-empty, kernel-assign, kernel-block, kernel-if, kernel-while, kernel-goto, kernel-abort, kernel-return, KernelItems, kernel-none, kernel-then, kernel-label}
 use Rattle.accepted.specs.Worded.{ValuedExpression, ValuedStatement, ValuedItems, IsWord}
-use Rattle.page.specs.Lines.{Line, single, mark, opens, opensWhile, opensIf, turns, closes, Indented, indented, statementLines, itemsLines}
+use Rattle.page.specs.Lines.{PageLine, single, mark, opens, opensWhile, opensIf, turns, closes, Indented, indented, statementLines, itemsLines}
 
 -- Variables satisfy Names, arrays are below `arrays`.
 module _ (Names : ℕ → Type 0) (arrays : ℕ) where
@@ -26,7 +26,7 @@ module _ (Names : ℕ → Type 0) (arrays : ℕ) where
     value-minus : {e : Expression} → AtomFits e → ValueFits (minus e)
     value-binary : {o : Operator} {a b : Expression} → AtomFits a → AtomFits b → ValueFits (binary o a b)
 
-  pub data LineFits : Line → Type 0 where
+  pub data LineFits : PageLine → Type 0 where
     fits-empty : LineFits (single empty)
     fits-abort : LineFits (single abort)
     fits-goto : {l : ℕ} → isLabelNumber l → LineFits (single (goto l))
@@ -41,7 +41,7 @@ module _ (Names : ℕ → Type 0) (arrays : ℕ) where
 
   pub data AllFit : List Indented → Type 0 where
     all-none : AllFit []
-    all-more : {level : ℕ} {line : Line} {lines : List Indented} → LineFits line → AllFit lines → AllFit (indented level line ∷ lines)
+    all-more : {level : ℕ} {line : PageLine} {lines : List Indented} → LineFits line → AllFit lines → AllFit (indented level line ∷ lines)
 
   fit-append : {xs ys : List Indented} → AllFit xs → AllFit ys → AllFit (xs ++ ys)
   fit-append all-none k = k

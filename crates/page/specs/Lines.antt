@@ -5,18 +5,18 @@ use Prim.Native.Nat.{ℕ, _+_}
 use Rattle.language.specs.Trees.{Expression, Mark, Statement, empty, express, block, ifThen, ifElse, while, doWhile, for, switch, break, continue, goto, guardedIf, guardedDo, abort, declare, giveBack, Items, none as noItem, _then_, _here_, define}
 
 -- What a line says. Blocks end in a line of their own, so that their ends do not hang on the indent.
-pub data Line : Type 0 where
-  single : Statement → Line  -- `;`, an assignment, goto, abort
-  mark : Mark → Line  -- a label
-  opens : Line  -- `{`
-  opensWhile : Expression → Line  -- `while (X) {`
-  opensIf : Expression → Line  -- `if (X) {`
-  turns : Line  -- `} else {`
-  closes : Line  -- `}`
+pub data PageLine : Type 0 where
+  single : Statement → PageLine  -- `;`, an assignment, goto, abort
+  mark : Mark → PageLine  -- a label
+  opens : PageLine  -- `{`
+  opensWhile : Expression → PageLine  -- `while (X) {`
+  opensIf : Expression → PageLine  -- `if (X) {`
+  turns : PageLine  -- `} else {`
+  closes : PageLine  -- `}`
 
 -- A line, and the number of blocks below row 0 around it.
 pub data Indented : Type 0 where
-  indented : ℕ → Line → Indented
+  indented : ℕ → PageLine → Indented
 
 -- ---- the lines of a program, none for what the kernel does not have
 
@@ -68,7 +68,7 @@ unfoldable mutual
   itemsLines level (define f words body is) = itemsLines level is
 
 -- The lines without their levels.
-unfoldable pub plain : List Indented → List Line
+unfoldable pub plain : List Indented → List PageLine
 plain [] = []
 plain (indented level line ∷ lines) = line ∷ plain lines
 
@@ -106,7 +106,7 @@ openedIf e is (turned onFalse (closed later waiting)) = reading (ifElse e (block
 openedIf e is (turned onFalse (turned later waiting)) = malformed
 
 -- A line before what others came to.
-abbrev pub readLine : Line → Reading → Reading
+abbrev pub readLine : PageLine → Reading → Reading
 readLine (single s) (reading is waiting) = reading (s then is) waiting
 readLine (mark m) (reading is waiting) = reading (m here is) waiting
 readLine opens (reading is waiting) = opened is waiting
@@ -122,7 +122,7 @@ readLine (opensIf e) malformed = malformed
 readLine turns malformed = malformed
 readLine closes malformed = malformed
 
-unfoldable pub readBefore : List Line → Reading → Reading
+unfoldable pub readBefore : List PageLine → Reading → Reading
 readBefore [] r = r
 readBefore (line ∷ lines) r = readLine line (readBefore lines r)
 
@@ -134,5 +134,5 @@ whole (reading is (turned later waiting)) = none
 whole malformed = none
 
 -- The items that lines are.
-unfoldable pub readLines : List Line → Option Items
+unfoldable pub readLines : List PageLine → Option Items
 readLines lines = whole (readBefore lines (reading noItem outermost))

@@ -11,7 +11,7 @@ use Rattle.text_numbers.specs.Number.{digits, numberBytes}
 use Rattle.text_lines.specs.Line.{newline}
 use Rattle.language.specs.Trees.{Expression, constant, read, minus, not, binary, and, or, comma, conditional, assign, compound, prefix, postfix, call, Place, variable, element, Mark, case, default, label, Statement, empty, express, block, ifThen, ifElse, while, doWhile, for, switch, break, continue, goto, guardedIf, guardedDo, abort, declare, giveBack, Items}
 use Rattle.page.specs.declared.Sizes.{Sizes}
-use Rattle.page.specs.Lines.{Line, single, mark, opens, opensWhile, opensIf, turns, closes, Indented, indented, itemsLines}
+use Rattle.page.specs.Lines.{PageLine, single, mark, opens, opensWhile, opensIf, turns, closes, Indented, indented, itemsLines}
 
 -- ---- bytes and words that are always the same
 
@@ -211,7 +211,7 @@ module _ (sizes : Sizes) where
   abbrev pub testWord : Expression → List ℕ
   testWord e = openingParenthesis ∷ endedBy closingParenthesis (atomWord e)
 
-  abbrev pub lineWords : Line → List (List ℕ)
+  abbrev pub lineWords : PageLine → List (List ℕ)
   lineWords (single s) = singleWords s
   lineWords (mark m) = markWords m
   lineWords opens = openingWord ∷ []

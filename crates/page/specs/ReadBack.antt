@@ -17,7 +17,7 @@ use Rattle.text_lines.specs.LineLaws.{lines-ended}
 use Rattle.language.specs.Trees.{Expression, constant, read, minus, binary, assign, Place, variable, element, label, empty, express, goto, abort, Items, none as noItem}
 use Rattle.translation.specs.KernelForm.{KernelItems}
 use Rattle.page.specs.declared.Sizes.{Sizes}
-use Rattle.page.specs.Lines.{Line, single, mark, opens, opensWhile, opensIf, turns, closes, Indented, indented, itemsLines, plain, readLines}
+use Rattle.page.specs.Lines.{PageLine, single, mark, opens, opensWhile, opensIf, turns, closes, Indented, indented, itemsLines, plain, readLines}
 use Rattle.page.specs.LinesLaws.{lines-read-back}
 use Rattle.page.specs.Page.{blank, equalsWord, minusWord, ifWord, elseWord, whileWord, gotoWord, abortWord, emptyWord, openingWord, closingWord, endedBy, ended, labelWord, name, atomWord, placeWord, valueWords, lineWords, blanks, parted, rightSet, padded, indent, lineBytes, linesBytes, pageBytes}
 use Rattle.page.specs.Reading.{same, wordsOf, bind, readAtom, readPlace, readValue, lineOf, numbered, pageLines, printedAgain, readPage}
@@ -73,12 +73,12 @@ read-prints sizes page contents = from-lines (pageLines sizes (linesOf page))
         (λ t. let found : some is ≡ some contents = rw t at e in let equal : is ≡ contents = cc in rw (← equal) (same-equal (pageBytes sizes is) page t))
         (λ f. not-some (rw f at e))
 
-    from-lines : (lines : Option (List Line)) → bind lines (λ found. bind (readLines found) (printedAgain sizes page)) ≡ some contents → pageBytes sizes contents ≡ page
+    from-lines : (lines : Option (List PageLine)) → bind lines (λ found. bind (readLines found) (printedAgain sizes page)) ≡ some contents → pageBytes sizes contents ≡ page
     from-lines none e = not-some e
     from-lines (some lines) e = from-items (readLines lines) e
 
 -- A line without its newline.
-abbrev body : Sizes → ℕ → ℕ → Line → List ℕ
+abbrev body : Sizes → ℕ → ℕ → PageLine → List ℕ
 body sizes number level line = padded 80 (rightSet 5 (digits number) ++ (blank ∷ (blanks (indent level) ++ parted (lineWords sizes line))))
 
 module _ {Names : ℕ → Type 0} {arrays : ℕ} (sizes : Sizes) where
@@ -140,7 +140,7 @@ module _ {Names : ℕ → Type 0} {arrays : ℕ} (sizes : Sizes) where
 
   -- ---- lines
 
-  line-shows : (line : Line) → LineFits Names arrays line → lineOf sizes (lineWords sizes line) ≡ some line
+  line-shows : (line : PageLine) → LineFits Names arrays line → lineOf sizes (lineWords sizes line) ≡ some line
   unfolding same
   line-shows (single empty) fits-empty = refl
   line-shows (single abort) fits-abort = refl
@@ -158,7 +158,7 @@ module _ {Names : ℕ → Type 0} {arrays : ℕ} (sizes : Sizes) where
   test-word : (e : Expression) → AtomFits Names arrays e → IsWord (40 ∷ endedBy 41 (atomWord sizes e))
   test-word e h = led-word 40 (endedBy 41 (atomWord sizes e)) (omega arith) (ended-word 41 (atomWord sizes e) (omega arith) (atom-word e h))
 
-  line-has-words : (line : Line) → LineFits Names arrays line → AreWords (lineWords sizes line)
+  line-has-words : (line : PageLine) → LineFits Names arrays line → AreWords (lineWords sizes line)
   unfolding AreWords inside
   line-has-words (single empty) fits-empty = (spelt emptyWord (omega arith) refl, tt)
   line-has-words (single abort) fits-abort = (spelt abortWord (omega arith) refl, tt)
@@ -174,14 +174,14 @@ module _ {Names : ℕ → Type 0} {arrays : ℕ} (sizes : Sizes) where
 
   -- ---- pages
 
-  body-free : (number level : ℕ) (line : Line) → LineFits Names arrays line → Free 10 (body sizes number level line)
+  body-free : (number level : ℕ) (line : PageLine) → LineFits Names arrays line → Free 10 (body sizes number level line)
   unfolding Free
   body-free number level line h =
       padded-free 80 (rightSet 5 (digits number) ++ (blank ∷ (blanks (indent level) ++ parted (lineWords sizes line))))
       (free-append 10 (rightSet 5 (digits number)) (blank ∷ (blanks (indent level) ++ parted (lineWords sizes line))) (set-free 5 (digits number) (digits-word number .no-newline))
       (λ e. omega arith, free-append 10 (blanks (indent level)) (parted (lineWords sizes line)) (blanks-free (indent level)) (parted-free (lineWords sizes line) (line-has-words line h))))
 
-  body-shows : (number level : ℕ) (line : Line) → LineFits Names arrays line → numbered sizes (wordsOf (body sizes number level line)) ≡ some line
+  body-shows : (number level : ℕ) (line : PageLine) → LineFits Names arrays line → numbered sizes (wordsOf (body sizes number level line)) ≡ some line
   unfolding padded rightSet
   body-shows number level line h = ap (numbered sizes) (line-words _ _ _ number (lineWords sizes line) (line-has-words line h)) ∙ line-shows line h
 

@@ -8,11 +8,11 @@ use lib.Dec.{eqb}
 use Rattle.words.specs.Word.{pick}
 use Rattle.words.specs.declared.Operator.{Operator}
 use Rattle.words.specs.declared.Operator.the-variants.{Add, Subtract, Multiply, Divide, Remainder, Less, Greater, LessOrEqual, GreaterOrEqual, Equal, NotEqual}
-use Rattle.text_numbers.specs.Number.{natural, numberOf}
-use Rattle.text_lines.specs.Line.{together, linesOf, Line as TextLine, ended, unended}
+use Rattle.text_numbers.specs.Number.{naturalOf, numberOf}
+use Rattle.text_lines.specs.Line.{together, linesOf, TextLine, ended, unended}
 use Rattle.language.specs.Trees.{Expression, constant, read, minus, binary, assign, Place, variable, element, label, empty, express, goto, abort, Items}
 use Rattle.page.specs.declared.Sizes.{Sizes}
-use Rattle.page.specs.Lines.{Line, single, mark, opens, opensWhile, opensIf, turns, closes, readLines}
+use Rattle.page.specs.Lines.{PageLine, single, mark, opens, opensWhile, opensIf, turns, closes, readLines}
 use Rattle.page.specs.Page.{blank, semicolon, colon, openingBracket, closingBracket, openingParenthesis, closingParenthesis, variableLetter, arrayLetter, declaredLetter, temporaryLetter, labelLetter, emptyWord, openingWord, closingWord, equalsWord, minusWord, ifWord, whileWord, gotoWord, abortWord, operatorWord, firstTemporary, pageBytes}
 
 -- ---- words
@@ -64,7 +64,7 @@ readOperator word =
 
 abbrev pub readLabel : List ℕ → Option ℕ
 readLabel [] = none
-readLabel (byte ∷ bytes) = pick (eqb byte labelLetter) (natural bytes) none
+readLabel (byte ∷ bytes) = pick (eqb byte labelLetter) (naturalOf bytes) none
 
 -- The first, or else the second.
 abbrev pub orElse : {A : Type 0} → Option A → Option A → Option A
@@ -76,16 +76,16 @@ module _ (sizes : Sizes) where
   unfoldable pub readName : List ℕ → Option ℕ
   readName [] = none
   readName (byte ∷ bytes) =
-      pick (eqb byte variableLetter) (natural bytes)
-      (pick (eqb byte declaredLetter) (bind (natural bytes) (λ n. some (sizes .store + n)))
-      (pick (eqb byte temporaryLetter) (bind (natural bytes) (λ n. some (firstTemporary sizes + n))) none))
+      pick (eqb byte variableLetter) (naturalOf bytes)
+      (pick (eqb byte declaredLetter) (bind (naturalOf bytes) (λ n. some (sizes .store + n)))
+      (pick (eqb byte temporaryLetter) (bind (naturalOf bytes) (λ n. some (firstTemporary sizes + n))) none))
 
   unfoldable pub readAtom : List ℕ → Option Expression
   readAtom word = orElse (bind (readName word) (λ i. some (read (variable i)))) (bind (numberOf word) (λ v. some (constant v)))
 
   -- An element by the pieces around its opening bracket.
   abbrev pub readElement : List (List ℕ) → Option Place
-  readElement (array ∷ (index ∷ [])) = bind (natural array) (λ a. bind (without closingBracket index) (λ atom. bind (readAtom atom) (λ e. some (element a e))))
+  readElement (array ∷ (index ∷ [])) = bind (naturalOf array) (λ a. bind (without closingBracket index) (λ atom. bind (readAtom atom) (λ e. some (element a e))))
   readElement [] = none
   readElement (array ∷ []) = none
   readElement (array ∷ (index ∷ (other ∷ others))) = none
@@ -109,7 +109,7 @@ module _ (sizes : Sizes) where
 
   -- ---- what a line says
 
-  abbrev pub lineOf : List (List ℕ) → Option Line
+  abbrev pub lineOf : List (List ℕ) → Option PageLine
   lineOf [] = none
   lineOf (w ∷ []) =
       pick (same w emptyWord) (some (single empty)) (pick (same w openingWord) (some opens) (pick (same w closingWord) (some closes)
@@ -123,13 +123,13 @@ module _ (sizes : Sizes) where
       (pick (same w closingWord) (some turns) none)))
 
   -- The first word is the line's number.
-  abbrev pub numbered : List (List ℕ) → Option Line
+  abbrev pub numbered : List (List ℕ) → Option PageLine
   numbered [] = none
   numbered (number ∷ words) = lineOf words
 
   -- ---- what a page says
 
-  unfoldable pub pageLines : List TextLine → Option (List Line)
+  unfoldable pub pageLines : List TextLine → Option (List PageLine)
   pageLines [] = some []
   pageLines (ended line ∷ lines) = together (numbered (wordsOf line)) (pageLines lines)
   pageLines (unended line ∷ lines) = none

@@ -13,7 +13,7 @@ use Rattle.text_numbers.specs.PutLaws.{digits-within, number-eleven}
 use Rattle.language.specs.Trees.{Expression, constant, read, minus, binary, assign, variable, element, label, empty, express, goto, abort}
 use Rattle.page.specs.declared.Sizes.{Sizes}
 use Rattle.page.specs.WordLaws.{each-name}
-use Rattle.page.specs.Lines.{Line, single, mark, opens, opensWhile, opensIf, turns, closes, Indented, indented}
+use Rattle.page.specs.Lines.{PageLine, single, mark, opens, opensWhile, opensIf, turns, closes, Indented, indented}
 use Rattle.page.specs.Page.{blank, equalsWord, openingWord, operatorWord, endedBy, ended, labelWord, firstTemporary, name, atomWord, placeWord, valueWords, lineWords, blanks, parted, rightSet, padded, indent, lineBytes, linesBytes}
 use Rattle.page.specs.Fits.{AtomFits, fits-constant, fits-variable, ValueFits, value-atom, value-element, value-minus, value-binary, LineFits, fits-empty, fits-abort, fits-goto, fits-label, fits-store, fits-put, fits-opens, fits-while, fits-if, fits-turns, fits-closes, AllFit, all-none, all-more}
 
@@ -109,7 +109,7 @@ module _ {Names : ℕ → Type 0} {arrays : ℕ} (sizes : Sizes) (names : (i : �
         atom-width b k,
       )
 
-  pub line-width : (line : Line) → LineFits Names arrays line → length (parted (lineWords sizes line)) ≤ 35
+  pub line-width : (line : PageLine) → LineFits Names arrays line → length (parted (lineWords sizes line)) ≤ 35
   unfolding parted
   line-width (single empty) fits-empty = omega arith
   line-width (single abort) fits-abort = omega arith
@@ -125,7 +125,7 @@ module _ {Names : ℕ → Type 0} {arrays : ℕ} (sizes : Sizes) (names : (i : �
   line-width closes fits-closes = omega arith
 
   -- "Lines of 80 columns plus a newline": five columns hold every number below 100,000.
-  pub line-columns : (number level : ℕ) (line : Line) → number < 100000 → LineFits Names arrays line → length (lineBytes sizes number (indented level line)) ≡ 81
+  pub line-columns : (number level : ℕ) (line : PageLine) → number < 100000 → LineFits Names arrays line → length (lineBytes sizes number (indented level line)) ≡ 81
   unfolding lineBytes
   line-columns number level line b h =
       let before = rightSet 5 (digits number) in

@@ -1,14 +1,14 @@
 // Numbers, atoms and elements by their bytes.
 use super::compare::is_framed;
-use page_words::Atom;
 use page_words::AtomRead;
 use page_words::ElementRead;
 use page_words::Names;
 use page_words::NumberRead;
+use page_words::PageAtom;
 use text_lines::line::piece_end;
 use text_numbers::number::Digits;
 use text_numbers::number::Field;
-use text_numbers::number::natural;
+use text_numbers::number::natural_of;
 use text_numbers::number::number;
 ghost use mathlib.Core.Path.{_≡_};
 ghost use Rattle.text_numbers.specs.Reader.{fieldNumber};
@@ -18,7 +18,7 @@ ghost use Rattle.page_words.specs.Reads.{numberRead, variableOf, declaredWordOf
 pub fn number_below(word: &[u8], bound: u32) -> NumberRead
     ensures { λ r. ⌜ r ≡ numberRead bound (now (word .entry)) ⌝ }
 {
-    let digits = natural(word, bound);
+    let digits = natural_of(word, bound);
     let Digits::Value(value) = digits else {
         return NumberRead::Malformed;
     };
@@ -32,7 +32,7 @@ fn variable_of(number: NumberRead) -> AtomRead
     ensures { λ r. ⌜ r ≡ variableOf number ⌝ }
 {
     match number {
-        NumberRead::Number(value) => AtomRead::Read(Atom::Variable(value)),
+        NumberRead::Number(value) => AtomRead::Read(PageAtom::Variable(value)),
         NumberRead::Malformed => AtomRead::Malformed,
     }
 }
@@ -41,7 +41,7 @@ fn declared_of(number: NumberRead) -> AtomRead
     ensures { λ r. ⌜ r ≡ declaredWordOf number ⌝ }
 {
     match number {
-        NumberRead::Number(value) => AtomRead::Read(Atom::Declared(value)),
+        NumberRead::Number(value) => AtomRead::Read(PageAtom::Declared(value)),
         NumberRead::Malformed => AtomRead::Malformed,
     }
 }
@@ -50,7 +50,7 @@ fn temporary_of(number: NumberRead) -> AtomRead
     ensures { λ r. ⌜ r ≡ temporaryOf number ⌝ }
 {
     match number {
-        NumberRead::Number(value) => AtomRead::Read(Atom::Temporary(value)),
+        NumberRead::Number(value) => AtomRead::Read(PageAtom::Temporary(value)),
         NumberRead::Malformed => AtomRead::Malformed,
     }
 }
@@ -59,7 +59,7 @@ fn constant_of(field: Field) -> AtomRead
     ensures { λ r. ⌜ r ≡ constantOf (fieldNumber field) ⌝ }
 {
     match field {
-        Field::Number(value) => AtomRead::Read(Atom::Constant(value)),
+        Field::Number(value) => AtomRead::Read(PageAtom::Constant(value)),
         Field::Malformed => AtomRead::Malformed,
     }
 }
@@ -92,10 +92,10 @@ pub fn name_of(atom: AtomRead) -> AtomRead
         return AtomRead::Malformed;
     };
     match named {
-        Atom::Constant(_) => AtomRead::Malformed,
-        Atom::Variable(number) => AtomRead::Read(Atom::Variable(number)),
-        Atom::Declared(number) => AtomRead::Read(Atom::Declared(number)),
-        Atom::Temporary(number) => AtomRead::Read(Atom::Temporary(number)),
+        PageAtom::Constant(_) => AtomRead::Malformed,
+        PageAtom::Variable(number) => AtomRead::Read(PageAtom::Variable(number)),
+        PageAtom::Declared(number) => AtomRead::Read(PageAtom::Declared(number)),
+        PageAtom::Temporary(number) => AtomRead::Read(PageAtom::Temporary(number)),
     }
 }
 

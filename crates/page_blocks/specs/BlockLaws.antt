@@ -14,8 +14,8 @@ use Rattle.page.specs.declared.Sizes.{Sizes}
 use Rattle.page.specs.Lines.{Indented, indented, turns, closes, statementLines, itemsLines, Waiting, outermost, closed, Reading, reading, malformed, readLine, readBefore, whole, readLines}
 use Rattle.page.specs.Lines.{turned as elseWaiting}
 use Rattle.page_words.specs.Trees.{lineTree}
-use Rattle.page_words.specs.declared.Line.{Line}
-use Rattle.page_words.specs.declared.Line.the-variants.{Empty, Abort, Goto, Label, Store, Put, Opens, While, If, Turns, Closes}
+use Rattle.page_words.specs.declared.LineContent.{LineContent}
+use Rattle.page_words.specs.declared.LineContent.the-variants.{Empty, Abort, Goto, Label, Store, Put, Opens, While, If, Turns, Closes}
 use Rattle.page_frame.specs.Frames.{levelOf}
 use Rattle.page_blocks.specs.Blocks.{Open, behind, onward, balanced, trees, levels}
 
@@ -47,7 +47,7 @@ fitsAfter none r = false
 fitsAfter (some around) r = fits around r
 
 -- One line: the blocks fit before it as they do behind it.
-line-fits : (sizes : Sizes) (line : Line) (around : Open) (r : Reading) → fitsAfter (behind line around) r ≡ fits around (readLine (lineTree sizes line) r)
+line-fits : (sizes : Sizes) (line : LineContent) (around : Open) (r : Reading) → fitsAfter (behind line around) r ≡ fits around (readLine (lineTree sizes line) r)
 unfolding fits fitsAfter matches
 line-fits sizes Empty around (reading is waiting) = refl
 line-fits sizes Empty around malformed = refl
@@ -94,7 +94,7 @@ abbrev start : Reading
 start = reading noItem outermost
 
 -- Lines are balanced where what they are read as fits.
-balanced-fits : (sizes : Sizes) (lines : List Line) (around : Open) → balanced lines around ≡ fits around (readBefore (trees sizes lines) start)
+balanced-fits : (sizes : Sizes) (lines : List LineContent) (around : Open) → balanced lines around ≡ fits around (readBefore (trees sizes lines) start)
 unfolding balanced fits fitsAfter matches readBefore
 balanced-fits sizes [] [] = refl
 balanced-fits sizes [] (false ∷ around) = refl
@@ -142,7 +142,7 @@ turning is turn others close later rest =
 
 -- One line before others.
 module _ (sizes : Sizes) (rest : List Indented) where
-  line-lined : (line : Line) (around : Open) (r : Reading) → LinedAfter (behind line around) r rest
+  line-lined : (line : LineContent) (around : Open) (r : Reading) → LinedAfter (behind line around) r rest
       → Lined around (readLine (lineTree sizes line) r) (indented (levelOf (length around) line) (lineTree sizes line) ∷ rest)
   unfolding Lined LinedAfter matches waitingLines statementLines
   line-lined Empty around (reading is waiting) h = λ m. ap (λ l. indented (length around) (lineTree sizes Empty) ∷ l) (h m)
@@ -204,7 +204,7 @@ module _ (sizes : Sizes) (rest : List Indented) where
   line-lined Closes (false ∷ around) malformed h = tt
   line-lined Closes (true ∷ around) malformed h = tt
 
-levels-lined : (sizes : Sizes) (lines : List Line) (around : Open) → Lined around (readBefore (trees sizes lines) start) (levels sizes lines around)
+levels-lined : (sizes : Sizes) (lines : List LineContent) (around : Open) → Lined around (readBefore (trees sizes lines) start) (levels sizes lines around)
 unfolding Lined LinedAfter matches waitingLines statementLines readBefore levels
 levels-lined sizes [] [] = λ m. refl
 levels-lined sizes [] (false ∷ around) = λ m. never m
@@ -219,12 +219,12 @@ levels-lined sizes (line ∷ lines) around =
 -- ---- the program
 
 -- What balanced lines are: items, read from them by page/Lines, whose lines they are.
-pub record IsProgram (sizes : Sizes) (lines : List Line) : Type 0 where
+pub record IsProgram (sizes : Sizes) (lines : List LineContent) : Type 0 where
   pub items : Items
   pub read : readLines (trees sizes lines) ≡ some items
   pub printed : levels sizes lines [] ≡ itemsLines 0 items
 
-pub balanced-program : (sizes : Sizes) (lines : List Line) → balanced lines [] ≡ true → IsProgram sizes lines
+pub balanced-program : (sizes : Sizes) (lines : List LineContent) → balanced lines [] ≡ true → IsProgram sizes lines
 unfolding readLines fits Lined matches waitingLines
 balanced-program sizes lines e =
     from (readBefore (trees sizes lines) start) (levels sizes lines []) (sym (balanced-fits sizes lines []) ∙ e) (levels-lined sizes lines []) refl refl
@@ -236,7 +236,7 @@ balanced-program sizes lines e =
     from (reading is (elseWaiting onFalse waiting)) all f l q p = never f
 
 -- Lines that are read are balanced.
-pub read-balanced : (sizes : Sizes) (lines : List Line) (items : Items) → readLines (trees sizes lines) ≡ some items → balanced lines [] ≡ true
+pub read-balanced : (sizes : Sizes) (lines : List LineContent) (items : Items) → readLines (trees sizes lines) ≡ some items → balanced lines [] ≡ true
 unfolding readLines fits matches
 read-balanced sizes lines items e = balanced-fits sizes lines [] ∙ from (readBefore (trees sizes lines) start) e
   where

@@ -6,10 +6,10 @@ use mathlib.Core.Option.{Option, none, some}
 use Prim.Native.Nat.{ℕ}
 use lib.ListN.{length}
 use Rattle.page.specs.declared.Sizes.{Sizes}
-use Rattle.page.specs.Lines.{Line as PageLine, Indented, indented}
+use Rattle.page.specs.Lines.{PageLine, Indented, indented}
 use Rattle.page_words.specs.Trees.{lineTree}
-use Rattle.page_words.specs.declared.Line.{Line}
-use Rattle.page_words.specs.declared.Line.the-variants.{Empty, Abort, Goto, Label, Store, Put, Opens, While, If, Turns, Closes}
+use Rattle.page_words.specs.declared.LineContent.{LineContent}
+use Rattle.page_words.specs.declared.LineContent.the-variants.{Empty, Abort, Goto, Label, Store, Put, Opens, While, If, Turns, Closes}
 use Rattle.page_frame.specs.Frames.{levelOf}
 
 -- The blocks that are open, the innermost first: true for the first branch of an if, which must turn before it closes.
@@ -27,7 +27,7 @@ shut (true ∷ around) = none
 shut (false ∷ around) = some around
 
 -- Those open behind a line.
-abbrev pub behind : Line → Open → Option Open
+abbrev pub behind : LineContent → Open → Option Open
 behind Empty around = some around
 behind Abort around = some around
 behind (Goto l) around = some around
@@ -46,16 +46,16 @@ onward other next none = other
 onward other next (some around) = next around
 
 -- Every block that these lines open, or that was open before them, closes as it must.
-unfoldable pub balanced : List Line → Open → Bool
+unfoldable pub balanced : List LineContent → Open → Bool
 balanced [] [] = true
 balanced [] (flag ∷ around) = false
 balanced (line ∷ lines) around = onward false (λ a. balanced lines a) (behind line around)
 
 -- The lines of a page, with S and D.
-abbrev pub trees : Sizes → List Line → List PageLine
+abbrev pub trees : Sizes → List LineContent → List PageLine
 trees sizes lines = map (lineTree sizes) lines
 
 -- The lines with their levels.
-unfoldable pub levels : Sizes → List Line → Open → List Indented
+unfoldable pub levels : Sizes → List LineContent → Open → List Indented
 levels sizes [] around = []
 levels sizes (line ∷ lines) around = indented (levelOf (length around) line) (lineTree sizes line) ∷ onward [] (λ a. levels sizes lines a) (behind line around)

@@ -7,7 +7,7 @@ use Prim.Native.Nat.{ℕ, _+_, _≤_}
 use native.Mathlib.Omega.{arith}
 use Rattle.language.specs.Trees.{Items}
 use Rattle.page.specs.declared.Sizes.{Sizes}
-use Rattle.page.specs.Lines.{Line as PageLine, Indented, indented, plain, readLines}
+use Rattle.page.specs.Lines.{PageLine, Indented, indented, plain, readLines}
 use Rattle.page.specs.Page.{linesBytes}
 use Rattle.page.specs.Reading.{readPage}
 use Rattle.page.specs.ReadBack.{lines-read-page}
@@ -15,7 +15,7 @@ use Rattle.page.specs.Fits.{all-none, all-more}
 use Rattle.page.specs.Fits as page-fits
 use Rattle.page_words.specs.Trees.{Within, lineTree, Named, line-fits}
 use Rattle.page_words.specs.declared.Names.{Names}
-use Rattle.page_words.specs.declared.Line.{Line}
+use Rattle.page_words.specs.declared.LineContent.{LineContent}
 use Rattle.page_frame.specs.Frames.{levelOf}
 use Rattle.page_blocks.specs.Blocks.{Open, behind, onward, balanced, trees, levels}
 use Rattle.page_blocks.specs.Scans.{scan, linesIn}
@@ -27,7 +27,7 @@ never : {G : Type 0} → false ≡ true → G
 never e = absurd (let z : _≡_ {A = ℕ} 0 1 = cc in omega arith)
 
 -- The lines of balanced lines with their levels, without these.
-plain-levels : (sizes : Sizes) (lines : List Line) (around : Open) → balanced lines around ≡ true → plain (levels sizes lines around) ≡ trees sizes lines
+plain-levels : (sizes : Sizes) (lines : List LineContent) (around : Open) → balanced lines around ≡ true → plain (levels sizes lines around) ≡ trees sizes lines
 unfolding balanced levels plain
 plain-levels sizes [] around b = refl
 plain-levels sizes (line ∷ lines) around b = after (λ a. plain-levels sizes lines a) (behind line around) b
@@ -38,7 +38,7 @@ plain-levels sizes (line ∷ lines) around b = after (λ a. plain-levels sizes l
     after ih (some a) q = ap (λ (l : List PageLine). lineTree sizes line ∷ l) (ih a q)
 
 module _ (names : Names) (few-variables : names .variables ≤ 256) (few-behind : names .declared + names .temporaries ≤ 8256) (few-arrays : names .arrays ≤ 32) (sizes : Sizes) (within : Within sizes names) where
-  levels-fit : (lines : List Line) (around : Open) → AllFit names lines → page-fits.AllFit (Named sizes names within) (names .arrays) (levels sizes lines around)
+  levels-fit : (lines : List LineContent) (around : Open) → AllFit names lines → page-fits.AllFit (Named sizes names within) (names .arrays) (levels sizes lines around)
   unfolding AllFit levels
   levels-fit [] around h = all-none
   levels-fit (line ∷ lines) around h = all-more (line-fits sizes names within line (h .0)) (after (λ a. levels-fit lines a (h .1)) (behind line around))

@@ -12,18 +12,18 @@ use Rattle.page.specs.declared.Sizes.{Sizes}
 use Rattle.page.specs.Lines.{Waiting, outermost, closed, Reading, reading, malformed, readLine, readBefore, whole, readLines}
 use Rattle.page.specs.Lines.{turned as elseWaiting}
 use Rattle.page_words.specs.Trees.{atomTree, valueTree, lineTree}
-use Rattle.page_words.specs.declared.Atom.{Atom}
-use Rattle.page_words.specs.declared.Atom.the-variants.{Constant, Variable, Declared, Temporary}
+use Rattle.page_words.specs.declared.PageAtom.{PageAtom}
+use Rattle.page_words.specs.declared.PageAtom.the-variants.{Constant, Variable, Declared, Temporary}
 use Rattle.page_words.specs.declared.Value.{Value}
 use Rattle.page_words.specs.declared.Value.the-variants.{Single, Element, Minus, Binary}
-use Rattle.page_words.specs.declared.Line.{Line}
-use Rattle.page_words.specs.declared.Line.the-variants.{Empty, Abort, Goto, Label, Store, Put, Opens, While, If, Turns, Closes}
+use Rattle.page_words.specs.declared.LineContent.{LineContent}
+use Rattle.page_words.specs.declared.LineContent.the-variants.{Empty, Abort, Goto, Label, Store, Put, Opens, While, If, Turns, Closes}
 use Rattle.page_blocks.specs.Blocks.{trees}
 use Rattle.page_blocks.specs.Scans.{valueRows, lineRows}
 use Rattle.page_blocks.specs.ScanLaws.{linesRows}
 
 module _ (sizes : Sizes) where
-  pub atom-rows : (a : Atom) → expressionRows (atomTree sizes a) ≡ 1
+  pub atom-rows : (a : PageAtom) → expressionRows (atomTree sizes a) ≡ 1
   unfolding expressionRows
   atom-rows (Constant v) = refl
   atom-rows (Variable n) = refl
@@ -49,7 +49,7 @@ Rowed malformed rows = Unit
 Rowed (reading is waiting) rows = itemsRows is + waitingRows waiting ≡ rows
 
 module _ (sizes : Sizes) where
-  line-rows : (line : Line) (r : Reading) (rows : ℕ) → Rowed r rows → Rowed (readLine (lineTree sizes line) r) (lineRows line + rows)
+  line-rows : (line : LineContent) (r : Reading) (rows : ℕ) → Rowed r rows → Rowed (readLine (lineTree sizes line) r) (lineRows line + rows)
   unfolding Rowed waitingRows statementRows expressionRows
   line-rows Empty malformed rows h = tt
   line-rows Empty (reading is waiting) rows h = omega arith
@@ -85,13 +85,13 @@ module _ (sizes : Sizes) where
   line-rows Closes malformed rows h = tt
   line-rows Closes (reading is waiting) rows h = omega arith
 
-  lines-rows : (lines : List Line) → Rowed (readBefore (trees sizes lines) (reading noItem outermost)) (linesRows lines)
+  lines-rows : (lines : List LineContent) → Rowed (readBefore (trees sizes lines) (reading noItem outermost)) (linesRows lines)
   unfolding Rowed waitingRows statementRows readBefore
   lines-rows [] = refl
   lines-rows (line ∷ lines) = line-rows line (readBefore (trees sizes lines) (reading noItem outermost)) (linesRows lines) (lines-rows lines)
 
   -- The rows of a program are those counted, and row 0.
-  pub program-rows : (lines : List Line) (items : Items) → readLines (trees sizes lines) ≡ some items → statementRows (block items) ≡ 1 + linesRows lines
+  pub program-rows : (lines : List LineContent) (items : Items) → readLines (trees sizes lines) ≡ some items → statementRows (block items) ≡ 1 + linesRows lines
   unfolding readLines Rowed waitingRows statementRows
   program-rows lines items e = from (readBefore (trees sizes lines) (reading noItem outermost)) (lines-rows lines) e
     where

@@ -18,7 +18,7 @@ use Rattle.page.specs.Widths.{variable-width, behind-width, line-columns}
 use Rattle.page_words.specs.Texts.{LineFits}
 use Rattle.page_words.specs.Trees.{Within, lineTree, Named, line-fits}
 use Rattle.page_words.specs.declared.Names.{Names}
-use Rattle.page_words.specs.declared.Line.{Line}
+use Rattle.page_words.specs.declared.LineContent.{LineContent}
 use Rattle.page_words.specs.declared.LineRead.{LineRead}
 use Rattle.page_words.specs.declared.LineRead.the-variants as line-cases
 use Rattle.page_frame.specs.Frames.{levelOf, lineIn}
@@ -36,11 +36,11 @@ module _ (names : Names) (few-variables : names .variables ≤ 256) (few-behind 
   name-width : (i : ℕ) → Named sizes names within i → length (name sizes i) ≤ 5
   name-width i = ⊎-elim (λ v. variable-width sizes i (omega arith)) (λ t. behind-width sizes i (t .0) (omega (arith, t .1)))
 
-  line-long : (number level : ℕ) (line : Line) → number < 100000 → LineFits names line → length (lineBytes sizes number (indented level (lineTree sizes line))) ≡ 81
+  line-long : (number level : ℕ) (line : LineContent) → number < 100000 → LineFits names line → length (lineBytes sizes number (indented level (lineTree sizes line))) ≡ 81
   line-long number level line few h = line-columns {Names = Named sizes names within} {arrays = names .arrays} sizes name-width few-arrays number level (lineTree sizes line) few (line-fits sizes names within line h)
 
   -- The rest of a page from a line on.
-  rest-complete : (lines : List Line) (done : ℕ) (around : Open) (rows : ℕ) → done + length lines ≤ 81958 → AllFit names lines → balanced lines around ≡ true
+  rest-complete : (lines : List LineContent) (done : ℕ) (around : Open) (rows : ℕ) → done + length lines ≤ 81958 → AllFit names lines → balanced lines around ≡ true
       → drop (81 * done) page ≡ linesBytes sizes (done + 1) (levels sizes lines around) → length page ≡ 81 * (done + length lines) → scanFrom names page (length lines) done around rows ≡ Whole (rows + linesRows lines)
   unfolding scanFrom balanced levels linesBytes AllFit
   rest-complete [] done [] rows few h b e long =
@@ -75,7 +75,7 @@ module _ (names : Names) (few-variables : names .variables ≤ 256) (few-behind 
           ∙ ih a (rows + lineRows line) balances behind-it (omega arith) ∙ ap Whole sum
 
   -- The bytes of balanced lines that fit, few enough, are scanned to their end, and their rows are counted.
-  pub scan-complete : (lines : List Line) → length lines ≤ 81958 → AllFit names lines → balanced lines [] ≡ true → page ≡ linesBytes sizes 1 (levels sizes lines []) → length page ≡ 81 * length lines
+  pub scan-complete : (lines : List LineContent) → length lines ≤ 81958 → AllFit names lines → balanced lines [] ≡ true → page ≡ linesBytes sizes 1 (levels sizes lines []) → length page ≡ 81 * length lines
       → scan names page ≡ Whole (1 + linesRows lines)
   unfolding scan
   scan-complete lines few h b e long =

@@ -18,7 +18,7 @@ use Rattle.page.specs.Page.{lineBytes, linesBytes, pageBytes}
 use Rattle.page_words.specs.Texts.{LineFits}
 use Rattle.page_words.specs.Trees.{Within, lineTree}
 use Rattle.page_words.specs.declared.Names.{Names}
-use Rattle.page_words.specs.declared.Line.{Line}
+use Rattle.page_words.specs.declared.LineContent.{LineContent}
 use Rattle.page_words.specs.declared.LineRead.{LineRead}
 use Rattle.page_words.specs.declared.LineRead.the-variants as line-cases
 use Rattle.page_frame.specs.Frames.{lineIn, statementIn}
@@ -29,17 +29,17 @@ use Rattle.page_blocks.specs.Scans.{lineRows, ended, stepped, scanFrom, 
 use Rattle.page_blocks.specs.declared.Scan.{Scan}
 use Rattle.page_blocks.specs.declared.Scan.the-variants.{Whole, Wrong}
 
-abbrev pub linesRows : List Line → ℕ
+abbrev pub linesRows : List LineContent → ℕ
 linesRows [] = 0
 linesRows (line ∷ lines) = lineRows line + linesRows lines
 
-unfoldable pub AllFit : Names → List Line → Type 0
+unfoldable pub AllFit : Names → List LineContent → Type 0
 AllFit names [] = Unit
 AllFit names (line ∷ lines) = LineFits names line × AllFit names lines
 
 -- The rest of a page: its lines, whose blocks close, whose bytes it is, and whose rows are counted.
-pub record IsRest (names : Names) (sizes : Sizes) (rest : List ℕ) (number : ℕ) (around : Open) (rows total : ℕ) (statements : List Line) : Type 0 where
-  pub lines : List Line
+pub record IsRest (names : Names) (sizes : Sizes) (rest : List ℕ) (number : ℕ) (around : Open) (rows total : ℕ) (statements : List LineContent) : Type 0 where
+  pub lines : List LineContent
   pub read : lines ≡ statements
   pub fit : AllFit names lines
   pub balances : balanced lines around ≡ true
@@ -63,7 +63,7 @@ module _ (names : Names) (few-variables : names .variables ≤ 256) (few-behind 
   end-sound done (flag ∷ around) rows total e = by-cases (eqb (81 * done) (length page)) (λ t. wrong (done + 1) total (rw t at e)) (λ t. wrong (done + 1) total (rw t at e))
 
   -- One line before the rest.
-  line-sound : (done : ℕ) (around a : Open) (rows total : ℕ) (line : Line) (statements : List Line) → done < 99999 → 81 * (done + 1) ≤ length page
+  line-sound : (done : ℕ) (around a : Open) (rows total : ℕ) (line : LineContent) (statements : List LineContent) → done < 99999 → 81 * (done + 1) ≤ length page
       → lineIn names (done + 1) (length around) (take 81 (drop (81 * done) page)) ≡ line-cases.Read line → behind line around ≡ some a
       → IsRest names sizes (drop (81 * (done + 1)) page) (done + 1 + 1) a (rows + lineRows line) total statements
       → IsRest names sizes (drop (81 * done) page) (done + 1) around rows total (withLine (statementIn names (take 81 (drop (81 * done) page))) statements)
@@ -75,7 +75,7 @@ module _ (names : Names) (few-variables : names .variables ≤ 256) (few-behind 
       record {
         lines = line ∷ r .lines;
         read =
-            ap (λ (lines : List Line). line ∷ lines) (r .read)
+            ap (λ (lines : List LineContent). line ∷ lines) (r .read)
             ∙ sym (ap (λ (l : LineRead). withLine l statements) (statement-in names (done + 1) (length around) (take 81 (drop (81 * done) page)) line e));
         fit = (s .1, r .fit);
         balances = rw q (r .balances);
@@ -90,7 +90,7 @@ module _ (names : Names) (few-variables : names .variables ≤ 256) (few-behind 
   rest-sound (suc left) done around rows total few long e =
       from (λ a r. rest-sound left (done + 1) a r total (omega arith) (omega arith)) (lineIn names (done + 1) (length around) (take 81 (drop (81 * done) page))) refl e
     where
-      after : ((a : Open) (r : ℕ) → scanFrom names page left (done + 1) a r ≡ Whole total → IsRest names sizes (drop (81 * (done + 1)) page) (done + 1 + 1) a r total (linesFrom names page left (done + 1))) → (line : Line)
+      after : ((a : Open) (r : ℕ) → scanFrom names page left (done + 1) a r ≡ Whole total → IsRest names sizes (drop (81 * (done + 1)) page) (done + 1 + 1) a r total (linesFrom names page left (done + 1))) → (line : LineContent)
           → lineIn names (done + 1) (length around) (take 81 (drop (81 * done) page)) ≡ line-cases.Read line → (b : Option Open) → behind line around ≡ b
           → onward (Wrong (done + 1)) (λ a. scanFrom names page left (done + 1) a (rows + lineRows line)) b ≡ Whole total
           → IsRest names sizes (drop (81 * done) page) (done + 1) around rows total (linesFrom names page (suc left) done)
@@ -105,7 +105,7 @@ module _ (names : Names) (few-variables : names .variables ≤ 256) (few-behind 
 
   -- A page without a wrong line: its lines are those of a program, read by page/Lines, whose page it is.
   pub record IsPage (total : ℕ) : Type 0 where
-    pub lines : List Line
+    pub lines : List LineContent
     pub statements : lines ≡ linesIn names page
     pub fit : AllFit names lines
     pub balances : balanced lines [] ≡ true

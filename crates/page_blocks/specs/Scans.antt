@@ -13,8 +13,8 @@ use Rattle.row_fields.specs.Fields.{boundsOf}
 use Rattle.page_words.specs.declared.Names.{Names}
 use Rattle.page_words.specs.declared.Value.{Value}
 use Rattle.page_words.specs.declared.Value.the-variants.{Single, Element, Minus, Binary}
-use Rattle.page_words.specs.declared.Line.{Line}
-use Rattle.page_words.specs.declared.Line.the-variants.{Empty, Abort, Goto, Label, Store, Put, Opens, While, If, Turns, Closes}
+use Rattle.page_words.specs.declared.LineContent.{LineContent}
+use Rattle.page_words.specs.declared.LineContent.the-variants.{Empty, Abort, Goto, Label, Store, Put, Opens, While, If, Turns, Closes}
 use Rattle.page_words.specs.declared.LineRead.{LineRead}
 use Rattle.page_words.specs.declared.LineRead.the-variants as line-cases
 use Rattle.page_frame.specs.Frames.{lineIn, statementIn}
@@ -29,7 +29,7 @@ valueRows (Minus a) = 2
 valueRows (Binary o a b) = 3
 
 -- The rows that a line has: its statement's, without those of the blocks between its lines. A branch's block has its row at the line that opens it.
-abbrev pub lineRows : Line → ℕ
+abbrev pub lineRows : LineContent → ℕ
 lineRows Empty = 1
 lineRows Abort = 1
 lineRows (Goto l) = 1
@@ -48,7 +48,7 @@ ended true [] rows next = Whole rows
 ended true (flag ∷ around) rows next = Wrong next
 ended false around rows next = Wrong next
 
-abbrev pub stepped : LineRead → (number : ℕ) → Open → (Line → Open → Scan) → Scan
+abbrev pub stepped : LineRead → (number : ℕ) → Open → (LineContent → Open → Scan) → Scan
 stepped line-cases.Malformed number around next = Wrong number
 stepped (line-cases.Read line) number around next = onward (Wrong number) (next line) (behind line around)
 
@@ -65,17 +65,17 @@ module _ (names : Names) (page : List ℕ) where
 
 -- ---- the lines
 
-abbrev pub withLine : LineRead → List Line → List Line
+abbrev pub withLine : LineRead → List LineContent → List LineContent
 withLine line-cases.Malformed lines = lines
 withLine (line-cases.Read line) lines = line ∷ lines
 
 module _ (names : Names) (page : List ℕ) where
   -- What the statements of so many lines say, behind those lines that are done.
-  unfoldable pub linesFrom : (left done : ℕ) → List Line
+  unfoldable pub linesFrom : (left done : ℕ) → List LineContent
   linesFrom zero done = []
   linesFrom (suc left) done = withLine (statementIn names (take 81 (drop (81 * done) page))) (linesFrom left (done + 1))
 
-  unfoldable pub linesIn : List Line
+  unfoldable pub linesIn : List LineContent
   linesIn = linesFrom (min (length page / 81) 81958) 0
 
 -- ---- with a header

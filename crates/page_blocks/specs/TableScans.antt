@@ -22,7 +22,7 @@ use Rattle.kernel_check.specs.Legal.{Legal}
 use Rattle.accepted.specs.Fields.{NamesVariable}
 use Rattle.accepted_kernel.specs.Kernel.{legal-plain, legal-rows}
 use Rattle.page.specs.declared.Sizes.{Sizes}
-use Rattle.page.specs.Lines.{Line as PageLine, Indented, indented, itemsLines, plain, readLines}
+use Rattle.page.specs.Lines.{PageLine, Indented, indented, itemsLines, plain, readLines}
 use Rattle.page.specs.LinesLaws.{lines-read-back}
 use Rattle.page.specs.Page.{firstTemporary, linesBytes, pageBytes}
 use Rattle.page.specs.Fits.{fits-constant, fits-variable, value-atom, value-element, value-minus, value-binary, fits-empty, fits-abort, fits-goto, fits-label, fits-store, fits-put, fits-opens, fits-while, fits-if, fits-turns, fits-closes, all-none, all-more}
@@ -32,12 +32,12 @@ use Rattle.page.specs.TableLaws.{lines-fit, lines-of-rows, page-columns}
 use Rattle.page_words.specs.Texts.{AtomFits, NameFits, ValueFits, LineFits}
 use Rattle.page_words.specs.Trees.{Within, placeTree, atomTree, valueTree, lineTree}
 use Rattle.page_words.specs.declared.Names.{Names}
-use Rattle.page_words.specs.declared.Atom.{Atom}
-use Rattle.page_words.specs.declared.Atom.the-variants.{Constant, Variable, Declared, Temporary}
+use Rattle.page_words.specs.declared.PageAtom.{PageAtom}
+use Rattle.page_words.specs.declared.PageAtom.the-variants.{Constant, Variable, Declared, Temporary}
 use Rattle.page_words.specs.declared.Value.{Value}
 use Rattle.page_words.specs.declared.Value.the-variants.{Single, Element, Minus, Binary}
-use Rattle.page_words.specs.declared.Line.{Line}
-use Rattle.page_words.specs.declared.Line.the-variants.{Empty, Abort, Goto, Label, Store, Put, Opens, While, If, Turns, Closes}
+use Rattle.page_words.specs.declared.LineContent.{LineContent}
+use Rattle.page_words.specs.declared.LineContent.the-variants.{Empty, Abort, Goto, Label, Store, Put, Opens, While, If, Turns, Closes}
 use Rattle.page_blocks.specs.Blocks.{trees, levels, balanced}
 use Rattle.page_blocks.specs.BlockLaws.{IsProgram, balanced-program, read-balanced}
 use Rattle.page_blocks.specs.Scans.{scan, namesOf}
@@ -54,12 +54,12 @@ module _ (names : Names) (sizes : Sizes) (within : Within sizes names) where
   Named i = (i < names .variables) ⊎ ((sizes .store ≤ i) × (i < sizes .store + (names .declared + names .temporaries)))
 
   record IsAtom (e : Expression) : Type 0 where
-    found : Atom
+    found : PageAtom
     tree : atomTree sizes found ≡ e
     fits : AtomFits names found
 
   record IsName (i : ℕ) : Type 0 where
-    found : Atom
+    found : PageAtom
     tree : placeTree sizes found ≡ variable i
     reads : atomTree sizes found ≡ read (variable i)
     fits : NameFits names found
@@ -101,7 +101,7 @@ module _ (names : Names) (sizes : Sizes) (within : Within sizes names) where
       record { found = Binary o (a .found) (b .found); tree = ap₂ (binary o) (a .tree) (b .tree); fits = (a .fits, b .fits) }
 
   record IsLine (line : PageLine) : Type 0 where
-    found : Line
+    found : LineContent
     tree : lineTree sizes found ≡ line
     fits : LineFits names found
 
@@ -125,7 +125,7 @@ module _ (names : Names) (sizes : Sizes) (within : Within sizes names) where
   line-of line fits-closes = record { found = Closes; tree = refl; fits = tt }
 
   record AreLines (lines : List Indented) : Type 0 where
-    found : List Line
+    found : List LineContent
     tree : trees sizes found ≡ plain lines
     fits : AllFit names found
     many : length found ≡ length lines

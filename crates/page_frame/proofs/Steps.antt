@@ -11,7 +11,7 @@ use Rattle.page_words.specs.declared.Names.{Names}
 use Rattle.page_words.specs.declared.NumberRead.{NumberRead}
 use Rattle.page_words.specs.declared.LineRead.{LineRead}
 use Rattle.page_words.specs.declared.LineRead.the-variants.{Read, Malformed}
-use Rattle.page_words.specs.declared.Line.{Line}
+use Rattle.page_words.specs.declared.LineContent.{LineContent}
 use Rattle.page_frame.specs.Frames.{leadingBlanks, filledSize, levelOf, isNumber, isNumbered, levelled, statementRead}
 
 pub numbered-by : (number : ℕ) (columns : List ℕ) (start : ℕ) (r : NumberRead) → start ≡ leadingBlanks columns → r ≡ numberRead 100000 (take (length columns - start) (drop start columns))
@@ -24,11 +24,11 @@ module _ (depth start : ℕ) (r : LineRead) where
   unfolding levelled
   level-none e = rw e
 
-  pub level-is : (line : Line) → r ≡ Read line → start ≡ indent (levelOf depth line) → Read line ≡ levelled depth start r
+  pub level-is : (line : LineContent) → r ≡ Read line → start ≡ indent (levelOf depth line) → Read line ≡ levelled depth start r
   unfolding levelled
   level-is line e h = rw (e, eq-eqb start (indent (levelOf depth line)) h)
 
-  pub level-not : (line : Line) → r ≡ Read line → (start ≡ indent (levelOf depth line) → ⊥) → Malformed ≡ levelled depth start r
+  pub level-not : (line : LineContent) → r ≡ Read line → (start ≡ indent (levelOf depth line) → ⊥) → Malformed ≡ levelled depth start r
   unfolding levelled
   level-not line e h = rw (e, ne-eqb start (indent (levelOf depth line)) h)
 

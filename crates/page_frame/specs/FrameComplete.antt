@@ -20,9 +20,9 @@ use Rattle.page_words.specs.Reads.{numberRead, lineRead}
 use Rattle.page_words.specs.Complete.{number-complete, line-complete}
 use Rattle.page_words.specs.declared.Names.{Names}
 use Rattle.page_words.specs.declared.LineRead.the-variants as line-cases
-use Rattle.page_words.specs.declared.Atom.the-variants.{Constant, Variable, Declared, Temporary}
-use Rattle.page_words.specs.declared.Line.{Line}
-use Rattle.page_words.specs.declared.Line.the-variants.{Empty, Abort, Goto, Label, Store, Put, Opens, While, If, Turns, Closes}
+use Rattle.page_words.specs.declared.PageAtom.the-variants.{Constant, Variable, Declared, Temporary}
+use Rattle.page_words.specs.declared.LineContent.{LineContent}
+use Rattle.page_words.specs.declared.LineContent.the-variants.{Empty, Abort, Goto, Label, Store, Put, Opens, While, If, Turns, Closes}
 use Rattle.page_frame.specs.Frames.{leadingBlanks, filledSize, levelOf, isNumber, isNumbered, levelled, statementRead, bodyRead, lineIn}
 use Rattle.page_frame.specs.BlankLaws.{Begins, leading-is, Ends, filled-is}
 use Rattle.page_frame.specs.FrameLaws.{framed, printed, printed-is, width}
@@ -36,7 +36,7 @@ ends-append (x ∷ []) [] h = absurd h
 ends-append (x ∷ []) (y ∷ ys) h = h
 ends-append (x ∷ (z ∷ xs)) ys h = ends-append (z ∷ xs) ys h
 
-begins-line : (names : Names) (line : Line) → LineFits names line → Begins (lineText line)
+begins-line : (names : Names) (line : LineContent) → LineFits names line → Begins (lineText line)
 unfolding Begins
 begins-line names Empty h = λ e. omega arith
 begins-line names Abort h = λ e. omega arith
@@ -53,7 +53,7 @@ begins-line names (If a) h = λ e. omega arith
 begins-line names Turns h = λ e. omega arith
 begins-line names Closes h = λ e. omega arith
 
-ends-line : (line : Line) → Ends (lineText line)
+ends-line : (line : LineContent) → Ends (lineText line)
 unfolding Ends
 ends-line Empty = λ e. omega arith
 ends-line Abort = λ e. omega arith
@@ -88,7 +88,7 @@ numbered-complete number h =
     ap (λ (l : List ℕ). isNumber number (numberRead 100000 l)) rest ∙ ap (isNumber number) (number-complete 100000 number h) ∙ eq-eqb number number refl
 
 module _ (names : Names) (few-variables : names .variables ≤ 256) (few-behind : names .declared + names .temporaries ≤ 8256) (few-arrays : names .arrays ≤ 32) where
-  body-complete : (depth : ℕ) (line : Line) (tail : ℕ) → LineFits names line → bodyRead names depth (blanks (indent (levelOf depth line)) ++ (lineText line ++ blanks tail)) ≡ line-cases.Read line
+  body-complete : (depth : ℕ) (line : LineContent) (tail : ℕ) → LineFits names line → bodyRead names depth (blanks (indent (levelOf depth line)) ++ (lineText line ++ blanks tail)) ≡ line-cases.Read line
   unfolding bodyRead statementRead levelled
   body-complete depth line tail h =
       let n = indent (levelOf depth line) in
@@ -104,7 +104,7 @@ module _ (names : Names) (few-variables : names .variables ≤ 256) (few-behind 
       rw (lead, full, le-ltb (n + length text) n (omega arith), said, line-complete names line h, eq-eqb n n refl)
 
   module _ (sizes : Sizes) (within : Within sizes names) where
-    line-parts : (number depth : ℕ) (line : Line) (columns body : List ℕ) → length columns ≡ 5 → length body ≡ 74 → isNumbered number columns ≡ true
+    line-parts : (number depth : ℕ) (line : LineContent) (columns body : List ℕ) → length columns ≡ 5 → length body ≡ 74 → isNumbered number columns ≡ true
         → bodyRead names depth body ≡ line-cases.Read line → lineIn names number depth (framed columns body) ≡ line-cases.Read line
     unfolding lineIn framed
     line-parts number depth line columns body five long numbered read =
@@ -118,7 +118,7 @@ module _ (names : Names) (few-variables : names .variables ≤ 256) (few-behind 
         rw (first, numbered, parting, last, middle) read
 
     -- The bytes of a line are read as it.
-    pub line-in-complete : (number depth : ℕ) (line : Line) → number < 100000 → LineFits names line
+    pub line-in-complete : (number depth : ℕ) (line : LineContent) → number < 100000 → LineFits names line
         → lineIn names number depth (printed names few-variables few-behind few-arrays sizes within number (levelOf depth line) line) ≡ line-cases.Read line
     line-in-complete number depth line few h =
         let n = indent (levelOf depth line) in

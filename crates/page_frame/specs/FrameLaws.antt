@@ -29,9 +29,9 @@ use Rattle.page_words.specs.declared.NumberRead.{NumberRead}
 use Rattle.page_words.specs.declared.NumberRead.the-variants as number-cases
 use Rattle.page_words.specs.declared.LineRead.{LineRead}
 use Rattle.page_words.specs.declared.LineRead.the-variants as line-cases
-use Rattle.page_words.specs.declared.Atom.the-variants.{Constant, Variable, Declared, Temporary}
-use Rattle.page_words.specs.declared.Line.{Line}
-use Rattle.page_words.specs.declared.Line.the-variants.{Empty, Abort, Goto, Label, Store, Put, Opens, While, If, Turns, Closes}
+use Rattle.page_words.specs.declared.PageAtom.the-variants.{Constant, Variable, Declared, Temporary}
+use Rattle.page_words.specs.declared.LineContent.{LineContent}
+use Rattle.page_words.specs.declared.LineContent.the-variants.{Empty, Abort, Goto, Label, Store, Put, Opens, While, If, Turns, Closes}
 use Rattle.page_frame.specs.Frames.{leadingBlanks, filledSize, levelOf, isNumber, isNumbered, levelled, statementRead, bodyRead, lineIn, statementIn}
 use Rattle.page_frame.specs.BlankLaws.{leading-splits, leading-within, Begins, leading-is, filled-within, filled-splits, Ends, filled-is}
 
@@ -61,7 +61,7 @@ numbered-sound number columns five e = from (numberRead 100000 rest) refl e
         let lead : leadingBlanks columns ≡ 5 - length (digits number) = omega (arith, leading-within columns) in
         leading-splits columns ∙ ap₂ (λ (m : ℕ) (l : List ℕ). blanks m ++ l) lead f
 
-level-sound : (depth start : ℕ) (r : LineRead) (line : Line) → levelled depth start r ≡ line-cases.Read line → (r ≡ line-cases.Read line) × (start ≡ indent (levelOf depth line))
+level-sound : (depth start : ℕ) (r : LineRead) (line : LineContent) → levelled depth start r ≡ line-cases.Read line → (r ≡ line-cases.Read line) × (start ≡ indent (levelOf depth line))
 unfolding levelled
 level-sound depth start line-cases.Malformed line e = absurd (let z : _≡_ {A = ℕ} 0 1 = cc in omega arith)
 level-sound depth start (line-cases.Read found) line e =
@@ -73,13 +73,13 @@ level-sound depth start (line-cases.Read found) line e =
     (λ t. absurd (let none : line-cases.Malformed ≡ line-cases.Read line = rw t at e in let z : _≡_ {A = ℕ} 0 1 = cc in omega arith))
 
 -- Bytes that are read as a line: the line's number, a blank, its body, and a newline.
-record InFrame (names : Names) (number depth : ℕ) (bytes : List ℕ) (line : Line) : Type 0 where
+record InFrame (names : Names) (number depth : ℕ) (bytes : List ℕ) (line : LineContent) : Type 0 where
   numbered : isNumbered number (take 5 bytes) ≡ true
   parted : getD bytes 5 0 ≡ 32
   ended : getD bytes 80 0 ≡ 10
   body : bodyRead names depth (take 74 (drop 6 bytes)) ≡ line-cases.Read line
 
-in-frame : (names : Names) (number depth : ℕ) (bytes : List ℕ) (line : Line) → lineIn names number depth bytes ≡ line-cases.Read line → InFrame names number depth bytes line
+in-frame : (names : Names) (number depth : ℕ) (bytes : List ℕ) (line : LineContent) → lineIn names number depth bytes ≡ line-cases.Read line → InFrame names number depth bytes line
 unfolding lineIn
 in-frame names number depth bytes line e =
     by-cases (isNumbered number (take 5 bytes))
@@ -94,7 +94,7 @@ in-frame names number depth bytes line e =
     no q = absurd (let z : _≡_ {A = ℕ} 0 1 = cc in omega arith)
 
 -- The statement of a line is read without its number and its level.
-pub statement-in : (names : Names) (number depth : ℕ) (bytes : List ℕ) (line : Line) → lineIn names number depth bytes ≡ line-cases.Read line → statementIn names bytes ≡ line-cases.Read line
+pub statement-in : (names : Names) (number depth : ℕ) (bytes : List ℕ) (line : LineContent) → lineIn names number depth bytes ≡ line-cases.Read line → statementIn names bytes ≡ line-cases.Read line
 unfolding statementIn bodyRead
 statement-in names number depth bytes line e =
     let body = take 74 (drop 6 bytes) in
@@ -102,12 +102,12 @@ statement-in names number depth bytes line e =
 
 module _ (names : Names) (few-variables : names .variables ≤ 256) (few-behind : names .declared + names .temporaries ≤ 8256) (few-arrays : names .arrays ≤ 32) where
   -- what a body that is read as a line is: indent, statement, blanks
-  pub record IsBody (depth : ℕ) (body : List ℕ) (line : Line) : Type 0 where
+  pub record IsBody (depth : ℕ) (body : List ℕ) (line : LineContent) : Type 0 where
     pub fits : LineFits names line
     pub tail : ℕ
     pub written : body ≡ blanks (indent (levelOf depth line)) ++ (lineText line ++ blanks tail)
 
-  body-sound : (depth : ℕ) (body : List ℕ) (line : Line) → bodyRead names depth body ≡ line-cases.Read line → IsBody depth body line
+  body-sound : (depth : ℕ) (body : List ℕ) (line : LineContent) → bodyRead names depth body ≡ line-cases.Read line → IsBody depth body line
   unfolding bodyRead statementRead
   body-sound depth body line e =
       let lead = leadingBlanks body in
@@ -140,19 +140,19 @@ module _ (names : Names) (few-variables : names .variables ≤ 256) (few-behind 
       (drop-cons line 5 0 (omega arith) ∙ ap (λ (l : List ℕ). getD line 5 0 ∷ l) (sym (take-append-drop 74 (drop 6 line)) ∙ ap (λ (l : List ℕ). take 74 (drop 6 line) ++ l) last))
 
   module _ (sizes : Sizes) (within : Within sizes names) where
-    abbrev pub printed : ℕ → ℕ → Line → List ℕ
+    abbrev pub printed : ℕ → ℕ → LineContent → List ℕ
     printed number level line = lineBytes sizes number (indented level (lineTree sizes line))
 
     name-width : (i : ℕ) → Named sizes names within i → length (name sizes i) ≤ 5
     name-width i = ⊎-elim (λ v. variable-width sizes i (omega arith)) (λ t. behind-width sizes i (t .0) (omega (arith, t .1)))
 
-    pub width : (line : Line) → LineFits names line → length (lineText line) ≤ 35
+    pub width : (line : LineContent) → LineFits names line → length (lineText line) ≤ 35
     width line h =
         let f = line-width {Names = Named sizes names within} {arrays = names .arrays} sizes name-width few-arrays (lineTree sizes line) (line-fits sizes names within line h) in
         rw (line-words sizes names within line h) at f
 
     -- A printed line by its parts.
-    pub printed-is : (number level : ℕ) (line : Line) → LineFits names line → number < 100000
+    pub printed-is : (number level : ℕ) (line : LineContent) → LineFits names line → number < 100000
         → printed number level line ≡ framed (rightSet 5 (digits number)) (blanks (indent level) ++ (lineText line ++ blanks (74 - indent level - length (lineText line))))
     unfolding lineBytes padded framed
     printed-is number level line h b =
@@ -168,7 +168,7 @@ module _ (names : Names) (few-variables : names .variables ≤ 256) (few-behind 
         ∙ regrouped columns before text (blanks (74 - indent level - length text))
 
     -- What is read as a line are its bytes.
-    pub line-in-sound : (number depth : ℕ) (bytes : List ℕ) (line : Line) → number < 100000 → length bytes ≡ 81 → lineIn names number depth bytes ≡ line-cases.Read line
+    pub line-in-sound : (number depth : ℕ) (bytes : List ℕ) (line : LineContent) → number < 100000 → length bytes ≡ 81 → lineIn names number depth bytes ≡ line-cases.Read line
         → (bytes ≡ printed number (levelOf depth line) line) × LineFits names line
     line-in-sound number depth bytes line few long e =
         let f = in-frame names number depth bytes line e in

@@ -12,8 +12,8 @@ use Rattle.page_words.specs.declared.NumberRead.{NumberRead}
 use Rattle.page_words.specs.declared.NumberRead.the-variants as number-cases
 use Rattle.page_words.specs.declared.LineRead.{LineRead}
 use Rattle.page_words.specs.declared.LineRead.the-variants as line-cases
-use Rattle.page_words.specs.declared.Line.{Line}
-use Rattle.page_words.specs.declared.Line.the-variants.{Empty, Abort, Goto, Label, Store, Put, Opens, While, If, Turns, Closes}
+use Rattle.page_words.specs.declared.LineContent.{LineContent}
+use Rattle.page_words.specs.declared.LineContent.the-variants.{Empty, Abort, Goto, Label, Store, Put, Opens, While, If, Turns, Closes}
 
 -- How many blanks stand first.
 unfoldable pub leadingBlanks : List ℕ → ℕ
@@ -26,7 +26,7 @@ filledSize [] = 0
 filledSize (byte ∷ bytes) = pick (eqb (filledSize bytes) 0) (pick (eqb byte 32) 0 1) (suc (filledSize bytes))
 
 -- The level of a line among so many blocks: one that closes or turns stands as its statement's first line.
-abbrev pub levelOf : ℕ → Line → ℕ
+abbrev pub levelOf : ℕ → LineContent → ℕ
 levelOf depth Closes = depth - 1
 levelOf depth Turns = depth - 1
 levelOf depth Empty = depth

@@ -1,7 +1,7 @@
 // A line of a page in its frame (docs/PAGES.md): its number in five columns, a blank, the indent, the statement, blanks, and the newline.
 use page_atoms::atoms::number_below;
 use page_statements::lines::line;
-use page_words::Line;
+use page_words::LineContent;
 use page_words::LineRead;
 use page_words::Names;
 use page_words::NumberRead;
@@ -58,21 +58,21 @@ fn one_less(n: usize) -> usize
 }
 
 // The level of a line among so many blocks: one that closes or turns stands as its statement's first line.
-fn level_of(depth: usize, line: Line) -> usize
+fn level_of(depth: usize, line: LineContent) -> usize
     ensures { λ r. ⌜ r ≡ levelOf depth line ⌝ }
 {
     match line {
-        Line::Closes => one_less(depth),
-        Line::Turns => one_less(depth),
-        Line::Empty => depth,
-        Line::Abort => depth,
-        Line::Goto(_) => depth,
-        Line::Label(_) => depth,
-        Line::Store(_, _) => depth,
-        Line::Put(_, _, _) => depth,
-        Line::Opens => depth,
-        Line::While(_) => depth,
-        Line::If(_) => depth,
+        LineContent::Closes => one_less(depth),
+        LineContent::Turns => one_less(depth),
+        LineContent::Empty => depth,
+        LineContent::Abort => depth,
+        LineContent::Goto(_) => depth,
+        LineContent::Label(_) => depth,
+        LineContent::Store(_, _) => depth,
+        LineContent::Put(_, _, _) => depth,
+        LineContent::Opens => depth,
+        LineContent::While(_) => depth,
+        LineContent::If(_) => depth,
     }
 }
 

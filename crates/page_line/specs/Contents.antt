@@ -9,13 +9,13 @@ use Rattle.language.specs.Trees.{Expression, empty, express, goto, abort}
 use Rattle.language.specs.Decode.{expressionAt}
 use Rattle.shapes.specs.Shapes.{markTree}
 use Rattle.page.specs.declared.Sizes.{Sizes}
-use Rattle.page.specs.Lines.{Line as PageLine, single, mark, opens, opensWhile, opensIf, turns, closes}
+use Rattle.page.specs.Lines.{PageLine, single, mark, opens, opensWhile, opensIf, turns, closes}
 use Rattle.page.specs.Page.{blank, labelWord, atomWord, parted}
-use Rattle.page_line.specs.declared.Line.{Line}
-use Rattle.page_line.specs.declared.Line.the-variants.{Empty, Express, Goto, Abort, Mark, Opens, While, If, Turns, Closes}
+use Rattle.page_line.specs.declared.LineAt.{LineAt}
+use Rattle.page_line.specs.declared.LineAt.the-variants.{Empty, Express, Goto, Abort, Mark, Opens, While, If, Turns, Closes}
 
 -- The line of the definition.
-abbrev pub lineTree : List ℤ → Line → PageLine
+abbrev pub lineTree : List ℤ → LineAt → PageLine
 lineTree rows Empty = single empty
 lineTree rows (Express row) = single (express (expressionAt rows row))
 lineTree rows (Goto l) = single (goto l)
@@ -28,7 +28,7 @@ lineTree rows Turns = turns
 lineTree rows Closes = closes
 
 -- Its expression is a row of the table, of which there are `count`.
-abbrev pub LineInside : ℕ → Line → Type 0
+abbrev pub LineInside : ℕ → LineAt → Type 0
 LineInside count Empty = Unit {0}
 LineInside count (Express row) = row < count
 LineInside count (Goto l) = Unit {0}

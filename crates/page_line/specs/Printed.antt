@@ -8,13 +8,13 @@ use Rattle.words.specs.Table.{rowCount}
 use Rattle.page.specs.declared.Sizes.{Sizes}
 use Rattle.page.specs.Lines.{Indented}
 use Rattle.page.specs.Page.{lineWords, parted, linesBytes}
-use Rattle.page_line.specs.declared.Line.{Line}
+use Rattle.page_line.specs.declared.LineAt.{LineAt}
 use Rattle.page_line.specs.Laid.{Laid}
 use Rattle.page_line.specs.Reads.{Readable}
 use Rattle.page_line.specs.Contents.{lineTree, LineInside}
 
 -- A line can be read from the table, five columns hold its number, it fits 80 columns, and the page has room for it.
-pub record LineRoom (sizes : Sizes) (rows : List ℤ) (line : Line) (done : ℕ) (page : List ℕ) : Type 0 where
+pub record LineRoom (sizes : Sizes) (rows : List ℤ) (line : LineAt) (done : ℕ) (page : List ℕ) : Type 0 where
   pub readable : Readable rows
   pub inside : LineInside (rowCount rows) line
   pub few : done + 1 < 100000

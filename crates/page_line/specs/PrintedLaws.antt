@@ -8,7 +8,7 @@ use lib.ListN.{length, length-append}
 use Rattle.text_numbers.specs.Number.{digits}
 use Rattle.text_numbers.specs.PutLaws.{digits-within}
 use Rattle.page.specs.declared.Sizes.{Sizes}
-use Rattle.page.specs.Lines.{Line as PageLine, Indented, indented}
+use Rattle.page.specs.Lines.{PageLine, Indented, indented}
 use Rattle.page.specs.Page.{blank, blanks, parted, rightSet, padded, indent, lineWords, lineBytes, linesBytes}
 use Rattle.page.specs.Widths.{length-blanks, length-set}
 use Rattle.page_line.specs.Laid.{Laid}

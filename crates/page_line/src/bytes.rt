@@ -97,7 +97,7 @@ fn columns(number: usize) -> usize
     5
 }
 
-// "Line number from 1 in five columns, right-set".
+// "LineAt number from 1 in five columns, right-set".
 pub fn lay_line_number(number: usize, at: usize, text: &mut [u8]) -> usize
     requires { ⌜ (number < 100000) × (at + 5 ≤ length (now text)) ⌝ }
     ensures { λ r. ⌜ Laid (rightSet 5 (digits number)) (now (text .entry)) at r (now (text .exit)) ⌝ }

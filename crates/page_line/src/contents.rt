@@ -1,5 +1,5 @@
 // What each line says.
-use super::Line;
+use super::LineAt;
 use super::bytes::lay_byte;
 use super::bytes::lay_bytes;
 use super::bytes::lay_lettered;
@@ -67,21 +67,21 @@ fn lay_test(
 }
 
 // What a line says, its words parted by blanks.
-pub fn lay_content(sizes: Sizes, rows: &[i32], line: Line, at: usize, text: &mut [u8]) -> usize
+pub fn lay_content(sizes: Sizes, rows: &[i32], line: LineAt, at: usize, text: &mut [u8]) -> usize
     requires { ⌜ Readable (now rows) × LineInside (rowCount (now rows)) line ⌝ }
     requires { ⌜ at + length (parted (lineWords sizes (lineTree (now rows) line))) ≤ length (now text) ⌝ }
     ensures { λ r. ⌜ Laid (parted (lineWords sizes (lineTree (now (rows .entry)) line))) (now (text .entry)) at r (now (text .exit)) ⌝ }
 {
     match line {
-        Line::Empty => lay_byte(b';', at, text),
-        Line::Express(row) => lay_assignment(sizes, rows, row, at, text),
-        Line::Goto(number) => lay_goto(number, at, text),
-        Line::Abort => lay_bytes(b"abort();", at, text),
-        Line::Mark(mark) => lay_mark(sizes, mark, at, text),
-        Line::Opens => lay_byte(b'{', at, text),
-        Line::While(row) => lay_test(b"while (", sizes, rows, row, at, text),
-        Line::If(row) => lay_test(b"if (", sizes, rows, row, at, text),
-        Line::Turns => lay_bytes(b"} else {", at, text),
-        Line::Closes => lay_byte(b'}', at, text),
+        LineAt::Empty => lay_byte(b';', at, text),
+        LineAt::Express(row) => lay_assignment(sizes, rows, row, at, text),
+        LineAt::Goto(number) => lay_goto(number, at, text),
+        LineAt::Abort => lay_bytes(b"abort();", at, text),
+        LineAt::Mark(mark) => lay_mark(sizes, mark, at, text),
+        LineAt::Opens => lay_byte(b'{', at, text),
+        LineAt::While(row) => lay_test(b"while (", sizes, rows, row, at, text),
+        LineAt::If(row) => lay_test(b"if (", sizes, rows, row, at, text),
+        LineAt::Turns => lay_bytes(b"} else {", at, text),
+        LineAt::Closes => lay_byte(b'}', at, text),
     }
 }

@@ -8,7 +8,7 @@ pub mod whole; // whole.rt: the whole line
 use shapes::MarkShape;
 
 // What a line says. Expressions are told by their row.
-pub enum Line {
+pub enum LineAt {
     Empty,
     Express(usize),
     Goto(usize),

@@ -1,5 +1,5 @@
 // The whole line: "line number from 1 in five columns, right-set; one blank; indent; statement; blanks to the end", and the newline.
-use super::Line;
+use super::LineAt;
 use super::bytes::lay_blanks;
 use super::bytes::lay_byte;
 use super::bytes::lay_line_number;
@@ -26,7 +26,7 @@ fn indent_of(level: usize) -> usize
 pub fn print_line(
     sizes: Sizes,
     rows: &[i32],
-    line: Line,
+    line: LineAt,
     level: usize,
     done: usize,
     page: &mut [u8],

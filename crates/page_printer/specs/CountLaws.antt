@@ -8,8 +8,8 @@ use lib.ListN.{length, length-append}
 use Rattle.words.specs.Table.{rowCount, numberAt}
 use Rattle.language.specs.Decode.{statementAt, itemsAt, listAt}
 use Rattle.page.specs.Lines.{Indented, indented, closes, branchLines, itemsLines}
-use Rattle.page_line.specs.declared.Line.{Line}
-use Rattle.page_line.specs.declared.Line.the-variants.{Turns, If}
+use Rattle.page_line.specs.declared.LineAt.{LineAt}
+use Rattle.page_line.specs.declared.LineAt.the-variants.{Turns, If}
 use Rattle.page_line.specs.Reads.{Readable}
 use Rattle.page_printer.specs.declared.Outline.{Outline}
 use Rattle.page_printer.specs.declared.Outline.the-variants.{Enclosed, Split}
@@ -53,12 +53,12 @@ module _ {rows : List ℤ} (readable : Readable rows) {row : ℕ} (inside : row 
   block-count : (block list : ℕ) → block < rowCount rows → list ≡ blockList rows block → length (branchLines 1 (statementAt rows block)) ≡ length (itemsLines 0 (listAt rows list))
   block-count block list b e = rw e (ap length (block-lines readable b 1) ∙ items-level 1 0 (listAt rows (blockList rows block)))
 
-  pub enclosed-count : (line : Line) (block list : ℕ) → outlineAt rows row ≡ Enclosed line block → list ≡ blockList rows block
+  pub enclosed-count : (line : LineAt) (block list : ℕ) → outlineAt rows row ≡ Enclosed line block → list ≡ blockList rows block
       → length (outlined rows 0 (outlineAt rows row)) ≡ length (itemsLines 0 (listAt rows list)) + 2
   enclosed-count line block list e g =
       rw e (omega (arith, length-append (branchLines 1 (statementAt rows block)) (indented 0 closes ∷ []), block-count block list (told-inside e .1) g))
 
-  pub split-count : (line : Line) (first second one other : ℕ) → outlineAt rows row ≡ Split line first second → one ≡ blockList rows first → other ≡ blockList rows second
+  pub split-count : (line : LineAt) (first second one other : ℕ) → outlineAt rows row ≡ Split line first second → one ≡ blockList rows first → other ≡ blockList rows second
       → length (outlined rows 0 (outlineAt rows row)) ≡ length (itemsLines 0 (listAt rows one)) + length (itemsLines 0 (listAt rows other)) + 3
   split-count line first second one other e g h =
       rw e (omega (

@@ -10,8 +10,8 @@ use Rattle.shapes.specs.declared.StatementShape.{StatementShape}
 use Rattle.shapes.specs.declared.StatementShape.the-variants as statement
 use Rattle.page.specs.Lines.{Indented, indented, closes, branchLines}
 use Rattle.page_line.specs.Contents.{lineTree, LineInside}
-use Rattle.page_line.specs.declared.Line.{Line}
-use Rattle.page_line.specs.declared.Line.the-variants.{Empty, Express, Goto, Abort, Mark, Opens, While, If, Turns}
+use Rattle.page_line.specs.declared.LineAt.{LineAt}
+use Rattle.page_line.specs.declared.LineAt.the-variants.{Empty, Express, Goto, Abort, Mark, Opens, While, If, Turns}
 use Rattle.page_printer.specs.declared.Outline.{Outline}
 use Rattle.page_printer.specs.declared.Outline.the-variants.{Single, Enclosed, Split, Nothing}
 
@@ -88,7 +88,7 @@ blockList rows row = listIn (shapeAt rows row)
 
 module _ (rows : List ℤ) (level : ℕ) where
   -- A line, and the lines of a block a level deeper.
-  abbrev pub enclosed : Line → ℕ → List Indented
+  abbrev pub enclosed : LineAt → ℕ → List Indented
   enclosed line block = indented level (lineTree rows line) ∷ branchLines (level + 1) (statementAt rows block)
 
   abbrev pub outlined : Outline → List Indented

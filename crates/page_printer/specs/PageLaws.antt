@@ -16,7 +16,7 @@ use Rattle.words.specs.Over.{over}
 use Rattle.words.specs.OverLaws.{take-over}
 use Rattle.words.specs.declared.Form.the-variants.{Kernel}
 use Rattle.words.specs.declared.Refusal.{Refusal}
-use Rattle.text_form.specs.Answers.{Writes, writeBytes, unless, writeOutcome}
+use Rattle.text_form.specs.Answers.{Writes, writeBytes, causeUnless, writeOutcome}
 use Rattle.text_form.specs.declared.WriteAnswer.{WriteAnswer}
 use Rattle.text_form.specs.declared.WriteAnswer.the-variants.{Written, Refused}
 use Rattle.language.specs.Decode.{statementAt, listAt, decode}
@@ -116,7 +116,7 @@ module _ (header rows : List ℤ) (legal : Legal header rows) (words : (i : ℕ)
   -- ---- what the printer answers
 
   pub short-page : (page : List ℕ) → length page < 81 * length lines → Writes (printAccepted header rows page) (Refused (record { number = 10; place = 0 })) page
-  unfolding printAccepted writeBytes unless
+  unfolding printAccepted writeBytes causeUnless
   short-page page h = let t : leb (length bytes) (length page) ≡ false = lt-leb (length bytes) (length page) (omega (arith, size)) in record { outcome = rw t; text-left = rw t }
 
   printed-bytes : (page left : List ℕ) (next : ℕ) → Printed (sizesOf header) lines page 0 next left → left ≡ over bytes page
@@ -124,7 +124,7 @@ module _ (header rows : List ℤ) (legal : Legal header rows) (words : (i : ℕ)
   printed-bytes page left next p = rw (← table-lines) (p .laid .written)
 
   pub whole-page : (page left : List ℕ) (next : ℕ) → 81 * length lines ≤ length page → Printed (sizesOf header) lines page 0 next left → Writes (printAccepted header rows page) (Written (81 * length lines)) left
-  unfolding printAccepted writeBytes unless
+  unfolding printAccepted writeBytes causeUnless
   whole-page page left next h p =
       let t : leb (length bytes) (length page) ≡ true = le-leb (length bytes) (length page) (omega (arith, size)) in
       record { outcome = rw (t, size); text-left = rw t (printed-bytes page left next p) }

@@ -7,7 +7,7 @@ use lib.Dec.{leb}
 use lib.IntN.{ℤ, pos}
 use lib.Signed.{mag}
 use lib.ListN.{length, getD, take}
-use Rattle.text_form.specs.Answers.{WriteResult, writeBytes, unless}
+use Rattle.text_form.specs.Answers.{WriteResult, writeBytes, causeUnless}
 use Rattle.text_form.specs.declared.WriteAnswer.{WriteAnswer}
 use Rattle.text_form.specs.declared.WriteAnswer.the-variants.{Written}
 use Rattle.page.specs.Tables.{tableLines, tablePage, GivenBack}
@@ -18,7 +18,7 @@ pub record Worded (words : List ℤ) : Type 0 where
 
 -- "A short page buffer gets 10." Bytes beyond the page keep their content.
 unfoldable pub printAccepted : List ℤ → List ℤ → List ℕ → WriteResult
-printAccepted header rows page = writeBytes (unless (leb (length (tablePage header rows)) (length page)) 10 none) (tablePage header rows) page
+printAccepted header rows page = writeBytes (causeUnless (leb (length (tablePage header rows)) (length page)) 10 none) (tablePage header rows) page
 
 -- What was printed is lines of 80 columns and a newline, and gives back the table, up to numbering.
 pub record PageReads (header rows : List ℤ) (answer : WriteAnswer) (page : List ℕ) : Type 0 where

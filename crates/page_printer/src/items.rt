@@ -1,6 +1,6 @@
 // Which lines an item has of its own, and where a block's list begins.
 use super::Outline;
-use page_line::Line;
+use page_line::LineAt;
 use shapes::Shape;
 use shapes::StatementShape;
 use shapes::rows::shape_at;
@@ -15,27 +15,27 @@ fn if_outline(test: usize, first: usize, second: usize) -> Outline
     if second == 0 {
         return Outline::Nothing;
     }
-    Outline::Split(Line::If(test), first, second)
+    Outline::Split(LineAt::If(test), first, second)
 }
 
 fn statement_outline(row: usize, statement: StatementShape) -> Outline
     ensures { λ r. ⌜ r ≡ statementOutline row statement ⌝ }
 {
     match statement {
-        StatementShape::Empty => Outline::Single(Line::Empty),
-        StatementShape::Express(expression) => Outline::Single(Line::Express(expression)),
-        StatementShape::Block(_) => Outline::Enclosed(Line::Opens, row),
+        StatementShape::Empty => Outline::Single(LineAt::Empty),
+        StatementShape::Express(expression) => Outline::Single(LineAt::Express(expression)),
+        StatementShape::Block(_) => Outline::Enclosed(LineAt::Opens, row),
         StatementShape::If(test, first, second) => if_outline(test, first, second),
-        StatementShape::While(test, body) => Outline::Enclosed(Line::While(test), body),
+        StatementShape::While(test, body) => Outline::Enclosed(LineAt::While(test), body),
         StatementShape::Do(_, _) => Outline::Nothing,
         StatementShape::For(_, _, _, _) => Outline::Nothing,
         StatementShape::Switch(_, _) => Outline::Nothing,
         StatementShape::Break => Outline::Nothing,
         StatementShape::Continue => Outline::Nothing,
-        StatementShape::Goto(number) => Outline::Single(Line::Goto(number)),
+        StatementShape::Goto(number) => Outline::Single(LineAt::Goto(number)),
         StatementShape::GuardedIf(_) => Outline::Nothing,
         StatementShape::GuardedDo(_) => Outline::Nothing,
-        StatementShape::Abort => Outline::Single(Line::Abort),
+        StatementShape::Abort => Outline::Single(LineAt::Abort),
         StatementShape::Declare(_, _) => Outline::Nothing,
         StatementShape::Return(_) => Outline::Nothing,
     }
@@ -48,13 +48,13 @@ pub fn outline_at(rows: &[i32], row: usize) -> Outline
 {
     let shape = shape_at(rows, row);
     match shape {
-        Shape::OfExpression(_) => Outline::Single(Line::Empty),
+        Shape::OfExpression(_) => Outline::Single(LineAt::Empty),
         Shape::OfStatement(statement) => statement_outline(row, statement),
-        Shape::OfMark(mark) => Outline::Single(Line::Mark(mark)),
-        Shape::OfArm(_, _) => Outline::Single(Line::Empty),
-        Shape::OfArgument(_) => Outline::Single(Line::Empty),
+        Shape::OfMark(mark) => Outline::Single(LineAt::Mark(mark)),
+        Shape::OfArm(_, _) => Outline::Single(LineAt::Empty),
+        Shape::OfArgument(_) => Outline::Single(LineAt::Empty),
         Shape::OfDefinition(_, _, _) => Outline::Nothing,
-        Shape::Other => Outline::Single(Line::Empty),
+        Shape::Other => Outline::Single(LineAt::Empty),
     }
 }
 

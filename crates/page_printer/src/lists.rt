@@ -4,7 +4,7 @@ use super::Outline;
 use super::items::block_list;
 use super::items::outline_at;
 use page::Sizes;
-use page_line::Line;
+use page_line::LineAt;
 use page_line::whole::print_line;
 use words::table::number_at;
 ghost use Prim.Native.Nat.{_+_, _<_};
@@ -54,12 +54,12 @@ fn print_item(
         Outline::Single(line) => print_line(sizes, rows, line, level, done, page),
         Outline::Enclosed(line, block) => {
             let inside = print_enclosed(sizes, &*rows, line, block, level, done, page);
-            print_line(sizes, rows, Line::Closes, level, inside, page)
+            print_line(sizes, rows, LineAt::Closes, level, inside, page)
         }
         Outline::Split(line, first, second) => {
             let turn = print_enclosed(sizes, &*rows, line, first, level, done, page);
-            let inside = print_enclosed(sizes, &*rows, Line::Turns, second, level, turn, page);
-            print_line(sizes, rows, Line::Closes, level, inside, page)
+            let inside = print_enclosed(sizes, &*rows, LineAt::Turns, second, level, turn, page);
+            print_line(sizes, rows, LineAt::Closes, level, inside, page)
         }
         Outline::Nothing => done,
     }
@@ -69,7 +69,7 @@ fn print_item(
 fn print_enclosed(
     sizes: Sizes,
     rows: &[i32],
-    line: Line,
+    line: LineAt,
     block: usize,
     level: usize,
     done: usize,

@@ -13,7 +13,7 @@ use Rattle.leaves.specs.Room.{Room}
 use Rattle.page.specs.declared.Sizes.{Sizes}
 use Rattle.page_words.specs.Texts.{LineFits}
 use Rattle.page_words.specs.declared.Names.{Names}
-use Rattle.page_words.specs.declared.Line.{Line}
+use Rattle.page_words.specs.declared.LineContent.{LineContent}
 use Rattle.page_words.specs.declared.LineRead.{LineRead}
 use Rattle.page_words.specs.declared.LineRead.the-variants.{Read, Malformed}
 use Rattle.page_frame.specs.Frames.{statementIn}
@@ -76,7 +76,7 @@ passing-start names sizes page total old waiting k c e =
 
 module _ {names : Names} {sizes : Sizes} {page : List ℕ} {total : ℕ} {old rows : List ℤ} {waiting : List ℕ} {depth : ℕ} {follows : Bool} {base k : ℕ}
     (p : Passing names sizes page total old rows waiting depth follows base k) where
-  abbrev rest : List Line
+  abbrev rest : List LineContent
   rest = linesFrom names page (p .count - k) k
 
   everything : linesFrom names page (p .count) 0 ≡ linesIn names page
@@ -135,7 +135,7 @@ module _ {names : Names} {sizes : Sizes} {page : List ℕ} {total : ℕ} {old ro
             long = p .long;
           }
 
-      module _ (line : Line) (q : read ≡ Read line) where
+      module _ (line : LineContent) (q : read ≡ Read line) where
         begins : linesFrom names page (p .count - (k - 1)) (k - 1) ≡ line ∷ rest
         begins = lines-are ∙ ap (λ (r : LineRead). withLine r rest) q
 

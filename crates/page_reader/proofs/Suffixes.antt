@@ -6,7 +6,7 @@ use native.Mathlib.Omega.{arith}
 use native.Mathlib.Numerals.{add-one}
 use lib.ListN.{length, take, drop}
 use Rattle.page_words.specs.declared.Names.{Names}
-use Rattle.page_words.specs.declared.Line.{Line}
+use Rattle.page_words.specs.declared.LineContent.{LineContent}
 use Rattle.page_words.specs.declared.LineRead.{LineRead}
 use Rattle.page_words.specs.declared.LineRead.the-variants.{Read, Malformed}
 use Rattle.page_frame.specs.Frames.{statementIn}
@@ -22,7 +22,7 @@ module _ (names : Names) (page : List ℕ) where
   unfolding linesFrom
   one-more left k = ap (λ (n : ℕ). withLine (statementAt k) (linesFrom names page left n)) (add-one k)
 
-  more-rows : (read : LineRead) (lines : List Line) → linesRows lines ≤ linesRows (withLine read lines)
+  more-rows : (read : LineRead) (lines : List LineContent) → linesRows lines ≤ linesRows (withLine read lines)
   more-rows Malformed lines = omega arith
   more-rows (Read line) lines = omega arith
 
@@ -34,7 +34,7 @@ module _ (names : Names) (page : List ℕ) where
       let first : linesRows (withLine (statementAt k) (linesFrom names page left (suc k))) ≤ linesRows (linesFrom names page (left + suc k) 0) = rw (one-more left k, sum) at step in
       omega (arith, more-rows (statementAt k) (linesFrom names page left (suc k)))
 
-  less-fit : (read : LineRead) (lines : List Line) → AllFit names (withLine read lines) → AllFit names lines
+  less-fit : (read : LineRead) (lines : List LineContent) → AllFit names (withLine read lines) → AllFit names lines
   unfolding AllFit
   less-fit Malformed lines h = h
   less-fit (Read line) lines h = h .1

@@ -1,6 +1,6 @@
 // The rows that wait for the lines that open their blocks, in an array, the innermost last.
 use leaves::rows::behind;
-use page_words::Line;
+use page_words::LineContent;
 use structure::row_number::narrow;
 use structure::row_number::wide;
 ghost use mathlib.Core.Path.{_≡_};
@@ -61,7 +61,7 @@ fn set_aside(row: usize, depth: usize, waiting: &mut [u16; 81958]) -> Pending
 
 // What a line, whose rows begin at `base`, leaves with those behind it.
 pub fn left_before(
-    line: Line,
+    line: LineContent,
     base: usize,
     follows: bool,
     depth: usize,
@@ -72,43 +72,43 @@ pub fn left_before(
     ensures { λ r. ⌜ (r .depth ≤ depth + 1) × (length (now (waiting .exit)) ≡ 81958) ⌝ }
 {
     match line {
-        Line::Empty => Pending {
+        LineContent::Empty => Pending {
             follows: true,
             depth: depth,
         },
-        Line::Abort => Pending {
+        LineContent::Abort => Pending {
             follows: true,
             depth: depth,
         },
-        Line::Goto(_) => Pending {
+        LineContent::Goto(_) => Pending {
             follows: true,
             depth: depth,
         },
-        Line::Label(_) => Pending {
+        LineContent::Label(_) => Pending {
             follows: true,
             depth: depth,
         },
-        Line::Store(_, _) => Pending {
+        LineContent::Store(_, _) => Pending {
             follows: true,
             depth: depth,
         },
-        Line::Put(_, _, _) => Pending {
+        LineContent::Put(_, _, _) => Pending {
             follows: true,
             depth: depth,
         },
-        Line::Opens => Pending {
+        LineContent::Opens => Pending {
             follows: true,
             depth: less(depth, 1),
         },
-        Line::While(_) => Pending {
+        LineContent::While(_) => Pending {
             follows: true,
             depth: less(depth, 1),
         },
-        Line::If(_) => Pending {
+        LineContent::If(_) => Pending {
             follows: true,
             depth: less(depth, 2),
         },
-        Line::Turns => set_aside(base, depth, waiting),
-        Line::Closes => set_aside(behind(follows, base), depth, waiting),
+        LineContent::Turns => set_aside(base, depth, waiting),
+        LineContent::Closes => set_aside(behind(follows, base), depth, waiting),
     }
 }

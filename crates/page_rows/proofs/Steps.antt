@@ -12,18 +12,18 @@ use Rattle.language.specs.Trees.{read, variable}
 use Rattle.emission.specs.Emission.{rowOf, emitExpression}
 use Rattle.leaves.specs.Atoms.{atomTree as kernelTree, atomRow}
 use Rattle.leaves.specs.Room.{Room}
-use Rattle.leaves.specs.Chain.{Put}
-use Rattle.leaves.specs.declared.Atom.{Atom as KernelAtom}
-use Rattle.leaves.specs.declared.Atom.the-variants as kernel-cases
+use Rattle.leaves.specs.Chain.{PutWords}
+use Rattle.leaves.specs.declared.KernelAtom.{KernelAtom}
+use Rattle.leaves.specs.declared.KernelAtom.the-variants as kernel-cases
 use Rattle.page.specs.declared.Sizes.{Sizes}
 use Rattle.page.specs.Page.{firstTemporary}
 use Rattle.page_words.specs.Texts.{AtomFits, NameFits, ElementFits, ValueFits, LineFits}
 use Rattle.page_words.specs.Trees.{placeTree, atomTree}
-use Rattle.page_words.specs.declared.Atom.{Atom}
-use Rattle.page_words.specs.declared.Atom.the-variants.{Variable, Declared, Temporary}
+use Rattle.page_words.specs.declared.PageAtom.{PageAtom}
+use Rattle.page_words.specs.declared.PageAtom.the-variants.{Variable, Declared, Temporary}
 use Rattle.page_words.specs.declared.Value.{Value}
-use Rattle.page_words.specs.declared.Line.{Line}
-use Rattle.page_words.specs.declared.Line.the-variants.{While, If}
+use Rattle.page_words.specs.declared.LineContent.{LineContent}
+use Rattle.page_words.specs.declared.LineContent.the-variants.{While, If}
 use Rattle.page_blocks.specs.Scans.{valueRows, lineRows}
 use Rattle.page_rows.specs.Rows.{blockRow, lineTable}
 use Rattle.page_rows.specs.Fits.{mostNames, SmallSizes}
@@ -34,7 +34,7 @@ pick-most false n = omega arith
 
 -- ---- numbers
 
-module _ (sizes : Sizes) (few : SmallSizes sizes) (a : Atom) (n : ℕ) where
+module _ (sizes : Sizes) (few : SmallSizes sizes) (a : PageAtom) (n : ℕ) where
   pub variable-atom : a ≡ Variable n → AtomFits mostNames a → (read (variable n) ≡ atomTree sizes a) × (n < 65536)
   variable-atom e h = let small : n < 256 = rw e at h in (ap (atomTree sizes) (sym e), omega arith)
 
@@ -62,7 +62,7 @@ module _ (v w : Value) (e : v ≡ w) where
   pub value-fit : ValueFits mostNames v → ValueFits mostNames w
   value-fit h = rw e at h
 
-module _ (line l : Line) (e : line ≡ l) where
+module _ (line l : LineContent) (e : line ≡ l) where
   pub line-room : (base words : ℕ) → Room (lineRows line) base words → Room (lineRows l) base words
   line-room base words r = rw e at r
 
@@ -76,22 +76,22 @@ module _ (l m : List ℤ) where
   block-written base first next follows h e = rw e at h
 
   -- one row
-  pub row-written : (u : List ℤ) → m ≡ over u l → length u ≡ 6 → Put u 1 l m
+  pub row-written : (u : List ℤ) → m ≡ over u l → length u ≡ 6 → PutWords u 1 l m
   row-written u e h = record { table = e; size = h }
 
-  pub atom-written : (x : KernelAtom) (base : ℕ) → m ≡ over (atomRow x) l → Put (emitExpression (kernelTree x) base) 1 l m
+  pub atom-written : (x : KernelAtom) (base : ℕ) → m ≡ over (atomRow x) l → PutWords (emitExpression (kernelTree x) base) 1 l m
   unfolding emitExpression
   atom-written (kernel-cases.Constant v) base e = record { table = e; size = refl }
   atom-written (kernel-cases.Variable n) base e = record { table = e; size = refl }
 
   pub if-written : (x : KernelAtom) (base second next : ℕ) → m ≡ over (rowOf 43 (pos (base + 1)) (base + 2) second 0 next ++ emitExpression (kernelTree x) (base + 1)) l
-      → Put (rowOf 43 (pos (base + 1)) (base + 2) second 0 next ++ emitExpression (kernelTree x) (base + 1)) 2 l m
+      → PutWords (rowOf 43 (pos (base + 1)) (base + 2) second 0 next ++ emitExpression (kernelTree x) (base + 1)) 2 l m
   unfolding emitExpression
   if-written (kernel-cases.Constant v) base second next e = record { table = e; size = refl }
   if-written (kernel-cases.Variable n) base second next e = record { table = e; size = refl }
 
   -- A line that opens a block, by the kernel's atom of its test.
-  module _ (sizes : Sizes) (base : ℕ) (follows : Bool) (first second : ℕ) (line : Line) (a : Atom) (x : KernelAtom) (t : kernelTree x ≡ atomTree sizes a) where
+  module _ (sizes : Sizes) (base : ℕ) (follows : Bool) (first second : ℕ) (line : LineContent) (a : PageAtom) (x : KernelAtom) (t : kernelTree x ≡ atomTree sizes a) where
     pub while-line : line ≡ While a → m ≡ over ((rowOf 44 (pos (base + 1)) (base + 2) 0 0 first ++ emitExpression (kernelTree x) (base + 1)) ++ blockRow (base + 2) follows 0) l
         → m ≡ over (lineTable sizes line base (record { follows = follows; waiting = first ∷ second ∷ [] })) l
     while-line e h =

@@ -4,12 +4,12 @@ use native.Mathlib.Omega.{arith}
 use Rattle.page.specs.declared.Sizes.{Sizes}
 use Rattle.page_words.specs.Texts.{AtomFits, NameFits, ValueFits, LineFits}
 use Rattle.page_words.specs.declared.Names.{Names}
-use Rattle.page_words.specs.declared.Atom.{Atom}
-use Rattle.page_words.specs.declared.Atom.the-variants.{Constant, Variable, Declared, Temporary}
+use Rattle.page_words.specs.declared.PageAtom.{PageAtom}
+use Rattle.page_words.specs.declared.PageAtom.the-variants.{Constant, Variable, Declared, Temporary}
 use Rattle.page_words.specs.declared.Value.{Value}
 use Rattle.page_words.specs.declared.Value.the-variants.{Single, Element, Minus, Binary}
-use Rattle.page_words.specs.declared.Line.{Line}
-use Rattle.page_words.specs.declared.Line.the-variants.{Empty, Abort, Goto, Label, Store, Put, Opens, While, If, Turns, Closes}
+use Rattle.page_words.specs.declared.LineContent.{LineContent}
+use Rattle.page_words.specs.declared.LineContent.the-variants.{Empty, Abort, Goto, Label, Store, Put, Opens, While, If, Turns, Closes}
 
 -- "V variables (0 to 256) and up to 32 array lengths"; D at most 64 and "T temporaries (0 to 8,192)".
 pub record SmallSizes (sizes : Sizes) : Type 0 where
@@ -20,13 +20,13 @@ abbrev pub mostNames : Names
 mostNames = record { variables = 256; declared = 8256; temporaries = 8256; arrays = 32 }
 
 module _ (names : Names) (few-variables : names .variables ≤ 256) (few-behind : names .declared + names .temporaries ≤ 8256) (few-arrays : names .arrays ≤ 32) where
-  atom-fits-most : (a : Atom) → AtomFits names a → AtomFits mostNames a
+  atom-fits-most : (a : PageAtom) → AtomFits names a → AtomFits mostNames a
   atom-fits-most (Constant v) h = h
   atom-fits-most (Variable n) h = omega arith
   atom-fits-most (Declared n) h = omega arith
   atom-fits-most (Temporary n) h = omega arith
 
-  name-fits-most : (a : Atom) → NameFits names a → NameFits mostNames a
+  name-fits-most : (a : PageAtom) → NameFits names a → NameFits mostNames a
   name-fits-most (Constant v) h = h
   name-fits-most (Variable n) h = omega arith
   name-fits-most (Declared n) h = omega arith
@@ -38,7 +38,7 @@ module _ (names : Names) (few-variables : names .variables ≤ 256) (few-behind 
   value-fits-most (Minus a) h = atom-fits-most a h
   value-fits-most (Binary o a b) h = (atom-fits-most a (h .0), atom-fits-most b (h .1))
 
-  pub line-fits-most : (line : Line) → LineFits names line → LineFits mostNames line
+  pub line-fits-most : (line : LineContent) → LineFits names line → LineFits mostNames line
   line-fits-most Empty h = tt
   line-fits-most Abort h = tt
   line-fits-most (Goto l) h = h

@@ -10,8 +10,8 @@ use Rattle.language.specs.Trees.{assign, element, label, empty, express, goto, 
 use Rattle.emission.specs.Emission.{rowOf, emitExpression, emitItems}
 use Rattle.page.specs.declared.Sizes.{Sizes}
 use Rattle.page_words.specs.Trees.{placeTree, atomTree, valueTree}
-use Rattle.page_words.specs.declared.Line.{Line}
-use Rattle.page_words.specs.declared.Line.the-variants.{Empty, Abort, Goto, Label, Store, Put, Opens, While, If, Turns, Closes}
+use Rattle.page_words.specs.declared.LineContent.{LineContent}
+use Rattle.page_words.specs.declared.LineContent.the-variants.{Empty, Abort, Goto, Label, Store, Put, Opens, While, If, Turns, Closes}
 use Rattle.page_blocks.specs.Scans.{lineRows}
 
 -- What lines leave to the line before them.
@@ -26,7 +26,7 @@ abbrev pub nothing : Left
 nothing = record { follows = false; waiting = [] }
 
 -- What a line and those behind it leave.
-abbrev pub leftBefore : Line → ℕ → Left → Left
+abbrev pub leftBefore : LineContent → ℕ → Left → Left
 leftBefore Empty base left = record { follows = true; waiting = left .waiting }
 leftBefore Abort base left = record { follows = true; waiting = left .waiting }
 leftBefore (Goto l) base left = record { follows = true; waiting = left .waiting }
@@ -40,7 +40,7 @@ leftBefore Turns base left = record { follows = false; waiting = base ∷ left .
 leftBefore Closes base left = record { follows = false; waiting = pick (left .follows) base 0 ∷ left .waiting }
 
 -- The item that a line is by itself; a line that opens, turns or closes is none.
-abbrev pub lineItem : Sizes → Line → Items
+abbrev pub lineItem : Sizes → LineContent → Items
 lineItem sizes Empty = empty then none
 lineItem sizes Abort = abort then none
 lineItem sizes (Goto l) = goto l then none
@@ -58,7 +58,7 @@ abbrev pub blockRow : ℕ → (follows : Bool) → (next : ℕ) → List ℤ
 blockRow base follows next = rowOf 42 (pos (pick follows (base + 1) 0)) 0 0 0 next
 
 -- The rows of a line, from `base` on. Those of a while and of an if: the statement, its atom, and the block that it opens.
-abbrev pub lineTable : Sizes → Line → ℕ → Left → List ℤ
+abbrev pub lineTable : Sizes → LineContent → ℕ → Left → List ℤ
 lineTable sizes Empty base left = emitItems (left .follows) (lineItem sizes Empty) base
 lineTable sizes Abort base left = emitItems (left .follows) (lineItem sizes Abort) base
 lineTable sizes (Goto l) base left = emitItems (left .follows) (lineItem sizes (Goto l)) base
@@ -75,14 +75,14 @@ lineTable sizes Closes base left = []
 
 -- ---- all lines
 
-unfoldable pub leftBy : List Line → ℕ → Left
+unfoldable pub leftBy : List LineContent → ℕ → Left
 leftBy [] base = nothing
 leftBy (line ∷ lines) base = leftBefore line base (leftBy lines (base + lineRows line))
 
-unfoldable pub linesTable : Sizes → List Line → ℕ → List ℤ
+unfoldable pub linesTable : Sizes → List LineContent → ℕ → List ℤ
 linesTable sizes [] base = []
 linesTable sizes (line ∷ lines) base = lineTable sizes line base (leftBy lines (base + lineRows line)) ++ linesTable sizes lines (base + lineRows line)
 
 -- Row 0, then the rows of the lines.
-unfoldable pub pageTable : Sizes → List Line → List ℤ
+unfoldable pub pageTable : Sizes → List LineContent → List ℤ
 pageTable sizes lines = blockRow 0 (leftBy lines 1 .follows) 0 ++ linesTable sizes lines 1

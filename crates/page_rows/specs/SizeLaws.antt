@@ -11,10 +11,10 @@ use Rattle.emission.specs.Emission.{rowOf, emitExpression}
 use Rattle.emission.specs.EmissionLaws.{length-items}
 use Rattle.page.specs.declared.Sizes.{Sizes}
 use Rattle.page_words.specs.Trees.{atomTree}
-use Rattle.page_words.specs.declared.Atom.{Atom}
-use Rattle.page_words.specs.declared.Atom.the-variants.{Constant, Variable, Declared, Temporary}
-use Rattle.page_words.specs.declared.Line.{Line}
-use Rattle.page_words.specs.declared.Line.the-variants.{Empty, Abort, Goto, Label, Store, Put, Opens, While, If, Turns, Closes}
+use Rattle.page_words.specs.declared.PageAtom.{PageAtom}
+use Rattle.page_words.specs.declared.PageAtom.the-variants.{Constant, Variable, Declared, Temporary}
+use Rattle.page_words.specs.declared.LineContent.{LineContent}
+use Rattle.page_words.specs.declared.LineContent.the-variants.{Empty, Abort, Goto, Label, Store, Put, Opens, While, If, Turns, Closes}
 use Rattle.page_blocks.specs.Scans.{lineRows}
 use Rattle.page_blocks.specs.ScanLaws.{linesRows}
 use Rattle.page_blocks.specs.RowLaws.{atom-rows, value-rows}
@@ -22,7 +22,7 @@ use Rattle.page_rows.specs.Rows.{Left, lineItem, blockRow, lineTable, le
 
 module _ (sizes : Sizes) where
   -- The rows of a line by the two innermost rows that wait.
-  pub by-two : (line : Line) (base : ℕ) (follows : Bool) (waiting : List ℕ)
+  pub by-two : (line : LineContent) (base : ℕ) (follows : Bool) (waiting : List ℕ)
       → lineTable sizes line base (record { follows = follows; waiting = getD waiting 0 0 ∷ getD waiting 1 0 ∷ [] }) ≡ lineTable sizes line base (record { follows = follows; waiting = waiting })
   by-two Empty base follows waiting = refl
   by-two Abort base follows waiting = refl
@@ -37,7 +37,7 @@ module _ (sizes : Sizes) where
   by-two Closes base follows waiting = refl
 
   -- An atom between a row and a block's row.
-  opening-size : (kind c next : ℕ) (base : ℕ) (follows : Bool) (a : Atom)
+  opening-size : (kind c next : ℕ) (base : ℕ) (follows : Bool) (a : PageAtom)
       → length ((rowOf kind (pos (base + 1)) (base + 2) c 0 next ++ emitExpression (atomTree sizes a) (base + 1)) ++ blockRow (base + 2) follows 0) ≡ 18
   unfolding emitExpression
   opening-size kind c next base follows (Constant v) = refl
@@ -45,7 +45,7 @@ module _ (sizes : Sizes) where
   opening-size kind c next base follows (Declared n) = refl
   opening-size kind c next base follows (Temporary n) = refl
 
-  pub length-line : (line : Line) (base : ℕ) (left : Left) → length (lineTable sizes line base left) ≡ 6 * lineRows line
+  pub length-line : (line : LineContent) (base : ℕ) (left : Left) → length (lineTable sizes line base left) ≡ 6 * lineRows line
   unfolding itemsRows expressionRows
   length-line Empty base left = length-items (left .follows) (lineItem sizes Empty) base
   length-line Abort base left = length-items (left .follows) (lineItem sizes Abort) base
@@ -62,13 +62,13 @@ module _ (sizes : Sizes) where
   length-line Turns base left = refl
   length-line Closes base left = refl
 
-  length-lines : (lines : List Line) (base : ℕ) → length (linesTable sizes lines base) ≡ 6 * linesRows lines
+  length-lines : (lines : List LineContent) (base : ℕ) → length (linesTable sizes lines base) ≡ 6 * linesRows lines
   unfolding linesTable
   length-lines [] base = refl
   length-lines (line ∷ lines) base =
       length-append (lineTable sizes line base (leftBy lines (base + lineRows line))) (linesTable sizes lines (base + lineRows line))
       ∙ omega (arith, length-line line base (leftBy lines (base + lineRows line)), length-lines lines (base + lineRows line))
 
-  pub length-page : (lines : List Line) → length (pageTable sizes lines) ≡ 6 * (1 + linesRows lines)
+  pub length-page : (lines : List LineContent) → length (pageTable sizes lines) ≡ 6 * (1 + linesRows lines)
   unfolding pageTable
   length-page lines = omega (arith, length-lines lines 1)

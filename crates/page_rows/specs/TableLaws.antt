@@ -18,10 +18,10 @@ use Rattle.page.specs.declared.Sizes.{Sizes}
 use Rattle.page.specs.Lines.{Waiting, outermost, closed, Reading, reading, malformed, readLine, readBefore, whole, readLines}
 use Rattle.page.specs.Lines.{turned as elseWaiting}
 use Rattle.page_words.specs.Trees.{atomTree, valueTree, lineTree}
-use Rattle.page_words.specs.declared.Atom.{Atom}
-use Rattle.page_words.specs.declared.Atom.the-variants.{Constant, Variable, Declared, Temporary}
-use Rattle.page_words.specs.declared.Line.{Line}
-use Rattle.page_words.specs.declared.Line.the-variants.{Empty, Abort, Goto, Label, Store, Put, Opens, While, If, Turns, Closes}
+use Rattle.page_words.specs.declared.PageAtom.{PageAtom}
+use Rattle.page_words.specs.declared.PageAtom.the-variants.{Constant, Variable, Declared, Temporary}
+use Rattle.page_words.specs.declared.LineContent.{LineContent}
+use Rattle.page_words.specs.declared.LineContent.the-variants.{Empty, Abort, Goto, Label, Store, Put, Opens, While, If, Turns, Closes}
 use Rattle.page_blocks.specs.Blocks.{trees}
 use Rattle.page_blocks.specs.Scans.{lineRows}
 use Rattle.page_blocks.specs.RowLaws.{atom-rows, value-rows}
@@ -180,7 +180,7 @@ module _ (is : Items) (waiting : Waiting) (base : ℕ) (left : Left) (table : Li
       }
 
 module _ (sizes : Sizes) where
-  line-read : (line : Line) (r : Reading) (base : ℕ) (left : Left) (table : List ℤ) → Read r (base + lineRows line) left table
+  line-read : (line : LineContent) (r : Reading) (base : ℕ) (left : Left) (table : List ℤ) → Read r (base + lineRows line) left table
       → Read (readLine (lineTree sizes line) r) base (leftBefore line base left) (lineTable sizes line base left ++ table)
   unfolding Read statementRows expressionRows _⧺_
   line-read Empty malformed base left table h = tt
@@ -229,14 +229,14 @@ module _ (sizes : Sizes) where
   line-read Closes malformed base left table h = tt
   line-read Closes (reading is waiting) base left table h = closed-read is waiting base left table h
 
-  lines-read : (lines : List Line) (base : ℕ) → Read (readBefore (trees sizes lines) (reading noItem outermost)) base (leftBy lines base) (linesTable sizes lines base)
+  lines-read : (lines : List LineContent) (base : ℕ) → Read (readBefore (trees sizes lines) (reading noItem outermost)) base (leftBy lines base) (linesTable sizes lines base)
   unfolding Read readBefore leftBy linesTable waitingRows waitingTable emitItems itemsRows
   lines-read [] base = record { follows = refl; rows = refl; words = refl }
   lines-read (line ∷ lines) base =
       line-read line (readBefore (trees sizes lines) (reading noItem outermost)) base (leftBy lines (base + lineRows line)) (linesTable sizes lines (base + lineRows line)) (lines-read lines (base + lineRows line))
 
   -- The rows of the lines are those of the program that they are read as.
-  pub table-of-page : (lines : List Line) (items : Items) → readLines (trees sizes lines) ≡ some items → pageTable sizes lines ≡ emit (block items)
+  pub table-of-page : (lines : List LineContent) (items : Items) → readLines (trees sizes lines) ≡ some items → pageTable sizes lines ≡ emit (block items)
   unfolding readLines Read pageTable emit waitingTable
   table-of-page lines items e = from (readBefore (trees sizes lines) (reading noItem outermost)) (lines-read lines 1) e
     where

@@ -7,7 +7,7 @@ use leaves::assignments::put_fetch;
 use leaves::assignments::put_minus;
 use leaves::assignments::put_store;
 use page::Sizes;
-use page_words::Atom;
+use page_words::PageAtom;
 use page_words::Value;
 ghost use mathlib.Core.Path.{_≡_};
 ghost use Prim.Native.Nat.{_+_, _≤_, _<_};
@@ -18,7 +18,7 @@ ghost use Rattle.emission.specs.Emission.{emitItems};
 ghost use Rattle.leaves.specs.Room.{Room};
 ghost use Rattle.page_words.specs.Texts.{AtomFits, NameFits, ElementFits, ValueFits};
 ghost use Rattle.page_words.specs.Trees.{valueTree};
-ghost use Rattle.page_words.specs.declared.Line.the-variants.{Store, Put};
+ghost use Rattle.page_words.specs.declared.LineContent.the-variants.{Store, Put};
 ghost use Rattle.page_blocks.specs.Scans.{valueRows};
 ghost use Rattle.page_rows.specs.Rows.{lineItem};
 ghost use Rattle.page_rows.specs.Fits.{mostNames, SmallSizes};
@@ -54,7 +54,7 @@ fn put_value(sizes: Sizes, number: usize, value: Value, base: usize, follows: bo
 // A value assigned to a name.
 pub fn put_named(
     sizes: Sizes,
-    name: Atom,
+    name: PageAtom,
     value: Value,
     base: usize,
     follows: bool,
@@ -77,8 +77,8 @@ pub fn put_named(
 pub fn put_element(
     sizes: Sizes,
     array: u32,
-    index: Atom,
-    atom: Atom,
+    index: PageAtom,
+    atom: PageAtom,
     base: usize,
     follows: bool,
     out: &mut [i32],

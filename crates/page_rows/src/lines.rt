@@ -12,7 +12,7 @@ use leaves::rows::behind;
 use leaves::rows::put_atom;
 use leaves::rows::put_row;
 use page::Sizes;
-use page_words::Line;
+use page_words::LineContent;
 ghost use mathlib.Core.Path.{_≡_};
 ghost use mathlib.Core.List.{[], _∷_, _++_};
 ghost use Prim.Native.Nat.{_+_, _≤_, _<_};
@@ -36,7 +36,7 @@ pub fn put_block_row(base: usize, follows: bool, next: usize, out: &mut [i32])
 }
 
 // A while, its atom, and the block of its body.
-fn put_while(test: leaves::Atom, base: usize, follows: bool, next: usize, out: &mut [i32])
+fn put_while(test: leaves::KernelAtom, base: usize, follows: bool, next: usize, out: &mut [i32])
     requires { ⌜ Room 3 base (length (now out)) × (next < 65536) × KernelFits test ⌝ }
     ensures { λ _. ⌜ now (out .exit) ≡ over ((rowOf 44 (pos (base + 1)) (base + 2) 0 0 next ++ emitExpression (kernelTree test) (base + 1)) ++ blockRow (base + 2) follows 0) (now (out .entry)) ⌝ }
 {
@@ -47,7 +47,7 @@ fn put_while(test: leaves::Atom, base: usize, follows: bool, next: usize, out: &
 
 // An if, its atom, and the block of its first branch. The other branch stands at the row `second`.
 fn put_branch(
-    test: leaves::Atom,
+    test: leaves::KernelAtom,
     base: usize,
     follows: bool,
     second: usize,
@@ -64,7 +64,7 @@ fn put_branch(
 // The rows of a line, from the start of the table on, which is row `base`; the two innermost rows that wait.
 pub fn put_line(
     sizes: Sizes,
-    line: Line,
+    line: LineContent,
     base: usize,
     follows: bool,
     first: usize,
@@ -75,16 +75,31 @@ pub fn put_line(
     ensures { λ _. ⌜ now (out .exit) ≡ over (lineTable sizes line base (record { follows = follows; waiting = first ∷ second ∷ [] })) (now (out .entry)) ⌝ }
 {
     match line {
-        Line::Empty => put_empty(base, follows, out),
-        Line::Abort => put_abort(base, follows, out),
-        Line::Goto(label) => put_goto(label as usize, base, follows, out),
-        Line::Label(label) => put_label(label as usize, base, follows, out),
-        Line::Store(name, value) => put_named(sizes, name, value, base, follows, out),
-        Line::Put(array, index, atom) => put_element(sizes, array, index, atom, base, follows, out),
-        Line::Opens => put_block_row(base, follows, first, out),
-        Line::While(atom) => put_while(kernel_atom(sizes, atom), base, follows, first, out),
-        Line::If(atom) => put_branch(kernel_atom(sizes, atom), base, follows, first, second, out),
-        Line::Turns => put_block_row(base, follows, 0, out),
-        Line::Closes => {}
+        LineContent::Empty => put_empty(base, follows, out),
+        LineContent::Abort => put_abort(base, follows, out),
+        LineContent::Goto(label) => put_goto(label as usize, base, follows, out),
+        LineContent::Label(label) => put_label(label as usize, base, follows, out),
+        LineContent::Store(name, value) => put_named(sizes, name, value, base, follows, out),
+        LineContent::Put(array, index, atom) => put_element(
+            sizes,
+            array,
+            index,
+            atom,
+            base,
+            follows,
+            out,
+        ),
+        LineContent::Opens => put_block_row(base, follows, first, out),
+        LineContent::While(atom) => put_while(kernel_atom(sizes, atom), base, follows, first, out),
+        LineContent::If(atom) => put_branch(
+            kernel_atom(sizes, atom),
+            base,
+            follows,
+            first,
+            second,
+            out,
+        ),
+        LineContent::Turns => put_block_row(base, follows, 0, out),
+        LineContent::Closes => {}
     }
 }

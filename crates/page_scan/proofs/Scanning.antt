@@ -8,7 +8,7 @@ use native.Mathlib.Omega.{arith}
 use lib.Dec.{eqb}
 use lib.ListN.{length, take, drop, length-take, length-drop}
 use Rattle.page_words.specs.declared.Names.{Names}
-use Rattle.page_words.specs.declared.Line.{Line}
+use Rattle.page_words.specs.declared.LineContent.{LineContent}
 use Rattle.page_words.specs.declared.LineRead.{LineRead}
 use Rattle.page_words.specs.declared.LineRead.the-variants.{Read, Malformed}
 use Rattle.page_frame.specs.Frames.{lineIn}
@@ -44,7 +44,7 @@ module _ {names : Names} {page : List ℕ} {count : ℕ} {flags : List ℕ} {dep
       end-is (eqb (81 * k) (length page)) depth rows (k + 1) flags ∙ sym (s .same ∙ ap (λ (n : ℕ). scanFrom names page n k (blocksOf depth flags) rows) none-left)
 
   module _ (more : k < count) where
-    abbrev onwards : Line → Open → Scan
+    abbrev onwards : LineContent → Open → Scan
     onwards line a = scanFrom names page (count - (k + 1)) (k + 1) a (rows + lineRows line)
 
     unrolled : scan names page ≡ stepped (lineIn names (k + 1) depth (take 81 (drop (81 * k) page))) (k + 1) (blocksOf depth flags) onwards
@@ -63,7 +63,7 @@ module _ {names : Names} {page : List ℕ} {count : ℕ} {flags : List ℕ} {dep
       pub wrong-line : read ≡ Malformed → Wrong (k + 1) ≡ scan names page
       wrong-line q = sym (by-line ∙ ap (λ (r : LineRead). stepped r (k + 1) (blocksOf depth flags) onwards) q)
 
-      module _ (line : Line) (q : read ≡ Read line) where
+      module _ (line : LineContent) (q : read ≡ Read line) where
         by-block : scan names page ≡ onward (Wrong (k + 1)) (onwards line) (behind line (blocksOf depth flags))
         by-block = by-line ∙ ap (λ (r : LineRead). stepped r (k + 1) (blocksOf depth flags) onwards) q
 

@@ -1,5 +1,5 @@
 // The blocks that are open, as bytes of an array, the innermost last: 1 for the first branch of an if, which must turn before it closes.
-use page_words::Line;
+use page_words::LineContent;
 ghost use mathlib.Core.Path.{_≡_};
 ghost use mathlib.Core.List.{_∷_};
 ghost use mathlib.Core.Option.{some};
@@ -55,22 +55,22 @@ fn shut(depth: usize, around: &mut [u8; 81958]) -> Moved
     Moved::Depth(last)
 }
 
-pub fn pass_line(line: Line, depth: usize, around: &mut [u8; 81958]) -> Moved
+pub fn pass_line(line: LineContent, depth: usize, around: &mut [u8; 81958]) -> Moved
     requires { ⌜ (depth < 81958) × (length (now around) ≡ 81958) ⌝ }
     ensures { λ r. ⌜ movedSays r (now (around .exit)) ≡ behind line (blocksOf depth (now (around .entry))) ⌝ }
     ensures { λ r. ⌜ (depthIn r ≤ depth + 1) × (length (now (around .exit)) ≡ 81958) ⌝ }
 {
     match line {
-        Line::Empty => Moved::Depth(depth),
-        Line::Abort => Moved::Depth(depth),
-        Line::Goto(_) => Moved::Depth(depth),
-        Line::Label(_) => Moved::Depth(depth),
-        Line::Store(_, _) => Moved::Depth(depth),
-        Line::Put(_, _, _) => Moved::Depth(depth),
-        Line::Opens => push(0, depth, around),
-        Line::While(_) => push(0, depth, around),
-        Line::If(_) => push(1, depth, around),
-        Line::Turns => turn(depth, around),
-        Line::Closes => shut(depth, around),
+        LineContent::Empty => Moved::Depth(depth),
+        LineContent::Abort => Moved::Depth(depth),
+        LineContent::Goto(_) => Moved::Depth(depth),
+        LineContent::Label(_) => Moved::Depth(depth),
+        LineContent::Store(_, _) => Moved::Depth(depth),
+        LineContent::Put(_, _, _) => Moved::Depth(depth),
+        LineContent::Opens => push(0, depth, around),
+        LineContent::While(_) => push(0, depth, around),
+        LineContent::If(_) => push(1, depth, around),
+        LineContent::Turns => turn(depth, around),
+        LineContent::Closes => shut(depth, around),
     }
 }

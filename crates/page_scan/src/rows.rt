@@ -1,5 +1,5 @@
 // The rows of a line, and the lines of a page.
-use page_words::Line;
+use page_words::LineContent;
 use page_words::Value;
 ghost use mathlib.Core.Path.{_≡_};
 ghost use Prim.Native.Nat.{_/_, _≤_, min};
@@ -18,22 +18,22 @@ fn value_rows(value: Value) -> usize
 }
 
 // The rows that a line has, without those of the blocks between its statement's lines.
-pub fn rows_of(line: Line) -> usize
+pub fn rows_of(line: LineContent) -> usize
     ensures { λ r. ⌜ r ≡ lineRows line ⌝ }
     ensures { λ r. ⌜ r ≤ 6 ⌝ }
 {
     match line {
-        Line::Empty => 1,
-        Line::Abort => 1,
-        Line::Goto(_) => 1,
-        Line::Label(_) => 1,
-        Line::Store(_, value) => 3 + value_rows(value),
-        Line::Put(_, _, _) => 5,
-        Line::Opens => 1,
-        Line::While(_) => 3,
-        Line::If(_) => 3,
-        Line::Turns => 1,
-        Line::Closes => 0,
+        LineContent::Empty => 1,
+        LineContent::Abort => 1,
+        LineContent::Goto(_) => 1,
+        LineContent::Label(_) => 1,
+        LineContent::Store(_, value) => 3 + value_rows(value),
+        LineContent::Put(_, _, _) => 5,
+        LineContent::Opens => 1,
+        LineContent::While(_) => 3,
+        LineContent::If(_) => 3,
+        LineContent::Turns => 1,
+        LineContent::Closes => 0,
     }
 }
 

@@ -6,13 +6,13 @@ use page_atoms::atoms::name_of;
 use page_atoms::atoms::number_below;
 use page_atoms::compare::is_framed;
 use page_atoms::compare::is_word;
-use page_words::Atom;
 use page_words::AtomRead;
 use page_words::ElementRead;
-use page_words::Line;
+use page_words::LineContent;
 use page_words::LineRead;
 use page_words::Names;
 use page_words::NumberRead;
+use page_words::PageAtom;
 use page_words::Value;
 use page_words::ValueRead;
 ghost use mathlib.Core.Path.{_≡_};
@@ -23,7 +23,7 @@ fn goto_of(number: NumberRead) -> LineRead
     ensures { λ r. ⌜ r ≡ gotoOf number ⌝ }
 {
     match number {
-        NumberRead::Number(label) => LineRead::Read(Line::Goto(label)),
+        NumberRead::Number(label) => LineRead::Read(LineContent::Goto(label)),
         NumberRead::Malformed => LineRead::Malformed,
     }
 }
@@ -32,7 +32,7 @@ fn label_of(number: NumberRead) -> LineRead
     ensures { λ r. ⌜ r ≡ labelOf number ⌝ }
 {
     match number {
-        NumberRead::Number(label) => LineRead::Read(Line::Label(label)),
+        NumberRead::Number(label) => LineRead::Read(LineContent::Label(label)),
         NumberRead::Malformed => LineRead::Malformed,
     }
 }
@@ -43,7 +43,7 @@ fn if_of(test: AtomRead) -> LineRead
     let AtomRead::Read(tested) = test else {
         return LineRead::Malformed;
     };
-    LineRead::Read(Line::If(tested))
+    LineRead::Read(LineContent::If(tested))
 }
 
 fn while_of(test: AtomRead) -> LineRead
@@ -52,7 +52,7 @@ fn while_of(test: AtomRead) -> LineRead
     let AtomRead::Read(tested) = test else {
         return LineRead::Malformed;
     };
-    LineRead::Read(Line::While(tested))
+    LineRead::Read(LineContent::While(tested))
 }
 
 // A name takes any value.
@@ -65,18 +65,18 @@ fn store_of(name: AtomRead, value: ValueRead) -> LineRead
     let ValueRead::Read(assigned) = value else {
         return LineRead::Malformed;
     };
-    LineRead::Read(Line::Store(target, assigned))
+    LineRead::Read(LineContent::Store(target, assigned))
 }
 
 // An element takes an atom.
-fn put_of(array: u32, index: Atom, value: ValueRead) -> LineRead
+fn put_of(array: u32, index: PageAtom, value: ValueRead) -> LineRead
     ensures { λ r. ⌜ r ≡ putOf array index value ⌝ }
 {
     let ValueRead::Read(assigned) = value else {
         return LineRead::Malformed;
     };
     match assigned {
-        Value::Single(single) => LineRead::Read(Line::Put(array, index, single)),
+        Value::Single(single) => LineRead::Read(LineContent::Put(array, index, single)),
         Value::Element(_, _) => LineRead::Malformed,
         Value::Minus(_) => LineRead::Malformed,
         Value::Binary(_, _, _) => LineRead::Malformed,
@@ -151,19 +151,19 @@ pub fn line(names: Names, text: &[u8]) -> LineRead
     ensures { λ r. ⌜ r ≡ lineRead names (now (text .entry)) ⌝ }
 {
     if is_word(b";", text) {
-        return LineRead::Read(Line::Empty);
+        return LineRead::Read(LineContent::Empty);
     }
     if is_word(b"{", text) {
-        return LineRead::Read(Line::Opens);
+        return LineRead::Read(LineContent::Opens);
     }
     if is_word(b"}", text) {
-        return LineRead::Read(Line::Closes);
+        return LineRead::Read(LineContent::Closes);
     }
     if is_word(b"} else {", text) {
-        return LineRead::Read(Line::Turns);
+        return LineRead::Read(LineContent::Turns);
     }
     if is_word(b"abort();", text) {
-        return LineRead::Read(Line::Abort);
+        return LineRead::Read(LineContent::Abort);
     }
     jump(names, text)
 }

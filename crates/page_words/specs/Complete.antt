@@ -23,12 +23,12 @@ use Rattle.page_words.specs.CompareLaws.{framed-complete, middle-complet
 use Rattle.page_words.specs.Texts.{atomText, elementText, valueText, assignmentText, lineText, AtomFits, NameFits, ElementFits, ValueFits, LineFits}
 use Rattle.page_words.specs.Reads.{belowOf, numberRead, variableOf, declaredWordOf, temporaryOf, constantOf, atomRead, nameOf, elementOf, elementIn, elementRead, operatorOfOne, operatorOfTwo, operatorRead, singleOf, minusOf, binaryOf, binaryRead, severalRead, valueRead, gotoOf, labelOf, ifOf, whileOf, storeOf, putOf, assignedOf, assignmentOf, assignmentRead, testRead, jumpRead, lineRead}
 use Rattle.page_words.specs.declared.Names.{Names}
-use Rattle.page_words.specs.declared.Atom.{Atom}
-use Rattle.page_words.specs.declared.Atom.the-variants.{Constant, Variable, Declared, Temporary}
+use Rattle.page_words.specs.declared.PageAtom.{PageAtom}
+use Rattle.page_words.specs.declared.PageAtom.the-variants.{Constant, Variable, Declared, Temporary}
 use Rattle.page_words.specs.declared.Value.{Value}
 use Rattle.page_words.specs.declared.Value.the-variants.{Single, Element, Minus, Binary}
-use Rattle.page_words.specs.declared.Line.{Line}
-use Rattle.page_words.specs.declared.Line.the-variants.{Empty, Abort, Goto, Label, Store, Put, Opens, While, If, Turns, Closes}
+use Rattle.page_words.specs.declared.LineContent.{LineContent}
+use Rattle.page_words.specs.declared.LineContent.the-variants.{Empty, Abort, Goto, Label, Store, Put, Opens, While, If, Turns, Closes}
 use Rattle.page_words.specs.declared.NumberRead.the-variants as number-cases
 use Rattle.page_words.specs.declared.AtomRead.the-variants as atom-cases
 use Rattle.page_words.specs.declared.ElementRead.the-variants as element-cases
@@ -83,7 +83,7 @@ digits-free : (separator n : ℕ) → (separator < 48) ⊎ (57 < separator) → 
 digits-free separator n o = between-free 48 57 separator (digits n) o (digits-between n)
 
 -- An atom has neither blanks nor brackets.
-atom-free : (separator : ℕ) (a : Atom) → (separator < 45) ⊎ ((57 < separator) × (separator < 108)) → Free separator (atomText a)
+atom-free : (separator : ℕ) (a : PageAtom) → (separator < 45) ⊎ ((57 < separator) × (separator < 108)) → Free separator (atomText a)
 unfolding Free
 atom-free separator (Constant v) (inl h) = between-free 45 57 separator (numberBytes v) (inl h) (number-between v)
 atom-free separator (Constant v) (inr h) = between-free 45 57 separator (numberBytes v) (inr (h .0)) (number-between v)
@@ -94,11 +94,11 @@ atom-free separator (Declared n) (inr h) = (λ e. omega (arith, h .1), digits-fr
 atom-free separator (Temporary n) (inl h) = (λ e. omega arith, digits-free separator n (inl (omega arith)))
 atom-free separator (Temporary n) (inr h) = (λ e. omega (arith, h .1), digits-free separator n (inr (h .0)))
 
-no-blank : (a : Atom) → Free 32 (atomText a)
+no-blank : (a : PageAtom) → Free 32 (atomText a)
 no-blank a = atom-free 32 a (inl (omega arith))
 
 -- It does not begin with the letter of an array.
-no-array : (a : Atom) (ys : List ℕ) → isPrefix (97 ∷ []) (atomText a ++ ys) ≡ false
+no-array : (a : PageAtom) (ys : List ℕ) → isPrefix (97 ∷ []) (atomText a ++ ys) ≡ false
 unfolding isPrefix
 no-array (Constant v) ys = first-other 97 45 57 [] (numberBytes v) ys (number-word v .some-byte) (number-between v) (inr (omega arith))
 no-array (Variable n) ys = refl
@@ -111,7 +111,7 @@ constant-read names [] h b = absurd (omega arith)
 constant-read names (first ∷ others) h b = rw (ne-eqb first 118 (λ e. omega (arith, b .1)), ne-eqb first 108 (λ e. omega (arith, b .1)), ne-eqb first 116 (λ e. omega (arith, b .1)))
 
 -- No atom is a sign alone.
-no-sign : (a : Atom) → isWord (45 ∷ []) (atomText a) ≡ false
+no-sign : (a : PageAtom) → isWord (45 ∷ []) (atomText a) ≡ false
 unfolding isWord isPrefix numberBytes
 no-sign (Constant (pos n)) =
     not-word (45 ∷ []) (digits n) (ap (isPrefix (45 ∷ [])) (sym (append-nil (digits n))) ∙ first-other 45 48 57 [] (digits n) [] (length-some n) (digits-between n) (inl (omega arith)))
@@ -121,14 +121,14 @@ no-sign (Declared n) = not-word (45 ∷ []) (108 ∷ digits n) refl
 no-sign (Temporary n) = not-word (45 ∷ []) (116 ∷ digits n) refl
 
 module _ (names : Names) where
-  atom-complete : (a : Atom) → AtomFits names a → atomRead names (atomText a) ≡ atom-cases.Read a
+  atom-complete : (a : PageAtom) → AtomFits names a → atomRead names (atomText a) ≡ atom-cases.Read a
   unfolding atomRead
   atom-complete (Constant v) h = constant-read names (numberBytes v) (number-word v .some-byte) (number-between v) ∙ ap constantOf (number-shows v h)
   atom-complete (Variable n) h = ap variableOf (number-complete (names .variables) n h)
   atom-complete (Declared n) h = ap declaredWordOf (number-complete (names .declared) n h)
   atom-complete (Temporary n) h = ap temporaryOf (number-complete (names .temporaries) n h)
 
-  name-complete : (a : Atom) → NameFits names a → nameOf (atomRead names (atomText a)) ≡ atom-cases.Read a
+  name-complete : (a : PageAtom) → NameFits names a → nameOf (atomRead names (atomText a)) ≡ atom-cases.Read a
   name-complete (Constant v) h = absurd h
   name-complete (Variable n) h = ap nameOf (atom-complete (Variable n) h)
   name-complete (Declared n) h = ap nameOf (atom-complete (Declared n) h)
@@ -136,7 +136,7 @@ module _ (names : Names) where
 
   -- ---- elements
 
-  element-in-complete : (array : ℕ) (a : Atom) → ElementFits names array a → elementIn names (digits array ++ (91 ∷ atomText a)) ≡ element-cases.Read array a
+  element-in-complete : (array : ℕ) (a : PageAtom) → ElementFits names array a → elementIn names (digits array ++ (91 ∷ atomText a)) ≡ element-cases.Read array a
   unfolding elementIn
   element-in-complete array a h =
       let free : Free 91 (digits array) = digits-free 91 array (inr (omega arith)) in
@@ -148,17 +148,17 @@ module _ (names : Names) where
         atom-complete a (h .1),
       )
 
-  element-complete : (array : ℕ) (a : Atom) → ElementFits names array a → elementRead names (elementText array a) ≡ element-cases.Read array a
+  element-complete : (array : ℕ) (a : PageAtom) → ElementFits names array a → elementRead names (elementText array a) ≡ element-cases.Read array a
   unfolding elementRead
   element-complete array a h =
       let inner = digits array ++ (91 ∷ atomText a) in
       rw (framed-complete (97 ∷ []) inner (93 ∷ []), middle-complete (97 ∷ []) inner (93 ∷ [])) (element-in-complete array a h)
 
-  no-element : (a : Atom) → elementRead names (atomText a) ≡ element-cases.Malformed
+  no-element : (a : PageAtom) → elementRead names (atomText a) ≡ element-cases.Malformed
   unfolding elementRead
   no-element a = rw (not-framed (97 ∷ []) (93 ∷ []) (atomText a) (ap (isPrefix (97 ∷ [])) (sym (append-nil (atomText a))) ∙ no-array a []))
 
-  element-free : (array : ℕ) (a : Atom) → Free 32 (elementText array a)
+  element-free : (array : ℕ) (a : PageAtom) → Free 32 (elementText array a)
   unfolding Free
   element-free array a = (
     λ e. omega arith,
@@ -176,11 +176,11 @@ module _ (names : Names) where
   unfolding binaryRead
   binary-complete first operator right free = rw (piece-inside 32 operator right free, piece-first 32 operator right free, piece-behind 32 operator right free)
 
-  minus-complete : (a : Atom) → AtomFits names a → severalRead names (45 ∷ []) (atomText a) ≡ value-cases.Read (Minus a)
+  minus-complete : (a : PageAtom) → AtomFits names a → severalRead names (45 ∷ []) (atomText a) ≡ value-cases.Read (Minus a)
   unfolding severalRead isWord isPrefix
   minus-complete a h = ap minusOf (atom-complete a h)
 
-  operation-complete : (o : Operator) (a b : Atom) → AtomFits names a → AtomFits names b → severalRead names (atomText a) (operatorWord o ++ (32 ∷ atomText b)) ≡ value-cases.Read (Binary o a b)
+  operation-complete : (o : Operator) (a b : PageAtom) → AtomFits names a → AtomFits names b → severalRead names (atomText a) (operatorWord o ++ (32 ∷ atomText b)) ≡ value-cases.Read (Binary o a b)
   unfolding severalRead
   operation-complete o a b h k =
       rw (no-sign a) (binary-complete (atomText a) (operatorWord o) (atomText b) (operator-word o .no-blank) ∙ rw (operator-complete o, atom-complete a h, atom-complete b k))
@@ -248,28 +248,28 @@ module _ (names : Names) where
         number-complete 40980 l h,
       )
 
-  if-complete : (a : Atom) → AtomFits names a → testRead names (lineText (If a)) ≡ line-cases.Read (If a)
+  if-complete : (a : PageAtom) → AtomFits names a → testRead names (lineText (If a)) ≡ line-cases.Read (If a)
   unfolding testRead
   if-complete a h =
       let start : List ℕ = 105 ∷ 102 ∷ 32 ∷ 40 ∷ [] in
       let end : List ℕ = 41 ∷ 32 ∷ 123 ∷ [] in
       rw (framed-complete start (atomText a) end, middle-complete start (atomText a) end, atom-complete a h)
 
-  while-complete : (a : Atom) → AtomFits names a → testRead names (lineText (While a)) ≡ line-cases.Read (While a)
+  while-complete : (a : PageAtom) → AtomFits names a → testRead names (lineText (While a)) ≡ line-cases.Read (While a)
   unfolding testRead isPrefix
   while-complete a h =
       let start : List ℕ = 119 ∷ 104 ∷ 105 ∷ 108 ∷ 101 ∷ 32 ∷ 40 ∷ [] in
       let end : List ℕ = 41 ∷ 32 ∷ 123 ∷ [] in
       rw (not-framed (105 ∷ 102 ∷ 32 ∷ 40 ∷ []) end (lineText (While a)) refl, framed-complete start (atomText a) end, middle-complete start (atomText a) end, atom-complete a h)
 
-  store-complete : (a : Atom) (v : Value) → NameFits names a → ValueFits names v → assignmentRead names (lineText (Store a v)) ≡ line-cases.Read (Store a v)
+  store-complete : (a : PageAtom) (v : Value) → NameFits names a → ValueFits names v → assignmentRead names (lineText (Store a v)) ≡ line-cases.Read (Store a v)
   store-complete a v h k = assignment-complete (atomText a) (valueText v) (no-blank a) ∙ rw (no-element a, name-complete a h, value-complete v k)
 
-  put-complete : (array : ℕ) (index a : Atom) → ElementFits names array index → AtomFits names a → assignmentRead names (lineText (Put array index a)) ≡ line-cases.Read (Put array index a)
+  put-complete : (array : ℕ) (index a : PageAtom) → ElementFits names array index → AtomFits names a → assignmentRead names (lineText (Put array index a)) ≡ line-cases.Read (Put array index a)
   put-complete array index a h k =
       assignment-complete (elementText array index) (atomText a) (element-free array index) ∙ rw (element-complete array index h, value-complete (Single a) k)
 
-  not-aborting : (array : ℕ) (index a : Atom) → isPrefix (97 ∷ 98 ∷ 111 ∷ 114 ∷ 116 ∷ 40 ∷ 41 ∷ 59 ∷ []) (lineText (Put array index a)) ≡ false
+  not-aborting : (array : ℕ) (index a : PageAtom) → isPrefix (97 ∷ 98 ∷ 111 ∷ 114 ∷ 116 ∷ 40 ∷ 41 ∷ 59 ∷ []) (lineText (Put array index a)) ≡ false
   unfolding isPrefix
   not-aborting array index a =
       let others : List ℕ = 111 ∷ 114 ∷ 116 ∷ 40 ∷ 41 ∷ 59 ∷ [] in
@@ -279,7 +279,7 @@ module _ (names : Names) where
       ∙ first-other 98 48 57 others (digits array) (behind ++ ((93 ∷ []) ++ rest)) (length-some array) (digits-between array) (inr (omega arith))
 
   -- What is printed is read.
-  pub line-complete : (line : Line) → LineFits names line → lineRead names (lineText line) ≡ line-cases.Read line
+  pub line-complete : (line : LineContent) → LineFits names line → lineRead names (lineText line) ≡ line-cases.Read line
   unfolding isPrefix
   line-complete Empty h = unfold lineRead isWord in refl
   line-complete Opens h = unfold lineRead isWord in refl

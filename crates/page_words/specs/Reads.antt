@@ -8,16 +8,16 @@ use lib.IntN.{ℤ}
 use lib.ListN.{length, take, drop}
 use Rattle.words.specs.Word.{pick}
 use Rattle.words.specs.declared.Operator.the-variants.{Add, Subtract, Multiply, Divide, Remainder, Less, Greater, LessOrEqual, GreaterOrEqual, Equal, NotEqual}
-use Rattle.text_numbers.specs.Number.{natural, numberOf}
+use Rattle.text_numbers.specs.Number.{naturalOf, numberOf}
 use Rattle.text_lines.specs.Reader.{pieceEnd}
 use Rattle.page_words.specs.Compare.{isWord, isFramed, middle}
 use Rattle.page_words.specs.declared.Names.{Names}
-use Rattle.page_words.specs.declared.Atom.{Atom}
-use Rattle.page_words.specs.declared.Atom.the-variants.{Constant, Variable, Declared, Temporary}
+use Rattle.page_words.specs.declared.PageAtom.{PageAtom}
+use Rattle.page_words.specs.declared.PageAtom.the-variants.{Constant, Variable, Declared, Temporary}
 use Rattle.page_words.specs.declared.Value.{Value}
 use Rattle.page_words.specs.declared.Value.the-variants.{Single, Element, Minus, Binary}
-use Rattle.page_words.specs.declared.Line.{Line}
-use Rattle.page_words.specs.declared.Line.the-variants.{Empty, Abort, Goto, Label, Store, Put, Opens, While, If, Turns, Closes}
+use Rattle.page_words.specs.declared.LineContent.{LineContent}
+use Rattle.page_words.specs.declared.LineContent.the-variants.{Empty, Abort, Goto, Label, Store, Put, Opens, While, If, Turns, Closes}
 use Rattle.page_words.specs.declared.NumberRead.{NumberRead}
 use Rattle.page_words.specs.declared.NumberRead.the-variants as number-cases
 use Rattle.page_words.specs.declared.AtomRead.{AtomRead}
@@ -39,7 +39,7 @@ belowOf bound (some n) = pick (ltb n bound) (number-cases.Number n) number-cases
 
 -- A number below a bound.
 unfoldable pub numberRead : ℕ → List ℕ → NumberRead
-numberRead bound word = belowOf bound (natural word)
+numberRead bound word = belowOf bound (naturalOf word)
 
 abbrev pub variableOf : NumberRead → AtomRead
 variableOf (number-cases.Number n) = atom-cases.Read (Variable n)
@@ -130,7 +130,7 @@ storeOf (atom-cases.Read a) value-cases.Malformed = line-cases.Malformed
 storeOf (atom-cases.Read a) (value-cases.Read v) = line-cases.Read (Store a v)
 
 -- an element an atom.
-abbrev pub putOf : ℕ → Atom → ValueRead → LineRead
+abbrev pub putOf : ℕ → PageAtom → ValueRead → LineRead
 putOf array index value-cases.Malformed = line-cases.Malformed
 putOf array index (value-cases.Read (Single a)) = line-cases.Read (Put array index a)
 putOf array index (value-cases.Read (Element other at)) = line-cases.Malformed

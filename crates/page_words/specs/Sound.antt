@@ -13,7 +13,7 @@ use borrow.Author.Tests.{eqb-true, eqb-false, ltb-true}
 use Rattle.words.specs.Laws.{by-cases}
 use Rattle.words.specs.declared.Operator.{Operator}
 use Rattle.words.specs.declared.Operator.the-variants.{Add, Subtract, Multiply, Divide, Remainder, Less, Greater, LessOrEqual, GreaterOrEqual, Equal, NotEqual}
-use Rattle.text_numbers.specs.Number.{digits, numberBytes, natural, decimal, isDigit, positive, numberOf}
+use Rattle.text_numbers.specs.Number.{digits, numberBytes, naturalOf, decimal, isDigit, positive, numberOf}
 use Rattle.text_numbers.specs.NumberLaws.{not-some, word-is, IsNumber, number-reads}
 use Rattle.text_lines.specs.Reader.{pieceEnd}
 use Rattle.page.specs.Page.{operatorWord}
@@ -22,12 +22,12 @@ use Rattle.page_words.specs.CompareLaws.{never, word-sound, framed-sound
 use Rattle.page_words.specs.Texts.{atomText, elementText, valueText, assignmentText, lineText, AtomFits, NameFits, ElementFits, ValueFits, LineFits}
 use Rattle.page_words.specs.Reads.{belowOf, numberRead, variableOf, declaredWordOf, temporaryOf, constantOf, atomRead, nameOf, elementOf, elementIn, elementRead, operatorOfOne, operatorOfTwo, operatorRead, singleOf, minusOf, binaryOf, binaryRead, severalRead, valueRead, gotoOf, labelOf, ifOf, whileOf, storeOf, putOf, assignedOf, assignmentRead, testRead, jumpRead, lineRead}
 use Rattle.page_words.specs.declared.Names.{Names}
-use Rattle.page_words.specs.declared.Atom.{Atom}
-use Rattle.page_words.specs.declared.Atom.the-variants.{Constant, Variable, Declared, Temporary}
+use Rattle.page_words.specs.declared.PageAtom.{PageAtom}
+use Rattle.page_words.specs.declared.PageAtom.the-variants.{Constant, Variable, Declared, Temporary}
 use Rattle.page_words.specs.declared.Value.{Value}
 use Rattle.page_words.specs.declared.Value.the-variants.{Single, Element, Minus, Binary}
-use Rattle.page_words.specs.declared.Line.{Line}
-use Rattle.page_words.specs.declared.Line.the-variants.{Empty, Abort, Goto, Label, Store, Put, Opens, While, If, Turns, Closes}
+use Rattle.page_words.specs.declared.LineContent.{LineContent}
+use Rattle.page_words.specs.declared.LineContent.the-variants.{Empty, Abort, Goto, Label, Store, Put, Opens, While, If, Turns, Closes}
 use Rattle.page_words.specs.declared.NumberRead.{NumberRead}
 use Rattle.page_words.specs.declared.NumberRead.the-variants as number-cases
 use Rattle.page_words.specs.declared.AtomRead.{AtomRead}
@@ -43,29 +43,29 @@ use Rattle.page_words.specs.declared.LineRead.the-variants as line-cases
 
 -- ---- numbers
 
-natural-minus : (others : List ℕ) → natural (45 ∷ others) ≡ none
-unfolding natural decimal isDigit
+natural-minus : (others : List ℕ) → naturalOf (45 ∷ others) ≡ none
+unfolding naturalOf decimal isDigit
 natural-minus [] = refl
 natural-minus (second ∷ others) = refl
 
-natural-plain : (bytes : List ℕ) (n : ℕ) → natural bytes ≡ some n → numberOf bytes ≡ positive (some n)
-unfolding numberOf natural
+natural-plain : (bytes : List ℕ) (n : ℕ) → naturalOf bytes ≡ some n → numberOf bytes ≡ positive (some n)
+unfolding numberOf naturalOf
 natural-plain [] n e = not-some e
 natural-plain (first ∷ others) n e =
     by-cases (eqb first 45)
-    (λ t. not-some (sym (natural-minus others) ∙ ap (λ (byte : ℕ). natural (byte ∷ others)) (sym (eqb-true first 45 t)) ∙ e))
+    (λ t. not-some (sym (natural-minus others) ∙ ap (λ (byte : ℕ). naturalOf (byte ∷ others)) (sym (eqb-true first 45 t)) ∙ e))
     (λ t. rw t (ap positive e))
 
-natural-sound : (bytes : List ℕ) (n : ℕ) → n < 2147483648 → natural bytes ≡ some n → bytes ≡ digits n
+natural-sound : (bytes : List ℕ) (n : ℕ) → n < 2147483648 → naturalOf bytes ≡ some n → bytes ≡ digits n
 unfolding numberBytes positive
 natural-sound bytes n h e = number-reads bytes (pos n) (natural-plain bytes n e ∙ word-is (pos n) (omega arith)) .written
 
 -- what a word is that is read as a number, with its bound
 pub below-sound : (bound : ℕ) (word : List ℕ) (n : ℕ) → bound ≤ 2147483648 → numberRead bound word ≡ number-cases.Number n → (word ≡ digits n) × (n < bound)
 unfolding numberRead
-below-sound bound word n h = from (natural word) refl
+below-sound bound word n h = from (naturalOf word) refl
   where
-    from : (value : Option ℕ) → natural word ≡ value → belowOf bound value ≡ number-cases.Number n → (word ≡ digits n) × (n < bound)
+    from : (value : Option ℕ) → naturalOf word ≡ value → belowOf bound value ≡ number-cases.Number n → (word ≡ digits n) × (n < bound)
     from none q e = absurd (let z : _≡_ {A = ℕ} 0 1 = cc in omega arith)
     from (some m) q e =
         by-cases (ltb m bound)
@@ -128,35 +128,35 @@ operator-sound (first ∷ (second ∷ (third ∷ others))) o e = no-operator o e
 module _ (names : Names) (few-variables : names .variables ≤ 256) (few-behind : names .declared + names .temporaries ≤ 8256) (few-arrays : names .arrays ≤ 32) where
   -- ---- atoms
 
-  variable-sound : (others : List ℕ) (r : NumberRead) (a : Atom) → numberRead (names .variables) others ≡ r → variableOf r ≡ atom-cases.Read a → (118 ∷ others ≡ atomText a) × AtomFits names a
+  variable-sound : (others : List ℕ) (r : NumberRead) (a : PageAtom) → numberRead (names .variables) others ≡ r → variableOf r ≡ atom-cases.Read a → (118 ∷ others ≡ atomText a) × AtomFits names a
   variable-sound others number-cases.Malformed a q e = absurd (let z : _≡_ {A = ℕ} 0 1 = cc in omega arith)
   variable-sound others (number-cases.Number n) a q e =
       let f = below-sound (names .variables) others n (omega arith) q in
       let same : Variable n ≡ a = cc in
       rw (← same) (ap (λ (l : List ℕ). 118 ∷ l) (f .0), f .1)
 
-  declared-sound : (others : List ℕ) (r : NumberRead) (a : Atom) → numberRead (names .declared) others ≡ r → declaredWordOf r ≡ atom-cases.Read a → (108 ∷ others ≡ atomText a) × AtomFits names a
+  declared-sound : (others : List ℕ) (r : NumberRead) (a : PageAtom) → numberRead (names .declared) others ≡ r → declaredWordOf r ≡ atom-cases.Read a → (108 ∷ others ≡ atomText a) × AtomFits names a
   declared-sound others number-cases.Malformed a q e = absurd (let z : _≡_ {A = ℕ} 0 1 = cc in omega arith)
   declared-sound others (number-cases.Number n) a q e =
       let f = below-sound (names .declared) others n (omega arith) q in
       let same : Declared n ≡ a = cc in
       rw (← same) (ap (λ (l : List ℕ). 108 ∷ l) (f .0), f .1)
 
-  temporary-sound : (others : List ℕ) (r : NumberRead) (a : Atom) → numberRead (names .temporaries) others ≡ r → temporaryOf r ≡ atom-cases.Read a → (116 ∷ others ≡ atomText a) × AtomFits names a
+  temporary-sound : (others : List ℕ) (r : NumberRead) (a : PageAtom) → numberRead (names .temporaries) others ≡ r → temporaryOf r ≡ atom-cases.Read a → (116 ∷ others ≡ atomText a) × AtomFits names a
   temporary-sound others number-cases.Malformed a q e = absurd (let z : _≡_ {A = ℕ} 0 1 = cc in omega arith)
   temporary-sound others (number-cases.Number n) a q e =
       let f = below-sound (names .temporaries) others n (omega arith) q in
       let same : Temporary n ≡ a = cc in
       rw (← same) (ap (λ (l : List ℕ). 116 ∷ l) (f .0), f .1)
 
-  constant-sound : (word : List ℕ) (r : Option ℤ) (a : Atom) → numberOf word ≡ r → constantOf r ≡ atom-cases.Read a → (word ≡ atomText a) × AtomFits names a
+  constant-sound : (word : List ℕ) (r : Option ℤ) (a : PageAtom) → numberOf word ≡ r → constantOf r ≡ atom-cases.Read a → (word ≡ atomText a) × AtomFits names a
   constant-sound word none a q e = absurd (let z : _≡_ {A = ℕ} 0 1 = cc in omega arith)
   constant-sound word (some v) a q e =
       let f = number-reads word v q in
       let same : Constant v ≡ a = cc in
       rw (← same) (f .written, f .fits)
 
-  pub atom-sound : (word : List ℕ) (a : Atom) → atomRead names word ≡ atom-cases.Read a → (word ≡ atomText a) × AtomFits names a
+  pub atom-sound : (word : List ℕ) (a : PageAtom) → atomRead names word ≡ atom-cases.Read a → (word ≡ atomText a) × AtomFits names a
   unfolding atomRead
   atom-sound [] a e = absurd (let z : _≡_ {A = ℕ} 0 1 = cc in omega arith)
   atom-sound (first ∷ others) a e =
@@ -170,7 +170,7 @@ module _ (names : Names) (few-variables : names .variables ≤ 256) (few-behind 
 
   -- ---- elements
 
-  element-of-sound : (number index : List ℕ) (r : NumberRead) (s : AtomRead) (array : ℕ) (a : Atom) → numberRead (names .arrays) number ≡ r → atomRead names index ≡ s
+  element-of-sound : (number index : List ℕ) (r : NumberRead) (s : AtomRead) (array : ℕ) (a : PageAtom) → numberRead (names .arrays) number ≡ r → atomRead names index ≡ s
       → elementOf r s ≡ element-cases.Read array a → (number ≡ digits array) × (index ≡ atomText a) × ElementFits names array a
   element-of-sound number index number-cases.Malformed s array a q p e = absurd (let z : _≡_ {A = ℕ} 0 1 = cc in omega arith)
   element-of-sound number index (number-cases.Number n) atom-cases.Malformed array a q p e = absurd (let z : _≡_ {A = ℕ} 0 1 = cc in omega arith)
@@ -181,7 +181,7 @@ module _ (names : Names) (few-variables : names .variables ≤ 256) (few-behind 
       let same-index : b ≡ a = cc in
       rw (← same-array, ← same-index) (f .0, g .0, (f .1, g .1))
 
-  element-in-sound : (inner : List ℕ) (array : ℕ) (a : Atom) → elementIn names inner ≡ element-cases.Read array a → (inner ≡ digits array ++ (91 ∷ atomText a)) × ElementFits names array a
+  element-in-sound : (inner : List ℕ) (array : ℕ) (a : PageAtom) → elementIn names inner ≡ element-cases.Read array a → (inner ≡ digits array ++ (91 ∷ atomText a)) × ElementFits names array a
   unfolding elementIn
   element-in-sound inner array a e =
       by-cases (eqb (pieceEnd 91 inner) (length inner))
@@ -192,7 +192,7 @@ module _ (names : Names) (few-variables : names .variables ≤ 256) (few-behind 
       let f = element-of-sound number index (numberRead (names .arrays) number) (atomRead names index) array a refl refl (rw t at e) in
       (piece-splits 91 inner (eqb-false _ _ t) ∙ ap₂ (λ (l m : List ℕ). l ++ (91 ∷ m)) (f .0) (f .1), f .2))
 
-  pub element-sound : (word : List ℕ) (array : ℕ) (a : Atom) → elementRead names word ≡ element-cases.Read array a → (word ≡ elementText array a) × ElementFits names array a
+  pub element-sound : (word : List ℕ) (array : ℕ) (a : PageAtom) → elementRead names word ≡ element-cases.Read array a → (word ≡ elementText array a) × ElementFits names array a
   unfolding elementRead
   element-sound word array a e =
       by-cases (isFramed (97 ∷ []) (93 ∷ []) word)
@@ -256,14 +256,14 @@ module _ (names : Names) (few-variables : names .variables ≤ 256) (few-behind 
 
   -- ---- lines
 
-  name-sound : (word : List ℕ) (r : AtomRead) (a : Atom) → atomRead names word ≡ r → nameOf r ≡ atom-cases.Read a → (word ≡ atomText a) × NameFits names a
+  name-sound : (word : List ℕ) (r : AtomRead) (a : PageAtom) → atomRead names word ≡ r → nameOf r ≡ atom-cases.Read a → (word ≡ atomText a) × NameFits names a
   name-sound word atom-cases.Malformed a q e = absurd (let z : _≡_ {A = ℕ} 0 1 = cc in omega arith)
   name-sound word (atom-cases.Read (Constant v)) a q e = absurd (let z : _≡_ {A = ℕ} 0 1 = cc in omega arith)
   name-sound word (atom-cases.Read (Variable n)) a q e = let same : Variable n ≡ a = cc in rw (← same) (atom-sound word (Variable n) q)
   name-sound word (atom-cases.Read (Declared n)) a q e = let same : Declared n ≡ a = cc in rw (← same) (atom-sound word (Declared n) q)
   name-sound word (atom-cases.Read (Temporary n)) a q e = let same : Temporary n ≡ a = cc in rw (← same) (atom-sound word (Temporary n) q)
 
-  store-sound : (target value : List ℕ) (r : AtomRead) (s : ValueRead) (line : Line) → nameOf (atomRead names target) ≡ r → valueRead names value ≡ s → storeOf r s ≡ line-cases.Read line
+  store-sound : (target value : List ℕ) (r : AtomRead) (s : ValueRead) (line : LineContent) → nameOf (atomRead names target) ≡ r → valueRead names value ≡ s → storeOf r s ≡ line-cases.Read line
       → (assignmentText target value ≡ lineText line) × LineFits names line
   store-sound target value atom-cases.Malformed s line q p e = absurd (let z : _≡_ {A = ℕ} 0 1 = cc in omega arith)
   store-sound target value (atom-cases.Read a) value-cases.Malformed line q p e = absurd (let z : _≡_ {A = ℕ} 0 1 = cc in omega arith)
@@ -273,7 +273,7 @@ module _ (names : Names) (few-variables : names .variables ≤ 256) (few-behind 
       let same : Store a v ≡ line = cc in
       rw (← same) (ap₂ assignmentText (f .0) (g .0), (f .1, g .1))
 
-  put-sound : (target value : List ℕ) (array : ℕ) (index : Atom) (s : ValueRead) (line : Line) → elementRead names target ≡ element-cases.Read array index → valueRead names value ≡ s
+  put-sound : (target value : List ℕ) (array : ℕ) (index : PageAtom) (s : ValueRead) (line : LineContent) → elementRead names target ≡ element-cases.Read array index → valueRead names value ≡ s
       → putOf array index s ≡ line-cases.Read line → (assignmentText target value ≡ lineText line) × LineFits names line
   put-sound target value array index value-cases.Malformed line q p e = absurd (let z : _≡_ {A = ℕ} 0 1 = cc in omega arith)
   put-sound target value array index (value-cases.Read (Element other at)) line q p e = absurd (let z : _≡_ {A = ℕ} 0 1 = cc in omega arith)
@@ -285,12 +285,12 @@ module _ (names : Names) (few-variables : names .variables ≤ 256) (few-behind 
       let same : Put array index a ≡ line = cc in
       rw (← same) (ap₂ assignmentText (f .0) (g .0), (f .1, g .1))
 
-  assigned-sound : (target value : List ℕ) (r : ElementRead) (line : Line) → elementRead names target ≡ r → assignedOf r (nameOf (atomRead names target)) (valueRead names value) ≡ line-cases.Read line
+  assigned-sound : (target value : List ℕ) (r : ElementRead) (line : LineContent) → elementRead names target ≡ r → assignedOf r (nameOf (atomRead names target)) (valueRead names value) ≡ line-cases.Read line
       → (assignmentText target value ≡ lineText line) × LineFits names line
   assigned-sound target value (element-cases.Read array index) line q e = put-sound target value array index (valueRead names value) line q refl e
   assigned-sound target value element-cases.Malformed line q e = store-sound target value (nameOf (atomRead names target)) (valueRead names value) line refl refl e
 
-  assignment-sound : (text : List ℕ) (line : Line) → assignmentRead names text ≡ line-cases.Read line → (text ≡ lineText line) × LineFits names line
+  assignment-sound : (text : List ℕ) (line : LineContent) → assignmentRead names text ≡ line-cases.Read line → (text ≡ lineText line) × LineFits names line
   unfolding assignmentRead
   assignment-sound text line e =
       let target = take (pieceEnd 32 text) text in
@@ -301,17 +301,17 @@ module _ (names : Names) (few-variables : names .variables ≤ 256) (few-behind 
       (piece-halves 32 text ∙ ap (λ (l : List ℕ). target ++ l) (framed-sound (32 ∷ 61 ∷ 32 ∷ []) (59 ∷ []) rest t) ∙ f .0, f .1))
       (λ t. absurd (let found : line-cases.Malformed ≡ line-cases.Read line = rw t at e in let z : _≡_ {A = ℕ} 0 1 = cc in omega arith))
 
-  if-sound : (word : List ℕ) (r : AtomRead) (line : Line) → atomRead names word ≡ r → ifOf r ≡ line-cases.Read line
+  if-sound : (word : List ℕ) (r : AtomRead) (line : LineContent) → atomRead names word ≡ r → ifOf r ≡ line-cases.Read line
       → ((105 ∷ 102 ∷ 32 ∷ 40 ∷ []) ++ (word ++ (41 ∷ 32 ∷ 123 ∷ [])) ≡ lineText line) × LineFits names line
   if-sound word atom-cases.Malformed line q e = absurd (let z : _≡_ {A = ℕ} 0 1 = cc in omega arith)
   if-sound word (atom-cases.Read a) line q e = let f = atom-sound word a q in let same : If a ≡ line = cc in rw (← same) (rw (f .0), f .1)
 
-  while-sound : (word : List ℕ) (r : AtomRead) (line : Line) → atomRead names word ≡ r → whileOf r ≡ line-cases.Read line
+  while-sound : (word : List ℕ) (r : AtomRead) (line : LineContent) → atomRead names word ≡ r → whileOf r ≡ line-cases.Read line
       → ((119 ∷ 104 ∷ 105 ∷ 108 ∷ 101 ∷ 32 ∷ 40 ∷ []) ++ (word ++ (41 ∷ 32 ∷ 123 ∷ [])) ≡ lineText line) × LineFits names line
   while-sound word atom-cases.Malformed line q e = absurd (let z : _≡_ {A = ℕ} 0 1 = cc in omega arith)
   while-sound word (atom-cases.Read a) line q e = let f = atom-sound word a q in let same : While a ≡ line = cc in rw (← same) (rw (f .0), f .1)
 
-  test-sound : (text : List ℕ) (line : Line) → testRead names text ≡ line-cases.Read line → (text ≡ lineText line) × LineFits names line
+  test-sound : (text : List ℕ) (line : LineContent) → testRead names text ≡ line-cases.Read line → (text ≡ lineText line) × LineFits names line
   unfolding testRead
   test-sound text line e =
       let end : List ℕ = 41 ∷ 32 ∷ 123 ∷ [] in
@@ -323,17 +323,17 @@ module _ (names : Names) (few-variables : names .variables ≤ 256) (few-behind 
       (λ u. let f = while-sound (middle 7 3 text) (atomRead names (middle 7 3 text)) line refl (rw (t, u) at e) in (framed-sound while-start end text u ∙ f .0, f .1))
       (λ u. assignment-sound text line (rw (t, u) at e)))
 
-  goto-sound : (word : List ℕ) (r : NumberRead) (line : Line) → numberRead 40980 word ≡ r → gotoOf r ≡ line-cases.Read line
+  goto-sound : (word : List ℕ) (r : NumberRead) (line : LineContent) → numberRead 40980 word ≡ r → gotoOf r ≡ line-cases.Read line
       → ((103 ∷ 111 ∷ 116 ∷ 111 ∷ 32 ∷ 76 ∷ []) ++ (word ++ (59 ∷ [])) ≡ lineText line) × LineFits names line
   goto-sound word number-cases.Malformed line q e = absurd (let z : _≡_ {A = ℕ} 0 1 = cc in omega arith)
   goto-sound word (number-cases.Number l) line q e = let f = below-sound 40980 word l (omega arith) q in let same : Goto l ≡ line = cc in rw (← same) (rw (f .0), f .1)
 
-  label-sound : (word : List ℕ) (r : NumberRead) (line : Line) → numberRead 40980 word ≡ r → labelOf r ≡ line-cases.Read line
+  label-sound : (word : List ℕ) (r : NumberRead) (line : LineContent) → numberRead 40980 word ≡ r → labelOf r ≡ line-cases.Read line
       → ((76 ∷ []) ++ (word ++ (58 ∷ 59 ∷ [])) ≡ lineText line) × LineFits names line
   label-sound word number-cases.Malformed line q e = absurd (let z : _≡_ {A = ℕ} 0 1 = cc in omega arith)
   label-sound word (number-cases.Number l) line q e = let f = below-sound 40980 word l (omega arith) q in let same : Label l ≡ line = cc in rw (← same) (rw (f .0), f .1)
 
-  jump-sound : (text : List ℕ) (line : Line) → jumpRead names text ≡ line-cases.Read line → (text ≡ lineText line) × LineFits names line
+  jump-sound : (text : List ℕ) (line : LineContent) → jumpRead names text ≡ line-cases.Read line → (text ≡ lineText line) × LineFits names line
   unfolding jumpRead
   jump-sound text line e =
       let goto-start : List ℕ = 103 ∷ 111 ∷ 116 ∷ 111 ∷ 32 ∷ 76 ∷ [] in
@@ -343,12 +343,12 @@ module _ (names : Names) (few-variables : names .variables ≤ 256) (few-behind 
       (λ u. let f = label-sound (middle 1 2 text) (numberRead 40980 (middle 1 2 text)) line refl (rw (t, u) at e) in (framed-sound (76 ∷ []) (58 ∷ 59 ∷ []) text u ∙ f .0, f .1))
       (λ u. test-sound text line (rw (t, u) at e)))
 
-  fixed-sound : (text word : List ℕ) (found line : Line) → isWord word text ≡ true → word ≡ lineText found → LineFits names found → line-cases.Read found ≡ line-cases.Read line
+  fixed-sound : (text word : List ℕ) (found line : LineContent) → isWord word text ≡ true → word ≡ lineText found → LineFits names found → line-cases.Read found ≡ line-cases.Read line
       → (text ≡ lineText line) × LineFits names line
   fixed-sound text word found line t w h e = let same : found ≡ line = cc in rw (← same) (word-sound word text t ∙ w, h)
 
   -- What is read is the bytes of what it is read as.
-  pub line-sound : (text : List ℕ) (line : Line) → lineRead names text ≡ line-cases.Read line → (text ≡ lineText line) × LineFits names line
+  pub line-sound : (text : List ℕ) (line : LineContent) → lineRead names text ≡ line-cases.Read line → (text ≡ lineText line) × LineFits names line
   unfolding lineRead
   line-sound text line e =
       let turning : List ℕ = 125 ∷ 32 ∷ 101 ∷ 108 ∷ 115 ∷ 101 ∷ 32 ∷ 123 ∷ [] in

@@ -7,21 +7,21 @@ use lib.Signed.{mag}
 use Rattle.text_numbers.specs.Number.{digits, numberBytes}
 use Rattle.page.specs.Page.{operatorWord, endedBy}
 use Rattle.page_words.specs.declared.Names.{Names}
-use Rattle.page_words.specs.declared.Atom.{Atom}
-use Rattle.page_words.specs.declared.Atom.the-variants.{Constant, Variable, Declared, Temporary}
+use Rattle.page_words.specs.declared.PageAtom.{PageAtom}
+use Rattle.page_words.specs.declared.PageAtom.the-variants.{Constant, Variable, Declared, Temporary}
 use Rattle.page_words.specs.declared.Value.{Value}
 use Rattle.page_words.specs.declared.Value.the-variants.{Single, Element, Minus, Binary}
-use Rattle.page_words.specs.declared.Line.{Line}
-use Rattle.page_words.specs.declared.Line.the-variants.{Empty, Abort, Goto, Label, Store, Put, Opens, While, If, Turns, Closes}
+use Rattle.page_words.specs.declared.LineContent.{LineContent}
+use Rattle.page_words.specs.declared.LineContent.the-variants.{Empty, Abort, Goto, Label, Store, Put, Opens, While, If, Turns, Closes}
 
-abbrev pub atomText : Atom → List ℕ
+abbrev pub atomText : PageAtom → List ℕ
 atomText (Constant v) = numberBytes v
 atomText (Variable n) = 118 ∷ digits n
 atomText (Declared n) = 108 ∷ digits n
 atomText (Temporary n) = 116 ∷ digits n
 
 -- `a7[X]`
-abbrev pub elementText : ℕ → Atom → List ℕ
+abbrev pub elementText : ℕ → PageAtom → List ℕ
 elementText array index = (97 ∷ []) ++ ((digits array ++ (91 ∷ atomText index)) ++ (93 ∷ []))
 
 abbrev pub valueText : Value → List ℕ
@@ -34,7 +34,7 @@ valueText (Binary o a b) = atomText a ++ (32 ∷ (operatorWord o ++ (32 ∷ atom
 abbrev pub assignmentText : List ℕ → List ℕ → List ℕ
 assignmentText target value = target ++ ((32 ∷ 61 ∷ 32 ∷ []) ++ (value ++ (59 ∷ [])))
 
-abbrev pub lineText : Line → List ℕ
+abbrev pub lineText : LineContent → List ℕ
 lineText Empty = 59 ∷ []
 lineText Abort = 97 ∷ 98 ∷ 111 ∷ 114 ∷ 116 ∷ 40 ∷ 41 ∷ 59 ∷ []
 lineText (Goto l) = (103 ∷ 111 ∷ 116 ∷ 111 ∷ 32 ∷ 76 ∷ []) ++ (digits l ++ (59 ∷ []))
@@ -48,19 +48,19 @@ lineText Turns = 125 ∷ 32 ∷ 101 ∷ 108 ∷ 115 ∷ 101 ∷ 32 ∷ 123 ∷ [
 lineText Closes = 125 ∷ []
 
 module _ (names : Names) where
-  abbrev pub AtomFits : Atom → Type 0
+  abbrev pub AtomFits : PageAtom → Type 0
   AtomFits (Constant v) = mag v < 2 ^ 31
   AtomFits (Variable n) = n < names .variables
   AtomFits (Declared n) = n < names .declared
   AtomFits (Temporary n) = n < names .temporaries
 
-  abbrev pub NameFits : Atom → Type 0
+  abbrev pub NameFits : PageAtom → Type 0
   NameFits (Constant v) = ⊥
   NameFits (Variable n) = n < names .variables
   NameFits (Declared n) = n < names .declared
   NameFits (Temporary n) = n < names .temporaries
 
-  abbrev pub ElementFits : ℕ → Atom → Type 0
+  abbrev pub ElementFits : ℕ → PageAtom → Type 0
   ElementFits array index = (array < names .arrays) × AtomFits index
 
   abbrev pub ValueFits : Value → Type 0
@@ -69,7 +69,7 @@ module _ (names : Names) where
   ValueFits (Minus a) = AtomFits a
   ValueFits (Binary o a b) = AtomFits a × AtomFits b
 
-  abbrev pub LineFits : Line → Type 0
+  abbrev pub LineFits : LineContent → Type 0
   LineFits Empty = Unit
   LineFits Abort = Unit
   LineFits (Goto l) = l < 40980

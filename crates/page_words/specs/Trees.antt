@@ -10,30 +10,30 @@ use lib.Dec.{ltb}
 use borrow.Author.Tests.{lt-ltb, le-ltb}
 use Rattle.text_numbers.specs.Number.{digits}
 use Rattle.language.specs.Trees.{Expression, constant, read, minus, binary, assign, Place, variable, element, label, empty, express, goto, abort}
-use Rattle.page.specs.Lines.{Line as PageLine, single, mark, opens, opensWhile, opensIf, turns, closes}
+use Rattle.page.specs.Lines.{PageLine, single, mark, opens, opensWhile, opensIf, turns, closes}
 use Rattle.page.specs.declared.Sizes.{Sizes}
 use Rattle.page.specs.Page.{operatorWord, firstTemporary, name, atomWord, placeWord, valueWords, ended, parted, lineWords}
 use Rattle.page.specs.Fits.{fits-constant, fits-variable, value-atom, value-element, value-minus, value-binary, fits-empty, fits-abort, fits-goto, fits-label, fits-store, fits-put, fits-opens, fits-while, fits-if, fits-turns, fits-closes}
 use Rattle.page.specs.Fits as page-fits
 use Rattle.page_words.specs.Texts.{atomText, elementText, valueText, assignmentText, lineText, AtomFits, NameFits, ElementFits, ValueFits, LineFits}
 use Rattle.page_words.specs.declared.Names.{Names}
-use Rattle.page_words.specs.declared.Atom.{Atom}
-use Rattle.page_words.specs.declared.Atom.the-variants.{Constant, Variable, Declared, Temporary}
+use Rattle.page_words.specs.declared.PageAtom.{PageAtom}
+use Rattle.page_words.specs.declared.PageAtom.the-variants.{Constant, Variable, Declared, Temporary}
 use Rattle.page_words.specs.declared.Value.{Value}
 use Rattle.page_words.specs.declared.Value.the-variants.{Single, Element, Minus, Binary}
-use Rattle.page_words.specs.declared.Line.{Line}
-use Rattle.page_words.specs.declared.Line.the-variants.{Empty, Abort, Goto, Label, Store, Put, Opens, While, If, Turns, Closes}
+use Rattle.page_words.specs.declared.LineContent.{LineContent}
+use Rattle.page_words.specs.declared.LineContent.the-variants.{Empty, Abort, Goto, Label, Store, Put, Opens, While, If, Turns, Closes}
 
 -- S and D.
 module _ (sizes : Sizes) where
   -- A constant is no place; no line that fits has one there.
-  abbrev pub placeTree : Atom → Place
+  abbrev pub placeTree : PageAtom → Place
   placeTree (Constant v) = variable 0
   placeTree (Variable n) = variable n
   placeTree (Declared n) = variable (sizes .store + n)
   placeTree (Temporary n) = variable (firstTemporary sizes + n)
 
-  abbrev pub atomTree : Atom → Expression
+  abbrev pub atomTree : PageAtom → Expression
   atomTree (Constant v) = constant v
   atomTree (Variable n) = read (variable n)
   atomTree (Declared n) = read (variable (sizes .store + n))
@@ -45,7 +45,7 @@ module _ (sizes : Sizes) where
   valueTree (Minus a) = minus (atomTree a)
   valueTree (Binary o a b) = binary o (atomTree a) (atomTree b)
 
-  abbrev pub lineTree : Line → PageLine
+  abbrev pub lineTree : LineContent → PageLine
   lineTree Empty = single empty
   lineTree Abort = single abort
   lineTree (Goto l) = single (goto l)
@@ -84,23 +84,23 @@ module _ (sizes : Sizes) (names : Names) (within : Within sizes names) where
   unfolding name
   variable-word n h = rw (lt-ltb n (sizes .store) (omega (arith, within .variables-inside)))
 
-  atom-word : (a : Atom) → AtomFits names a → atomWord sizes (atomTree sizes a) ≡ atomText a
+  atom-word : (a : PageAtom) → AtomFits names a → atomWord sizes (atomTree sizes a) ≡ atomText a
   atom-word (Constant v) h = refl
   atom-word (Variable n) h = variable-word n h
   atom-word (Declared n) h = declared-word n h
   atom-word (Temporary n) h = temporary-word n
 
-  name-word : (a : Atom) → NameFits names a → placeWord sizes (placeTree sizes a) ≡ atomText a
+  name-word : (a : PageAtom) → NameFits names a → placeWord sizes (placeTree sizes a) ≡ atomText a
   name-word (Constant v) h = absurd h
   name-word (Variable n) h = variable-word n h
   name-word (Declared n) h = declared-word n h
   name-word (Temporary n) h = temporary-word n
 
-  element-word : (array : ℕ) (a : Atom) → ElementFits names array a → placeWord sizes (element array (atomTree sizes a)) ≡ elementText array a
+  element-word : (array : ℕ) (a : PageAtom) → ElementFits names array a → placeWord sizes (element array (atomTree sizes a)) ≡ elementText array a
   element-word array a h =
       ap (λ (l : List ℕ). 97 ∷ (digits array ++ (91 ∷ (l ++ (93 ∷ []))))) (atom-word a (h .1)) ∙ ap (λ (l : List ℕ). 97 ∷ l) (sym (append-assoc (digits array) (91 ∷ atomText a) (93 ∷ [])))
 
-  assigned-atom : (word : List ℕ) (a : Atom) → AtomFits names a → parted (word ∷ ((61 ∷ []) ∷ ended (valueWords sizes (atomTree sizes a)))) ≡ assignmentText word (atomText a)
+  assigned-atom : (word : List ℕ) (a : PageAtom) → AtomFits names a → parted (word ∷ ((61 ∷ []) ∷ ended (valueWords sizes (atomTree sizes a)))) ≡ assignmentText word (atomText a)
   unfolding parted ended
   assigned-atom word (Constant v) h = refl
   assigned-atom word (Variable n) h = rw (variable-word n h)
@@ -119,7 +119,7 @@ module _ (sizes : Sizes) (names : Names) (within : Within sizes names) where
       ∙ ap (λ (l : List ℕ). atomText a ++ (32 ∷ l)) (append-assoc (operatorWord o) (32 ∷ atomText b) (59 ∷ [])))))
 
   -- The bytes of a line are its words on the page, parted by blanks.
-  pub line-words : (line : Line) → LineFits names line → parted (lineWords sizes (lineTree sizes line)) ≡ lineText line
+  pub line-words : (line : LineContent) → LineFits names line → parted (lineWords sizes (lineTree sizes line)) ≡ lineText line
   unfolding parted ended
   line-words Empty h = refl
   line-words Abort h = refl
@@ -140,7 +140,7 @@ module _ (sizes : Sizes) (names : Names) (within : Within sizes names) where
   abbrev pub Named : ℕ → Type 0
   Named i = (i < names .variables) ⊎ ((sizes .store ≤ i) × (i < sizes .store + (names .declared + names .temporaries)))
 
-  atom-fits : (a : Atom) → AtomFits names a → page-fits.AtomFits Named (names .arrays) (atomTree sizes a)
+  atom-fits : (a : PageAtom) → AtomFits names a → page-fits.AtomFits Named (names .arrays) (atomTree sizes a)
   atom-fits (Constant v) h = fits-constant h
   atom-fits (Variable n) h = fits-variable (inl h)
   atom-fits (Declared n) h = fits-variable {i = sizes .store + n} (inr (omega arith, omega arith))
@@ -152,7 +152,7 @@ module _ (sizes : Sizes) (names : Names) (within : Within sizes names) where
   value-fits (Minus a) h = value-minus (atom-fits a h)
   value-fits (Binary o a b) h = value-binary (atom-fits a (h .0)) (atom-fits b (h .1))
 
-  pub line-fits : (line : Line) → LineFits names line → page-fits.LineFits Named (names .arrays) (lineTree sizes line)
+  pub line-fits : (line : LineContent) → LineFits names line → page-fits.LineFits Named (names .arrays) (lineTree sizes line)
   line-fits Empty h = fits-empty
   line-fits Abort h = fits-abort
   line-fits (Goto l) h = fits-goto h

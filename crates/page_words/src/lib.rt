@@ -10,7 +10,7 @@ pub struct Names {
     pub arrays: u32,
 }
 
-pub enum Atom {
+pub enum PageAtom {
     Constant(i32),
     Variable(u32),
     Declared(u32),
@@ -19,23 +19,23 @@ pub enum Atom {
 
 // What is assigned.
 pub enum Value {
-    Single(Atom),
-    Element(u32, Atom),
-    Minus(Atom),
-    Binary(Operator, Atom, Atom),
+    Single(PageAtom),
+    Element(u32, PageAtom),
+    Minus(PageAtom),
+    Binary(Operator, PageAtom, PageAtom),
 }
 
 // What a line says. `Store` assigns to a name, `Put` to an element.
-pub enum Line {
+pub enum LineContent {
     Empty,
     Abort,
     Goto(u32),
     Label(u32),
-    Store(Atom, Value),
-    Put(u32, Atom, Atom),
+    Store(PageAtom, Value),
+    Put(u32, PageAtom, PageAtom),
     Opens,
-    While(Atom),
-    If(Atom),
+    While(PageAtom),
+    If(PageAtom),
     Turns,
     Closes,
 }
@@ -47,12 +47,12 @@ pub enum NumberRead {
 }
 
 pub enum AtomRead {
-    Read(Atom),
+    Read(PageAtom),
     Malformed,
 }
 
 pub enum ElementRead {
-    Read(u32, Atom),
+    Read(u32, PageAtom),
     Malformed,
 }
 
@@ -67,6 +67,6 @@ pub enum ValueRead {
 }
 
 pub enum LineRead {
-    Read(Line),
+    Read(LineContent),
     Malformed,
 }

@@ -11,10 +11,14 @@ use Rattle.language.specs.Meaning.{Signal}
 use Rattle.language.specs.Program.{Finished, tableProgram, runTableUnder, runTable}
 use Rattle.names.specs.Names.{resolved}
 
+-- S, the words of a source program's variables and arrays; behind them lie its declared words.
+abbrev pub sourceSize : List ℤ → ℕ
+sourceSize header = storeSize (layoutOf Source header)
+
 -- The table in which every name stands for its store word. A source program's names mean what they mean at their rows; a kernel names
 -- store words.
 abbrev pub resolvedRows : Form → List ℤ → List ℤ → List ℤ
-resolvedRows Source header rows = resolved (storeSize (layoutOf Source header)) rows
+resolvedRows Source header rows = resolved (sourceSize header) rows
 resolvedRows Kernel header rows = rows
 
 unfoldable pub programOf : Form → List ℤ → List ℤ → Computation Signal

@@ -24,11 +24,11 @@ use Rattle.words.specs.declared.RunAnswer.{RunAnswer}
 use Rattle.words.specs.declared.RunVerdict.{RunVerdict}
 use Rattle.words.specs.declared.RunVerdict.the-variants.{Ran, Refused as RunRefused}
 use Rattle.language.specs.Program.{Finished}
-use Rattle.program_meaning.specs.Program.{runProgram}
+use Rattle.program_meaning.specs.Program.{sourceSize, runProgram}
 use Rattle.program_meaning.specs.ProgramLaws.{store-length, budget-zero}
 use Rattle.machine.specs.Whole.{finishedOf}
 use Rattle.program_runs.specs.Runs.{RunResult, ran, runRefused, runAfter, runResult, refusalOf}
-use Rattle.program_previews.specs.Previews.{oneUnless, difference, differences, toldRun, tallyOf, PreviewResult, answerAndWords, previewRefused, previewOf, previewIf, previewAfter, previewOfRun, sizeOf, previewResult, acceptedPreview, Foretells, NoneIfEqual, RunAsPreviewed}
+use Rattle.program_previews.specs.Previews.{oneUnless, difference, differences, toldRun, tallyOf, PreviewResult, answerAndWords, previewRefused, previewOf, previewIf, previewAfter, previewOfRun, previewResult, acceptedPreview, Foretells, NoneIfEqual, RunAsPreviewed}
 use Rattle.program_previews.specs.declared.PreviewAnswer.{PreviewAnswer}
 use Rattle.program_previews.specs.declared.PreviewVerdict.{PreviewVerdict}
 use Rattle.program_previews.specs.declared.PreviewVerdict.the-variants.{Previewed, Refused as PreviewRefused}
@@ -117,23 +117,23 @@ answerOf finished = record { ending = finished .ending; count = finished .count 
 module _ (header rows : List ℤ) (budget : ℕ) (store scratch : List ℤ) where
   pub store-refused : (length store ≡ storeWords Source header rows → ⊥) → previewRefused (record { number = 11; place = 0 }) store scratch ≡ acceptedPreview header rows budget store scratch
   store-refused other =
-      sym (ap (λ (same : Bool). previewOfRun (pick same (ran (runProgram Source header rows budget store)) (runRefused (record { number = 11; place = 0 }) store)) (sizeOf header) (storeWords Source header rows) store scratch)
+      sym (ap (λ (same : Bool). previewOfRun (pick same (ran (runProgram Source header rows budget store)) (runRefused (record { number = 11; place = 0 }) store)) (sourceSize header) (storeWords Source header rows) store scratch)
       (ne-eqb (length store) (storeWords Source header rows) other))
 
   -- a store of the right size is run
-  run-previewed : length store ≡ storeWords Source header rows → acceptedPreview header rows budget store scratch ≡ previewOfRun (ran (runProgram Source header rows budget store)) (sizeOf header) (storeWords Source header rows) store scratch
+  run-previewed : length store ≡ storeWords Source header rows → acceptedPreview header rows budget store scratch ≡ previewOfRun (ran (runProgram Source header rows budget store)) (sourceSize header) (storeWords Source header rows) store scratch
   run-previewed same =
-      ap (λ (same : Bool). previewOfRun (pick same (ran (runProgram Source header rows budget store)) (runRefused (record { number = 11; place = 0 }) store)) (sizeOf header) (storeWords Source header rows) store scratch)
+      ap (λ (same : Bool). previewOfRun (pick same (ran (runProgram Source header rows budget store)) (runRefused (record { number = 11; place = 0 }) store)) (sourceSize header) (storeWords Source header rows) store scratch)
       (eq-eqb (length store) (storeWords Source header rows) same)
 
   pub scratch-refused : length store ≡ storeWords Source header rows → length scratch < storeWords Source header rows → previewRefused (record { number = 15; place = 0 }) store scratch ≡ acceptedPreview header rows budget store scratch
   scratch-refused same short =
       let left = runProgram Source header rows budget store in
-      sym (run-previewed same ∙ ap (λ (room : Bool). previewIf room (answerOf left) (sizeOf header) (left .store) store scratch) (lt-leb (storeWords Source header rows) (length scratch) short))
+      sym (run-previewed same ∙ ap (λ (room : Bool). previewIf room (answerOf left) (sourceSize header) (left .store) store scratch) (lt-leb (storeWords Source header rows) (length scratch) short))
 
   -- the copy stands in the scratch, with what stood behind
   pub run-told : length store ≡ storeWords Source header rows → storeWords Source header rows ≤ length scratch → (preview : PreviewAnswer) (copy : List ℤ)
-      → Foretells (sizeOf header) (runProgram Source header rows budget store) store preview copy → answerAndWords (Previewed preview) store (copy ++ drop (storeWords Source header rows) scratch) ≡ acceptedPreview header rows budget store scratch
+      → Foretells (sourceSize header) (runProgram Source header rows budget store) store preview copy → answerAndWords (Previewed preview) store (copy ++ drop (storeWords Source header rows) scratch) ≡ acceptedPreview header rows budget store scratch
   unfolding over
   run-told same room preview copy f =
       let left = runProgram Source header rows budget store in
@@ -142,8 +142,8 @@ module _ (header rows : List ℤ) (budget : ℕ) (store scratch : List ℤ) wher
       let words : copy ++ drop (storeWords Source header rows) scratch ≡ over (left .store) scratch =
       ap (λ (l : List ℤ). l ++ drop (storeWords Source header rows) scratch) (f .holds) ∙ ap (λ (n : ℕ). left .store ++ drop n scratch) (sym long) in
       ap (λ (p : PreviewAnswer). answerAndWords (Previewed p) store (copy ++ drop (storeWords Source header rows) scratch)) (f .told)
-      ∙ ap (λ (l : List ℤ). answerAndWords (Previewed (previewOf run (differences (sizeOf header) store (left .store)))) store l) words
-      ∙ sym (run-previewed same ∙ ap (λ (b : Bool). previewIf b run (sizeOf header) (left .store) store scratch) (le-leb (storeWords Source header rows) (length scratch) room))
+      ∙ ap (λ (l : List ℤ). answerAndWords (Previewed (previewOf run (differences (sourceSize header) store (left .store)))) store l) words
+      ∙ sym (run-previewed same ∙ ap (λ (b : Bool). previewIf b run (sourceSize header) (left .store) store scratch) (le-leb (storeWords Source header rows) (length scratch) room))
 
 -- ---- a run gives what was previewed
 
@@ -198,11 +198,11 @@ told-after (RunRefused refusal) size words left store scratch preview inside s e
 
 -- A preview that is not refused, then a run of the same program on the same store.
 pub run-as-previewed : (header rows : List ℤ) (budget : ℕ) (store scratch : List ℤ) (preview : PreviewAnswer) → previewResult header rows budget store scratch .answer ≡ Previewed preview
-    → RunAsPreviewed (runResult Source header rows budget store) (sizeOf header) (storeWords Source header rows) store preview (previewResult header rows budget store scratch .scratch)
+    → RunAsPreviewed (runResult Source header rows budget store) (sourceSize header) (storeWords Source header rows) store preview (previewResult header rows budget store scratch .scratch)
 unfolding previewResult runResult
 run-as-previewed header rows budget store scratch preview e =
     let run = runAfter (refusalOf Source header rows) Source header rows budget store in
-    let t = told-after (run .answer) (sizeOf header) (storeWords Source header rows) (run .store) store scratch preview (size-least Source header rows) (sized header rows budget store (refusalOf Source header rows)) e in
+    let t = told-after (run .answer) (sourceSize header) (storeWords Source header rows) (run .store) store scratch preview (size-least Source header rows) (sized header rows budget store (refusalOf Source header rows)) e in
     record { store-size = t .told-size; scratch-room = t .told-room; same-answer = t .told-answer; same-words = t .told-words; tally-right = t .told-tally }
 
 -- "0 gives spent with count 0": with that budget the scratch gets the store as it is, and no word differs.
@@ -210,8 +210,8 @@ pub zero-previewed : (header rows store scratch : List ℤ) → refusalOf Source
     → previewResult header rows 0 store scratch ≡ answerAndWords (Previewed (record { ending = Spent; count = 0; differing = 0 })) store (over store scratch)
 unfolding previewResult runResult
 zero-previewed header rows store scratch accepted same room =
-    ap (λ (v : Verdict). previewOfRun (runAfter v Source header rows 0 store) (sizeOf header) (storeWords Source header rows) store scratch) accepted
+    ap (λ (v : Verdict). previewOfRun (runAfter v Source header rows 0 store) (sourceSize header) (storeWords Source header rows) store scratch) accepted
     ∙ run-previewed header rows 0 store scratch same
-    ∙ ap (λ (f : Finished). previewOfRun (ran f) (sizeOf header) (storeWords Source header rows) store scratch) (budget-zero Source header rows store)
-    ∙ ap (λ (b : Bool). previewIf b (record { ending = Spent; count = 0 }) (sizeOf header) store store scratch) (le-leb (storeWords Source header rows) (length scratch) room)
-    ∙ ap (λ (n : ℕ). answerAndWords (Previewed (record { ending = Spent; count = 0; differing = n })) store (over store scratch)) (differences-same (sizeOf header) store)
+    ∙ ap (λ (f : Finished). previewOfRun (ran f) (sourceSize header) (storeWords Source header rows) store scratch) (budget-zero Source header rows store)
+    ∙ ap (λ (b : Bool). previewIf b (record { ending = Spent; count = 0 }) (sourceSize header) store store scratch) (le-leb (storeWords Source header rows) (length scratch) room)
+    ∙ ap (λ (n : ℕ). answerAndWords (Previewed (record { ending = Spent; count = 0; differing = n })) store (over store scratch)) (differences-same (sourceSize header) store)

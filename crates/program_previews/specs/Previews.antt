@@ -20,6 +20,7 @@ use Rattle.language.specs.Program.{Finished}
 use Rattle.program_runs.specs.Runs.{RunResult, runAfter, runResult}
 use Rattle.program_previews.specs.declared.PreviewAnswer.{PreviewAnswer}
 use Rattle.program_previews.specs.declared.PreviewVerdict.{PreviewVerdict}
+use Rattle.program_meaning.specs.Program.{sourceSize}
 use Rattle.program_previews.specs.declared.PreviewVerdict.the-variants.{Previewed, Refused as PreviewRefused}
 
 -- 1 for two words that differ, 0 for equal ones.
@@ -85,17 +86,13 @@ previewAfter (Ran run) size words left store scratch = previewIf (leb words (len
 abbrev pub previewOfRun : RunResult → (size words : ℕ) → List ℤ → List ℤ → PreviewResult
 previewOfRun run size words store scratch = previewAfter (run .answer) size words (run .store) store scratch
 
--- S, the words of the header's variables and arrays.
-abbrev pub sizeOf : List ℤ → ℕ
-sizeOf header = storeSize (layoutOf Source header)
-
 -- "It equals running the rule on a copy of the store, spent and faulted runs included."
 unfoldable pub previewResult : List ℤ → List ℤ → ℕ → List ℤ → List ℤ → PreviewResult
-previewResult header rows budget store scratch = previewOfRun (runResult Source header rows budget store) (sizeOf header) (storeWords Source header rows) store scratch
+previewResult header rows budget store scratch = previewOfRun (runResult Source header rows budget store) (sourceSize header) (storeWords Source header rows) store scratch
 
 -- The same of an accepted program.
 abbrev pub acceptedPreview : List ℤ → List ℤ → ℕ → List ℤ → List ℤ → PreviewResult
-acceptedPreview header rows budget store scratch = previewOfRun (runAfter Accepted Source header rows budget store) (sizeOf header) (storeWords Source header rows) store scratch
+acceptedPreview header rows budget store scratch = previewOfRun (runAfter Accepted Source header rows budget store) (sourceSize header) (storeWords Source header rows) store scratch
 
 -- A run was made on a copy of the store: its answer with the tally, and what the copy holds.
 pub record Foretells (size : ℕ) (finished : Finished) (store : List ℤ) (preview : PreviewAnswer) (copy : List ℤ) : Type 0 where

@@ -14,9 +14,9 @@ ghost use lib.ListN.{length};
 ghost use Rattle.words.specs.Layout.{storeWords};
 ghost use Rattle.words.specs.declared.Form.the-variants.{Source};
 ghost use Rattle.words.specs.declared.Verdict.the-variants.{Accepted};
-ghost use Rattle.program_meaning.specs.Program.{runProgram};
+ghost use Rattle.program_meaning.specs.Program.{sourceSize, runProgram};
 ghost use Rattle.program_runs.specs.Runs.{refusalOf};
-ghost use Rattle.program_previews.specs.Previews.{difference, differences, answerAndWords, sizeOf, previewResult, acceptedPreview, Foretells};
+ghost use Rattle.program_previews.specs.Previews.{difference, differences, answerAndWords, previewResult, acceptedPreview, Foretells};
 
 // "The ending, the count and how many store words would differ".
 pub struct PreviewAnswer {
@@ -64,7 +64,7 @@ fn preview_on_copy(
     requires { ⌜ refusalOf Source (now header) (now rows) ≡ Accepted ⌝ }
     requires { ⌜ length (now store) ≡ storeWords Source (now header) (now rows) ⌝ }
     requires { ⌜ length (now copy) ≡ storeWords Source (now header) (now rows) ⌝ }
-    ensures { λ r. ⌜ Foretells (sizeOf (now (header .entry))) (runProgram Source (now (header .entry)) (now (rows .entry)) budget (now (store .entry))) (now (store .entry)) r (now (copy .exit)) ⌝ }
+    ensures { λ r. ⌜ Foretells (sourceSize (now (header .entry))) (runProgram Source (now (header .entry)) (now (rows .entry)) budget (now (store .entry))) (now (store .entry)) r (now (copy .exit)) ⌝ }
 {
     put(store, copy);
     let run = run_accepted(Form::Source, header, rows, copy, budget);

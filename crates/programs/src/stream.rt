@@ -2,7 +2,7 @@
 // that many bytes of text.
 use text_lines::line::piece_end;
 use text_numbers::number::Digits;
-use text_numbers::number::natural;
+use text_numbers::number::natural_of;
 ghost use Prim.Native.Nat.{_≤_, _<_};
 ghost use lib.ListN.{length};
 ghost use Rattle.programs.specs.Cases.{Inside};
@@ -52,11 +52,11 @@ pub fn find_case(input: &[u8]) -> Found
         return Found::Nothing;
     }
     let second = piece_end(&input[..line], first + 1, b'\t');
-    let budget = natural(&input[..first], 4294967295);
+    let budget = natural_of(&input[..first], 4294967295);
     let Digits::Value(steps) = budget else {
         return Found::Nothing;
     };
-    let length = natural(&input[first + 1..second], 4294967295);
+    let length = natural_of(&input[first + 1..second], 4294967295);
     let Digits::Value(bytes) = length else {
         return Found::Nothing;
     };

@@ -20,7 +20,7 @@ use Rattle.text_lines.specs.Line.{fieldsOf, numbersOf}
 use Rattle.text_form.specs.Text.{malformed, parse}
 use Rattle.words.specs.Over.{over}
 use Rattle.words.specs.OverLaws.{written-part}
-use Rattle.text_form.specs.Answers.{finished, unless, readResult, Reads}
+use Rattle.text_form.specs.Answers.{finished, causeUnless, readResult, Reads}
 use Rattle.text_form.specs.declared.ReadAnswer.the-variants.{Read, Refused}
 use Rattle.text_numbers.specs.NumberLaws.{not-some}
 use Rattle.text_form.specs.AnswerLaws.{Passes, read-passing, refused-finished}
@@ -52,7 +52,7 @@ record Small (header : List ℤ) (rowWords : ℕ) : Type 0 where
   few-rows : rowWords ≤ 6 * mostRows
 
 no-cause-small : (header : List ℤ) (rowWords : ℕ) → trialCause header rowWords ≡ none → Small header rowWords
-unfolding trialCause unless
+unfolding trialCause causeUnless
 no-cause-small header rowWords e =
     by-cases (headerFits Source header && leb (storeSize (layoutOf Source header)) mostWords)
     (λ h. by-cases (countFits Source rowWords && leb rowWords (6 * mostRows))

@@ -15,7 +15,7 @@ use Rattle.words.specs.declared.Verdict.{Verdict}
 use Rattle.words.specs.declared.Verdict.the-variants.{Accepted, Refused}
 use Rattle.source_check.specs.Refusal.{refusal}
 use Rattle.text_form.specs.Text.{Parsed, parsed, malformed, Program, parse}
-use Rattle.text_form.specs.Answers.{unless}
+use Rattle.text_form.specs.Answers.{causeUnless}
 use Rattle.rule_text.specs.declared.RuleAnswer.{RuleAnswer}
 use Rattle.rule_text.specs.declared.RuleAnswer.the-variants as answers
 
@@ -49,8 +49,8 @@ checkedRule Accepted program = accepted program
 -- "S over 1,024 prints 1 and more than 128 rows print 2, both with place 0", and so do the check's own grounds for 1 and 2.
 unfoldable pub trialCause : List ℤ → ℕ → Option ℕ
 trialCause header rowWords =
-    unless (headerFits Source header && leb (storeSize (layoutOf Source header)) mostWords) 1
-    (unless (countFits Source rowWords && leb rowWords (6 * mostRows)) 2 none)
+    causeUnless (headerFits Source header && leb (storeSize (layoutOf Source header)) mostWords) 1
+    (causeUnless (countFits Source rowWords && leb rowWords (6 * mostRows)) 2 none)
 
 unfoldable pub limitedRule : Option ℕ → Program → Rule
 limitedRule (some number) program = refused number 0

@@ -4,7 +4,7 @@ use super::limits::trial_cause;
 use source_check::check;
 use text_form::ReadAnswer;
 use text_form::limits::Cause;
-use text_form::reader::Shape;
+use text_form::reader::TextShape;
 use text_form::reader::shape_of;
 use text_lines::line::store_numbers;
 use words::Form;
@@ -77,11 +77,11 @@ pub fn read_rule(text: &[u8], header: &mut [i32], rows: &mut [i32]) -> RuleAnswe
     }
     let shape = shape_of(6, Form::Source, text);
     match shape {
-        Shape::Malformed(line) => RuleAnswer::Refused(Refusal {
+        TextShape::Malformed(line) => RuleAnswer::Refused(Refusal {
             number: 14,
             place: line,
         }),
-        Shape::Lines(end, numbers, row_words) => lines_rule(
+        TextShape::Lines(end, numbers, row_words) => lines_rule(
             text,
             end,
             numbers,

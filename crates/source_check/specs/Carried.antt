@@ -15,7 +15,7 @@ use Rattle.names.specs.ResolvedLaws.{resolved-kind, resolved-link, resolved-cou
 use Rattle.list_items.specs.Items.{ListItem, first, next}
 use Rattle.function_causes.specs.Functions.{isDefinition, isReturn}
 use Rattle.function_causes.specs.Demands.{Within, functionPart, functionAlong}
-use Rattle.source_check.specs.Legal.{Inside, part, along, Placed}
+use Rattle.source_check.specs.Legal.{Inside, part, along, PlacedRow}
 
 -- Row r of the table `rows` is row ρ r of the table `other`, and so are the rows that it links.
 pub record Carries (other rows : List ℤ) (ρ : ℕ → ℕ) : Type 0 where
@@ -47,7 +47,7 @@ module _ {other rows : List ℤ} {ρ : ℕ → ℕ} (c : Carries other rows ρ) 
       subst (Within other (ρ definition)) (c .to definition field (omega arith) leads) (functionPart f (rw (c .kind definition (omega arith)) d) (c .leads definition field (omega arith) leads))
   within-carried {definition} (functionAlong {row} {field} f leads w) = subst (Within other (ρ definition)) (c .to row field f leads) (functionAlong f (c .leads row field f leads) (within-carried w))
 
-  pub placed-carried : (row : ℕ) → row < rowCount rows → Placed rows row → Placed other (ρ row)
+  pub placed-carried : (row : ℕ) → row < rowCount rows → PlacedRow rows row → PlacedRow other (ρ row)
   unfolding isDeclaration isReturn
   placed-carried row n p = record {
     break-inside = λ k. inside-carried _ (p .break-inside (sym (c .kind row n) ∙ k));
@@ -67,5 +67,5 @@ module _ (S : ℕ) (rows : List ℤ) where
     to = λ row field f leads. resolved-link S rows row field f;
   }
 
-  pub resolved-placed : ((row : ℕ) → row < rowCount rows → Placed rows row) → (row : ℕ) → row < rowCount (resolved S rows) → Placed (resolved S rows) row
+  pub resolved-placed : ((row : ℕ) → row < rowCount rows → PlacedRow rows row) → (row : ℕ) → row < rowCount (resolved S rows) → PlacedRow (resolved S rows) row
   resolved-placed placed row n = let inside = rw (resolved-count S rows) at n in placed-carried resolved-carries row inside (placed row inside)

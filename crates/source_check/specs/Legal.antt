@@ -27,7 +27,7 @@ SwitchItem rows row = ListItem rows 47 2 row
 
 -- "A case or default is an item of a switch's own list. Break stands inside a loop or switch, continue inside a loop." A declaration
 -- "is an item of a block". No "return outside a function".
-pub record Placed (rows : List ℤ) (row : ℕ) : Type 0 where
+pub record PlacedRow (rows : List ℤ) (row : ℕ) : Type 0 where
   pub break-inside : numberAt rows row 0 ≡ 50 → Inside rows isLoopOrSwitch row
   pub continue-inside : numberAt rows row 0 ≡ 51 → Inside rows isLoop row
   pub mark-inside : isMark (numberAt rows row 0) ≡ true → SwitchItem rows row
@@ -44,7 +44,7 @@ pub record Legal (header rows : List ℤ) : Type 0 where
   pub header-fits : headerFits Source header ≡ true
   -- Count of rows, kinds, unused fields, links, row 0, numbers.
   pub structured : Structured Source (boundsOf Source header) rows
-  pub placed : (row : ℕ) → row < rowCount rows → Placed rows row
+  pub placed : (row : ℕ) → row < rowCount rows → PlacedRow rows row
   pub distinct : (row : ℕ) → row < rowCount rows → Distinct rows row
   -- "The limit is 64."
   pub shallow : Shallow Source rows

@@ -27,7 +27,7 @@ use Rattle.declaration_causes.specs.DeclarationLaws.{inside-block, block-inside
 use Rattle.function_causes.specs.Functions.{isDefinition}
 use Rattle.function_causes.specs.AroundLaws.{inside-function, function-inside}
 use Rattle.source_check.specs.Refusal.{wronglyPlaced}
-use Rattle.source_check.specs.Legal.{Inside, part, along, Placed}
+use Rattle.source_check.specs.Legal.{Inside, part, along, PlacedRow}
 
 module _ (rows : List ℤ) (t : Tree rows) where
   -- ---- inside a loop, inside a loop or switch
@@ -59,7 +59,7 @@ module _ (rows : List ℤ) (t : Tree rows) where
 
   -- ---- cause 7
 
-  pub none-wrong-placed : isDefinition rows 0 ≡ false → (row : ℕ) → row < rowCount rows → wronglyPlaced rows row ≡ false → Placed rows row
+  pub none-wrong-placed : isDefinition rows 0 ≡ false → (row : ℕ) → row < rowCount rows → wronglyPlaced rows row ≡ false → PlacedRow rows row
   unfolding wronglyPlaced misplaced outOfPlace
   none-wrong-placed root row n e =
       let well = neither (misplaced rows row) _ e in
@@ -74,7 +74,7 @@ module _ (rows : List ℤ) (t : Tree rows) where
       mark-other : (row : ℕ) → isMark (numberAt rows row 0) ≡ true → (kind : ℕ) → isMark kind ≡ false → eqb (numberAt rows row 0) kind ≡ false
       mark-other row k kind other = ne-eqb (numberAt rows row 0) kind (λ q. true≢false (sym k ∙ ap isMark q ∙ other))
 
-  not-misplaced : (row : ℕ) → Placed rows row → misplaced rows row ≡ false
+  not-misplaced : (row : ℕ) → PlacedRow rows row → misplaced rows row ≡ false
   unfolding misplaced outOfPlace
   not-misplaced row p =
       by-cases (eqb (numberAt rows row 0) 50)
@@ -85,6 +85,6 @@ module _ (rows : List ℤ) (t : Tree rows) where
       (λ k. rw (a, b, k, switch-item-note rows row, item-noted rows t 47 2 (omega arith) (p .mark-inside k)))
       (λ c. rw (a, b, c))))
 
-  pub placed-none-wrong : isDefinition rows 0 ≡ false → (row : ℕ) → Placed rows row → wronglyPlaced rows row ≡ false
+  pub placed-none-wrong : isDefinition rows 0 ≡ false → (row : ℕ) → PlacedRow rows row → wronglyPlaced rows row ≡ false
   unfolding wronglyPlaced
   placed-none-wrong root row p = rw (not-misplaced row p, block-inside rows t row (p .declaration-inside)) (function-inside rows t root row (p .return-inside))

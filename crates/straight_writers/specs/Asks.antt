@@ -21,7 +21,7 @@ use Rattle.shapes.specs.declared.PlaceShape.the-variants.{Variable as VariableS
 use Rattle.leaves.specs.Room.{Room}
 use Rattle.leaves.specs.Atoms.{atomTree, placeTree, AtomFits, PlaceFits}
 use Rattle.leaves.specs.Straight.{lastSize}
-use Rattle.leaves.specs.declared.Atom.{Atom}
+use Rattle.leaves.specs.declared.KernelAtom.{KernelAtom}
 use Rattle.leaves.specs.declared.KernelPlace.{KernelPlace}
 
 -- The source is measured; the store has S words.
@@ -44,12 +44,12 @@ pub record TargetIs (S : ℕ) (u : Use) (t r : ℕ) : Type 0 where
 -- ---- atoms and places
 
 -- The atom of the expression at a row, worked out at level t.
-pub record AtomAt (S : ℕ) (rows : List ℤ) (row t : ℕ) (x : Atom) : Type 0 where
+pub record AtomAt (S : ℕ) (rows : List ℤ) (row t : ℕ) (x : KernelAtom) : Type 0 where
   pub is : atomTree x ≡ atom S t (atomOf (calledIn rows) (expressionAt rows row))
   pub fits : AtomFits x
 
 -- The atom of a value that waits, which was copied where `copies` is 1.
-pub record HeldAt (S : ℕ) (rows : List ℤ) (row copies t : ℕ) (x : Atom) : Type 0 where
+pub record HeldAt (S : ℕ) (rows : List ℤ) (row copies t : ℕ) (x : KernelAtom) : Type 0 where
   pub is : atomTree x ≡ atom S t (heldBy copies (atomOf (calledIn rows) (expressionAt rows row)))
   pub fits : AtomFits x
 

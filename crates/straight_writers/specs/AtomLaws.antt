@@ -32,8 +32,8 @@ use Rattle.leaves.specs.Room.{Room}
 use Rattle.leaves.specs.Straight.{straightCode, lastSize}
 use Rattle.leaves.specs.Atoms.{atomTree}
 use Rattle.straight_writers.specs.Asks.{AtomAt, TargetIs, HeldAt, PlaceInside, HeldPlace, PlaceAt}
-use Rattle.leaves.specs.declared.Atom.{Atom}
-use Rattle.leaves.specs.declared.Atom.the-variants.{Constant, Variable}
+use Rattle.leaves.specs.declared.KernelAtom.{KernelAtom}
+use Rattle.leaves.specs.declared.KernelAtom.the-variants.{Constant, Variable}
 use Rattle.leaves.specs.declared.KernelPlace.{KernelPlace}
 use Rattle.leaves.specs.declared.KernelPlace.the-variants.{Variable as VariablePlace, Element}
 
@@ -63,11 +63,11 @@ target-by S t {u} {w} {r} e is h f =
 pub held-copy : {rows : List ℤ} (row : ℕ) (S t : ℕ) {k : ℕ} → k ≡ 1 → S + t < 65536 → HeldAt S rows row k t (Variable (S + t))
 held-copy {rows} row S t {k} e h = record { is = rw (eq-eqb k 1 e); fits = h }
 
-pub held-own : {rows : List ℤ} {row : ℕ} {S t k : ℕ} {x : Atom} → (k ≡ 1 → ⊥) → AtomAt S rows row t x → HeldAt S rows row k t x
+pub held-own : {rows : List ℤ} {row : ℕ} {S t k : ℕ} {x : KernelAtom} → (k ≡ 1 → ⊥) → AtomAt S rows row t x → HeldAt S rows row k t x
 held-own {k = k} n a = record { is = rw (ne-eqb k 1 n) (a .is); fits = a .fits }
 
 -- what holds a value that waits while W may be written
-pub held-is : {S : ℕ} {rows : List ℤ} {row k t : ℕ} {x : Atom} (W : ℕ → Bool) → k ≡ copied (atomOf (calledIn rows) (expressionAt rows row)) W → HeldAt S rows row k t x → atomTree x ≡ atom S t (held (atomOf (calledIn rows) (expressionAt rows row)) W)
+pub held-is : {S : ℕ} {rows : List ℤ} {row k t : ℕ} {x : KernelAtom} (W : ℕ → Bool) → k ≡ copied (atomOf (calledIn rows) (expressionAt rows row)) W → HeldAt S rows row k t x → atomTree x ≡ atom S t (held (atomOf (calledIn rows) (expressionAt rows row)) W)
 held-is {S} {rows} {row} {k} {t} W e a =
     let h = atomOf (calledIn rows) (expressionAt rows row) in
     a .is ∙ ap (λ (n : ℕ). atom S t (heldBy n h)) e ∙ ap (atom S t) (sym (held-by h W))
@@ -77,14 +77,14 @@ pub above-held : {n k : ℕ} (t : ℕ) (h : Held) (W : ℕ → Bool) → n ≡ t
 above-held t h W e f = omega (arith, taken-held h W)
 
 -- the copy of a value that waits, or nothing
-pub hold-copied : (S t k : ℕ) {rows : List ℤ} {row : ℕ} {x : Atom} → k ≡ 1 → AtomAt S rows row t x → assigning S (temporary S t) (atomTree x) none ≡ holdBy S t k (atomOf (calledIn rows) (expressionAt rows row))
+pub hold-copied : (S t k : ℕ) {rows : List ℤ} {row : ℕ} {x : KernelAtom} → k ≡ 1 → AtomAt S rows row t x → assigning S (temporary S t) (atomTree x) none ≡ holdBy S t k (atomOf (calledIn rows) (expressionAt rows row))
 hold-copied S t k e a = rw (eq-eqb k 1 e, a .is)
 
 pub hold-nothing : (S t k : ℕ) (h : Held) → (k ≡ 1 → ⊥) → none ≡ holdBy S t k h
 hold-nothing S t k h n = rw (ne-eqb k 1 n)
 
 -- an atom is one row
-pub atom-rows : (x : Atom) → expressionRows (atomTree x) ≡ 1
+pub atom-rows : (x : KernelAtom) → expressionRows (atomTree x) ≡ 1
 unfolding expressionRows
 atom-rows (Constant v) = refl
 atom-rows (Variable n) = refl
@@ -104,7 +104,7 @@ held-variable S rows t {place} {i} f e =
     let low : PlaceInside rows (VariableShape i) = subst (λ (p : PlaceShape). PlaceInside rows p) e f in
     rw e (record { is = refl; fits = omega arith })
 
-pub held-element : (S : ℕ) (rows : List ℤ) (t : ℕ) {place : PlaceShape} {array index : ℕ} {x : Atom} → PlaceInside rows place → place ≡ ElementShape array index → AtomAt S rows index t x → HeldPlace S rows place t (Element array x)
+pub held-element : (S : ℕ) (rows : List ℤ) (t : ℕ) {place : PlaceShape} {array index : ℕ} {x : KernelAtom} → PlaceInside rows place → place ≡ ElementShape array index → AtomAt S rows index t x → HeldPlace S rows place t (Element array x)
 unfolding kernelPlace
 held-element S rows t {place} {array} {index} {x} f e a =
     let low : PlaceInside rows (ElementShape array index) = subst (λ (p : PlaceShape). PlaceInside rows p) e f in

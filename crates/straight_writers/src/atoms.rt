@@ -1,7 +1,7 @@
 // Kernel atoms and places, from the source rows.
 use expression_measures::holders::holder_at;
 use expression_measures::holders::taken_at;
-use leaves::Atom;
+use leaves::KernelAtom;
 use leaves::KernelPlace;
 use measure_table::COPIED;
 use measure_table::Holder;
@@ -22,15 +22,15 @@ ghost use Rattle.measure_table.specs.Measures.{Measured};
 ghost use Rattle.straight_writers.specs.Asks.{Writing, AtomAt, TargetIs, HeldAt, PlaceInside, HeldPlace, PlaceAt};
 
 // The atom of the expression at a row, worked out at a level.
-pub fn atom_at(rows: &[i32], table: &[usize], store: usize, row: usize, level: usize) -> Atom
+pub fn atom_at(rows: &[i32], table: &[usize], store: usize, row: usize, level: usize) -> KernelAtom
     requires { ⌜ Writing (now rows) (now table) store × (row < rowCount (now rows)) × (level ≤ 4096) ⌝ }
     ensures { λ r. ⌜ AtomAt store (now (rows .entry)) row level r ⌝ }
 {
     let holder = holder_at(rows, table, row);
     match holder {
-        Holder::Number(value) => Atom::Constant(value),
-        Holder::Variable(number) => Atom::Variable(number),
-        Holder::Temporary => Atom::Variable(store + level),
+        Holder::Number(value) => KernelAtom::Constant(value),
+        Holder::Variable(number) => KernelAtom::Variable(number),
+        Holder::Temporary => KernelAtom::Variable(store + level),
     }
 }
 
@@ -62,12 +62,12 @@ pub fn held_atom(
     row: usize,
     copied: usize,
     level: usize,
-) -> Atom
+) -> KernelAtom
     requires { ⌜ Writing (now rows) (now table) store × (row < rowCount (now rows)) × (level ≤ 4096) ⌝ }
     ensures { λ r. ⌜ HeldAt store (now (rows .entry)) row copied level r ⌝ }
 {
     if copied == 1 {
-        return Atom::Variable(store + level);
+        return KernelAtom::Variable(store + level);
     }
     atom_at(rows, table, store, row, level)
 }

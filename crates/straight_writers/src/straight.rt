@@ -1,5 +1,5 @@
 // What an expression does with its operands' values, where it chooses nothing.
-use super::Position;
+use super::WritePosition;
 use super::atoms::atom_at;
 use super::atoms::held_atom;
 use super::atoms::kernel_place;
@@ -8,7 +8,7 @@ use super::atoms::place_taken;
 use super::atoms::target_word;
 use expression_measures::holders::direct_at;
 use expression_measures::holders::taken_at;
-use leaves::Atom;
+use leaves::KernelAtom;
 use leaves::KernelPlace;
 use leaves::assignments::put_binary;
 use leaves::assignments::put_copy;
@@ -67,7 +67,7 @@ fn put_read(
     table: &[usize],
     place: PlaceShape,
     usage: Use,
-    at: Position,
+    at: WritePosition,
     out: &mut [i32],
 )
     requires { ⌜ ReadAsks (now rows) (now table) (at .store) place usage (at .level) (at .base) (length (now out)) ⌝ }
@@ -86,9 +86,9 @@ fn put_read(
 // old := element, new := old operator operand, element := new
 fn put_element_update(
     array: usize,
-    index: Atom,
+    index: KernelAtom,
     operator: Operator,
-    operand: Atom,
+    operand: KernelAtom,
     old: usize,
     new: usize,
     base: usize,
@@ -102,7 +102,7 @@ fn put_element_update(
     put_binary(
         new,
         operator,
-        Atom::Variable(old),
+        KernelAtom::Variable(old),
         operand,
         base + 5,
         true,
@@ -111,7 +111,7 @@ fn put_element_update(
     put_store(
         array,
         index,
-        Atom::Variable(new),
+        KernelAtom::Variable(new),
         base + 11,
         follows,
         &mut out[66..],
@@ -123,7 +123,7 @@ fn put_update(
     store: usize,
     operator: Operator,
     place: KernelPlace,
-    operand: Atom,
+    operand: KernelAtom,
     level: usize,
     above: usize,
     base: usize,
@@ -137,7 +137,7 @@ fn put_update(
     let old = store + above;
     match place {
         KernelPlace::Variable(number) => {
-            let value = Atom::Variable(number);
+            let value = KernelAtom::Variable(number);
             put_binary(number, operator, value, operand, base, follows, out);
         }
         KernelPlace::Element(array, index) => put_element_update(
@@ -166,9 +166,9 @@ fn put_kept_step(
     requires { ⌜ Room 10 base (length (now out)) × (number < 65536) × (old < 65536) ⌝ }
     ensures { λ _. ⌜ now (out .exit) ≡ over (emitItems follows (keptStep operator number old) base) (now (out .entry)) ⌝ }
 {
-    put_copy(old, Atom::Variable(number), base, true, out);
-    let value = Atom::Variable(old);
-    let one = Atom::Constant(1);
+    put_copy(old, KernelAtom::Variable(number), base, true, out);
+    let value = KernelAtom::Variable(old);
+    let one = KernelAtom::Constant(1);
     let rest = &mut out[24..];
     put_binary(number, operator, value, one, base + 4, follows, rest);
 }
@@ -190,8 +190,8 @@ fn put_variable_step(
     let old = store + level;
     match usage {
         Use::Dropped => {
-            let value = Atom::Variable(number);
-            let one = Atom::Constant(1);
+            let value = KernelAtom::Variable(number);
+            let one = KernelAtom::Constant(1);
             put_binary(number, operator, value, one, base, follows, out);
         }
         Use::Wanted => put_kept_step(operator, number, old, base, follows, out),
@@ -216,7 +216,7 @@ fn put_postfix(
 {
     let old = store + level;
     let new = store + above;
-    let one = Atom::Constant(1);
+    let one = KernelAtom::Constant(1);
     match place {
         KernelPlace::Variable(number) => {
             put_variable_step(store, operator, number, usage, level, base, follows, out)
@@ -234,7 +234,7 @@ pub fn put_variable(
     number: usize,
     value: usize,
     usage: Use,
-    at: Position,
+    at: WritePosition,
     out: &mut [i32],
 )
     requires { ⌜ VariableAsks (now rows) (now table) (at .store) number value (at .level) (at .base) (length (now out)) ⌝ }
@@ -256,7 +256,7 @@ fn put_element(
     value: usize,
     copied: usize,
     usage: Use,
-    at: Position,
+    at: WritePosition,
     out: &mut [i32],
 )
     requires { ⌜ ElementAsks (now rows) (now table) (at .store) array index value copied (at .level) (at .base) (length (now out)) ⌝ }
@@ -276,7 +276,7 @@ fn put_assignment(
     value: usize,
     copied: usize,
     usage: Use,
-    at: Position,
+    at: WritePosition,
     out: &mut [i32],
 )
     requires { ⌜ AssignmentAsks (now rows) (now table) (at .store) place value copied (at .level) (at .base) (length (now out)) ⌝ }
@@ -297,8 +297,8 @@ fn put_operation(
     table: &[usize],
     operator: Operator,
     place: usize,
-    operand: Atom,
-    at: Position,
+    operand: KernelAtom,
+    at: WritePosition,
     out: &mut [i32],
 )
     requires { ⌜ OperationAsks (now rows) (now table) (at .store) place (updateRows (placeOf (expressionAt (now rows) place))) (at .level) (at .base) (length (now out)) × AtomFits operand ⌝ }
@@ -326,7 +326,7 @@ fn put_step(
     operator: Operator,
     place: usize,
     usage: Use,
-    at: Position,
+    at: WritePosition,
     out: &mut [i32],
 )
     requires { ⌜ OperationAsks (now rows) (now table) (at .store) place (postfixRows (placeOf (expressionAt (now rows) place)) usage) (at .level) (at .base) (length (now out)) ⌝ }
@@ -356,7 +356,7 @@ fn put_operator(
     right: usize,
     copied: usize,
     usage: Use,
-    at: Position,
+    at: WritePosition,
     out: &mut [i32],
 )
     requires { ⌜ OperatorAsks (now rows) (now table) (at .store) left right copied usage (at .level) (at .base) (length (now out)) ⌝ }
@@ -393,7 +393,7 @@ pub fn put_straight(
     ensures { λ _. ⌜ now (out .exit) ≡ over (emitItems follows (straightCode (calledIn (now (rows .entry))) store (expressionAt (now (rows .entry)) row) usage level) base) (now (out .entry)) ⌝ }
 {
     let number = target_word(store, level, usage);
-    let at = Position {
+    let at = WritePosition {
         store,
         level,
         base,
@@ -410,7 +410,7 @@ pub fn put_straight(
                 put_minus(number, atom, base, follows, out);
             }
             OperationShape::Not(operand) => {
-                let zero = Atom::Constant(0);
+                let zero = KernelAtom::Constant(0);
                 let atom = atom_at(rows, table, store, operand, level);
                 put_binary(number, Operator::Equal, atom, zero, base, follows, out);
             }
@@ -426,7 +426,15 @@ pub fn put_straight(
                 put_operation(rows, table, operator, place, atom, at, out);
             }
             OperationShape::Prefix(operator, place) => {
-                put_operation(rows, table, operator, place, Atom::Constant(1), at, out)
+                put_operation(
+                    rows,
+                    table,
+                    operator,
+                    place,
+                    KernelAtom::Constant(1),
+                    at,
+                    out,
+                )
             }
             OperationShape::Postfix(operator, place) => {
                 put_step(rows, table, operator, place, usage, at, out)

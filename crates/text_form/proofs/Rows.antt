@@ -14,11 +14,11 @@ use borrow.Author.Tests.{eqb-true, lt-leb, le-leb}
 use Rattle.words.specs.Word.{pick}
 use Rattle.words.specs.Layout.{leading}
 use Rattle.words.specs.declared.Form.{Form}
-use Rattle.text_lines.specs.Line.{Line, ended, unended, linesOf, fieldsOf, numbersOf, lineNumbers}
+use Rattle.text_lines.specs.Line.{TextLine, ended, unended, linesOf, fieldsOf, numbersOf, lineNumbers}
 use Rattle.text_form.specs.Text.{keep, headerSized, headerLine, rowSized, rowLine, Parsed, parsed, malformed, withRow, rowsFrom}
 use Rattle.text_lines.specs.LineLaws.{line-few}
 use Rattle.text_form.specs.TextLaws.{keep-is, keep-not, keep-none, keep-reads, with-none, rows-next, row-more}
-use Rattle.text_lines.specs.Reader.{sizeOf}
+use Rattle.text_lines.specs.Reader.{numberCount}
 use Rattle.text_form.specs.Reader.{isFound, wordsOf}
 use Rattle.text_lines.specs.CountLaws.{Sized}
 use Rattle.text_lines.proofs.Pieces.{Piece, lines-step, lines-last}
@@ -26,7 +26,7 @@ use Rattle.text_lines.proofs.Pieces.{Piece, lines-step, lines-last}
 -- ---- how many numbers a line has
 
 module _ (form : Form) (line : List ℕ) where
-  pub header-none : numbersOf (fieldsOf line) ≡ none → none ≡ sizeOf (headerLine form (ended line))
+  pub header-none : numbersOf (fieldsOf line) ≡ none → none ≡ numberCount (headerLine form (ended line))
   unfolding headerLine lineNumbers
   header-none e = rw (e, keep-none (headerSized form))
 
@@ -36,14 +36,14 @@ module _ (form : Form) (line : List ℕ) where
     header-kept true t = rw (s .is) (keep-is (headerSized form) (s .numbers) t)
     header-kept false t = rw (s .is) (keep-not (headerSized form) (s .numbers) t)
 
-    pub header-few : count < leading form → none ≡ sizeOf (headerLine form (ended line))
-    header-few h = sym (ap sizeOf (header-kept false (rw (lt-leb _ _ (few h)))))
+    pub header-few : count < leading form → none ≡ numberCount (headerLine form (ended line))
+    header-few h = sym (ap numberCount (header-kept false (rw (lt-leb _ _ (few h)))))
       where
         few : count < leading form → length (s .numbers) < leading form
         few h = omega (arith, s .size)
 
-    pub header-many : leading form ≤ count → leading form + 32 < count → none ≡ sizeOf (headerLine form (ended line))
-    header-many l h = sym (ap sizeOf (header-kept false (rw (le-leb _ _ (least l), lt-leb _ _ (most h)))))
+    pub header-many : leading form ≤ count → leading form + 32 < count → none ≡ numberCount (headerLine form (ended line))
+    header-many l h = sym (ap numberCount (header-kept false (rw (le-leb _ _ (least l), lt-leb _ _ (most h)))))
       where
         least : leading form ≤ count → leading form ≤ length (s .numbers)
         least l = omega (arith, s .size)
@@ -51,8 +51,8 @@ module _ (form : Form) (line : List ℕ) where
         most : leading form + 32 < count → leading form + 32 < length (s .numbers)
         most h = omega (arith, s .size)
 
-    pub header-sized : leading form ≤ count → count ≤ leading form + 32 → some count ≡ sizeOf (headerLine form (ended line))
-    header-sized l h = sym (ap sizeOf (header-kept true (rw (le-leb _ _ (least l), le-leb _ _ (most h)))) ∙ ap some (s .size))
+    pub header-sized : leading form ≤ count → count ≤ leading form + 32 → some count ≡ numberCount (headerLine form (ended line))
+    header-sized l h = sym (ap numberCount (header-kept true (rw (le-leb _ _ (least l), le-leb _ _ (most h)))) ∙ ap some (s .size))
       where
         least : leading form ≤ count → leading form ≤ length (s .numbers)
         least l = omega (arith, s .size)
@@ -106,7 +106,7 @@ unended-none width line = refl
 rows-unended : (width number : ℕ) (line : List ℕ) → rowsFrom width number (unended line ∷ []) ≡ malformed number
 rows-unended width number line = rows-next width number (unended line) [] ∙ rw (unended-none width line) (with-none number _)
 
-rows-bad : (width number : ℕ) (line : List ℕ) (lines : List Line) → rowLine width (ended line) ≡ none → rowsFrom width number (ended line ∷ lines) ≡ malformed number
+rows-bad : (width number : ℕ) (line : List ℕ) (lines : List TextLine) → rowLine width (ended line) ≡ none → rowsFrom width number (ended line ∷ lines) ≡ malformed number
 rows-bad width number line lines e = rows-next width number (ended line) lines ∙ rw e (with-none number _)
 
 -- ---- the words that were read
@@ -180,7 +180,7 @@ module _ {width : ℕ} {text : List ℕ} {at count : ℕ} (w : Walked width text
         next-same : rowsFrom width 2 (linesOf text) ≡ behind (w .before ++ row) (rowsFrom width (count + 1 + 2) (linesOf (drop (end + 1) text)))
         next-same =
             let n : count + 2 + 1 ≡ count + 1 + 2 = omega arith in
-            w .same ∙ ap (λ (lines : List Line). behind (w .before) (rowsFrom width (count + 2) lines)) (lines-step p h)
+            w .same ∙ ap (λ (lines : List TextLine). behind (w .before) (rowsFrom width (count + 2) lines)) (lines-step p h)
             ∙ ap (behind (w .before)) (rows-next width (count + 2) _ _) ∙ rw e (behind-more (w .before) row (count + 2) _)
             ∙ ap (λ (number : ℕ). behind (w .before ++ row) (rowsFrom width number (linesOf (drop (end + 1) text)))) n
 

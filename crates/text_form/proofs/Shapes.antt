@@ -16,7 +16,7 @@ use Rattle.text_form.specs.declared.ReadAnswer.the-variants.{Read, Refus
 use Rattle.text_lines.specs.Line.{ended, unended, linesOf, fieldsOf, numbersOf, lineNumbers}
 use Rattle.text_form.specs.Text.{keep, headerSized, headerLine, Parsed, parsed, malformed, rowsFrom, withHeader, programOf, parseTable, parse}
 use Rattle.words.specs.Over.{over}
-use Rattle.text_form.specs.Answers.{unless, causeOf, readRefused, readProgram, tablesHold, readParsed, readResult, Reads}
+use Rattle.text_form.specs.Answers.{causeUnless, causeOf, readRefused, readProgram, tablesHold, readParsed, readResult, Reads}
 use Rattle.text_numbers.specs.NumberLaws.{not-some}
 use Rattle.text_lines.specs.LineLaws.{lines-none}
 use Rattle.text_form.specs.TextLaws.{not-parsed, Kept, keep-reads, program-first}
@@ -108,7 +108,7 @@ rows-behind width text k said e = rw (rest-of text k) at e
 -- ---- what a reader leaves
 
 pub cause-some : (form : Form) (header : List ℤ) (words number : ℕ) (room : Bool) → causeOf form header words true ≡ some number → causeOf form header words room ≡ some number
-unfolding causeOf unless
+unfolding causeOf causeUnless
 cause-some form header words number room e =
     by-cases (headerFits form header)
     (λ h. by-cases (countFits form words)
@@ -117,7 +117,7 @@ cause-some form header words number room e =
     (λ h. rw h (rw h at e))
 
 pub cause-short : (form : Form) (header : List ℤ) (words : ℕ) → causeOf form header words true ≡ none → causeOf form header words false ≡ some 10
-unfolding causeOf unless
+unfolding causeOf causeUnless
 cause-short form header words e =
     by-cases (headerFits form header)
     (λ h. by-cases (countFits form words)
@@ -132,7 +132,7 @@ reads-malformed form text header rows line e = rw e (record { outcome = refl; he
 
 -- 10 comes after the other causes
 cause-by : (form : Form) (header : List ℤ) (words : ℕ) (room : Bool) (before : Option ℕ) → causeOf form header words true ≡ before → causeOf form header words room ≡ orShort before room
-unfolding orShort unless
+unfolding orShort causeUnless
 cause-by form header words room (some number) e = cause-some form header words number room e
 cause-by form header words true none e = e
 cause-by form header words false none e = cause-short form header words e
@@ -153,7 +153,7 @@ module _ {width : ℕ} {form : Form} {text : List ℕ} {end numbers words : ℕ}
 
   module _ {before : Option ℕ} (passes : before ≡ none) where
     short : tablesHold (l .program) header rows ≡ false → Reads (readBy before (parseTable width form text) header rows) (Refused (record { number = 10; place = 0 })) header rows
-    unfolding orShort unless
+    unfolding orShort causeUnless
     short t = refuses before 10 (rw (passes, t))
 
     pub reads-short-header : length header < numbers → Reads (readBy before (parseTable width form text) header rows) (Refused (record { number = 10; place = 0 })) header rows
@@ -165,7 +165,7 @@ module _ {width : ℕ} {form : Form} {text : List ℕ} {end numbers words : ℕ}
 
       pub reads-all : words ≤ length rows → (headerWritten rowsWritten : List ℤ) → headerWritten ≡ over (l .program .header) header → rowsWritten ≡ over (l .program .rows) rows
           → Reads (readBy before (parseTable width form text) header rows) (Read numbers words) headerWritten rowsWritten
-      unfolding readProgram orShort unless
+      unfolding readProgram orShort causeUnless
       reads-all h headerWritten rowsWritten e f =
           let room : tablesHold (l .program) header rows ≡ true = rw (l .header-size, l .rows-size, le-leb numbers (length header) header-room, le-leb words (length rows) h) in
           let cause : orShort before (tablesHold (l .program) header rows) ≡ none = rw (passes, room) in

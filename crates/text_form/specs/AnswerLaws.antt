@@ -17,7 +17,7 @@ use Rattle.text_form.specs.Text.{textBytes, Parsed, parsed, malformed, P
 use Rattle.words.specs.Over.{over}
 use Rattle.words.specs.Laws.{by-cases}
 use Rattle.words.specs.OverLaws.{take-over}
-use Rattle.text_form.specs.Answers.{finished, refused, unless, causeOf, readRefused, readProgram, tablesHold, readParsed, readResult, Reads, writeBytes, writeResult, Writes}
+use Rattle.text_form.specs.Answers.{finished, refused, causeUnless, causeOf, readRefused, readProgram, tablesHold, readParsed, readResult, Reads, writeBytes, writeResult, Writes}
 use Rattle.text_form.specs.TextLaws.{IsText, text-reads}
 
 -- ---- the causes
@@ -31,7 +31,7 @@ some-none : {G : Type 0} {number : ℕ} → some number ≡ none → G
 some-none {number = number} e = absurd (let z : _≡_ {A = ℕ} 0 1 = cc in omega arith)
 
 pub cause-none : (form : Form) (header : List ℤ) (rowWords : ℕ) (room : Bool) → causeOf form header rowWords room ≡ none → Passes form header rowWords
-unfolding causeOf unless
+unfolding causeOf causeUnless
 cause-none form header rowWords room e =
     by-cases (headerFits form header)
     (λ h. by-cases (countFits form rowWords)
@@ -40,11 +40,11 @@ cause-none form header rowWords room e =
     (λ h. some-none (rw h at e))
 
 pub passes-cause : (form : Form) (header : List ℤ) (rowWords : ℕ) (room : Bool) → Passes form header rowWords → room ≡ true → causeOf form header rowWords room ≡ none
-unfolding causeOf unless
+unfolding causeOf causeUnless
 passes-cause form header rowWords room p r = rw (p .header-fits, p .count-fits, r)
 
 pub cause-room : (form : Form) (header : List ℤ) (rowWords : ℕ) (room : Bool) → causeOf form header rowWords room ≡ none → room ≡ true
-unfolding causeOf unless
+unfolding causeOf causeUnless
 cause-room form header rowWords true e = refl
 cause-room form header rowWords false e =
     let p = cause-none form header rowWords false e in

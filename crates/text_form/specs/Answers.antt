@@ -18,32 +18,32 @@ use Rattle.text_form.specs.declared.WriteAnswer.{WriteAnswer}
 use Rattle.text_form.specs.declared.WriteAnswer.the-variants as write-cases
 
 -- What an answer says: how much was read or written, or document 01's number of the cause and the place.
-pub data Outcome : Type 0 where
-  finished : List ℕ → Outcome
-  refused : (number place : ℕ) → Outcome
+pub data TextOutcome : Type 0 where
+  finished : List ℕ → TextOutcome
+  refused : (number place : ℕ) → TextOutcome
 
 -- A text that was read has so many header words and row words.
-abbrev pub readOutcome : ReadAnswer → Outcome
+abbrev pub readOutcome : ReadAnswer → TextOutcome
 readOutcome (Read headerWords rowWords) = finished (headerWords ∷ rowWords ∷ [])
 readOutcome (Refused refusal) = refused (refusal .number) (refusal .place)
 
 -- A text that was written has so many bytes.
-abbrev pub writeOutcome : WriteAnswer → Outcome
+abbrev pub writeOutcome : WriteAnswer → TextOutcome
 writeOutcome (write-cases.Written bytes) = finished (bytes ∷ [])
 writeOutcome (write-cases.Refused refusal) = refused (refusal .number) (refusal .place)
 
-unfoldable pub unless : Bool → ℕ → Option ℕ → Option ℕ
-unless holds number others = pick holds others (some number)
+unfoldable pub causeUnless : Bool → ℕ → Option ℕ → Option ℕ
+causeUnless holds number others = pick holds others (some number)
 
 -- "Then 1, 2 and 10": the number of the first cause that turns a header and so many row words away. Both reader and writer
 -- test these; `room` says whether the output is long enough.
 unfoldable pub causeOf : Form → List ℤ → ℕ → Bool → Option ℕ
-causeOf form header rowWords room = unless (headerFits form header) 1 (unless (countFits form rowWords) 2 (unless room 10 none))
+causeOf form header rowWords room = causeUnless (headerFits form header) 1 (causeUnless (countFits form rowWords) 2 (causeUnless room 10 none))
 
 -- ---- the reader
 
 pub record ReadResult : Type 0 where
-  pub outcome : Outcome
+  pub outcome : TextOutcome
   pub header : List ℤ
   pub rows : List ℤ
 
@@ -81,7 +81,7 @@ pub record Reads (result : ReadResult) (answer : ReadAnswer) (header rows : List
 -- ---- the writer
 
 pub record WriteResult : Type 0 where
-  pub outcome : Outcome
+  pub outcome : TextOutcome
   pub text : List ℕ
 
 unfoldable pub writeBytes : Option ℕ → List ℕ → List ℕ → WriteResult

@@ -11,11 +11,11 @@ use Rattle.text_form.specs.declared.limits.Cause.{Cause}
 use Rattle.text_form.specs.declared.limits.Cause.the-variants as cause-cases
 use Rattle.text_form.specs.declared.reader.Rows.{Rows}
 use Rattle.text_form.specs.declared.reader.Rows.the-variants as row-cases
-use Rattle.text_form.specs.declared.reader.Shape.{Shape}
-use Rattle.text_form.specs.declared.reader.Shape.the-variants as shape-cases
+use Rattle.text_form.specs.declared.reader.TextShape.{TextShape}
+use Rattle.text_form.specs.declared.reader.TextShape.the-variants as shape-cases
 use Rattle.text_lines.specs.Line.{fieldsOf, linesOf, numbersOf}
 use Rattle.text_lines.specs.Reader.{numbersIn}
-use Rattle.text_form.specs.Answers.{unless, ReadResult, readRefused, readProgram, tablesHold}
+use Rattle.text_form.specs.Answers.{causeUnless, ReadResult, readRefused, readProgram, tablesHold}
 use Rattle.text_form.specs.Text.{Parsed, parsed, malformed, rowsFrom, Program, parseTable}
 
 -- ---- lines
@@ -65,14 +65,14 @@ pub record HasLines (width : ℕ) (form : Form) (text : List ℕ) (end headerWor
   pub few : headerWords ≤ 35
   pub parses : parseTable width form text ≡ parsed program
 
-abbrev pub Shaped : ℕ → Form → List ℕ → Shape → Type 0
+abbrev pub Shaped : ℕ → Form → List ℕ → TextShape → Type 0
 Shaped width form text (shape-cases.Lines end headerWords rowWords) = HasLines width form text end headerWords rowWords
 Shaped width form text (shape-cases.Malformed line) = parseTable width form text ≡ malformed line
 
 -- The first cause, where `before` is the first of those before 10.
 unfoldable pub orShort : Option ℕ → Bool → Option ℕ
 orShort (some number) room = some number
-orShort none room = unless room 10 none
+orShort none room = causeUnless room 10 none
 
 -- What a reader gives of a text by its first cause between 14 and 10.
 unfoldable pub readBy : Option ℕ → Parsed Program → List ℤ → List ℤ → ReadResult

@@ -1,4 +1,4 @@
--- Texts: "Line 1: V and the array lengths (kernel: V, T, lengths). Each further line is a row's six fields."
+-- Texts: "TextLine 1: V and the array lengths (kernel: V, T, lengths). Each further line is a row's six fields."
 use mathlib.Core.Bool.{Bool, _&&_}
 use mathlib.Core.List.{List, [], _∷_, _++_}
 use mathlib.Core.Option.{Option, none, some}
@@ -10,7 +10,7 @@ use Rattle.words.specs.Word.{pick}
 use Rattle.words.specs.Layout.{leading}
 use Rattle.words.specs.Table.{rowCount}
 use Rattle.words.specs.declared.Form.{Form}
-use Rattle.text_lines.specs.Line.{lineBytes, Line, linesOf, lineNumbers}
+use Rattle.text_lines.specs.Line.{lineBytes, TextLine, linesOf, lineNumbers}
 
 -- ---- writing
 
@@ -39,13 +39,13 @@ keep test (some numbers) = pick (test numbers) (some numbers) none
 abbrev pub headerSized : Form → List ℤ → Bool
 headerSized form numbers = leb (leading form) (length numbers) && leb (length numbers) (leading form + 32)
 
-unfoldable pub headerLine : Form → Line → Option (List ℤ)
+unfoldable pub headerLine : Form → TextLine → Option (List ℤ)
 headerLine form line = keep (headerSized form) (lineNumbers line)
 
 abbrev pub rowSized : ℕ → List ℤ → Bool
 rowSized width numbers = eqb (length numbers) width
 
-unfoldable pub rowLine : ℕ → Line → Option (List ℤ)
+unfoldable pub rowLine : ℕ → TextLine → Option (List ℤ)
 rowLine width line = keep (rowSized width) (lineNumbers line)
 
 -- What a text gives, or its first malformed line.
@@ -60,7 +60,7 @@ withRow number (some row) (parsed rows) = parsed (row ++ rows)
 withRow number (some row) (malformed later) = malformed later
 
 -- The words of the rows, of `width` words each, whose lines have this number and those that follow.
-unfoldable pub rowsFrom : ℕ → ℕ → List Line → Parsed (List ℤ)
+unfoldable pub rowsFrom : ℕ → ℕ → List TextLine → Parsed (List ℤ)
 rowsFrom width number [] = parsed []
 rowsFrom width number (line ∷ lines) = withRow number (rowLine width line) (rowsFrom width (number + 1) lines)
 
@@ -74,7 +74,7 @@ withHeader (some header) (parsed rows) = parsed (record { header = header; rows 
 withHeader (some header) (malformed later) = malformed later
 
 -- "The first such line is named, 1 for an empty text."
-unfoldable pub programOf : ℕ → Form → List Line → Parsed Program
+unfoldable pub programOf : ℕ → Form → List TextLine → Parsed Program
 programOf width form [] = malformed 1
 programOf width form (first ∷ others) = withHeader (headerLine form first) (rowsFrom width 2 others)
 

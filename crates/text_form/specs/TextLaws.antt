@@ -1,4 +1,4 @@
--- Laws of texts: a text is read as the header and rows that it is written for, and no others. Line by line.
+-- Laws of texts: a text is read as the header and rows that it is written for, and no others. TextLine by line.
 use mathlib.Core.Path.{_≡_, refl, sym, ap, _∙_}
 use mathlib.Core.Bool.{Bool, true, false}
 use mathlib.Core.List.{List, [], _∷_, _++_, map}
@@ -17,7 +17,7 @@ use Rattle.words.specs.Laws.{by-cases, leading-limits}
 use Rattle.words.specs.Table.{rowCount}
 use Rattle.words.specs.declared.Form.{Form}
 use Rattle.text_numbers.specs.Number.{numberBytes}
-use Rattle.text_lines.specs.Line.{parted, lineBytes, Line, ended, linesOf, lineNumbers}
+use Rattle.text_lines.specs.Line.{parted, lineBytes, TextLine, ended, linesOf, lineNumbers}
 use Rattle.text_form.specs.Text.{rowsBytes, tableBytes, textBytes, keep, headerSized, headerLine, rowSized, rowLine, Parsed, parsed, malformed, withRow, rowsFrom, Program, withHeader, programOf, parseTable, parse}
 use Rattle.text_numbers.specs.NumberLaws.{not-some}
 use Rattle.text_lines.specs.LineLaws.{joined, none-joined, lines-joined, Words, line-reads, line-shows, lines-shows}
@@ -94,7 +94,7 @@ with-parsed : (number : ℕ) (row rows : List ℤ) → withRow number (some row)
 unfolding withRow
 with-parsed number row rows = refl
 
-pub rows-next : (width number : ℕ) (line : Line) (lines : List Line) → rowsFrom width number (line ∷ lines) ≡ withRow number (rowLine width line) (rowsFrom width (number + 1) lines)
+pub rows-next : (width number : ℕ) (line : TextLine) (lines : List TextLine) → rowsFrom width number (line ∷ lines) ≡ withRow number (rowLine width line) (rowsFrom width (number + 1) lines)
 unfolding rowsFrom
 rows-next width number line lines = refl
 
@@ -117,7 +117,7 @@ rows-shows width (suc count) number rows p h w =
 -- ---- rows that were read are written alike
 
 -- what the lines of rows are
-pub record AreRows (width : ℕ) (lines : List Line) (rows : List ℤ) : Type 0 where
+pub record AreRows (width : ℕ) (lines : List TextLine) (rows : List ℤ) : Type 0 where
   pub count : ℕ
   pub size : length rows ≡ width * count
   pub written : joined lines ≡ rowsBytes width count rows
@@ -131,7 +131,7 @@ bytes-more : (width count : ℕ) (row rows : List ℤ) → length row ≡ width 
 unfolding rowsBytes
 bytes-more width count row rows h = rw (take-at row rows width h, drop-at row rows width h)
 
-rows-more : (width : ℕ) (line : Line) (lines : List Line) (row rows : List ℤ) → rowLine width line ≡ some row → AreRows width lines rows → AreRows width (line ∷ lines) (row ++ rows)
+rows-more : (width : ℕ) (line : TextLine) (lines : List TextLine) (row rows : List ℤ) → rowLine width line ≡ some row → AreRows width lines rows → AreRows width (line ∷ lines) (row ++ rows)
 unfolding rowLine
 rows-more width line lines row rows d a =
     let k = keep-reads (rowSized width) (lineNumbers line) row d in
@@ -144,7 +144,7 @@ rows-more width line lines row rows d a =
       fits = words-append row rows (i .fits) (a .fits);
     }
 
-with-reads : (width number : ℕ) (line : Line) (lines : List Line) (read : Option (List ℤ)) (others : Parsed (List ℤ)) (rows : List ℤ) → rowLine width line ≡ read
+with-reads : (width number : ℕ) (line : TextLine) (lines : List TextLine) (read : Option (List ℤ)) (others : Parsed (List ℤ)) (rows : List ℤ) → rowLine width line ≡ read
     → ((more : List ℤ) → others ≡ parsed more → AreRows width lines more) → withRow number read others ≡ parsed rows → AreRows width (line ∷ lines) rows
 unfolding withRow
 with-reads width number line lines none others rows e ih d = not-parsed (sym (with-none number others) ∙ d)
@@ -153,7 +153,7 @@ with-reads width number line lines (some row) (parsed more) rows e ih d =
     let same : row ++ more ≡ rows = cc in
     rw (← same) (rows-more width line lines row more e (ih more refl))
 
-pub rows-reads : (width number : ℕ) (lines : List Line) (rows : List ℤ) → rowsFrom width number lines ≡ parsed rows → AreRows width lines rows
+pub rows-reads : (width number : ℕ) (lines : List TextLine) (rows : List ℤ) → rowsFrom width number lines ≡ parsed rows → AreRows width lines rows
 unfolding rowsFrom
 rows-reads width number [] rows d = let same : [] ≡ rows = cc in rw (← same) (rows-none width)
 rows-reads width number (line ∷ lines) rows d =
@@ -192,7 +192,7 @@ with-header : (header rows : List ℤ) → withHeader (some header) (parsed rows
 unfolding withHeader
 with-header header rows = refl
 
-pub program-first : (width : ℕ) (form : Form) (line : Line) (lines : List Line) → programOf width form (line ∷ lines) ≡ withHeader (headerLine form line) (rowsFrom width 2 lines)
+pub program-first : (width : ℕ) (form : Form) (line : TextLine) (lines : List TextLine) → programOf width form (line ∷ lines) ≡ withHeader (headerLine form line) (rowsFrom width 2 lines)
 unfolding programOf
 program-first width form line lines = refl
 
@@ -209,7 +209,7 @@ pub text-shows : (form : Form) (header rows : List ℤ) → headerSized form hea
     → parse form (textBytes header rows) ≡ parsed (record { header = header; rows = rows })
 text-shows form header rows t e w v = table-shows 6 (rowCount rows) form header rows (omega arith) t (sym e) w v
 
-table-of : (width : ℕ) (form : Form) (text : List ℕ) (line : Line) (lines : List Line) (header rows : List ℤ) → linesOf text ≡ line ∷ lines → headerLine form line ≡ some header
+table-of : (width : ℕ) (form : Form) (text : List ℕ) (line : TextLine) (lines : List TextLine) (header rows : List ℤ) → linesOf text ≡ line ∷ lines → headerLine form line ≡ some header
     → rowsFrom width 2 lines ≡ parsed rows → IsTable width form text (record { header = header; rows = rows })
 unfolding headerLine tableBytes
 table-of width form text line lines header rows e h r =
@@ -225,7 +225,7 @@ table-of width form text line lines header rows e h r =
       rows-fit = a .fits;
     }
 
-header-reads : (width : ℕ) (form : Form) (text : List ℕ) (line : Line) (lines : List Line) (read : Option (List ℤ)) (others : Parsed (List ℤ)) (program : Program)
+header-reads : (width : ℕ) (form : Form) (text : List ℕ) (line : TextLine) (lines : List TextLine) (read : Option (List ℤ)) (others : Parsed (List ℤ)) (program : Program)
     → linesOf text ≡ line ∷ lines → headerLine form line ≡ read → rowsFrom width 2 lines ≡ others → withHeader read others ≡ parsed program → IsTable width form text program
 unfolding withHeader
 header-reads width form text line lines none others program e h r d = not-parsed d
@@ -234,7 +234,7 @@ header-reads width form text line lines (some header) (parsed rows) program e h 
     let same : _≡_ {A = Program} (record { header = header; rows = rows }) program = cc in
     rw (← same) (table-of width form text line lines header rows e h r)
 
-program-reads : (width : ℕ) (form : Form) (text : List ℕ) (lines : List Line) (program : Program) → linesOf text ≡ lines → programOf width form lines ≡ parsed program → IsTable width form text program
+program-reads : (width : ℕ) (form : Form) (text : List ℕ) (lines : List TextLine) (program : Program) → linesOf text ≡ lines → programOf width form lines ≡ parsed program → IsTable width form text program
 unfolding programOf
 program-reads width form text [] program e d = not-parsed d
 program-reads width form text (line ∷ lines) program e d =

@@ -5,7 +5,7 @@ pub mod writer; // writer.rt: the bytes of a text
 
 use self::limits::Cause;
 use self::limits::first_cause;
-use self::reader::Shape;
+use self::reader::TextShape;
 use self::reader::read_lines;
 use self::reader::shape_of;
 use self::writer::put_text;
@@ -32,11 +32,11 @@ pub fn read(form: Form, text: &[u8], header: &mut [i32], rows: &mut [i32]) -> Re
 {
     let shape = shape_of(6, form, text);
     match shape {
-        Shape::Malformed(line) => ReadAnswer::Refused(Refusal {
+        TextShape::Malformed(line) => ReadAnswer::Refused(Refusal {
             number: 14,
             place: line,
         }),
-        Shape::Lines(end, numbers, words) => read_lines(
+        TextShape::Lines(end, numbers, words) => read_lines(
             form,
             text,
             end,

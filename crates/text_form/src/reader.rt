@@ -16,7 +16,7 @@ ghost use Rattle.text_lines.specs.Line.{ended, linesOf, fieldsOf, numbersOf};
 ghost use Rattle.text_form.specs.Text.{headerLine, rowLine, rowsFrom, parseTable};
 ghost use Rattle.words.specs.Over.{over};
 ghost use Rattle.text_form.specs.Answers.{causeOf, readResult, Reads};
-ghost use Rattle.text_lines.specs.Reader.{sizeOf, countSays, numbersIn};
+ghost use Rattle.text_lines.specs.Reader.{numberCount, countSays, numbersIn};
 ghost use Rattle.text_form.specs.Reader.{isFound, causeSays, HoldsExactly, rowsSay, wordsOf, wordsIn, HoldsRows, HasLines, Shaped, readBy};
 
 // How many words the rows of a text have, or its first malformed line.
@@ -26,14 +26,14 @@ pub enum Rows {
 }
 
 // The length of a text's first line in bytes, the number of its header words and of its row words; or its first malformed line.
-pub enum Shape {
+pub enum TextShape {
     Lines(usize, usize, usize),
     Malformed(usize),
 }
 
 // How many numbers a first line has.
 pub fn header_numbers(form: Form, line: &[u8]) -> Count
-    ensures { λ r. ⌜ countSays r ≡ sizeOf (headerLine form (ended (now (line .entry)))) ⌝ }
+    ensures { λ r. ⌜ countSays r ≡ numberCount (headerLine form (ended (now (line .entry)))) ⌝ }
 {
     let counted = count_numbers(line);
     let Count::Numbers(count) = counted else {
@@ -96,22 +96,22 @@ fn store_rows(width: usize, text: &[u8], table: &mut [i32])
 }
 
 // The shape of a text whose rows have `width` words.
-pub fn shape_of(width: usize, form: Form, text: &[u8]) -> Shape
+pub fn shape_of(width: usize, form: Form, text: &[u8]) -> TextShape
     ensures { λ r. ⌜ Shaped width form (now (text .entry)) r ⌝ }
 {
     let end = piece_end(text, 0, b'\n');
     if end == text.len() {
-        return Shape::Malformed(1);
+        return TextShape::Malformed(1);
     }
     let counted = header_numbers(form, &text[0..end]);
     let Count::Numbers(numbers) = counted else {
-        return Shape::Malformed(1);
+        return TextShape::Malformed(1);
     };
     let next = end + 1;
     let rows = count_rows(width, &text[next..]);
     match rows {
-        Rows::Malformed(line) => Shape::Malformed(line),
-        Rows::Words(words) => Shape::Lines(end, numbers, words),
+        Rows::Malformed(line) => TextShape::Malformed(line),
+        Rows::Words(words) => TextShape::Lines(end, numbers, words),
     }
 }
 
@@ -125,7 +125,7 @@ fn text_cause(form: Form, line: &[u8], numbers: usize, words: usize) -> Cause
     first_cause(form, &header[0..numbers], words)
 }
 
-// Stores the words of a well-formed text, unless there is a cause before 10, or a table is short. A refusal leaves both tables as they were.
+// Stores the words of a well-formed text, causeUnless there is a cause before 10, or a table is short. A refusal leaves both tables as they were.
 pub fn store_text(
     width: usize,
     form: Form,

@@ -17,7 +17,7 @@ use Rattle.text_numbers.specs.Number.{numberOf}
 use Rattle.text_lines.specs.Line.{fieldsOf, together, numbersOf, ended, unended, linesOf}
 use Rattle.text_numbers.specs.NumberLaws.{Free}
 use Rattle.text_lines.specs.LineLaws.{fields-last, fields-more, lines-ended, lines-unended}
-use Rattle.text_lines.specs.Reader.{pieceEnd, sizeOf}
+use Rattle.text_lines.specs.Reader.{pieceEnd, numberCount}
 
 -- ---- where a piece ends
 
@@ -172,7 +172,7 @@ module _ {line : List ℕ} {at count : ℕ} (c : Counted line at count) where
   unfolding numbersOf behind
   counted-end h = c .same ∙ rw (fields-behind at line h) (ap some (append-nil (c .before)))
 
-  pub counted-says : length line < at → some count ≡ sizeOf (numbersOf (fieldsOf line))
+  pub counted-says : length line < at → some count ≡ numberCount (numbersOf (fieldsOf line))
   counted-says h = rw (counted-end h) (ap some (sym (c .size)))
 
   module _ {end : ℕ} (p : Piece 9 line at end) where

@@ -1,7 +1,7 @@
 -- Lines of numbers, written and read. A line of comment for each file.
 
 -- ---- definitions
--- Line: fields parted by tabs, and the lines of a text.
+-- TextLine: fields parted by tabs, and the lines of a text.
 pub mod Line
 -- Reader: what the functions that read the numbers of a line answer.
 pub mod Reader

@@ -38,18 +38,18 @@ fieldsOf [] = [] ∷ []
 fieldsOf (byte ∷ bytes) = pick (eqb byte tab) ([] ∷ fieldsOf bytes) (longerField byte (fieldsOf bytes))
 
 -- A line without its newline; the bytes behind a text's last newline are a line that lacks its own.
-pub data Line : Type 0 where
-  ended : List ℕ → Line
-  unended : List ℕ → Line
+pub data TextLine : Type 0 where
+  ended : List ℕ → TextLine
+  unended : List ℕ → TextLine
 
 -- The same lines with a byte more at the start of the first.
-abbrev pub longerLine : ℕ → List Line → List Line
+abbrev pub longerLine : ℕ → List TextLine → List TextLine
 longerLine byte [] = unended (byte ∷ []) ∷ []
 longerLine byte (ended line ∷ lines) = ended (byte ∷ line) ∷ lines
 longerLine byte (unended line ∷ lines) = unended (byte ∷ line) ∷ lines
 
 -- The lines of a text.
-unfoldable pub linesOf : List ℕ → List Line
+unfoldable pub linesOf : List ℕ → List TextLine
 linesOf [] = []
 linesOf (byte ∷ bytes) = pick (eqb byte newline) (ended [] ∷ linesOf bytes) (longerLine byte (linesOf bytes))
 
@@ -64,6 +64,6 @@ numbersOf [] = some []
 numbersOf (field ∷ fields) = together (numberOf field) (numbersOf fields)
 
 -- The numbers of a line; none where it is malformed.
-unfoldable pub lineNumbers : Line → Option (List ℤ)
+unfoldable pub lineNumbers : TextLine → Option (List ℤ)
 lineNumbers (ended line) = numbersOf (fieldsOf line)
 lineNumbers (unended line) = none

@@ -12,7 +12,7 @@ use lib.ListN.{length, length-map}
 use borrow.Author.Tests.{ne-eqb, eqb-true}
 use Rattle.words.specs.Laws.{by-cases}
 use Rattle.text_numbers.specs.Number.{numberBytes, numberOf}
-use Rattle.text_lines.specs.Line.{parted, lineBytes, longerField, fieldsOf, Line, ended, unended, longerLine, linesOf, together, numbersOf, lineNumbers}
+use Rattle.text_lines.specs.Line.{parted, lineBytes, longerField, fieldsOf, TextLine, ended, unended, longerLine, linesOf, together, numbersOf, lineNumbers}
 use Rattle.text_numbers.specs.NumberLaws.{not-some, Free, free-append, number-free, IsNumber, number-reads, number-shows}
 
 -- ---- what the separators part
@@ -94,18 +94,18 @@ fields-few (byte ∷ bytes) =
     longer (field ∷ fields) h l = omega arith
 
 -- lines put together again
-unfoldable pub joined : List Line → List ℕ
+unfoldable pub joined : List TextLine → List ℕ
 joined [] = []
 joined (ended line ∷ lines) = line ++ (10 ∷ joined lines)
 joined (unended line ∷ lines) = line ++ joined lines
 
-longer-joined : (byte : ℕ) (lines : List Line) → joined (longerLine byte lines) ≡ byte ∷ joined lines
+longer-joined : (byte : ℕ) (lines : List TextLine) → joined (longerLine byte lines) ≡ byte ∷ joined lines
 unfolding joined
 longer-joined byte [] = refl
 longer-joined byte (ended line ∷ lines) = refl
 longer-joined byte (unended line ∷ lines) = refl
 
-empty-joined : (lines : List Line) → joined (ended [] ∷ lines) ≡ 10 ∷ joined lines
+empty-joined : (lines : List TextLine) → joined (ended [] ∷ lines) ≡ 10 ∷ joined lines
 unfolding joined
 empty-joined lines = refl
 
@@ -190,15 +190,15 @@ lines-shows numbers rest =
 -- ---- a line that was read is written alike
 
 -- what a line of numbers is
-pub record IsLine (line : Line) (numbers : List ℤ) : Type 0 where
-  pub written : (lines : List Line) → joined (line ∷ lines) ≡ lineBytes numbers ++ joined lines
+pub record IsLine (line : TextLine) (numbers : List ℤ) : Type 0 where
+  pub written : (lines : List TextLine) → joined (line ∷ lines) ≡ lineBytes numbers ++ joined lines
   pub filled : 0 < length numbers
   pub fits : Words numbers
 
 numbers-many : (fields : List (List ℕ)) (numbers : List ℤ) → AreNumbers fields numbers → length fields ≡ length numbers
 numbers-many fields numbers a = ap length (a .written) ∙ length-map numbers numberBytes
 
-pub line-reads : (line : Line) (numbers : List ℤ) → lineNumbers line ≡ some numbers → IsLine line numbers
+pub line-reads : (line : TextLine) (numbers : List ℤ) → lineNumbers line ≡ some numbers → IsLine line numbers
 unfolding lineNumbers joined lineBytes
 line-reads (ended line) numbers d =
     let a = numbers-reads (fieldsOf line) numbers d in

@@ -20,9 +20,9 @@ countSays (count-cases.Numbers count) = some count
 countSays count-cases.Malformed = none
 
 -- How many numbers were read.
-abbrev pub sizeOf : Option (List ℤ) → Option ℕ
-sizeOf none = none
-sizeOf (some numbers) = some (length numbers)
+abbrev pub numberCount : Option (List ℤ) → Option ℕ
+numberCount none = none
+numberCount (some numbers) = some (length numbers)
 
 abbrev pub numbersIn : Option (List ℤ) → List ℤ
 numbersIn none = []

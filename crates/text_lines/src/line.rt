@@ -6,7 +6,7 @@ ghost use Prim.Native.Nat.{_+_, _≤_};
 ghost use lib.ListN.{length, drop};
 ghost use Rattle.text_lines.specs.Line.{fieldsOf, numbersOf};
 ghost use Rattle.words.specs.Over.{over};
-ghost use Rattle.text_lines.specs.Reader.{pieceEnd, sizeOf, countSays, Holds, numbersIn};
+ghost use Rattle.text_lines.specs.Reader.{pieceEnd, numberCount, countSays, Holds, numbersIn};
 
 // How many numbers a line has, where it is well formed.
 pub enum Count {
@@ -31,7 +31,7 @@ pub fn piece_end(bytes: &[u8], at: usize, separator: u8) -> usize
 
 // Counts the numbers of a line.
 pub fn count_numbers(line: &[u8]) -> Count
-    ensures { λ r. ⌜ countSays r ≡ sizeOf (numbersOf (fieldsOf (now (line .entry)))) ⌝ }
+    ensures { λ r. ⌜ countSays r ≡ numberCount (numbersOf (fieldsOf (now (line .entry)))) ⌝ }
 {
     let mut at: usize = 0;
     let mut count: usize = 0;

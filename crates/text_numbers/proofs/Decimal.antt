@@ -14,7 +14,7 @@ use lib.Seq.{drop-cons}
 use borrow.Author.Tests.{le-ltb, le-leb, lt-leb, leb-true, leb-false, eq-eqb, ne-eqb}
 use Rattle.words.specs.Word.{isWord}
 use Rattle.words.specs.Laws.{by-cases}
-use Rattle.text_numbers.specs.Number.{isDigit, decimal, natural, word, positive, negative, numberOf}
+use Rattle.text_numbers.specs.Number.{isDigit, decimal, naturalOf, word, positive, negative, numberOf}
 use Rattle.text_numbers.specs.NumberLaws.{decimal-digit, decimal-other, word-is}
 use Rattle.text_numbers.specs.Reader.{atMost}
 
@@ -75,19 +75,19 @@ module _ {limit : ℕ} {bytes : List ℕ} {value i : ℕ} (v : Valued limit byte
 
 -- ---- leading zeros
 
-pub natural-none : (bytes : List ℕ) → length bytes ≡ 0 → natural bytes ≡ none
-unfolding natural
+pub natural-none : (bytes : List ℕ) → length bytes ≡ 0 → naturalOf bytes ≡ none
+unfolding naturalOf
 natural-none [] h = refl
 natural-none (byte ∷ bytes) h = absurd (omega arith)
 
-pub natural-one : (bytes : List ℕ) → length bytes ≡ 1 → natural bytes ≡ decimal 0 bytes
-unfolding natural
+pub natural-one : (bytes : List ℕ) → length bytes ≡ 1 → naturalOf bytes ≡ decimal 0 bytes
+unfolding naturalOf
 natural-one [] h = absurd (omega arith)
 natural-one (byte ∷ []) h = refl
 natural-one (byte ∷ (next ∷ bytes)) h = absurd (omega arith)
 
-pub natural-zero : (bytes : List ℕ) → (length bytes ≡ 0 → ⊥) → (length bytes ≡ 1 → ⊥) → getD bytes 0 0 ≡ 48 → natural bytes ≡ none
-unfolding natural
+pub natural-zero : (bytes : List ℕ) → (length bytes ≡ 0 → ⊥) → (length bytes ≡ 1 → ⊥) → getD bytes 0 0 ≡ 48 → naturalOf bytes ≡ none
+unfolding naturalOf
 natural-zero [] h k e = absurd (h refl)
 natural-zero (byte ∷ []) h k e = absurd (k refl)
 natural-zero (byte ∷ (next ∷ bytes)) h k e = rw (eq-eqb byte 48 e)
@@ -150,12 +150,12 @@ unfolding numberOf
 number-none [] h = refl
 number-none (byte ∷ bytes) h = absurd (omega arith)
 
-pub number-minus : (bytes : List ℕ) → (length bytes ≡ 0 → ⊥) → getD bytes 0 0 ≡ 45 → numberOf bytes ≡ negative (natural (drop 1 bytes))
+pub number-minus : (bytes : List ℕ) → (length bytes ≡ 0 → ⊥) → getD bytes 0 0 ≡ 45 → numberOf bytes ≡ negative (naturalOf (drop 1 bytes))
 unfolding numberOf
 number-minus [] h e = absurd (h refl)
 number-minus (byte ∷ bytes) h e = rw (eq-eqb byte 45 e)
 
-pub number-plain : (bytes : List ℕ) → (length bytes ≡ 0 → ⊥) → (getD bytes 0 0 ≡ 45 → ⊥) → numberOf bytes ≡ positive (natural bytes)
+pub number-plain : (bytes : List ℕ) → (length bytes ≡ 0 → ⊥) → (getD bytes 0 0 ≡ 45 → ⊥) → numberOf bytes ≡ positive (naturalOf bytes)
 unfolding numberOf
 number-plain [] h f = absurd (h refl)
 number-plain (byte ∷ bytes) h f = rw (ne-eqb byte 45 f)

@@ -47,10 +47,10 @@ decimal value [] = some value
 decimal value (byte ∷ bytes) = pick (isDigit byte) (decimal (10 * value + (byte - zeroDigit)) bytes) none
 
 -- At least one digit; "no leading zero": a first digit 0 stands alone.
-unfoldable pub natural : List ℕ → Option ℕ
-natural [] = none
-natural (byte ∷ []) = decimal 0 (byte ∷ [])
-natural (first ∷ (second ∷ others)) = pick (eqb first zeroDigit) none (decimal 0 (first ∷ (second ∷ others)))
+unfoldable pub naturalOf : List ℕ → Option ℕ
+naturalOf [] = none
+naturalOf (byte ∷ []) = decimal 0 (byte ∷ [])
+naturalOf (first ∷ (second ∷ others)) = pick (eqb first zeroDigit) none (decimal 0 (first ∷ (second ∷ others)))
 
 -- "A number outside 32 signed bits .. is malformed."
 unfoldable pub word : ℤ → Option ℤ
@@ -69,4 +69,4 @@ negative (some (suc n)) = word (negsuc n)
 -- The number that bytes are; none where they are malformed.
 unfoldable pub numberOf : List ℕ → Option ℤ
 numberOf [] = none
-numberOf (first ∷ others) = pick (eqb first minusSign) (negative (natural others)) (positive (natural (first ∷ others)))
+numberOf (first ∷ others) = pick (eqb first minusSign) (negative (naturalOf others)) (positive (naturalOf (first ∷ others)))

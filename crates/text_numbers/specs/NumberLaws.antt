@@ -13,7 +13,7 @@ use lib.ListN.{length, getD, length-append}
 use borrow.Author.Tests.{ltb-true, ltb-false, lt-ltb, le-ltb, le-leb, leb-true, ne-eqb, eqb-true, eqb-false}
 use Rattle.words.specs.Word.{isWord}
 use Rattle.words.specs.Laws.{by-cases}
-use Rattle.text_numbers.specs.Number.{digitsWithin, digits, numberBytes, isDigit, decimal, natural, word, positive, negative, numberOf}
+use Rattle.text_numbers.specs.Number.{digitsWithin, digits, numberBytes, isDigit, decimal, naturalOf, word, positive, negative, numberOf}
 
 pub not-some : {A G : Type 0} {a : A} → none ≡ some a → G
 not-some {a = a} e = absurd (let z : _≡_ {A = ℕ} 0 1 = cc in omega arith)
@@ -132,8 +132,8 @@ unfolding digits decimal
 digits-shows n = rw append-nil at (within-shows n n [] (omega arith))
 
 -- a first digit that is not 0
-pub natural-is : (bytes : List ℕ) → 0 < length bytes → (getD bytes 0 0 ≡ 48 → ⊥) → natural bytes ≡ decimal 0 bytes
-unfolding natural
+pub natural-is : (bytes : List ℕ) → 0 < length bytes → (getD bytes 0 0 ≡ 48 → ⊥) → naturalOf bytes ≡ decimal 0 bytes
+unfolding naturalOf
 natural-is [] h f = absurd (omega arith)
 natural-is (byte ∷ []) h f = refl
 natural-is (byte ∷ (next ∷ bytes)) h f = rw (ne-eqb byte 48 f)
@@ -143,11 +143,11 @@ length-some n =
     by-cases (ltb n 10) (λ e. omega (arith, length-one n (ltb-true n 10 e)))
     (λ e. omega (arith, length-more n (ltb-false n 10 e)))
 
-natural-zero : natural (digits 0) ≡ some 0
-unfolding natural digits digitsWithin decimal isDigit
+natural-zero : naturalOf (digits 0) ≡ some 0
+unfolding naturalOf digits digitsWithin decimal isDigit
 natural-zero = refl
 
-pub natural-shows : (n : ℕ) → natural (digits n) ≡ some n
+pub natural-shows : (n : ℕ) → naturalOf (digits n) ≡ some n
 natural-shows zero = natural-zero
 natural-shows (suc n) = natural-is (digits (suc n)) (omega (arith, length-some (suc n))) (λ e. omega (arith, head-digits (suc n) (omega arith))) ∙ digits-shows (suc n)
 
@@ -155,12 +155,12 @@ pub word-is : (z : ℤ) → mag z < 2 ^ 31 → word z ≡ some z
 unfolding word isWord
 word-is z h = rw (lt-ltb (mag z) (2 ^ 31) h)
 
-number-plain : (bytes : List ℕ) → 0 < length bytes → (getD bytes 0 0 ≡ 45 → ⊥) → numberOf bytes ≡ positive (natural bytes)
+number-plain : (bytes : List ℕ) → 0 < length bytes → (getD bytes 0 0 ≡ 45 → ⊥) → numberOf bytes ≡ positive (naturalOf bytes)
 unfolding numberOf
 number-plain [] h f = absurd (omega arith)
 number-plain (byte ∷ bytes) h f = rw (ne-eqb byte 45 f)
 
-number-minus : (bytes : List ℕ) → numberOf (45 ∷ bytes) ≡ negative (natural bytes)
+number-minus : (bytes : List ℕ) → numberOf (45 ∷ bytes) ≡ negative (naturalOf bytes)
 unfolding numberOf
 number-minus bytes = refl
 
@@ -214,8 +214,8 @@ more-reads first others n f d =
     decimal-reads others (first ∷ []) (10 * 0 + (first - 48)) n (sym (digits-one _ (omega arith) ∙ rw b)) (omega arith) (rw t at d))
     (λ t. not-some (rw t at d))
 
-natural-reads : (bytes : List ℕ) (n : ℕ) → natural bytes ≡ some n → bytes ≡ digits n
-unfolding natural
+natural-reads : (bytes : List ℕ) (n : ℕ) → naturalOf bytes ≡ some n → bytes ≡ digits n
+unfolding naturalOf
 natural-reads [] n d = not-some d
 natural-reads (byte ∷ []) n d = one-reads byte n d
 natural-reads (first ∷ (second ∷ others)) n d =
@@ -235,14 +235,14 @@ word-reads y z d =
     (λ t. let f : some y ≡ some z = rw t at d in let same : y ≡ z = cc in (same, rw (← same) (ltb-true _ _ t)))
     (λ t. not-some (rw t at d))
 
-positive-reads : (bytes : List ℕ) (value : Option ℕ) (z : ℤ) → natural bytes ≡ value → positive value ≡ some z → IsNumber bytes z
+positive-reads : (bytes : List ℕ) (value : Option ℕ) (z : ℤ) → naturalOf bytes ≡ value → positive value ≡ some z → IsNumber bytes z
 unfolding positive numberBytes
 positive-reads bytes none z e d = not-some d
 positive-reads bytes (some n) z e d =
     let w = word-reads (pos n) z d in
     record { written = natural-reads bytes n e ∙ ap numberBytes (w .0); fits = w .1 }
 
-negative-reads : (bytes : List ℕ) (value : Option ℕ) (z : ℤ) → natural bytes ≡ value → negative value ≡ some z → IsNumber (45 ∷ bytes) z
+negative-reads : (bytes : List ℕ) (value : Option ℕ) (z : ℤ) → naturalOf bytes ≡ value → negative value ≡ some z → IsNumber (45 ∷ bytes) z
 unfolding negative numberBytes
 negative-reads bytes none z e d = not-some d
 negative-reads bytes (some zero) z e d = not-some d
@@ -256,5 +256,5 @@ unfolding numberOf
 number-reads [] z d = not-some d
 number-reads (byte ∷ bytes) z d =
     by-cases (eqb byte 45)
-    (λ t. rw (eqb-true byte 45 t) (negative-reads bytes (natural bytes) z refl (rw t at d)))
-    (λ t. positive-reads (byte ∷ bytes) (natural (byte ∷ bytes)) z refl (rw t at d))
+    (λ t. rw (eqb-true byte 45 t) (negative-reads bytes (naturalOf bytes) z refl (rw t at d)))
+    (λ t. positive-reads (byte ∷ bytes) (naturalOf (byte ∷ bytes)) z refl (rw t at d))

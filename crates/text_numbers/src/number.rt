@@ -1,6 +1,6 @@
 // Numbers of a text: the number without a sign that bytes are, up to a limit, and the word that a field's bytes are.
 ghost use mathlib.Core.Path.{_≡_};
-ghost use Rattle.text_numbers.specs.Number.{isDigit, decimal as decimalOf, natural as naturalOf, positive as positiveOf, negative as negativeOf, numberOf};
+ghost use Rattle.text_numbers.specs.Number.{isDigit, decimal as decimalOf, naturalOf, positive as positiveOf, negative as negativeOf, numberOf};
 ghost use Rattle.text_numbers.specs.Reader.{atMost, digitsValue, fieldNumber};
 
 // The value of digits, where they are well formed and it is within the limit.
@@ -51,7 +51,7 @@ fn decimal(bytes: &[u8], limit: u32) -> Digits
 }
 
 // At least one digit, and no leading zero.
-pub fn natural(bytes: &[u8], limit: u32) -> Digits
+pub fn natural_of(bytes: &[u8], limit: u32) -> Digits
     ensures { λ r. ⌜ digitsValue r ≡ atMost limit (naturalOf (now (bytes .entry))) ⌝ }
 {
     let length = bytes.len();
@@ -103,7 +103,7 @@ pub fn number(field: &[u8]) -> Field
         return Field::Malformed;
     }
     if field[0] == b'-' {
-        return negative(natural(&field[1..], 2147483648));
+        return negative(natural_of(&field[1..], 2147483648));
     }
-    positive(natural(field, 2147483648))
+    positive(natural_of(field, 2147483648))
 }

@@ -10,7 +10,7 @@ use Rattle.report.specs.Lines.{refusedLine}
 use Rattle.program_runs.specs.Runs.{refusalOf}
 use Rattle.rule_text.specs.Rules.{refused, ruleOf, Holds}
 use Rattle.trial.specs.Output.{runsOutput, ruleOutput, trialOutput}
-use Rattle.trial.specs.Conditions.{outputRoom, Fits}
+use Rattle.trial.specs.Conditions.{trialRoom, Fits}
 
 pub refused-output : (text : List ℕ) (number place : ℕ) → ruleOf text ≡ refused number place → refusedLine number place ≡ trialOutput text
 unfolding trialOutput ruleOutput
@@ -24,6 +24,6 @@ module _ (text : List ℕ) {headerWords rowWords : ℕ} {header rows : List ℤ}
   pub rule-accepted : refusalOf Source (take (headerWords - 0) header) (take (rowWords - 0) rows) ≡ Accepted
   rule-accepted = rw (h .header-read, h .rows-read) (h .allowed .checked)
 
-  pub rule-fits : (room : ℕ) → outputRoom ≤ room → Fits (take (headerWords - 0) header) (take (rowWords - 0) rows) room
+  pub rule-fits : (room : ℕ) → trialRoom ≤ room → Fits (take (headerWords - 0) header) (take (rowWords - 0) rows) room
   rule-fits room r =
       rw (h .header-read, h .rows-read) (record { header-fits = h .allowed .header-fits; few-words = h .allowed .few-words; few-rows = h .allowed .few-rows; both-lines = r })

@@ -14,15 +14,15 @@ use Rattle.program_runs.specs.Runs.{refusalOf}
 use Rattle.rule_text.specs.Rules.{mostRows, mostWords}
 
 -- Bytes enough for both lines: 24,672.
-abbrev pub outputRoom : ℕ
-outputRoom = 2 * lineRoom mostWords
+abbrev pub trialRoom : ℕ
+trialRoom = 2 * lineRoom mostWords
 
 -- A program is within the limits, and both lines have room.
 pub record Fits (header rows : List ℤ) (room : ℕ) : Type 0 where
   pub header-fits : headerFits Source header ≡ true
   pub few-words : storeSize (layoutOf Source header) ≤ mostWords
   pub few-rows : length rows ≤ 6 * mostRows
-  pub both-lines : outputRoom ≤ room
+  pub both-lines : trialRoom ≤ room
 
 -- The same of an accepted program, with the store that the source run starts from.
 pub record FromZeros (header rows store : List ℤ) (room : ℕ) : Type 0 where

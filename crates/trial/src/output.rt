@@ -7,11 +7,11 @@ ghost use Prim.Native.Nat.{_≤_};
 ghost use lib.ListN.{length};
 ghost use Rattle.text_numbers.specs.Writer.{Put};
 ghost use Rattle.trial.specs.Output.{trialOutput};
-ghost use Rattle.trial.specs.Conditions.{outputRoom};
+ghost use Rattle.trial.specs.Conditions.{trialRoom};
 
 // Document 01, the end of "Text": the rule is read and checked, then both forms run.
 pub fn trial(text: &[u8], output: &mut [u8]) -> usize
-    requires { ⌜ outputRoom ≤ length (now output) ⌝ }
+    requires { ⌜ trialRoom ≤ length (now output) ⌝ }
     ensures { λ r. ⌜ Put (trialOutput (now (text .entry))) (now (output .entry)) r (now (output .exit)) ⌝ }
 {
     let mut header = [0i32; 35];

@@ -27,10 +27,10 @@ use Rattle.measure_table.specs.Parts.{calledIn}
 use Rattle.leaves.specs.Atoms.{atomTree}
 use Rattle.straight_writers.specs.AtomLaws.{atom-rows}
 use Rattle.straight_writers.specs.Asks.{AtomAt}
-use Rattle.leaves.specs.declared.Atom.{Atom}
+use Rattle.leaves.specs.declared.KernelAtom.{KernelAtom}
 use Rattle.leaves.specs.Straight.{loopHead}
 use Rattle.leaves.specs.Guarded.{armHead, armEnd, roundOver, roundsEnd}
-use Rattle.leaves.specs.Chain.{part, back-in, Put, reworded, Wrote, wrote-put, choice-words, block-words}
+use Rattle.leaves.specs.Chain.{part, back-in, PutWords, reworded, Wrote, wrote-put, choice-words, block-words}
 use Rattle.writers.specs.Items.{firstOnly}
 use Rattle.writers.proofs.Sequence.{put-behind, wrote-behind, append-four, more-append, more-true}
 use Rattle.writers.proofs.ListLaws.{Progress, step, above, above-some, above-less, optional-inside, le-of-lt}
@@ -172,7 +172,7 @@ arm-words x B target base n one size =
 
 module _ (S : ℕ) (rows : List ℤ) where
   -- An arm: its guard, its head, its body, its end.
-  pub arm-done : (guard : ℕ) (s : Statement) (x : Exits) (target number base : ℕ) (l : List ℤ) {k size : ℕ} {a : Atom} {l1 l2 l3 l4 : List ℤ}
+  pub arm-done : (guard : ℕ) (s : Statement) (x : Exits) (target number base : ℕ) (l : List ℤ) {k size : ℕ} {a : KernelAtom} {l1 l2 l3 l4 : List ℤ}
       → 0 < guard → AtomAt S rows guard 0 a → k ≡ operandSize (calledIn rows) (partAt rows guard) wanted → size ≡ statementSize (calledIn rows) s
       → l1 ≡ over (emitItems true (operandCode (calledIn rows) S (partAt rows guard) wanted 0) base) l
       → l2 ≡ over (armHead (atomTree a) (base + k) size) (part k l1)
@@ -186,9 +186,9 @@ module _ (S : ℕ) (rows : List ℤ) where
       let E = expressionCode (calledIn rows) S e wanted 0 in
       let B = statementCode (calledIn rows) S s x number in
       let guarded : Wrote true E base k l _ = record { table = t1; size = rows-expression (calledIn rows) S e wanted 0 ∙ sym ek } in
-      let head : Put (armHead (atomTree a) (base + k) size) 3 _ _ = record { table = t2; size = head-length a (base + k) size } in
+      let head : PutWords (armHead (atomTree a) (base + k) size) 3 _ _ = record { table = t2; size = head-length a (base + k) size } in
       let body : Wrote true B _ size _ _ = record { table = t3; size = rows-statement (calledIn rows) S s x number ∙ sym es } in
-      let end : Put (armEnd target) 2 _ _ = record { table = t4; size = refl } in
+      let end : PutWords (armEnd target) 2 _ _ = record { table = t4; size = refl } in
       let put = put-behind (k + 3 + size + 2) refl (put-behind (k + 3 + size) refl (put-behind (k + 3) refl (wrote-put guarded) head) (wrote-put body)) end in
       let A = emitItems true E base in
       let at-body : base + (k + 3) ≡ base + k + 3 = omega arith in
@@ -202,7 +202,7 @@ module _ (S : ℕ) (rows : List ℤ) where
       )
       ∙ ap (λ (b : Expression). over (emitItems true (E ⧺ chosen b) base) l) (at .is)
     where
-      head-length : (a : Atom) (base size : ℕ) → length (armHead (atomTree a) base size) ≡ 6 * 3
+      head-length : (a : KernelAtom) (base size : ℕ) → length (armHead (atomTree a) base size) ≡ 6 * 3
       head-length a base size = length-append (rowOf 43 (pos (base + 1)) (base + 2) (base + 4 + size) 0 (base + 5 + size)) (emitExpression (atomTree a) (base + 1) ++ rowOf 42 (pos (base + 3)) 0 0 0 0) ∙ omega (arith, length-append (emitExpression (atomTree a) (base + 1)) (rowOf 42 (pos (base + 3)) 0 0 0 0), length-expression (atomTree a) (base + 1), atom-rows a)
 
 -- ---- the guarded forms
@@ -240,9 +240,9 @@ module _ (called : ℕ → ℕ → Bool) (S : ℕ) where
   rounds-done a x number base follows l {n} en some t1 t2 t3 =
       let A = armsCode called S a x (number + 1) (number + 2) in
       let R = A ⧺ roundOver number in
-      let head : Put (loopHead base (n + 2)) 3 _ _ = record { table = t1; size = refl } in
+      let head : PutWords (loopHead base (n + 2)) 3 _ _ = record { table = t1; size = refl } in
       let arms : Wrote true A (base + 3) n _ _ = record { table = t2; size = rows-arms called S a x (number + 1) (number + 2) ∙ sym en } in
-      let end : Put (roundsEnd number (base + (3 + n)) follows) 3 _ _ = record { table = t3; size = end-length number (base + (3 + n)) follows } in
+      let end : PutWords (roundsEnd number (base + (3 + n)) follows) 3 _ _ = record { table = t3; size = end-length number (base + (3 + n)) follows } in
       let put = put-behind (3 + n + 3) refl (put-behind (3 + n) refl head (wrote-put arms)) end in
       let size : itemsRows R ≡ n + 2 = rows-append A (roundOver number) ∙ omega (arith, arms .size) in
       let at-end : base + (3 + n) ≡ base + 3 + itemsRows A = omega (arith, arms .size) in

@@ -25,10 +25,10 @@ use Rattle.writers.specs.Asks.{roundSize}
 use Rattle.leaves.specs.Straight.{loopHead}
 use Rattle.expression_writers.specs.CodeLaws.{rows-operand}
 use Rattle.writers.specs.Code.{roundEnd, roundCode, wholeLoop}
-use Rattle.leaves.specs.declared.Atom.{Atom}
+use Rattle.leaves.specs.declared.KernelAtom.{KernelAtom}
 use Rattle.writers.specs.declared.Loop.{Loop}
 use Rattle.straight_writers.specs.AtomLaws.{atom-rows}
-use Rattle.leaves.specs.Chain.{part, back-in, Put, reworded, Wrote, wrote-put, more-is, link-is}
+use Rattle.leaves.specs.Chain.{part, back-in, PutWords, reworded, Wrote, wrote-put, more-is, link-is}
 use Rattle.writers.proofs.Sequence.{put-behind, wrote-behind, more-rows, more-append, more-true, append-four}
 
 -- ---- operands and tests
@@ -60,7 +60,7 @@ module _ (called : ℕ → ℕ → Bool) (S : ℕ) where
 
 module _ (S : ℕ) where
   -- A test: the expression, and then the exit.
-  pub test-done : (follows : Bool) (number base : ℕ) (l : List ℤ) {rows : List ℤ} (test : ℕ) {k : ℕ} {x : Atom} {l1 l2 : List ℤ} → (test ≡ 0 → ⊥) → AtomAt S rows test 0 x → k ≡ operandSize (calledIn rows) (partAt rows test) wanted
+  pub test-done : (follows : Bool) (number base : ℕ) (l : List ℤ) {rows : List ℤ} (test : ℕ) {k : ℕ} {x : KernelAtom} {l1 l2 : List ℤ} → (test ≡ 0 → ⊥) → AtomAt S rows test 0 x → k ≡ operandSize (calledIn rows) (partAt rows test) wanted
       → l1 ≡ over (emitItems true (operandCode (calledIn rows) S (partAt rows test) wanted 0) base) l
       → l2 ≡ over (emitItems follows (ifElse (atomTree x) (block none) (block (goto number then none)) then none) (base + k)) (part k l1)
       → back-in k l1 l2 ≡ over (emitItems follows (testCode (calledIn rows) S (partAt rows test) number none) base) l
@@ -161,7 +161,7 @@ module _ (S : ℕ) where
         let R = roundCode S rows parts number in
         let size : itemsRows R ≡ round = round-rows rows parts number ∙ sym er in
         let first = part-written (calledIn rows) S (partAt rows (parts .first)) ek t1 in
-        let head : Put (loopHead (base + k) round) 3 _ _ = record { table = t2; size = refl } in
+        let head : PutWords (loopHead (base + k) round) 3 _ _ = record { table = t2; size = refl } in
         let body : Wrote false R _ round _ _ = record { table = t3; size = size } in
         let behind : Wrote follows (label number here none) _ 1 _ _ = record { table = t4; size = refl } in
         let put = put-behind (k + 3 + round + 1) refl (put-behind (k + 3 + round) refl (put-behind (k + 3) refl (wrote-put first) head) (wrote-put body)) (wrote-put behind) in

@@ -16,7 +16,7 @@ use Rattle.measure_table.specs.Parts.{calledIn}
 use Rattle.leaves.specs.Atoms.{atomTree}
 use Rattle.leaves.specs.Chain.{part, back-in}
 use Rattle.leaves.specs.LeafLaws.{return-wrote}
-use Rattle.leaves.specs.declared.Atom.{Atom}
+use Rattle.leaves.specs.declared.KernelAtom.{KernelAtom}
 use Rattle.straight_writers.specs.Asks.{AtomAt}
 use Rattle.writers.specs.Code.{returnedCode}
 use Rattle.writers.proofs.Sequence.{wrote-behind}
@@ -33,7 +33,7 @@ module _ (S : ℕ) (follows : Bool) (base : ℕ) (l : List ℤ) where
   returned-nothing rows z e = e ∙ sym (ap (λ (v : ℕ). over (emitItems follows (returnedCode (calledIn rows) S (partAt rows v)) base) l) z)
 
   -- the value, and then the return
-  pub returned-done : {rows : List ℤ} (value : ℕ) {n : ℕ} {x : Atom} {l1 l2 : List ℤ} → (value ≡ 0 → ⊥) → AtomAt S rows value 0 x → n ≡ operandSize (calledIn rows) (partAt rows value) wanted
+  pub returned-done : {rows : List ℤ} (value : ℕ) {n : ℕ} {x : KernelAtom} {l1 l2 : List ℤ} → (value ≡ 0 → ⊥) → AtomAt S rows value 0 x → n ≡ operandSize (calledIn rows) (partAt rows value) wanted
       → l1 ≡ over (emitItems true (operandCode (calledIn rows) S (partAt rows value) wanted 0) base) l
       → l2 ≡ over (emitItems follows (giveBack (present (atomTree x)) then none) (base + n)) (part n l1)
       → back-in n l1 l2 ≡ over (emitItems follows (returnedCode (calledIn rows) S (partAt rows value)) base) l

@@ -15,7 +15,7 @@ use Rattle.emission.specs.Emission.{emitItems}
 use Rattle.emission.specs.EmissionLaws.{orMore}
 use Rattle.words.specs.Over.{over}
 use Rattle.leaves.specs.Room.{Room, moreRows}
-use Rattle.leaves.specs.Chain.{part, back-in, Put, put-next, Wrote, wrote-next, more-is}
+use Rattle.leaves.specs.Chain.{part, back-in, PutWords, put-next, Wrote, wrote-next, more-is}
 
 -- ---- lengths
 
@@ -32,8 +32,8 @@ room-behind n k l room e h = record { inside = omega (arith, part-length n l, ro
 
 -- ---- parts
 
-pub put-behind : {u v : List ℤ} {n k : ℕ} {l l1 l2 : List ℤ} (total : ℕ) → total ≡ n + k → Put u n l l1 → Put v k (part n l1) l2 → Put (u ++ v) total l (back-in n l1 l2)
-put-behind {u} {v} {n} {k} {l} {l1} {l2} total t p q = subst (λ (m : ℕ). Put (u ++ v) m l (back-in n l1 l2)) (sym t) (put-next p q)
+pub put-behind : {u v : List ℤ} {n k : ℕ} {l l1 l2 : List ℤ} (total : ℕ) → total ≡ n + k → PutWords u n l l1 → PutWords v k (part n l1) l2 → PutWords (u ++ v) total l (back-in n l1 l2)
+put-behind {u} {v} {n} {k} {l} {l1} {l2} total t p q = subst (λ (m : ℕ). PutWords (u ++ v) m l (back-in n l1 l2)) (sym t) (put-next p q)
 
 pub wrote-behind : {first follows : Bool} {xs ys : Items} {n k base from : ℕ} {l l1 l2 : List ℤ} (total : ℕ) → total ≡ n + k → first ≡ orMore follows ys → from ≡ base + n
     → Wrote first xs base n l l1 → Wrote follows ys from k (part n l1) l2 → Wrote follows (xs ⧺ ys) base total l (back-in n l1 l2)

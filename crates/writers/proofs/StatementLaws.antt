@@ -28,9 +28,9 @@ use Rattle.straight_writers.specs.Asks.{AtomAt}
 use Rattle.writers.specs.Asks.{bodySize, bodyLabels, loopSize}
 use Rattle.writers.specs.Code.{bodyCode, wholeLoop}
 use Rattle.writers.specs.declared.Loop.{Loop}
-use Rattle.leaves.specs.declared.Atom.{Atom as KernelAtom}
+use Rattle.leaves.specs.declared.KernelAtom.{KernelAtom}
 use Rattle.straight_writers.specs.AtomLaws.{atom-rows}
-use Rattle.leaves.specs.Chain.{part, back-in, Put, reworded, more-some, link-is, Wrote, wrote-put, one-item, choice-words}
+use Rattle.leaves.specs.Chain.{part, back-in, PutWords, reworded, more-some, link-is, Wrote, wrote-put, one-item, choice-words}
 use Rattle.writers.proofs.DeclarationLaws.{declared-some}
 use Rattle.writers.proofs.Sequence.{put-behind, wrote-behind, more-true, append-four}
 
@@ -88,17 +88,17 @@ module _ (S : ℕ) (rows : List ℤ) (row base : ℕ) (follows : Bool) (l : List
 -- The row of a block, and then its items.
 pub block-put : (X : Items) (base next : ℕ) (l : List ℤ) {first n : ℕ} {l1 l2 : List ℤ} → itemsRows X ≡ n → first ≡ pick (moreRows false n) (base + 1) 0
     → l1 ≡ over (rowOf 42 (pos first) 0 0 0 next) l → l2 ≡ over (emitItems false X (base + 1)) (part 1 l1)
-    → Put (emitStatement (block X) base next) (1 + n) l (back-in 1 l1 l2)
+    → PutWords (emitStatement (block X) base next) (1 + n) l (back-in 1 l1 l2)
 unfolding emitStatement
 block-put X base next l {first} {n} {l1} {l2} size link t1 t2 =
-    let row : Put (rowOf 42 (pos first) 0 0 0 next) 1 _ _ = record { table = t1; size = refl } in
+    let row : PutWords (rowOf 42 (pos first) 0 0 0 next) 1 _ _ = record { table = t1; size = refl } in
     let items : Wrote false X (base + 1) n _ _ = record { table = t2; size = size } in
     let put = put-behind (1 + n) refl row (wrote-put items) in
     let same : first ≡ listLink false X (base + 1) = link ∙ ap (λ (k : ℕ). pick (moreRows false k) (base + 1) 0) (sym size) ∙ sym (link-is false X (base + 1)) in
-    subst (λ (f : ℕ). Put (rowOf 42 (pos f) 0 0 0 next ++ emitItems false X (base + 1)) (1 + n) l (back-in 1 l1 l2)) same put
+    subst (λ (f : ℕ). PutWords (rowOf 42 (pos f) 0 0 0 next ++ emitItems false X (base + 1)) (1 + n) l (back-in 1 l1 l2)) same put
 
 -- A statement that stands by itself.
-pub alone : (s : Statement) (follows : Bool) (base : ℕ) (l : List ℤ) {n : ℕ} {m : List ℤ} → statementRows s ≡ n → Put (emitStatement s base (pick follows (base + n) 0)) n l m
+pub alone : (s : Statement) (follows : Bool) (base : ℕ) (l : List ℤ) {n : ℕ} {m : List ℤ} → statementRows s ≡ n → PutWords (emitStatement s base (pick follows (base + n) 0)) n l m
     → m ≡ over (emitItems follows (s then none) base) l
 alone s follows base l {n} size put = reworded _ put (ap (λ (k : ℕ). emitStatement s base (pick follows (base + k) 0)) (sym size) ∙ sym (one-item follows s base))
 
@@ -139,7 +139,7 @@ module _ (called : ℕ → ℕ → Bool) (S : ℕ) where
       let at : base + 1 + n ≡ base + (1 + n) = omega arith in
       let place : next ≡ pick follows (base + (1 + n)) 0 = enext ∙ ap (λ (k : ℕ). pick follows k 0) at in
       alone (block X) follows base l (omega (arith, size))
-      (subst (λ (k : ℕ). Put (emitStatement (block X) base k) (1 + n) l (back-in 1 l1 l2)) place (block-put X base next l size (ef ∙ ap (λ (b : Bool). pick b (base + 1) 0) em) t1 t2))
+      (subst (λ (k : ℕ). PutWords (emitStatement (block X) base k) (1 + n) l (back-in 1 l1 l2)) place (block-put X base next l size (ef ∙ ap (λ (b : Bool). pick b (base + 1) 0) em) t1 t2))
 
 module _ (S : ℕ) where
   module _ (rows : List ℤ) where
@@ -194,10 +194,10 @@ module _ (S : ℕ) (rows : List ℤ) where
       let test-written : Wrote true (expressionCode (calledIn rows) S e wanted 0) base k l _ = record { table = t1; size = rows-expression (calledIn rows) S e wanted 0 ∙ sym ek } in
       let size-yes : itemsRows Y ≡ sy = body-rows S rows (suc onTrue) x number ∙ sym ey in
       let size-no : itemsRows N ≡ sn = body-rows S rows onFalse x (number + count) ∙ sym en in
-      let head : Put (rowOf 43 (pos (base + k + 1)) (base + k + 2) (base + (k + 2 + 1 + sy)) 0 next ++ emitExpression (atomTree a) (base + k + 1)) 2 _ _ =
+      let head : PutWords (rowOf 43 (pos (base + k + 1)) (base + k + 2) (base + (k + 2 + 1 + sy)) 0 next ++ emitExpression (atomTree a) (base + k + 1)) 2 _ _ =
       record { table = t2; size = omega (arith, length-expression (atomTree a) (base + k + 1), atom-rows a) } in
-      let put-yes : Put (emitStatement (block Y) (base + (k + 2)) 0) (1 + sy) _ _ = record { table = t3; size = length-statement (block Y) (base + (k + 2)) 0 ∙ omega (arith, size-yes) } in
-      let put-no : Put (emitStatement (block N) (base + (k + 2 + 1 + sy)) 0) (1 + sn) _ _ = record { table = t4; size = length-statement (block N) (base + (k + 2 + 1 + sy)) 0 ∙ omega (arith, size-no) } in
+      let put-yes : PutWords (emitStatement (block Y) (base + (k + 2)) 0) (1 + sy) _ _ = record { table = t3; size = length-statement (block Y) (base + (k + 2)) 0 ∙ omega (arith, size-yes) } in
+      let put-no : PutWords (emitStatement (block N) (base + (k + 2 + 1 + sy)) 0) (1 + sn) _ _ = record { table = t4; size = length-statement (block N) (base + (k + 2 + 1 + sy)) 0 ∙ omega (arith, size-no) } in
       let put = put-behind (k + 2 + 1 + sy + 1 + sn) (omega arith) (put-behind (k + 2 + 1 + sy) (omega arith) (put-behind (k + 2) refl (wrote-put test-written) head) put-yes) put-no in
       let A = emitItems true (expressionCode (calledIn rows) S e wanted 0) base in
       let words : ℕ → ℕ → List ℤ = λ first other.

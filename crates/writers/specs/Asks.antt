@@ -13,7 +13,7 @@ use Rattle.shapes.specs.Source.{mostWords, Source}
 use Rattle.measure_table.specs.Parts.{calledIn}
 use Rattle.leaves.specs.Room.{Room}
 use Rattle.leaves.specs.Atoms.{AtomFits}
-use Rattle.leaves.specs.declared.Atom.{Atom}
+use Rattle.leaves.specs.declared.KernelAtom.{KernelAtom}
 use Rattle.writers.specs.Items.{itemSize, itemLabels, itemCases, firstOnly}
 use Rattle.writers.specs.declared.Exits.{Exits}
 use Rattle.writers.specs.declared.Loop.{Loop}
@@ -86,7 +86,7 @@ pub record ListInside (rows : List ℤ) (list label : ℕ) : Type 0 where
   pub labels-low : label + itemsLabels (listAt rows list) ≤ 65535
 
 -- The test of an item.
-pub record CaseAsks (rows : List ℤ) (row : ℕ) (x : Atom) (S level target base words : ℕ) : Type 0 where
+pub record CaseAsks (rows : List ℤ) (row : ℕ) (x : KernelAtom) (S level target base words : ℕ) : Type 0 where
   pub source : Source rows
   pub inside : row < rowCount rows
   pub atom-fits : AtomFits x
@@ -95,7 +95,7 @@ pub record CaseAsks (rows : List ℤ) (row : ℕ) (x : Atom) (S level target bas
   pub room : Room (11 * itemCases (itemsAt rows row)) base words
 
 -- The tests of a list.
-pub record CasesAsk (rows : List ℤ) (list : ℕ) (x : Atom) (S level label base words : ℕ) : Type 0 where
+pub record CasesAsk (rows : List ℤ) (list : ℕ) (x : KernelAtom) (S level label base words : ℕ) : Type 0 where
   pub inside : list < rowCount rows
   pub atom-fits : AtomFits x
   pub number-low : S + level < 65536

@@ -2,7 +2,7 @@
 use expression_measures::holders::store_rows;
 use expression_writers::expressions::write_expression;
 use leaves::rows::more;
-use straight_writers::Position;
+use straight_writers::WritePosition;
 use straight_writers::atoms::operand_size;
 use straight_writers::straight::put_variable;
 use translation::Use;
@@ -32,7 +32,7 @@ pub fn write_declare(
 {
     let n = operand_size(rows, table, value, Use::Stored(number));
     let then = more(follows, store_rows(rows, value));
-    let at = Position {
+    let at = WritePosition {
         store,
         level: 0,
         base: base + n,

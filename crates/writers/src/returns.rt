@@ -1,6 +1,6 @@
 // The writer of returns.
 use expression_writers::expressions::write_expression;
-use leaves::Atom;
+use leaves::KernelAtom;
 use leaves::control::put_return;
 use straight_writers::atoms::atom_at;
 use straight_writers::atoms::operand_size;
@@ -29,7 +29,7 @@ pub fn write_return(
     ensures { λ _. ⌜ now (out .exit) ≡ over (emitItems follows (returnedCode (calledIn (now (rows .entry))) store (partAt (now (rows .entry)) value)) base) (now (out .entry)) ⌝ }
 {
     if value == 0 {
-        put_return(Atom::Constant(0), base, follows, out);
+        put_return(KernelAtom::Constant(0), base, follows, out);
         return;
     }
     let n = operand_size(rows, table, value, Use::Wanted);

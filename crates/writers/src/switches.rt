@@ -1,6 +1,6 @@
 // The tests of a switch.
 use super::lists::item_labels;
-use leaves::Atom;
+use leaves::KernelAtom;
 use leaves::assignments::put_binary;
 use leaves::control::put_jump;
 use shapes::Item;
@@ -43,7 +43,7 @@ fn case_size(rows: &[i32], row: usize) -> usize
 
 // The test of a case: the comparison into a variable, and the jump to the label.
 fn put_case(
-    x: Atom,
+    x: KernelAtom,
     v: i32,
     store: usize,
     level: usize,
@@ -59,7 +59,7 @@ fn put_case(
         number,
         Operator::Equal,
         x,
-        Atom::Constant(v),
+        KernelAtom::Constant(v),
         base,
         true,
         out,
@@ -71,7 +71,7 @@ fn put_case(
 fn put_item_test(
     rows: &[i32],
     row: usize,
-    x: Atom,
+    x: KernelAtom,
     store: usize,
     level: usize,
     target: usize,
@@ -98,7 +98,7 @@ pub fn write_cases(
     rows: &[i32],
     table: &[usize],
     list: usize,
-    x: Atom,
+    x: KernelAtom,
     store: usize,
     level: usize,
     label: usize,

@@ -10,10 +10,10 @@ use write_sets::count;
 ghost use mathlib.Core.Path.{_≡_};
 ghost use Rattle.words.specs.declared.Form.the-variants.{Source};
 ghost use Rattle.words.specs.declared.Verdict.the-variants.{Accepted};
-ghost use Rattle.program_meaning.specs.Program.{resolvedRows};
+ghost use Rattle.program_meaning.specs.Program.{sourceSize, resolvedRows};
 ghost use Rattle.program_writes.specs.ProgramWrites.{written, WritesAre};
 ghost use Rattle.source_check.specs.Refusal.{refusal};
-ghost use Rattle.writes.specs.Told.{Told, sizeOf, countOf};
+ghost use Rattle.writes.specs.Told.{Told, countOf};
 
 pub enum WritesVerdict {
     Written(Writes),
@@ -23,7 +23,7 @@ pub enum WritesVerdict {
 // What an accepted program can write: read off its resolved table, which stands in this frame alone.
 fn accepted_writes(header: &[i32], rows: &[i32]) -> Writes
     requires { ⌜ refusal (now header) (now rows) ≡ Accepted ⌝ }
-    ensures { λ r. ⌜ WritesAre (sizeOf (now (header .entry))) r (resolvedRows Source (now (header .entry)) (now (rows .entry))) ⌝ }
+    ensures { λ r. ⌜ WritesAre (sourceSize (now (header .entry))) r (resolvedRows Source (now (header .entry)) (now (rows .entry))) ⌝ }
 {
     let store = store_size(Form::Source, header);
     let words = rows.len();
@@ -35,7 +35,7 @@ fn accepted_writes(header: &[i32], rows: &[i32]) -> Writes
 // How many variables and declared words it can write: the ones in the five words.
 pub fn accepted_count(header: &[i32], rows: &[i32]) -> u32
     requires { ⌜ refusal (now header) (now rows) ≡ Accepted ⌝ }
-    ensures { λ r. ⌜ r ≡ written (sizeOf (now (header .entry))) (resolvedRows Source (now (header .entry)) (now (rows .entry))) ⌝ }
+    ensures { λ r. ⌜ r ≡ written (sourceSize (now (header .entry))) (resolvedRows Source (now (header .entry)) (now (rows .entry))) ⌝ }
 {
     let sets = accepted_writes(header, rows);
     count(sets.variables)

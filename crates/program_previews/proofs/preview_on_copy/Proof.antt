@@ -5,9 +5,9 @@ use native.Mathlib.Omega.{arith}
 use borrow.Author.Needs.{needs}
 use Rattle.words.specs.StoreLaws.{size-least}
 use Rattle.words.specs.declared.Form.the-variants.{Source}
-use Rattle.program_meaning.specs.Program.{runProgram}
+use Rattle.program_meaning.specs.Program.{sourceSize, runProgram}
 use Rattle.program_runs.specs.AcceptedLaws.{accepted-header}
-use Rattle.program_previews.specs.Previews.{sizeOf, differences}
+use Rattle.program_previews.specs.Previews.{differences}
 use Rattle.program_previews.specs.PreviewLaws.{foretold}
 use Rattle.program_previews.proofs.preview_on_copy.Statement.{statement}
 use Rattle.program_previews.proofs.preview_on_copy.Tie as tie
@@ -43,7 +43,7 @@ returns c =
     let ran = c .before .before .before .before in
     let copied = ran .before .before .before in
     let start = copied .before .before in
-    foretold (runProgram Source (start .args .header .now) (start .args .rows .now) (start .args .budget)) (ran .run-accepted .result) (start .args .store .now) (start .args .copy .now) _ _ (sizeOf (start .args .header .now)) (c .count-differences .result)
+    foretold (runProgram Source (start .args .header .now) (start .args .rows .now) (start .args .budget)) (ran .run-accepted .result) (start .args .store .now) (start .args .copy .now) _ _ (sourceSize (start .args .header .now)) (c .count-differences .result)
     (start .pre .1 .0 ∙ sym (start .pre .1 .1)) (copied .put .ensures) (ran .run-accepted .ensures)
     (c .count-differences .ensures ∙ ap (λ (n : ℕ). differences n (start .args .store .now) (ran .run-accepted .last .1 .1 .1 .0)) (c .before .before .store-size .ensures))
 

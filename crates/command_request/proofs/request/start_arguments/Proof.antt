@@ -17,8 +17,8 @@ returns-2 : tie.Need-returns-2
 unfolding requestBy
 returns-2 c = rw (le-leb _ _ (c .before .if1 .left), lt-leb _ _ (c .if2 .taken))
 
-natural-requires : tie.Need-natural-requires
-natural-requires c κs = search needs
+natural-of-requires : tie.Need-natural-of-requires
+natural-of-requires c κs = search needs
 
 start-request-requires : tie.Need-start-request-requires
 start-request-requires c κs = search needs
@@ -27,8 +27,8 @@ returns-3 : tie.Need-returns-3
 unfolding requestBy budgetOf
 returns-3 c =
     let start = c .before .before .before .before .before in
-    rw (le-leb _ _ (c .before .before .before .if1 .left), le-leb _ _ (c .before .before .if2 .left)) (c .start-request .ensures ∙ ap (λ (budget : Option ℕ). startRequest (start .args .task) budget (eqb (start .args .count) 3)) (c .before .natural .ensures))
+    rw (le-leb _ _ (c .before .before .before .if1 .left), le-leb _ _ (c .before .before .if2 .left)) (c .start-request .ensures ∙ ap (λ (budget : Option ℕ). startRequest (start .args .task) budget (eqb (start .args .count) 3)) (c .before .natural-of .ensures))
 
 pub start-arguments-spec : {M : Type 1} → statement M
 start-arguments-spec =
-    tie.close (tie.spec returns returns-2 natural-requires start-request-requires returns-3)
+    tie.close (tie.spec returns returns-2 natural-of-requires start-request-requires returns-3)

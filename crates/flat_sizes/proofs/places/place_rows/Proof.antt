@@ -3,7 +3,7 @@ use Prim.Native.Nat.{ℕ, _≤_, _-_, _+_}
 use native.Mathlib.Omega.{arith}
 use lib.ListN.{length}
 use Rattle.words.specs.Table.{rowCount}
-use Rattle.flat_sizes.specs.Tables.{Placed, Labelled}
+use Rattle.flat_sizes.specs.Tables.{LinesPlaced, Labelled}
 use Rattle.flat_sizes.specs.Places.{placed-start, labelled-start, placed-at, labelled-at}
 use Rattle.flat_sizes.proofs.places.place_rows.Statement.{statement}
 use Rattle.flat_sizes.proofs.places.place_rows.Tie as tie
@@ -13,7 +13,7 @@ use Rattle.flat_sizes.proofs.places.place_row.Reads as place-row-reads
 
 abbrev Inv-loop : tie.InvT-loop
 Inv-loop rows sizes lines₀ labels₀ count row₀ lines labels row =
-    (row ≤ count) × (count ≡ rowCount rows) × Placed rows row lines × Labelled rows row labels × (length lines ≡ length lines₀) × (length labels ≡ length labels₀)
+    (row ≤ count) × (count ≡ rowCount rows) × LinesPlaced rows row lines × Labelled rows row labels × (length lines ≡ length lines₀) × (length labels ≡ length labels₀)
 
 abbrev μ-loop : tie.MeasureT-loop
 μ-loop rows sizes lines₀ labels₀ count row₀ lines labels row =

@@ -7,7 +7,7 @@ use lib.ListN.{getD}
 use Rattle.words.specs.Table.{rowCount}
 use Rattle.kernel_check.specs.ListLaws.{first-most}
 use Rattle.kernel_check.specs.Passes.{noteAt}
-use Rattle.kernel_check.specs.declared.Note.the-variants.{First}
+use Rattle.kernel_check.specs.declared.LabelNote.the-variants.{First}
 use Rattle.kernel_check.proofs.Marking.{mark-some, mark-none}
 use borrow.Author.Needs.{needs}
 use Rattle.kernel_check.proofs.labels.is_behind.Statement.{statement}

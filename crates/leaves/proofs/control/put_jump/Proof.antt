@@ -1,6 +1,6 @@
 -- The end of a case's test: an if, a block of a goto, and an empty block.
 use mathlib.Core.Path.{refl}
-use Rattle.leaves.specs.declared.Atom.the-variants.{Variable}
+use Rattle.leaves.specs.declared.KernelAtom.the-variants.{Variable}
 use Rattle.leaves.specs.Chain.{put-next, reworded}
 use Rattle.leaves.proofs.Words.{rows-put, if-put, jump-words}
 use borrow.Author.Needs.{needs}

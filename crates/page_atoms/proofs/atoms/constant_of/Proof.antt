@@ -1,7 +1,7 @@
 -- `constant_of`: a field that is a number is a constant; its word fits 32 bits.
 use mathlib.Core.Path.{ap}
 use Rattle.words.specs.Laws.{back}
-use Rattle.page_words.specs.declared.Atom.the-variants.{Constant}
+use Rattle.page_words.specs.declared.PageAtom.the-variants.{Constant}
 use Rattle.page_words.specs.declared.AtomRead.the-variants.{Read}
 use borrow.Author.Needs.{needs}
 use Rattle.page_atoms.proofs.atoms.constant_of.Statement.{statement}

@@ -6,7 +6,7 @@ use Prim.Native.Nat.{ℕ}
 use Rattle.words.specs.Table.{rowCount}
 use Rattle.language.specs.Decode.{expressionAt}
 use Rattle.page.specs.Page.{lineWords, parted}
-use Rattle.page_line.specs.declared.Line.{Line}
+use Rattle.page_line.specs.declared.LineAt.{LineAt}
 use Rattle.page_line.specs.Contents.{lineTree, LineInside}
 use Rattle.page_line.specs.LaidLaws.{laid-as, laid-of}
 use Rattle.page_line.specs.ContentLaws.{goto-bytes, while-bytes, if-bytes}
@@ -14,11 +14,11 @@ use borrow.Author.Needs.{needs}
 use Rattle.page_line.proofs.contents.lay_content.Statement.{statement}
 use Rattle.page_line.proofs.contents.lay_content.Tie as tie
 
-abbrev bytes : tie.Start → Line → List ℕ
+abbrev bytes : tie.Start → LineAt → List ℕ
 bytes c l = parted (lineWords (c .args .sizes) (lineTree (c .args .rows .now) l))
 
-inside : (c : tie.Start) {l : Line} → c .args .line ≡ l → LineInside (rowCount (c .args .rows .now)) l
-inside c e = subst (λ (l : Line). LineInside (rowCount (c .args .rows .now)) l) e (c .pre .0 .1)
+inside : (c : tie.Start) {l : LineAt} → c .args .line ≡ l → LineInside (rowCount (c .args .rows .now)) l
+inside c e = subst (λ (l : LineAt). LineInside (rowCount (c .args .rows .now)) l) e (c .pre .0 .1)
 
 enum-told : tie.Need-enum-told
 enum-told c = search needs

@@ -9,7 +9,7 @@ use lib.ListN.{length, length-append}
 use Rattle.words.specs.Table.{rowCount}
 use Rattle.language.specs.Decode.{statementAt, listAt}
 use Rattle.page.specs.Lines.{Indented, indented, closes, branchLines, itemsLines}
-use Rattle.page_line.specs.declared.Line.the-variants.{Turns, Closes}
+use Rattle.page_line.specs.declared.LineAt.the-variants.{Turns, Closes}
 use Rattle.page_line.specs.Contents.{lineTree}
 use Rattle.page_line.specs.Printed.{Printed}
 use Rattle.page_line.specs.PrintedLaws.{printed-none, printed-next}

@@ -2,7 +2,7 @@
 use Rattle.leaves.specs.Chain.{put-next}
 use Rattle.page_rows.proofs.Steps.{row-written, if-written}
 use mathlib.Core.Path.{refl}
-use Rattle.leaves.specs.Chain.{Put, put-next}
+use Rattle.leaves.specs.Chain.{PutWords, put-next}
 use Rattle.page_rows.proofs.Steps.{if-written}
 use borrow.Author.Needs.{needs}
 use Rattle.page_rows.proofs.lines.put_branch.Statement.{statement}

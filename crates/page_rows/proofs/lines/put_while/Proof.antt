@@ -3,7 +3,7 @@ use Rattle.leaves.specs.Chain.{put-next}
 use Rattle.page_rows.proofs.Steps.{row-written, atom-written}
 use Prim.Native.Nat.{_+_}
 use mathlib.Core.Path.{refl}
-use Rattle.leaves.specs.Chain.{Put, put-next}
+use Rattle.leaves.specs.Chain.{PutWords, put-next}
 use Rattle.page_rows.proofs.Steps.{atom-written}
 use borrow.Author.Needs.{needs}
 use Rattle.page_rows.proofs.lines.put_while.Statement.{statement}

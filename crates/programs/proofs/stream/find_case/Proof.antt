@@ -44,11 +44,11 @@ add-piece-end c = search needs
 piece-end-requires-3 : tie.Need-piece-end-requires-3
 piece-end-requires-3 c κs = omega (arith, slice-aggregate-piece-end-2 c, c .before .if2 .left)
 
-slice-aggregate-natural : tie.Need-slice-aggregate-natural
-slice-aggregate-natural c = sym (length-take-le _ _ (omega (arith, c .before .before .before .if2 .left, c .before .before .before .before .before .before .if1 .left)))
+slice-aggregate-natural-of : tie.Need-slice-aggregate-natural-of
+slice-aggregate-natural-of c = sym (length-take-le _ _ (omega (arith, c .before .before .before .if2 .left, c .before .before .before .before .before .before .if1 .left)))
 
-natural-requires : tie.Need-natural-requires
-natural-requires c κs = search needs
+natural-of-requires : tie.Need-natural-of-requires
+natural-of-requires c κs = search needs
 
 enum-known-budget : tie.Need-enum-known-budget
 enum-known-budget c = search needs
@@ -59,20 +59,20 @@ enum-told c = search needs
 returns-3 : tie.Need-returns-3
 returns-3 c = search needs
 
-add-natural : tie.Need-add-natural
-add-natural c = search needs
+add-natural-of : tie.Need-add-natural-of
+add-natural-of c = search needs
 
-sub-natural : tie.Need-sub-natural
-sub-natural c = search needs
+sub-natural-of : tie.Need-sub-natural-of
+sub-natural-of c = search needs
 
-part-natural-start : tie.Need-part-natural-start
-part-natural-start c = search needs
+part-natural-of-start : tie.Need-part-natural-of-start
+part-natural-of-start c = search needs
 
-part-natural-end : tie.Need-part-natural-end
-part-natural-end c = omega (arith, second-inside _ _ _ _ (c .before .before .before .before .before .before .before .before .before .before .if1 .left) (c .before .before .before .before .before .before .before .if2 .left) (c .before .before .before .before .before .piece-end3 .ensures), c .before .before .before .before .before .before .before .before .before .before .if1 .left)
+part-natural-of-end : tie.Need-part-natural-of-end
+part-natural-of-end c = omega (arith, second-inside _ _ _ _ (c .before .before .before .before .before .before .before .before .before .before .if1 .left) (c .before .before .before .before .before .before .before .if2 .left) (c .before .before .before .before .before .piece-end3 .ensures), c .before .before .before .before .before .before .before .before .before .before .if1 .left)
 
-natural-requires-2 : tie.Need-natural-requires-2
-natural-requires-2 c κs = search needs
+natural-of-requires-2 : tie.Need-natural-of-requires-2
+natural-of-requires-2 c κs = search needs
 
 enum-known-length : tie.Need-enum-known-length
 enum-known-length c = search needs
@@ -101,16 +101,16 @@ find-case-spec =
     slice-aggregate-piece-end-2
     add-piece-end
     piece-end-requires-3
-    slice-aggregate-natural
-    natural-requires
+    slice-aggregate-natural-of
+    natural-of-requires
     enum-known-budget
     enum-told
     returns-3
-    add-natural
-    sub-natural
-    part-natural-start
-    part-natural-end
-    natural-requires-2
+    add-natural-of
+    sub-natural-of
+    part-natural-of-start
+    part-natural-of-end
+    natural-of-requires-2
     enum-known-length
     enum-told-2
     returns-4

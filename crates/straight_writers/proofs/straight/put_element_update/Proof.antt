@@ -3,7 +3,7 @@ use native.Mathlib.Omega.{arith}
 use Rattle.language.specs.Trees.{_⧺_}
 use Rattle.leaves.specs.Chain.{wrote-put, wrote-next, put-room}
 use Rattle.leaves.specs.LeafLaws.{binary-wrote, fetch-wrote, store-wrote}
-use Rattle.leaves.specs.declared.Atom.the-variants.{Variable}
+use Rattle.leaves.specs.declared.KernelAtom.the-variants.{Variable}
 use borrow.Author.Needs.{needs}
 use Rattle.straight_writers.proofs.straight.put_element_update.Statement.{statement}
 use Rattle.straight_writers.proofs.straight.put_element_update.Tie as tie

@@ -4,7 +4,7 @@ use lib.IntN.{pos}
 use Rattle.language.specs.Trees.{_⧺_}
 use Rattle.leaves.specs.Chain.{wrote-put, wrote-next, put-room, room-less}
 use Rattle.leaves.specs.LeafLaws.{copy-wrote, binary-wrote}
-use Rattle.leaves.specs.declared.Atom.the-variants.{Constant, Variable}
+use Rattle.leaves.specs.declared.KernelAtom.the-variants.{Constant, Variable}
 use borrow.Author.Needs.{needs}
 use Rattle.straight_writers.proofs.straight.put_kept_step.Statement.{statement}
 use Rattle.straight_writers.proofs.straight.put_kept_step.Tie as tie

@@ -5,7 +5,7 @@ use native.Mathlib.Omega.{arith}
 use borrow.Author.Needs.{needs}
 use lib.ListN.{length}
 use Rattle.text_numbers.specs.Reader.{fieldNumber}
-use Rattle.text_lines.specs.Reader.{sizeOf}
+use Rattle.text_lines.specs.Reader.{numberCount}
 use Rattle.text_lines.proofs.Pieces.{Piece, piece-of, Counted, counted-start, counted-says, counted-bad, counted-next}
 use Rattle.text_lines.proofs.line.count_numbers.Statement.{statement}
 use Rattle.text_lines.proofs.line.count_numbers.Tie as tie
@@ -45,7 +45,7 @@ enum-told-2 : tie.Need-enum-told-2 Inv-loop μ-loop
 enum-told-2 c = search needs
 
 returns : tie.Need-returns Inv-loop μ-loop
-returns c = sym (ap sizeOf (counted-bad (c .before .before .before .before .before .before .loop .inv) (field-ends (c .before .before .before .before)) (sym (c .before .before .number .ensures) ∙ ap fieldNumber (c .enum-told2 .given .1))))
+returns c = sym (ap numberCount (counted-bad (c .before .before .before .before .before .before .loop .inv) (field-ends (c .before .before .before .before)) (sym (c .before .before .number .ensures) ∙ ap fieldNumber (c .enum-told2 .given .1))))
 
 add-count : tie.Need-add-count Inv-loop μ-loop
 add-count c = omega (arith, c .before .before .before .before .before .before .loop .inv .fewer, c .before .before .before .before .before .loop-test .taken)

@@ -1,12 +1,12 @@
--- `natural`: digits that a zero does not lead.
+-- `natural_of`: digits that a zero does not lead.
 use mathlib.Core.Path.{sym, ap, _∙_}
 use native.Mathlib.Omega.{arith}
 use Rattle.text_numbers.specs.NumberLaws.{natural-is}
 use Rattle.text_numbers.specs.Reader.{atMost}
 use Rattle.text_numbers.proofs.Decimal.{atMost-none, natural-none, natural-one, natural-zero}
 use borrow.Author.Needs.{needs}
-use Rattle.text_numbers.proofs.number.natural.Statement.{statement}
-use Rattle.text_numbers.proofs.number.natural.Tie as tie
+use Rattle.text_numbers.proofs.number.natural_of.Statement.{statement}
+use Rattle.text_numbers.proofs.number.natural_of.Tie as tie
 
 returns : tie.Need-returns
 returns c = sym (ap (atMost _) (natural-none _ (c .if1 .taken)) ∙ atMost-none _)
@@ -29,8 +29,8 @@ decimal-requires-2 c κs = search needs
 returns-4 : tie.Need-returns-4
 returns-4 c = let filled = c .before .before .before .before .if1 .left in c .decimal2 .ensures ∙ ap (atMost _) (sym (natural-is _ (omega arith) (c .before .if3 .left)))
 
-pub natural-spec : {M : Type 1} → statement M
-natural-spec =
+pub natural-of-spec : {M : Type 1} → statement M
+natural-of-spec =
     tie.close
     (tie.spec
     returns
